@@ -1,0 +1,3 @@
+pub mod Opcodes
+pub mod Text
+pub use Rattle.host_types.specs.Bytes

@@ -1,0 +1,116 @@
+use crate::operation::{Operation, UsedFields};
+use crate::slot::{i16_at, i32_at, next_imm_at};
+
+/// An instruction's fields (RFC 9669, sections 3.1 and 3.2). `next_imm` is the second immediate of
+/// a wide instruction, and 0 in a basic one.
+#[derive(Clone, Copy, Debug, PartialEq, Eq)]
+pub struct Insn {
+    pub opcode: u8,
+    pub dst: u8,
+    pub src: u8,
+    pub offset: i16,
+    pub imm: i32,
+    pub next_imm: u32,
+}
+
+// The opcode of the one wide instruction (RFC 9669, section 3.2).
+pub(crate) const WIDE: u8 = 0x18;
+
+// The last register, the frame pointer.
+const LAST_REGISTER: u8 = 10;
+
+// The number of an opcode that isn't in the table.
+const UNKNOWN_OPCODE: u32 = 2;
+
+// The number of a field that isn't zero though unused.
+const BAD_FIELD: u32 = 3;
+
+// The number of a register above R10.
+const BAD_REGISTER: u32 = 4;
+
+impl Insn {
+    ghost use Rattle.std.specs.Prelude.{◌≡◌, ◌<◌, ◌%◌, ◌==◌, if◌then◌else◌, length, IsSome, Some};
+    ghost use Rattle.bpf_decode.specs.Opcodes.{wide_opcode, operation_of, leaves_unused, has_registers, insn_fault, sign_extended};
+    ghost use Rattle.bpf_decode.specs.Text.{slots_of, insn_at};
+
+    /// The instruction at a slot of a text of whole slots. The second immediate of a wide
+    /// instruction that the text's end cuts is 0.
+    pub fn read(text: &[u8], slot: usize) -> Self
+        requires whole { length text.now % 8 ≡ 0 }
+        requires within { slot < slots_of text.now }
+        ensures { result ≡ insn_at text.now slot }
+    {
+        let at = 8 * slot;
+        let registers = text[at + 1];
+        Insn {
+            opcode: text[at],
+            dst: registers % 16,
+            src: registers / 16,
+            offset: i16_at(text, at + 2),
+            imm: i32_at(text, at + 4),
+            next_imm: next_imm_at(text, slot),
+        }
+    }
+
+    /// What the instruction's opcode says.
+    pub fn operation(&self) -> Operation
+        requires { IsSome (operation_of self.now.opcode) }
+        ensures { operation_of self.now.opcode ≡ Some result }
+    {
+        match Operation::of(self.opcode) {
+            Some(operation) => operation,
+            None => unreachable!(),
+        }
+    }
+
+    /// `imm` as the 64 bits that instructions compute with: sign-extended (RFC 9669, section 4.1).
+    pub fn immediate(&self) -> u64
+        ensures { result ≡ sign_extended self.now.imm }
+    {
+        i64::from(self.imm).cast_unsigned()
+    }
+
+    /// How many slots the instruction takes: two if it is wide, else one.
+    pub fn slots(&self) -> u32
+        ensures { result ≡ (if self.now.opcode == wide_opcode then 2 else 1) }
+    {
+        if self.opcode == WIDE { 2 } else { 1 }
+    }
+
+    // The smallest number of what is wrong with the instruction.
+    #[tactic(auto, unfolding(crate::specs::Opcodes::insn_fault))]
+    pub(crate) fn fault(&self) -> Option<u32>
+        ensures { result ≡ insn_fault self.now }
+    {
+        let Some(operation) = Operation::of(self.opcode) else {
+            return Some(UNKNOWN_OPCODE);
+        };
+        let used = operation.used_fields();
+        if !self.leaves_unused(used) {
+            return Some(BAD_FIELD);
+        }
+        if !self.has_registers(used) {
+            return Some(BAD_REGISTER);
+        }
+        None
+    }
+
+    // Whether each field that isn't used is zero.
+    #[tactic(auto, unfolding(crate::specs::Opcodes::leaves_unused))]
+    fn leaves_unused(&self, used: UsedFields) -> bool
+        ensures { result ≡ leaves_unused used self.now }
+    {
+        (used.dst || self.dst == 0)
+            && (used.src || self.src == 0)
+            && (used.offset || self.offset == 0)
+            && (used.imm || self.imm == 0)
+    }
+
+    // Whether each register that is used is there.
+    #[tactic(auto, unfolding(crate::specs::Opcodes::has_registers))]
+    fn has_registers(&self, used: UsedFields) -> bool
+        ensures { result ≡ has_registers used self.now }
+    {
+        (!used.dst || self.dst <= LAST_REGISTER) && (!used.src || self.src <= LAST_REGISTER)
+    }
+}

@@ -1,0 +1,16 @@
+//! The text of an eBPF program (RFC 9669, sections 3 to 5): its instructions and their fields, and
+//! which texts are well formed. `decode` judges a text by the table in docs/INSTRUCTIONS.md.
+#![tactic(auto)]
+
+mod insn;
+mod operation;
+mod program;
+mod slot;
+#[cfg(test)]
+mod tests;
+mod text;
+
+pub use insn::Insn;
+pub use operation::{AluCode, Operation, Source};
+pub use program::{Program, decode};
+pub use text::judgement_is_one;

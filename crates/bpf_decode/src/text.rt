@@ -1,0 +1,57 @@
+ghost use Rattle.std.specs.Prelude.{◌≡◌, ◌↔◌, ◌%◌, length, IsTrue, MatchOption};
+ghost use Rattle.bpf_decode.specs.Text.{HasLength, IsWellFormed, FailsFirst, IsFirstFault, WellFormedHasNoFault, FirstFaultIsOne};
+
+use crate::insn::Insn;
+use host_types::Refused;
+
+// The most bytes of a text: 4096 slots of eight bytes.
+const MAX_LENGTH: usize = 32768;
+
+// The number of a text that isn't 1 to 4096 whole slots.
+const BAD_LENGTH: u32 = 1;
+
+// What is refused of a text that isn't well formed.
+pub(crate) fn first_fault(text: &[u8]) -> Option<Refused>
+    ensures { MatchOption result (IsWellFormed text.now) (λ refused. IsFirstFault text.now refused) }
+{
+    if !has_length(text) {
+        return Some(Refused {
+            number: BAD_LENGTH,
+            slot: 0,
+        });
+    }
+    first_bad_insn(text)
+}
+
+// Whether a text has 1 to 4096 whole slots.
+fn has_length(text: &[u8]) -> bool
+    ensures { IsTrue result ↔ HasLength text.now }
+{
+    8 <= text.len() && text.len() <= MAX_LENGTH && text.len() % 8 == 0
+}
+
+// The first instruction that meets no row of the table.
+fn first_bad_insn(text: &[u8]) -> Option<Refused>
+    requires { HasLength text.now }
+    ensures { MatchOption result (IsWellFormed text.now) (λ refused. FailsFirst text.now refused.number refused.slot) }
+{
+    let mut slot = 0;
+    while slot < text.len() / 8 {
+        let insn = Insn::read(text, slot);
+        if let Some(number) = insn.fault() {
+            return Some(Refused {
+                number,
+                slot: slot as u32,
+            });
+        }
+        slot += insn.slots() as usize;
+    }
+    None
+}
+
+/// A text that is well formed has no fault, and a text has one first fault. This is a law about the
+/// definitions: the function does nothing.
+pub fn judgement_is_one()
+    ensures exclusive { WellFormedHasNoFault }
+    ensures one { FirstFaultIsOne }
+{}

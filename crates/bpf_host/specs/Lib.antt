@@ -1,0 +1,6 @@
+pub mod World
+pub mod Happens
+pub mod HostView
+pub mod HostFile
+pub mod Section
+pub mod Faults

@@ -1,0 +1,46 @@
+//! The program `bpf_host`.
+#![tactic(auto)]
+
+mod bytes;
+mod event;
+mod fault;
+mod file;
+mod host;
+mod replay;
+mod words;
+
+use fault::FileFault;
+use replay::replay;
+use std::alloc::AllocError;
+use std::io::{self, BufWriter};
+use std::process::ExitCode;
+use std::rt::{Env, Files};
+use std::{env, fs};
+use words::{Request, request_of};
+
+fn main(rt: HostRuntime) -> ExitCode {
+    match run(&rt) {
+        Ok(status) => ExitCode::from(status),
+        Err(fault) => {
+            let _ = rt.eprintln(&fault);
+            ExitCode::from(2)
+        }
+    }
+}
+
+/// Does what the command line asks for. Answers the status 0 or 1, or the fault of status 2.
+fn run<R: AllocGlobal + Env + Files + Print>(rt: &R) -> Result<u8, FileFault> {
+    let alloc = rt.alloc();
+    let words: Vec<String> = match env::args(rt) {
+        Ok(words) => words.collect(alloc)?,
+        Err(_) => return Err(FileFault::Usage(String::from_str(alloc, "the words can't be read")?)),
+    };
+    match request_of(alloc, words.as_slice())? {
+        Request::Replay { path } => {
+            let mut file = fs::open(rt, path).map_err(FileFault::Read)?;
+            let output = BufWriter::new(alloc, io::writer(rt));
+            let mut output = output.map_err(|_| FileFault::OutOfMemory(AllocError))?;
+            replay(alloc, &mut file, &mut output)
+        }
+    }
+}

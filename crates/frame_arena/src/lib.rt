@@ -1,0 +1,11 @@
+//! The frames that pages lie in: a list of pages of 4096 bytes, all made at once. No call but
+//! `FrameArena::new` takes memory or can fail.
+#![tactic(auto)]
+
+mod arena;
+mod block;
+mod number;
+#[cfg(test)]
+mod tests;
+
+pub use arena::{FrameArena, PAGE_SIZE};

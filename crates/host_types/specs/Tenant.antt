@@ -1,0 +1,20 @@
+-- What belongs to one tenant.
+use Rattle.std.specs.Prelude.{◌≡◌, ℕ, ◌<◌, length, All, IfSome}
+use Rattle.host_types.specs.Memory.{FlatMap, FlatMaps, map_at}
+use Rattle.host_types.specs.Shapes.{IsShape, byte_len_of}
+
+-- A tenant's part: its maps by number, and how many frames are reserved for its open run.
+pub record TenantPart : Type 0 where
+  pub maps : FlatMaps
+  pub reserve : ℕ
+
+-- a map of a shape within the limits, with as many bytes as the shape says
+pub record IsFlatMap (flat : FlatMap) : Type 0 where
+  pub shape : IsShape flat.shape
+  pub sized : length flat.bytes ≡ byte_len_of flat.shape
+  pub bytes : All (λ byte. byte < 256) flat.bytes
+
+-- eight maps, each there or not
+pub record AreFlatMaps (maps : FlatMaps) : Type 0 where
+  pub eight : length maps ≡ 8
+  pub each : (m : ℕ) → IfSome (map_at maps m) IsFlatMap

@@ -1,0 +1,176 @@
+use std::fmt;
+
+/// A refusal of a program by its number, 1 to 25, and the slot that breaks the rule; or number 41
+/// at slot 0 for want of memory.
+#[derive(Clone, Copy, Debug, PartialEq, Eq)]
+pub struct Refused {
+    pub number: u32,
+    pub slot: u32,
+}
+
+/// Why a call or an event was refused. A refusal changes nothing.
+#[derive(Clone, Copy, Debug, PartialEq, Eq)]
+pub enum Fault {
+    /// 1 to 25: the program isn't accepted.
+    Program(Refused),
+    /// 31: more frames are needed than there are.
+    NoFrames { need: u32, have: u32 },
+    /// 32: the tenant has all its maps.
+    TooManyMaps,
+    /// 33: a shape, a number of frames or tenants, or a value's length out of limits.
+    BadShape,
+    /// 34: the tenant has no such map.
+    NoMap,
+    /// 35: the map has no such element.
+    NoElement,
+    /// 36: the tenant has an open run.
+    Busy,
+    /// 37: the tenant has no open run.
+    NoRun,
+    /// 38: the tenant has no such program.
+    NoProgram,
+    /// 39: a context of another size than the program's, or a size out of limits.
+    BadContext,
+    /// 40: an option can't have this value.
+    BadOption,
+    /// 41: memory ran out.
+    OutOfMemory,
+    /// 42: there is no such tenant.
+    BadTenant,
+    /// 44: the option is fixed while pages share frames.
+    PagesShared,
+    /// 45: the tenant has all its programs.
+    TooManyPrograms,
+}
+
+impl Refused {
+    ghost use Rattle.std.specs.Prelude.{◌≡◌};
+    ghost use Rattle.host_types.specs.Refusals.{rule_name};
+
+    /// The rule's name, as it is printed. A number that is no rule's is that of want of memory.
+    pub fn name(&self) -> &'static str
+        ensures { result.now ≡ rule_name self.now.number }
+    {
+        match self.number {
+            1 => "BadLength",
+            2 => "UnknownOpcode",
+            3 => "BadField",
+            4 => "BadRegister",
+            5 => "CutWide",
+            11 => "BackJump",
+            12 => "JumpOut",
+            13 => "FallsOff",
+            14 => "UnsetRegister",
+            15 => "WrongKind",
+            16 => "OutsideContext",
+            17 => "OutsideStack",
+            18 => "UnsetStack",
+            19 => "OutsideMap",
+            20 => "Misaligned",
+            21 => "NullNotChecked",
+            22 => "FrameWritten",
+            23 => "UnknownHelper",
+            24 => "UnknownMap",
+            25 => "PointerLeaks",
+            _ => "OutOfMemory",
+        }
+    }
+}
+
+impl Fault {
+    ghost use Rattle.std.specs.Prelude.{◌≡◌};
+    ghost use Rattle.host_types.specs.Refusals.{fault_number, fault_name};
+
+    /// The number that stands for the refusal in the host's answers.
+    pub fn number(&self) -> u32
+        ensures { result ≡ fault_number self.now }
+    {
+        match self {
+            Fault::Program(refused) => refused.number,
+            Fault::NoFrames { .. } => 31,
+            Fault::TooManyMaps => 32,
+            Fault::BadShape => 33,
+            Fault::NoMap => 34,
+            Fault::NoElement => 35,
+            Fault::Busy => 36,
+            Fault::NoRun => 37,
+            Fault::NoProgram => 38,
+            Fault::BadContext => 39,
+            Fault::BadOption => 40,
+            Fault::OutOfMemory => 41,
+            Fault::BadTenant => 42,
+            Fault::PagesShared => 44,
+            Fault::TooManyPrograms => 45,
+        }
+    }
+
+    /// The refusal's name, as it is printed.
+    pub fn name(&self) -> &'static str
+        ensures { result.now ≡ fault_name self.now }
+    {
+        match self {
+            Fault::Program(refused) => refused.name(),
+            Fault::NoFrames { .. } => "NoFrames",
+            Fault::TooManyMaps => "TooManyMaps",
+            Fault::BadShape => "BadShape",
+            Fault::NoMap => "NoMap",
+            Fault::NoElement => "NoElement",
+            Fault::Busy => "Busy",
+            Fault::NoRun => "NoRun",
+            Fault::NoProgram => "NoProgram",
+            Fault::BadContext => "BadContext",
+            Fault::BadOption => "BadOption",
+            Fault::OutOfMemory => "OutOfMemory",
+            Fault::BadTenant => "BadTenant",
+            Fault::PagesShared => "PagesShared",
+            Fault::TooManyPrograms => "TooManyPrograms",
+        }
+    }
+}
+
+/// The refusal as the program prints it: its number and name, then the slot of a program's
+/// refusal, or the frames that were needed and there.
+impl fmt::Display for Fault {
+    fn fmt<W: fmt::Write>(&self, f: &mut fmt::Formatter<W>) -> fmt::Result {
+        let number = self.number();
+        let name = self.name();
+        write!(f, "refused {number} {name}")?;
+        match self {
+            Fault::Program(refused) if refused.number <= 25 => write!(f, " at {}", refused.slot),
+            Fault::NoFrames { need, have } => write!(f, " need {need} have {have}"),
+            _ => Ok(()),
+        }
+    }
+}
+
+#[cfg(test)]
+mod tests {
+    use super::*;
+    use std::test::Fail;
+
+    #[test]
+    fn prints_refusals(rt: HostRuntime) -> Result<(), Fail> {
+        let outside = Refused {
+            number: 16,
+            slot: 3,
+        };
+        let memory = Refused {
+            number: 41,
+            slot: 0,
+        };
+        let rows = [
+            (Fault::Program(outside), "refused 16 OutsideContext at 3"),
+            (Fault::Program(memory), "refused 41 OutOfMemory"),
+            (
+                Fault::NoFrames { need: 2, have: 1 },
+                "refused 31 NoFrames need 2 have 1",
+            ),
+            (Fault::TooManyPrograms, "refused 45 TooManyPrograms"),
+        ];
+        for (fault, want) in rows {
+            let printed = format!(in rt.alloc(); "{fault}")?;
+            assert_eq!(rt; printed.as_str(), want);
+        }
+        Ok(())
+    }
+}

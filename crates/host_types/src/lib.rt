@@ -1,0 +1,12 @@
+//! The plain types that every crate of the host stands on: shapes of maps, pages, options and
+//! refusals. The definitions that several crates cite stand in `specs/`: little-endian numbers,
+//! the layout of addresses, and a tenant's flat memory.
+#![tactic(auto)]
+
+mod fault;
+mod options;
+mod shape;
+
+pub use fault::{Fault, Refused};
+pub use options::{Opt, Options};
+pub use shape::{MapNo, Page, Shape};

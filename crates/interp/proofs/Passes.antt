@@ -1,0 +1,71 @@
+-- What is known of questions that broke no rule.
+use Rattle.std.specs.Prelude.{◌≡◌, ℕ, ◌+◌, ◌%◌, ◌≤◌, nat_le, ◌==◌, ℤ, pos, negsuc, ◌+ℤ◌, Bool, true, false, not, if◌then◌else◌, Option, Some, None, Result, Ok, Err, refl}
+use Rattle.std.proofs.Common.{arith}
+use Rattle.std.proofs.lemmas.Bool.Decides.{nat_tests}
+use Rattle.verifier_kinds.specs.declared.kind.Kind.{Kind}
+use Rattle.verifier_kinds.specs.declared.description.Description.{Description}
+use Rattle.verifier_kinds.specs.Descriptions.{with_kind}
+use Rattle.verifier.specs.Flow.{◌>>=◌, both, holds_or, known_or, writable, write_kind, lies_below, aligned, context_place, stack_place}
+
+-- both questions passed, with the parts of the answer
+pub both_passed : {A B : Type 0} (a : Result A ℕ) (b : Result B ℕ) (x : A × B) → both a b ≡ Ok x → (a ≡ Ok x.0) × (b ≡ Ok x.1)
+both_passed (Ok u) (Ok v) x e = let same : (u, v) ≡ x = cc in (cc, cc)
+both_passed (Ok u) (Err n) x e = cc
+both_passed (Err m) (Ok v) x e = cc
+both_passed (Err m) (Err n) x e = cc
+
+-- the first question passed, and the second that was asked of its answer
+pub then_passed : {A B : Type 0} (a : Result A ℕ) (f : A → Result B ℕ) (y : B) → (a >>= f) ≡ Ok y → (x : A) × (a ≡ Ok x) × (f x ≡ Ok y)
+then_passed (Ok x) f y e = (x, refl, e)
+then_passed (Err n) f y e = cc
+
+-- the test holds
+pub held : (test : Bool) (rule : ℕ) (x : Unit {0}) → holds_or test rule ≡ Ok x → test ≡ true
+held true rule x e = refl
+held false rule x e = cc
+
+-- it is known
+pub was_known : {A : Type 0} (o : Option A) (rule : ℕ) (x : A) → known_or o rule ≡ Ok x → o ≡ Some x
+was_known (Some y) rule x e = cc
+was_known None rule x e = cc
+
+-- the place is the offset, and all the bytes lie below the end
+pub lay_below : (offset : ℤ) (size end rule at : ℕ) → lies_below offset size end rule ≡ Ok at → (offset ≡ pos at) × (at + size ≤ end)
+lay_below (pos n) size end rule at e = below_by (nat_le (n + size) end) refl e
+  where
+    below_by : (b : Bool) → nat_le (n + size) end ≡ b → (if b then Ok n else Err rule) ≡ Ok at → (pos n ≡ pos at) × (at + size ≤ end)
+    below_by true q e = grind (arith, nat_tests)
+    below_by false q e = cc
+lay_below (negsuc n) size end rule at e = cc
+
+-- the place is a multiple of the size
+pub was_aligned : (from size at : ℕ) → aligned from size ≡ Ok at → (from ≡ at) × (at % size ≡ 0)
+was_aligned from size at e = by_test (from % size == 0) refl e
+  where
+    by_test : (b : Bool) → (from % size == 0) ≡ b → if◌then◌else◌ {A = Result ℕ ℕ} b (Ok from) (Err 20) ≡ Ok at → (from ≡ at) × (at % size ≡ 0)
+    by_test true q e = grind (arith, nat_tests)
+    by_test false q e = cc
+
+-- the place in the context of an access that is let through
+pub context_passed : (context_size : ℕ) (offset : ℤ) (at : ℕ) → context_place context_size offset 8 ≡ Ok at → (offset ≡ pos at) × (at + 8 ≤ context_size) × (at % 8 ≡ 0)
+context_passed context_size offset at e =
+    let (from, below, after) = then_passed (lies_below offset 8 context_size 16) (λ from. aligned from 8) at e in
+    let (is, within) = lay_below offset 8 context_size 16 from below in
+    let (same, whole) = was_aligned from 8 at after in
+    (rw (← same) is, omega arith, whole)
+
+-- the place in the stack of an access that is let through
+pub stack_passed : (offset : ℤ) (at : ℕ) → stack_place offset 8 ≡ Ok at → (offset +ℤ pos 512 ≡ pos at) × (at + 8 ≤ 512) × (at % 8 ≡ 0)
+stack_passed offset at e =
+    let (from, below, after) = then_passed (lies_below (offset +ℤ pos 512) 8 512 17) (λ from. aligned from 8) at e in
+    let (is, within) = lay_below (offset +ℤ pos 512) 8 512 17 from below in
+    let (same, whole) = was_aligned from 8 at after in
+    (rw (← same) is, omega arith, whole)
+
+-- a kind is written to a register that isn't R10
+pub write_passed : (d : Description) (i : ℕ) (given : Result Kind ℕ) (e : Description) → write_kind d i given ≡ Ok e
+    → (kind : Kind) × (given ≡ Ok kind) × (not (i == 10) ≡ true) × (with_kind d i kind ≡ e)
+write_passed d i given e h =
+    let (x, passed, is) = then_passed (both given (writable i)) (λ x. Ok (with_kind d i x.0)) e h in
+    let (known, may) = both_passed given (writable i) x passed in
+    (x.0, known, held (not (i == 10)) 22 x.1 may, cc)

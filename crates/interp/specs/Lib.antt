@@ -1,0 +1,5 @@
+pub mod Machine
+pub mod Runs
+pub mod Fits
+pub mod StandsFor
+pub mod Plain

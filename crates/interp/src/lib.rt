@@ -1,0 +1,11 @@
+//! The interpreter: an accepted program runs without any test of its accesses, and each of its steps
+//! is the standard's (RFC 9669, sections 4 and 5).
+#![tactic(auto)]
+
+mod need;
+mod run;
+#[cfg(test)]
+mod tests;
+
+pub use need::Need;
+pub use run::Run;

@@ -1,0 +1,56 @@
+use crate::Memory;
+use host_types::{Fault, Options};
+use std::test::Fail;
+
+/// Two tenants and four frames, of which one is the zero frame: each tenant has a map of one page.
+#[test]
+fn each_map_takes_its_pages(rt: HostRuntime) -> Result<(), Fail> {
+    let mut memory = Memory::new(rt.alloc(), 4, 2, Options::standard())?;
+    assert_eq!(rt; memory.free(), 3);
+    assert_eq!(rt; memory.create_map(0, 8, 1, true)?, 0);
+    assert_eq!(rt; memory.create_map(1, 8, 1, true)?, 0);
+    assert_eq!(rt; memory.free(), 1);
+    assert_eq!(rt; memory.have(), 1);
+    assert_eq!(rt;
+        memory.create_map(0, 24, 200, true),
+        Err(Fault::NoFrames { need: 2, have: 1 })
+    );
+    assert_eq!(rt; memory.free(), 1);
+    assert_eq!(rt; memory.create_map(0, 4096, 1, false)?, 1);
+    assert_eq!(rt; memory.free(), 0);
+    Ok(())
+}
+
+#[test]
+fn stores_reach_their_bytes_alone(rt: HostRuntime) -> Result<(), Fail> {
+    let mut memory = Memory::new(rt.alloc(), 4, 2, Options::standard())?;
+    let mine = memory.create_map(0, 8, 1, true)?;
+    let other = memory.create_map(1, 8, 1, true)?;
+    memory.store(0, mine, 0, 8, 0x0807_0605_0403_0201);
+    memory.store(0, mine, 2, 2, 0xffff_abcd);
+    assert_eq!(rt; memory.load(0, mine, 0, 8), 0x0807_0605_abcd_0201);
+    assert_eq!(rt; memory.load(0, mine, 4, 4), 0x0807_0605);
+    assert_eq!(rt; memory.load(0, mine, 3, 1), 0xab);
+    assert_eq!(rt; memory.load(1, other, 0, 8), 0);
+    Ok(())
+}
+
+#[test]
+fn the_first_refusal_is_named(rt: HostRuntime) -> Result<(), Fail> {
+    let odd = Options {
+        max_page_sharing: 1,
+        ..Options::standard()
+    };
+    assert!(rt; matches!(Memory::new(rt.alloc(), 1, 1, odd), Err(Fault::BadShape)));
+    assert!(rt; matches!(Memory::new(rt.alloc(), 2, 17, odd), Err(Fault::BadShape)));
+    assert!(rt; matches!(Memory::new(rt.alloc(), 2, 1, odd), Err(Fault::BadOption)));
+
+    let mut memory = Memory::new(rt.alloc(), 10, 1, Options::standard())?;
+    assert_eq!(rt; memory.create_map(1, 0, 0, true), Err(Fault::BadTenant));
+    assert_eq!(rt; memory.create_map(0, 0, 1, true), Err(Fault::BadShape));
+    for number in 0..8 {
+        assert_eq!(rt; memory.create_map(0, 1, 1, true)?, number);
+    }
+    assert_eq!(rt; memory.create_map(0, 0, 1, true), Err(Fault::TooManyMaps));
+    Ok(())
+}

@@ -1,0 +1,32 @@
+-- What a step and a run of the machine made.
+use Rattle.std.specs.Prelude.{◌≡◌, ℕ, ◌<◌, ◌≤◌, List, Option, Some, None}
+use Rattle.interp.specs.Machine.{MachineState, Next, Exits, register, step}
+use Rattle.interp.specs.Runs.{Reaches}
+use Rattle.plain_machine.specs.declared.machine.Made.{Made}
+use Rattle.plain_machine.specs.declared.machine.Made.TheVariants as made
+use Rattle.plain_machine.specs.declared.machine.Ending.{Ending}
+use Rattle.plain_machine.specs.declared.machine.Ending.TheVariants.{Exited, Faulted, Cut}
+
+-- what a step is said to have made is what the standard's step makes; an exit and a fault leave the state
+abbrev pub IsMade : List ℕ → MachineState → Made → MachineState → Type 0
+IsMade text old made.Next new = step text old ≡ Some (Next new)
+IsMade text old (made.Exits number) new = (step text old ≡ Some (Exits number old.memory.maps)) × (new ≡ old)
+IsMade text old made.Fault new = (step text old ≡ None) × (new ≡ old)
+
+-- what an exit makes: R0's number, or a fault where it isn't set
+abbrev pub IsExit : MachineState → Made → Type 0
+IsExit s made.Next = ⊥
+IsExit s (made.Exits number) = register s 0 ≡ Some number
+IsExit s made.Fault = register s 0 ≡ None
+
+-- what was done goes on at the slot behind; what wasn't is a fault
+abbrev pub IsPassed : Option (Unit {0}) → ℕ → MachineState → Made → MachineState → Type 0
+IsPassed (Some _) behind old result new = (result ≡ made.Next) × (new ≡ record old { slot = behind })
+IsPassed None behind old result new = (result ≡ made.Fault) × (new ≡ old)
+
+-- The steps of a run, at most as many as were allowed, lead to its end: the exit with these maps, the
+-- state whose step is a fault, or the state after as many steps as were allowed.
+abbrev pub IsEnding : List ℕ → MachineState → ℕ → Ending → MachineState → Type 0
+IsEnding text old most (Exited number steps) new = (steps ≤ most) × Reaches text old steps (Exits number new.memory.maps)
+IsEnding text old most (Faulted steps) new = (steps < most) × Reaches text old steps (Next new) × (step text new ≡ None)
+IsEnding text old most Cut new = Reaches text old most (Next new)

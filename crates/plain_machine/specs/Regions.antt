@@ -1,0 +1,40 @@
+-- Reads and writes in the three kinds of regions.
+use Rattle.std.specs.Prelude.{ℕ, ◌+◌, nat_le, if◌then◌else◌, length, map, slice_set, option_map, Option, Some, None}
+use Rattle.host_types.specs.Bytes.{number_of, bytes_of, part_of, with_part}
+use Rattle.host_types.specs.Layout.{stack_size}
+use Rattle.host_types.specs.Memory.{FlatMap, FlatMemory, ◌>>=◌, only_if, all_set, map_at, is_in_value}
+
+-- the number of bytes of the context
+abbrev pub number_in_context : FlatMemory → ℕ → ℕ → Option ℕ
+number_in_context memory at size =
+    only_if (nat_le (at + size) (length memory.context)) (number_of (part_of memory.context at size))
+
+-- the number of bytes of the stack, if each of them is set
+abbrev pub number_in_stack : FlatMemory → ℕ → ℕ → Option ℕ
+number_in_stack memory at size =
+    if nat_le (at + size) stack_size then option_map number_of (all_set (part_of memory.stack at size)) else None
+
+-- the number of bytes of a map, if they lie whole in the value of one element
+abbrev pub number_in_map : FlatMemory → ℕ → ℕ → ℕ → Option ℕ
+number_in_map memory m at size =
+    map_at memory.maps m >>= λ flat. only_if (is_in_value flat.shape at size) (number_of (part_of flat.bytes at size))
+
+-- the memory with a double word written to the stack
+abbrev pub with_double_word_in_stack : FlatMemory → ℕ → ℕ → Option FlatMemory
+with_double_word_in_stack memory at number =
+    only_if (nat_le (at + 8) stack_size) (record memory { stack = with_part memory.stack at (map Some (bytes_of 8 number)) })
+
+-- the map with a double word written to it
+abbrev pub with_double_word : FlatMap → ℕ → ℕ → FlatMap
+with_double_word flat at number = record flat { bytes = with_part flat.bytes at (bytes_of 8 number) }
+
+-- the memory with a double word written to a map, if it lies whole in the value of one element
+abbrev pub with_double_word_in_map : FlatMemory → ℕ → ℕ → ℕ → Option FlatMemory
+with_double_word_in_map memory m at number =
+    map_at memory.maps m >>= λ flat.
+    only_if (is_in_value flat.shape at 8) (record memory { maps = slice_set memory.maps m (Some (with_double_word flat at number)) })
+
+-- the memory with a double word written to a map that is there
+abbrev pub with_double_word_put : FlatMemory → ℕ → ℕ → ℕ → FlatMemory
+with_double_word_put memory m at number =
+    record memory { maps = slice_set memory.maps m (option_map (λ flat. with_double_word flat at number) (map_at memory.maps m)) }

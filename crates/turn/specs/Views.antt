@@ -1,0 +1,28 @@
+-- What a seat knows of the one memory: the parts of its own tenants.
+use Rattle.std.specs.Prelude.{◌≡◌, ◌<◌, ◌≤◌, ℕ, true, false}
+use Rattle.page_table.specs.State.{MemoryState, part}
+use Rattle.turn.specs.declared.view.View.{View}
+
+-- the tenant is one of the view's own
+abbrev pub Has : View → ℕ → Type 0
+Has view t = (view.first ≤ t) × (t < view.end)
+
+-- the view's own tenants have in the memory the parts that the view remembers
+abbrev pub Agrees : View → MemoryState → Type 0
+Agrees view memory = (t : ℕ) → Has view t → part memory t ≡ part view.seen t
+
+-- every other tenant has in the memory the part that the view remembers
+abbrev pub Spares : View → MemoryState → Type 0
+Spares view memory = (t : ℕ) → ¬ (Has view t) → part memory t ≡ part view.seen t
+
+-- the view of a new seat: its tenants' parts of a memory
+abbrev pub new_view : ℕ → ℕ → MemoryState → View
+new_view first end memory = record { first = first; end = end; holds = false; seen = memory }
+
+-- the view while it holds the memory: all parts as they were taken
+abbrev pub holding : View → MemoryState → View
+holding view memory = record view { holds = true; seen = memory }
+
+-- the view after it gave a memory: its own parts of that one
+abbrev pub resting : View → MemoryState → View
+resting view memory = record view { holds = false; seen = memory }

@@ -1,0 +1,16 @@
+//! The turn: one memory that many threads take, change and give back, each with a seat of its own.
+//! A seat knows its tenant's part of the memory, and what it knows outlives the turns of all others.
+#![tactic(auto)]
+
+mod held;
+mod rule;
+mod seat;
+#[cfg(test)]
+mod tests;
+mod turn;
+mod view;
+
+pub use held::Held;
+pub use seat::{HostSeat, Kind, OfHost, OfScanner, OfTenant, Place, ScanSeat, Seat};
+pub use turn::Turn;
+pub use view::View;

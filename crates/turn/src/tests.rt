@@ -1,0 +1,148 @@
+ghost use Rattle.std.specs.Prelude.{◌≤◌, length, IfOk};
+ghost use Rattle.page_table.specs.State.{map_bytes};
+ghost use Rattle.turn.specs.Seats.{IsIdle, part_of};
+
+use crate::{Seat, Turn};
+use host_types::{Fault, MapNo, Options};
+use page_table::Memory;
+use std::alloc::Global;
+use std::sync::Wait;
+use std::test::Fail;
+use std::thread;
+
+/// Two tenants, four frames, and a map of one number for each tenant.
+struct Two {
+    turn: Turn,
+    first: Seat,
+    second: Seat,
+    first_map: MapNo,
+    second_map: MapNo,
+}
+
+fn two_tenants(alloc: Global) -> Result<Two, Fault>
+    ensures first { IfOk result (λ two. IsIdle two.turn two.first) }
+    ensures second { IfOk result (λ two. IsIdle two.turn two.second) }
+    ensures first_map { IfOk result (λ two. 8 ≤ length (map_bytes (part_of two.first) two.first_map)) }
+    ensures second_map { IfOk result (λ two. 8 ≤ length (map_bytes (part_of two.second) two.second_map)) }
+{
+    let mut memory = Memory::new(alloc, 4, 2, Options::standard())?;
+    let first_map = memory.create_map(0, 8, 1, true)?;
+    let second_map = memory.create_map(1, 8, 1, true)?;
+    let (turn, mut seats, _scanner, _host) = Turn::new(alloc, memory, 2)?;
+    let second = seats.remove(1);
+    let first = seats.remove(0);
+    Ok(Two {
+        turn,
+        first,
+        second,
+        first_map,
+        second_map,
+    })
+}
+
+/// One turn, in which the number of a tenant's map grows by one.
+fn add_one(rt: &impl Wait, turn: &Turn, seat: &mut Seat, map: MapNo)
+    requires idle { IsIdle turn.now seat.old }
+    requires map { 8 ≤ length (map_bytes (part_of seat.old) map) }
+    ensures idle { IsIdle turn.now seat.new }
+    ensures map { 8 ≤ length (map_bytes (part_of seat.new) map) }
+{
+    let tenant = seat.tenant();
+    let mut held = turn.take(rt, seat);
+    let number = held.memory().load(tenant, map, 0, 8);
+    held.memory_mut()
+        .store(tenant, map, 0, 8, number.wrapping_add(1));
+    turn.give(seat, held);
+}
+
+/// The number of a tenant's map, in a turn of its own.
+fn number(rt: &impl Wait, turn: &Turn, seat: &mut Seat, map: MapNo) -> u64
+    requires idle { IsIdle turn.now seat.old }
+    requires map { 8 ≤ length (map_bytes (part_of seat.old) map) }
+    ensures idle { IsIdle turn.now seat.new }
+    ensures map { 8 ≤ length (map_bytes (part_of seat.new) map) }
+{
+    let tenant = seat.tenant();
+    let held = turn.take(rt, seat);
+    let number = held.memory().load(tenant, map, 0, 8);
+    turn.give(seat, held);
+    number
+}
+
+/// A thousand turns.
+fn add_thousand(rt: &impl Wait, turn: &Turn, mut seat: Seat, map: MapNo) -> Seat
+    requires idle { IsIdle turn.now seat }
+    requires map { 8 ≤ length (map_bytes (part_of seat) map) }
+    ensures idle { IsIdle turn.now result }
+    ensures map { 8 ≤ length (map_bytes (part_of result) map) }
+{
+    for _turn in 0..1000 {
+        add_one(rt, turn, &mut seat, map);
+    }
+    seat
+}
+
+#[test]
+fn two_threads_count_to_a_thousand(rt: HostRuntime) -> Result<(), Fail> {
+    let Two {
+        turn,
+        first,
+        second,
+        first_map,
+        second_map,
+    } = two_tenants(rt.alloc())?;
+    let (mut first, mut second) = thread::join(
+        &rt,
+        || add_thousand(&rt, &turn, first, first_map),
+        || add_thousand(&rt, &turn, second, second_map),
+    );
+    assert_eq!(rt; number(&rt, &turn, &mut first, first_map), 1000);
+    assert_eq!(rt; number(&rt, &turn, &mut second, second_map), 1000);
+    let tenant = first.tenant();
+    assert_eq!(rt; tenant, 0);
+    let Some(memory) = turn.close(first) else {
+        panic!(rt; "the memory is out")
+    };
+    assert_eq!(rt; memory.load(tenant, first_map, 0, 8), 1000);
+    Ok(())
+}
+
+#[test]
+fn try_take_never_wins(rt: HostRuntime) -> Result<(), Fail> {
+    let Two {
+        turn,
+        mut first,
+        mut second,
+        first_map: _,
+        second_map: _,
+    } = two_tenants(rt.alloc())?;
+    let Some(held) = turn.try_take(&mut first) else {
+        panic!(rt; "nothing is held, and the try is lost")
+    };
+    if let Some(other) = turn.try_take(&mut second) {
+        turn.give(&mut second, other);
+        panic!(rt; "the memory is out, and the try is won");
+    }
+    turn.give(&mut first, held);
+    let Some(held) = turn.try_take(&mut second) else {
+        panic!(rt; "the memory was given, and the try is lost")
+    };
+    turn.give(&mut second, held);
+    Ok(())
+}
+
+#[test]
+fn a_turn_has_a_seat_for_each_tenant(rt: HostRuntime) -> Result<(), Fail> {
+    let memory = Memory::new(rt.alloc(), 2, 3, Options::standard())?;
+    let refused = Turn::new(rt.alloc(), memory, 2);
+    assert!(rt; matches!(refused, Err(Fault::BadShape)));
+    let memory = Memory::new(rt.alloc(), 2, 3, Options::standard())?;
+    let (turn, seats, _scanner, mut host) = Turn::new(rt.alloc(), memory, 3)?;
+    for (tenant, seat) in seats.iter().enumerate() {
+        assert_eq!(rt; seat.tenant() as usize, tenant);
+    }
+    let held = turn.take(&rt, &mut host);
+    assert_eq!(rt; held.memory().tenants(), 3);
+    turn.give(&mut host, held);
+    Ok(())
+}

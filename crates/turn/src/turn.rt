@@ -1,0 +1,240 @@
+ghost use Rattle.std.specs.Prelude.{◌≡◌, ◌+◌, ◌<◌, ◌≤◌, ℕ, true, false, [], ◌∷◌, length, Some, slice_get, IfOk, OnOk, IfErr, IfSome, IfNone};
+ghost use Rattle.atomic_table.specs.Seated.{TableId};
+ghost use Rattle.page_table.specs.State.{MemoryState};
+ghost use Rattle.turn.specs.Views.{Agrees, Spares, new_view};
+ghost use Rattle.turn.specs.Seats.{SeatState, took, gave, IsNewSeat, RefusesTurn};
+ghost use Rattle.turn.specs.Held.{memory_of, IsBy};
+
+use crate::held::Held;
+use crate::rule::{CutNone, CutTenant, Give, InTurn, Take};
+use crate::seat::{HostSeat, Kind, Place, ScanSeat, Seat};
+use crate::view::View;
+use atomic_table::{Refused, Table};
+use host_types::Fault;
+use page_table::Memory;
+use std::alloc::{AllocError, Global};
+use std::marker::{Model, PhantomData};
+use std::snapshot::Snapshot;
+use std::sync::Wait;
+use std::sync::atomic::{AtomicU64, Ordering};
+
+/// The word while the memory is home.
+const HOME: u64 = 0;
+
+/// The word while the memory is out.
+const OUT: u64 = 1;
+
+type Token = atomic_table::Seat<Option<Memory>, View>;
+
+/// The one memory, which threads take in turns. Contracts see which turn it is.
+#[derive(Drop)]
+pub struct Turn {
+    table: Table<Option<Memory>, View, Snapshot<Memory>, InTurn, Global>,
+    /// How many threads sleep until the memory is home, or are about to.
+    waiting: AtomicU64,
+}
+
+impl Model for Turn {
+    ghost Value = { TableId };
+
+    ghost view = { λ turn. turn.table.shared.table_id };
+
+    ghost invariant = { λ turn. (turn.table.shared.table_id.words ≡ 1) × (turn.table.shared.table_id.slots ≡ 1) };
+}
+
+impl Turn {
+    /// A turn over a memory, with a seat for each of its tenants, one for the scanner and one for
+    /// the host.
+    ///
+    /// Refusals in their order: 33 where there aren't as many tenants as the memory has, 41 where
+    /// memory ran out. A refusal drops the memory.
+    pub fn new(
+        alloc: Global,
+        memory: Memory,
+        tenants: u32,
+    ) -> Result<(Turn, Vec<Seat>, ScanSeat, HostSeat), Fault>
+        ensures count { IfOk result (λ r. length r.1.items ≡ tenants) }
+        ensures seats { IfOk result (λ r. (t : ℕ) →
+            IfSome (slice_get r.1.items t) (IsNewSeat r.0 t (t + 1) memory)) }
+        ensures scanner { IfOk result (λ r. IsNewSeat r.0 tenants tenants memory r.2) }
+        ensures host { IfOk result (λ r. IsNewSeat r.0 tenants tenants memory r.3) }
+        ensures tenants { OnOk result (tenants ≡ length memory.tenants) }
+        ensures err { IfErr result (RefusesTurn memory tenants) }
+    {
+        if tenants != memory.tenants() {
+            return Err(Fault::BadShape);
+        }
+        match Turn::open(alloc, memory, tenants) {
+            Ok(opened) => Ok(opened),
+            Err(AllocError) => Err(Fault::OutOfMemory),
+        }
+    }
+
+    fn open(
+        alloc: Global,
+        memory: Memory,
+        tenants: u32,
+    ) -> Result<(Turn, Vec<Seat>, ScanSeat, HostSeat), AllocError>
+        requires { tenants ≡ length memory.tenants }
+        ensures count { IfOk result (λ r. length r.1.items ≡ tenants) }
+        ensures seats { IfOk result (λ r. (t : ℕ) →
+            IfSome (slice_get r.1.items t) (IsNewSeat r.0 t (t + 1) memory)) }
+        ensures scanner { IfOk result (λ r. IsNewSeat r.0 tenants tenants memory r.2) }
+        ensures host { IfOk result (λ r. IsNewSeat r.0 tenants tenants memory r.3) }
+    {
+        let mut seats = Vec::with_capacity(alloc, tenants as usize)?;
+        let (turn, mut rest) = Turn::begin(alloc, memory)?;
+        for tenant in 0..tenants {
+            seats.push(turn.cut_tenant(&mut rest, tenant))?;
+        }
+        let scanner = turn.cut_scanner(&mut rest, tenants);
+        let host = Place {
+            token: rest,
+            tenant: tenants,
+            kind: PhantomData,
+        };
+        Ok((turn, seats, scanner, host))
+    }
+
+    /// A turn with the memory home, and a token for all its tenants.
+    fn begin(alloc: Global, memory: Memory) -> Result<(Turn, Token), AllocError>
+        ensures turn { IfOk result (λ r. r.1.table_id ≡ r.0) }
+        ensures all { IfOk result (λ r. r.1.me ≡ (new_view 0 (length memory.tenants) memory, [])) }
+    {
+        let key = Snapshot::of(&memory);
+        let mut slots = Vec::with_capacity(alloc, 1)?;
+        slots.push(Some(memory))?;
+        match Table::new(alloc, &[HOME], slots, &key) {
+            Ok((table, token)) => {
+                let turn = Turn {
+                    table,
+                    waiting: AtomicU64::new(0),
+                };
+                Ok((turn, token))
+            }
+            Err(Refused { slots: _ }) => Err(AllocError),
+        }
+    }
+
+    /// Cuts the seat of the first tenant off a token.
+    fn cut_tenant(&self, rest: &mut Token, tenant: u32) -> Seat
+        requires turn { rest.old.table_id ≡ self.now }
+        requires first { rest.old.me.0.first ≡ tenant }
+        requires some { tenant < rest.old.me.0.end }
+        requires idle { rest.old.me.0.holds ≡ false }
+        ensures turn { rest.new.table_id ≡ rest.old.table_id }
+        ensures rest { rest.new.me ≡ (new_view (tenant + 1) rest.old.me.0.end rest.old.me.0.seen, rest.old.me.1) }
+        ensures seat { IsNewSeat self.now tenant (tenant + 1) rest.old.me.0.seen result }
+    {
+        Place {
+            token: self.table.shared.split_seat::<CutTenant>(rest),
+            tenant,
+            kind: PhantomData,
+        }
+    }
+
+    /// Cuts a seat of no tenant off a token.
+    fn cut_scanner(&self, rest: &mut Token, tenants: u32) -> ScanSeat
+        requires turn { rest.old.table_id ≡ self.now }
+        requires first { rest.old.me.0.first ≡ tenants }
+        requires idle { rest.old.me.0.holds ≡ false }
+        ensures turn { rest.new.table_id ≡ rest.old.table_id }
+        ensures rest { rest.new.me ≡ rest.old.me }
+        ensures seat { IsNewSeat self.now tenants tenants rest.old.me.0.seen result }
+    {
+        Place {
+            token: self.table.shared.split_seat::<CutNone>(rest),
+            tenant: tenants,
+            kind: PhantomData,
+        }
+    }
+
+    /// Takes the memory, and sleeps until it is home.
+    pub fn take<K: Kind>(&self, rt: &impl Wait, seat: &mut Place<K>) -> Held
+        requires turn { seat.old.turn ≡ self.now }
+        requires free { seat.old.view.holds ≡ false }
+        ensures seat { seat.new ≡ took seat.old (memory_of result) }
+        ensures by { IsBy result seat.old }
+        ensures known { Agrees seat.old.view (memory_of result) }
+    {
+        if let Some(held) = self.try_take(seat) {
+            return held;
+        }
+        self.waiting.fetch_add(1, Ordering::SeqCst);
+        let held = self.sleep_and_take(rt, seat);
+        self.waiting.fetch_sub(1, Ordering::SeqCst);
+        held
+    }
+
+    fn sleep_and_take<K: Kind>(&self, rt: &impl Wait, seat: &mut Place<K>) -> Held
+        requires turn { seat.old.turn ≡ self.now }
+        requires free { seat.old.view.holds ≡ false }
+        ensures seat { seat.new ≡ took seat.old (memory_of result) }
+        ensures by { IsBy result seat.old }
+        ensures known { Agrees seat.old.view (memory_of result) }
+    {
+        for _ in rt.forever() {
+            if let Some(held) = self.try_take(seat) {
+                return held;
+            }
+            self.table.shared.park(rt, 0, OUT as u32);
+        }
+        unreachable!()
+    }
+
+    /// Tries once to take the memory, and waits for nobody. `None` comes only after a lost try.
+    pub fn try_take<K: Kind>(&self, seat: &mut Place<K>) -> Option<Held>
+        requires turn { seat.old.turn ≡ self.now }
+        requires free { seat.old.view.holds ≡ false }
+        ensures none { IfNone result (seat.new ≡ seat.old) }
+        ensures seat { IfSome result (λ held. seat.new ≡ took seat.old (memory_of held)) }
+        ensures by { IfSome result (λ held. IsBy held seat.old) }
+        ensures known { IfSome result (λ held. Agrees seat.old.view (memory_of held)) }
+    {
+        let shared = &self.table.shared;
+        let found = shared.compare_exchange::<Take>(&mut seat.token, 0, HOME, OUT);
+        if found != HOME {
+            return None;
+        }
+        let Some(memory) = shared.exchange(&mut seat.token, 0, None) else {
+            unreachable!()
+        };
+        let by = Snapshot::of(&seat.token);
+        Some(Held { memory, by })
+    }
+
+    /// Gives the memory back, and waits for nobody.
+    pub fn give<K: Kind>(&self, seat: &mut Place<K>, held: Held)
+        requires turn { seat.old.turn ≡ self.now }
+        requires holds { seat.old.view.holds ≡ true }
+        requires by { IsBy held seat.old }
+        requires others { Spares seat.old.view (memory_of held) }
+        ensures { seat.new ≡ gave seat.old (memory_of held) }
+    {
+        let Held { memory, by: _ } = held;
+        let shared = &self.table.shared;
+        let _empty = shared.exchange(&mut seat.token, 0, Some(memory));
+        shared.store::<Give>(&mut seat.token, 0, HOME);
+        if self.waiting.load(Ordering::SeqCst) != 0 {
+            shared.wake_one(0);
+        }
+    }
+
+    /// Ends the turn, and gives the memory if it is home. In it the seat's tenant has its part.
+    pub fn close(self, seat: Seat) -> Option<Memory>
+        requires { seat.turn ≡ self }
+        ensures { IfSome result (λ memory. Agrees seat.view memory) }
+    {
+        let Turn { table, waiting: _ } = self;
+        let Place {
+            token,
+            tenant: _,
+            kind: _,
+        } = seat;
+        let mut closed = table.close_with(token);
+        let word = closed.word(0);
+        let memory = closed.take(0);
+        closed.free();
+        if word == HOME { memory } else { None }
+    }
+}

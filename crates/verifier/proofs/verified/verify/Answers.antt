@@ -1,0 +1,14 @@
+use Rattle.std.proofs.Common.{subst}
+use Rattle.verifier.specs.Verified.{IsSubject}
+use Rattle.verifier.proofs.Passes.{passed_verified}
+use Rattle.verifier.proofs.verified.verify.Goals as goal
+
+pub invariant_of-result : goal.invariant_of-result
+invariant_of-result c = record {
+  verified = passed_verified c.in-Ok.candidate c.in_ok-table.table.items (subst IsSubject c.candidate.view_is c.candidate.invariant) c.in_ok-table.ensures.passed;
+  counted = c.count_instructions-instructions.ensures;
+}
+
+pub returns-clause-verified : goal.returns-clause-verified
+returns-clause-verified c =
+    passed_verified c.in-Ok.candidate c.in_ok-table.table.items (subst IsSubject c.candidate.view_is c.candidate.invariant) c.in_ok-table.ensures.passed

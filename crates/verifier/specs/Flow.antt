@@ -1,0 +1,160 @@
+-- What flows on from an instruction, or which rule it breaks (this project's own profile, docs/VERIFIER.md;
+-- the numbers are those of the refusals).
+use Rattle.std.specs.Prelude.{ℕ, ◌+◌, ◌/◌, ◌%◌, nat_lt, nat_le, ◌==◌, ℤ, pos, negsuc, ◌+ℤ◌, Bool, not, if◌then◌else◌, List, [], ◌∷◌, Option, Some, None, Result, Ok, Err}
+use Rattle.host_types.specs.Layout.{stack_size}
+use Rattle.bpf_decode.specs.declared.insn.Insn.{Insn}
+use Rattle.bpf_decode.specs.declared.operation.Source.{Source}
+use Rattle.bpf_decode.specs.declared.operation.Source.TheVariants.{Immediate, Register}
+use Rattle.bpf_decode.specs.declared.operation.AluCode.{AluCode}
+use Rattle.bpf_decode.specs.declared.operation.Operation.{Operation}
+use Rattle.bpf_decode.specs.declared.operation.Operation.TheVariants.{Alu, Load, Store, Exit}
+use Rattle.bpf_decode.specs.Opcodes.{operation_of, sign_extended}
+use Rattle.bpf_decode.specs.Text.{insn_at, slots_of, width_at}
+use Rattle.insn_alu.specs.Arithmetic.{reads_dst}
+use Rattle.verifier_kinds.specs.declared.kind.Align.TheVariants.{One}
+use Rattle.verifier_kinds.specs.declared.kind.Kind.{Kind}
+use Rattle.verifier_kinds.specs.declared.kind.Kind.TheVariants.{Scalar, Context, Stack}
+use Rattle.verifier_kinds.specs.declared.description.StackSlot.{StackSlot}
+use Rattle.verifier_kinds.specs.declared.description.StackSlot.TheVariants.{Kept, Bytes}
+use Rattle.verifier_kinds.specs.declared.description.Description.{Description}
+use Rattle.verifier_kinds.specs.Kinds.{constant, full}
+use Rattle.verifier_kinds.specs.Descriptions.{register_of, slot_of, with_kind, with_slot}
+use Rattle.verifier_kinds.specs.Arithmetic.{arith_by}
+use Rattle.verifier.specs.Subject.{Subject}
+
+infixl 10 ◌>>=◌
+-- a question that is asked only where the one before it breaks no rule
+abbrev pub ◌>>=◌ : {A B : Type 0} → Result A ℕ → (A → Result B ℕ) → Result B ℕ
+(Ok x) >>= f = f x
+(Err n) >>= f = Err n
+
+-- two questions that are asked at once: the smallest number of those that break names the rule
+abbrev pub both : {A B : Type 0} → Result A ℕ → Result B ℕ → Result (A × B) ℕ
+both (Ok x) (Ok y) = Ok (x, y)
+both (Ok x) (Err n) = Err n
+both (Err m) (Ok y) = Err m
+both (Err m) (Err n) = Err (if nat_lt n m then n else m)
+
+-- the test holds, or the rule is broken
+abbrev pub holds_or : Bool → ℕ → Result (Unit {0}) ℕ
+holds_or test rule = if test then Ok tt else Err rule
+
+-- what is known, or the rule is broken
+abbrev pub known_or : {A : Type 0} → Option A → ℕ → Result A ℕ
+known_or (Some x) rule = Ok x
+known_or None rule = Err rule
+
+-- the kind of a register that is read
+abbrev pub read_kind : Description → ℕ → Result Kind ℕ
+read_kind d i = known_or (register_of d i) 14
+
+-- R10 is read-only
+abbrev pub writable : ℕ → Result (Unit {0}) ℕ
+writable i = holds_or (not (i == 10)) 22
+
+-- the description with a kind written to a register
+abbrev pub write_kind : Description → ℕ → Result Kind ℕ → Result Description ℕ
+write_kind d i kind = both kind (writable i) >>= λ x. Ok (with_kind d i x.0)
+
+-- the kind of the second operand of arithmetic
+abbrev pub operand_kind : Source → Insn → Description → Result Kind ℕ
+operand_kind Immediate insn d = Ok (Scalar (constant (sign_extended insn.imm)))
+operand_kind Register insn d = read_kind d insn.src
+
+-- dst is known where the arithmetic reads it
+abbrev pub dst_is_known : AluCode → Insn → Description → Result (Unit {0}) ℕ
+dst_is_known code insn d = if reads_dst code then (read_kind d insn.dst >>= λ kind. Ok tt) else Ok tt
+
+-- the kind that arithmetic leaves in dst
+abbrev pub computed_kind : AluCode → Source → Insn → Description → Result Kind ℕ
+computed_kind code source insn d =
+    both (dst_is_known code insn d) (operand_kind source insn d) >>= λ x. arith_by code (register_of d insn.dst) x.1
+
+-- arithmetic
+unfoldable pub after_alu : AluCode → Source → Insn → Description → Result Description ℕ
+after_alu code source insn d = write_kind d insn.dst (computed_kind code source insn d)
+
+-- the place of `size` bytes that lie whole between 0 and an end
+abbrev pub lies_below : ℤ → ℕ → ℕ → ℕ → Result ℕ ℕ
+lies_below (pos at) size end rule = if nat_le (at + size) end then Ok at else Err rule
+lies_below (negsuc n) size end rule = Err rule
+
+-- the place of an access that is aligned to its size
+abbrev pub aligned : ℕ → ℕ → Result ℕ ℕ
+aligned at size = if at % size == 0 then Ok at else Err 20
+
+-- the place in the context of an access at an offset from its beginning
+abbrev pub context_place : ℕ → ℤ → ℕ → Result ℕ ℕ
+context_place context_size offset size = lies_below offset size context_size 16 >>= λ at. aligned at size
+
+-- the place in the stack of an access at an offset from its end
+abbrev pub stack_place : ℤ → ℕ → Result ℕ ℕ
+stack_place offset size = lies_below (offset +ℤ pos stack_size) size stack_size 17 >>= λ at. aligned at size
+
+-- what a double word of the stack holds
+abbrev pub kept_kind : StackSlot → Result Kind ℕ
+kept_kind (Kept kind) = Ok kind
+kept_kind (Bytes set) = Err 18
+
+-- what a double word that is loaded through a base is known to be
+abbrev pub load_kind : Subject → Insn → Description → Kind → Result Kind ℕ
+load_kind p insn d (Context k) = context_place p.context_size (k +ℤ insn.offset) 8 >>= λ at. Ok (Scalar (full One))
+load_kind p insn d (Stack k) = stack_place (k +ℤ insn.offset) 8 >>= λ at. kept_kind (slot_of d (at / 8))
+load_kind p insn d (Scalar range) = Err 15
+
+-- what a double word that is loaded is known to be
+abbrev pub loaded_kind : Subject → Insn → Description → Result Kind ℕ
+loaded_kind p insn d = read_kind d insn.src >>= λ base. load_kind p insn d base
+
+-- a load
+unfoldable pub after_load : Subject → Insn → Description → Result Description ℕ
+after_load p insn d = write_kind d insn.dst (loaded_kind p insn d)
+
+-- where a store through a base goes; the context is read-only
+abbrev pub store_place : Insn → Kind → Result ℕ ℕ
+store_place insn (Stack k) = stack_place (k +ℤ insn.offset) 8
+store_place insn base = Err 15
+
+-- where a store goes
+abbrev pub stored_place : Insn → Description → Result ℕ ℕ
+stored_place insn d = read_kind d insn.dst >>= λ base. store_place insn base
+
+-- a store
+unfoldable pub after_store : Insn → Description → Result Description ℕ
+after_store insn d = do
+  x ← both (read_kind d insn.src) (stored_place insn d)
+  Ok (with_slot d (x.1 / 8) (Kept x.0))
+
+-- R0 is returned, and no pointer is
+abbrev pub is_returned : Kind → Result (Unit {0}) ℕ
+is_returned (Scalar range) = Ok tt
+is_returned pointer = Err 25
+
+-- what is known after an instruction that falls through
+abbrev pub after : Subject → Operation → Insn → Description → Result Description ℕ
+after p (Alu code source) insn d = after_alu code source insn d
+after p Load insn d = after_load p insn d
+after p Store insn d = after_store insn d
+after p Exit insn d = Ok d
+
+-- the slot to which an instruction falls through
+abbrev pub falls_to : List ℕ → ℕ → Result ℕ ℕ
+falls_to text slot = let to = slot + width_at text slot in if nat_lt to (slots_of text) then Ok to else Err 13
+
+-- where an instruction leads that falls through, from what is known after it
+abbrev pub falls_on : Subject → ℕ → Result Description ℕ → Result (List (ℕ × Description)) ℕ
+falls_on p slot after = both after (falls_to p.text slot) >>= λ x. Ok ((x.1, x.0) ∷ [])
+
+-- where EXIT leads: nowhere, if R0 may be returned
+abbrev pub flow_of_exit : Description → Result (List (ℕ × Description)) ℕ
+flow_of_exit d = read_kind d 0 >>= λ kind. is_returned kind >>= λ returned. Ok []
+
+-- Where an operation leads and what is known there: a list of targets, the slot to which it falls
+-- through before the one to which it jumps.
+unfoldable pub flow_by : Subject → Operation → ℕ → Description → Result (List (ℕ × Description)) ℕ
+flow_by p Exit slot d = flow_of_exit d
+flow_by p operation slot d = falls_on p slot (after p operation (insn_at p.text slot) d)
+
+-- where the instruction at a slot leads from a description, or the rule that it breaks
+abbrev pub flow : Subject → ℕ → Description → Result (List (ℕ × Description)) ℕ
+flow p slot d = known_or (operation_of (insn_at p.text slot).opcode) 2 >>= λ operation. flow_by p operation slot d

@@ -1,0 +1,6 @@
+pub mod Subject
+pub mod Flow
+pub mod Table
+pub mod Verified
+pub mod Pass
+pub mod Laws

@@ -1,0 +1,15 @@
+//! The verifier: a program is accepted only with a table that says what is known at each of its
+//! slots, and a refusal names the first slot that breaks a rule (this project's own profile;
+//! docs/VERIFIER.md).
+#![tactic(auto)]
+
+mod candidate;
+mod flow;
+mod laws;
+mod table;
+#[cfg(test)]
+mod tests;
+mod verified;
+
+pub use laws::answer_is_one;
+pub use verified::{Verified, verify};

@@ -1,0 +1,81 @@
+//! The table of a program, made in one pass over its slots.
+
+ghost use Rattle.std.specs.Prelude.{◌≡◌, ℕ, ◌+◌, ◌<◌, [], ◌∷◌, length, IfOk, IfErr, OnOk, None, ◌⊎◌};
+ghost use Rattle.host_types.specs.declared.fault.Refused.{Refused};
+ghost use Rattle.bpf_decode.specs.Text.{slots_of, IsWellFormed, out_of_memory};
+ghost use Rattle.verifier.specs.Table.{described, arrived, IsRefusal};
+ghost use Rattle.verifier.specs.Pass.{IsPassed};
+
+use crate::candidate::Candidate;
+use crate::flow::Target;
+use host_types::Refused;
+use std::alloc::{AllocError, Global};
+use verifier_kinds::Description;
+
+/// The refusal for want of memory.
+pub(crate) const OUT_OF_MEMORY: Refused = Refused {
+    number: 41,
+    slot: 0,
+};
+
+/// Lets a description flow to a slot of which nothing is known before.
+fn enter(table: &mut Vec<Option<Description>>, target: Target)
+    requires within { target.slot < length table.old.items }
+    requires unknown { described table.old.items target.slot ≡ None }
+    ensures len { length table.new.items ≡ length table.old.items }
+    ensures arrived { (s : ℕ) → described table.new.items s ≡ arrived s (described table.old.items s) ((target.slot, target.description) ∷ []) }
+{
+    table[target.slot as usize] = Some(target.description);
+}
+
+/// Lets flow on what is known at a slot. The error is the number of the rule that the slot breaks.
+fn pass_slot(
+    candidate: &Candidate,
+    table: &mut Vec<Option<Description>>,
+    slot: u32,
+) -> Result<(), u32>
+    requires text { IsWellFormed candidate.now.text }
+    requires slot { slot < slots_of candidate.now.text }
+    requires passed { IsPassed candidate.now table.old.items slot }
+    ensures passed { OnOk result (IsPassed candidate.now table.new.items (slot + 1)) }
+    ensures refused { IfErr result (λ number. IsRefusal candidate.now (record { number = number; slot = slot })) }
+{
+    let Some(known) = &table[slot as usize] else {
+        return Ok(());
+    };
+    if let Some(target) = candidate.flow(slot, known)? {
+        enter(table, target);
+    }
+    Ok(())
+}
+
+/// The table with which a pass begins: at slot 0 it is known what a program begins with.
+fn start_table(alloc: Global, candidate: &Candidate) -> Result<Vec<Option<Description>>, AllocError>
+    ensures { IfOk result (λ table. IsPassed candidate.now table.items 0) }
+{
+    let slots = candidate.slots() as usize;
+    let mut table = Vec::new(alloc);
+    table.resize(slots, None)?;
+    table[0] = Some(Description::start());
+    Ok(table)
+}
+
+/// The table of a text in which no slot breaks a rule, or else the refusal of the text. Want of
+/// memory is 41 at slot 0.
+pub(crate) fn make_table(
+    alloc: Global,
+    candidate: &Candidate,
+) -> Result<Vec<Option<Description>>, Refused>
+    ensures passed { IfOk result (λ table. IsPassed candidate.now table.items (slots_of candidate.now.text)) }
+    ensures refused { IfErr result (λ refused. (refused ≡ out_of_memory) ⊎ IsRefusal candidate.now refused) }
+{
+    let Ok(mut table) = start_table(alloc, candidate) else {
+        return Err(OUT_OF_MEMORY);
+    };
+    for slot in 0..candidate.slots() {
+        if let Err(number) = pass_slot(candidate, &mut table, slot) {
+            return Err(Refused { number, slot });
+        }
+    }
+    Ok(table)
+}

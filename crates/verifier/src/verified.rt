@@ -1,0 +1,125 @@
+ghost use Rattle.std.specs.Prelude.{◌≡◌, ◌≤◌, ◌⊎◌, IfOk, IfErr, IsSome};
+ghost use Rattle.bpf_decode.specs.Opcodes.{operation_of};
+ghost use Rattle.bpf_decode.specs.Text.{slots_of, insn_at, instructions_of, IsInstruction, out_of_memory};
+ghost use Rattle.verifier.specs.Subject.{IsContextSize, all_there};
+ghost use Rattle.verifier.specs.Table.{IsRefusal};
+ghost use Rattle.verifier.specs.Verified.{AreShapes, IsVerified, kind_at};
+
+use crate::candidate::Candidate;
+use crate::table::{OUT_OF_MEMORY, make_table};
+use bpf_decode::{Insn, Program};
+use host_types::{Refused, Shape};
+use std::alloc::Global;
+use std::marker::Model;
+use verifier_kinds::{Description, Kind};
+
+/// An accepted program, with the shapes of the maps that it may use, the size of its context, and
+/// what is known at each of its slots. Contracts see these.
+#[derive(Drop)]
+pub struct Verified {
+    candidate: Candidate,
+    table: Vec<Option<Description>>,
+    instructions: u32,
+}
+
+impl Model for Verified {
+    ghost use Rattle.std.specs.Prelude.{◌≡◌};
+    ghost use Rattle.bpf_decode.specs.Text.{instructions_of};
+    ghost use Rattle.verifier.specs.Verified.{Accepted, IsVerified};
+
+    ghost Value = { Accepted };
+
+    ghost view = { λ v. record { subject = v.candidate; table = v.table.items } };
+
+    ghost invariant = { λ v. record {
+      verified : IsVerified (record { subject = v.candidate; table = v.table.items });
+      counted : v.instructions ≡ instructions_of v.candidate.text;
+    } };
+}
+
+impl Verified {
+    /// How many slots the text has, 1 to 4096.
+    pub fn slots(&self) -> u32
+        ensures { result ≡ slots_of self.now.subject.text }
+    {
+        self.candidate.slots()
+    }
+
+    /// How many instructions the text has, reached or not.
+    pub fn instructions(&self) -> u32
+        ensures { result ≡ instructions_of self.now.subject.text }
+    {
+        self.instructions
+    }
+
+    /// The instruction at a slot at which one begins.
+    #[inline]
+    pub fn insn(&self, slot: u32) -> Insn
+        requires { IsInstruction self.now.subject.text slot }
+        ensures fields { result ≡ insn_at self.now.subject.text slot }
+        ensures dst { result.dst ≤ 10 }
+        ensures src { result.src ≤ 10 }
+        ensures operation { IsSome (operation_of result.opcode) }
+    {
+        self.candidate.insn(slot)
+    }
+
+    /// What is known of a register at a slot: `None` where nothing is known of it, or where the
+    /// slot isn't reached.
+    pub fn kind(&self, slot: u32, register: u8) -> Option<Kind>
+        requires { register ≤ 10 }
+        ensures { result ≡ kind_at self.now.table slot register }
+    {
+        let known = self.table.get(slot as usize)?.as_ref()?;
+        known.register(register)
+    }
+
+    /// The shapes of the maps that the program may use, by number.
+    pub fn shapes(&self) -> &[Shape]
+        ensures { all_there result.now ≡ self.now.subject.shapes }
+    {
+        self.candidate.shapes()
+    }
+
+    /// The bytes of the context.
+    pub fn ctx_size(&self) -> u32
+        ensures { result ≡ self.now.subject.context_size }
+    {
+        self.candidate.ctx_size()
+    }
+
+    /// What each accepted program meets. The function does nothing.
+    pub fn facts(&self)
+        ensures { IsVerified self.now }
+    {
+        let _opened = &self.table;
+    }
+}
+
+/// Judges a program that may use maps of these shapes, by number, and whose context has `ctx_size`
+/// bytes. It is accepted if no slot that is reached breaks a rule. A refusal is the first slot that
+/// breaks one, with the smallest number there: 11 to 25; or 41 at slot 0 for want of memory.
+pub fn verify(
+    alloc: Global,
+    program: Program,
+    shapes: &[Shape],
+    ctx_size: u32,
+) -> Result<Verified, Refused>
+    requires shapes { AreShapes shapes.now }
+    requires context { IsContextSize ctx_size }
+    ensures subject { IfOk result (λ v. v.subject ≡ record { text = program; shapes = all_there shapes.now; context_size = ctx_size }) }
+    ensures verified { IfOk result IsVerified }
+    ensures refused { IfErr result (λ refused. (refused ≡ out_of_memory)
+        ⊎ IsRefusal (record { text = program; shapes = all_there shapes.now; context_size = ctx_size }) refused) }
+{
+    let Ok(candidate) = Candidate::new(alloc, program, shapes, ctx_size) else {
+        return Err(OUT_OF_MEMORY);
+    };
+    let table = make_table(alloc, &candidate)?;
+    let instructions = candidate.count_instructions();
+    Ok(Verified {
+        candidate,
+        table,
+        instructions,
+    })
+}

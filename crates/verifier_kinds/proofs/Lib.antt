@@ -1,0 +1,9 @@
+pub mod Descriptions
+pub mod Ranges
+pub mod Sums
+pub mod Moves
+pub mod Order
+pub mod Meaning
+pub mod Joins
+pub mod Least
+pub mod Soundness

@@ -1,0 +1,98 @@
+-- Pointers that a constant moves.
+use Rattle.std.proofs.Common.{◌≡◌, ℕ, suc, ◌+◌, ◌-◌, ◌%◌, ◌<◌, ◌≤◌, ◌^◌, ℤ, pos, negsuc, ◌+ℤ◌, ◌≤ℤ◌, ◌<ℤ◌, ◌&&◌, ◌⊎◌, inl, inr, ◌∙◌, true, false, Result, Ok, Err, sym, ap, subst, arith}
+use Rattle.std.specs.Prelude.{int_le}
+use Rattle.std.specs.Int.{cast_signed, w64}
+use Rattle.std.proofs.lemmas.Int.{ints, to_z_pos}
+use Rattle.std.proofs.Math.Facts.{to_z-neg}
+use Rattle.std.proofs.lemmas.Bool.{cond-true, cond-false, and_from, and_left, and_right, and_parts, cases_Bool, cases_lt}
+use Rattle.verifier_kinds.specs.declared.kind.Range.{Range}
+use Rattle.verifier_kinds.specs.declared.kind.Kind.{Kind}
+use Rattle.verifier_kinds.specs.Kinds.{IsOffset, is_constant}
+use Rattle.verifier_kinds.specs.Arithmetic.{moved, within_offsets}
+
+-- a test on whole numbers says their order
+pub int_le_true : (a b : ℤ) → a ≤ℤ b → int_le a b ≡ true
+int_le_true a b h = grind (arith, ints)
+
+pub int_le_false : (a b : ℤ) → b <ℤ a → int_le a b ≡ false
+int_le_false a b h = grind (arith, ints)
+
+pub true_int_le : (a b : ℤ) → int_le a b ≡ true → a ≤ℤ b
+true_int_le a b t = grind (arith, ints)
+
+pub false_int_le : (a b : ℤ) → int_le a b ≡ false → b <ℤ a
+false_int_le a b t = grind (arith, ints)
+
+-- an offset that a pointer may have is kept
+pub offset_kept : (kind : ℤ → Kind) (rule : ℕ) (k : ℤ) → IsOffset k → within_offsets kind rule k ≡ Ok (kind k)
+offset_kept kind rule k h =
+    cond-true _ (Ok (kind k)) (Err rule)
+    (and_from (int_le (negsuc 65535) k) (int_le k (pos 65536)) (int_le_true _ _ h.above) (int_le_true _ _ h.below))
+
+-- any other is refused
+pub offset_refused : (kind : ℤ → Kind) (rule : ℕ) (k : ℤ) → (k <ℤ negsuc 65535) ⊎ (pos 65536 <ℤ k) → within_offsets kind rule k ≡ Err rule
+offset_refused kind rule k (inl h) =
+    cond-false _ (Ok (kind k)) (Err rule) (and_left (int_le (negsuc 65535) k) (int_le k (pos 65536)) (int_le_false _ _ h))
+offset_refused kind rule k (inr h) =
+    cond-false _ (Ok (kind k)) (Err rule) (and_right (int_le (negsuc 65535) k) (int_le k (pos 65536)) (int_le_false _ _ h))
+
+-- a move by a constant
+pub moved_by_constant : (kind : ℤ → Kind) (rule : ℕ) (offset : ℤ) (by : Range) → is_constant by ≡ true → moved kind rule offset by ≡ within_offsets kind rule (offset +ℤ cast_signed w64 by.low)
+moved_by_constant kind rule offset by one = cond-true (is_constant by) _ _ one
+
+-- what is kept is an offset that a pointer may have
+kept_is_offset : (kind : ℤ → Kind) (rule : ℕ) (k : ℤ) (result : Kind) → within_offsets kind rule k ≡ Ok result → (result ≡ kind k) × IsOffset k
+kept_is_offset kind rule k result e = elim (cases_Bool (int_le (negsuc 65535) k && int_le k (pos 65536))) [
+  | inl t ↦
+      let parts = and_parts (int_le (negsuc 65535) k) (int_le k (pos 65536)) t in
+      let is : ◌≡◌ {A = Result Kind ℕ} (Ok (kind k)) (Ok result) = sym (cond-true _ (Ok (kind k)) (Err rule) t) ∙ e in
+      (cc, record { above = true_int_le _ _ parts.0; below = true_int_le _ _ parts.1 })
+  | inr f ↦
+      let is : ◌≡◌ {A = Result Kind ℕ} (Err rule) (Ok result) = sym (cond-false _ (Ok (kind k)) (Err rule) f) ∙ e in
+      cc
+]
+
+-- a pointer moves by a constant alone, to an offset that a pointer may have
+pub moved_is : (kind : ℤ → Kind) (rule : ℕ) (offset : ℤ) (by : Range) (result : Kind) → moved kind rule offset by ≡ Ok result → (is_constant by ≡ true) × (result ≡ kind (offset +ℤ cast_signed w64 by.low)) × IsOffset (offset +ℤ cast_signed w64 by.low)
+moved_is kind rule offset by result e = elim (cases_Bool (is_constant by)) [
+  | inl t ↦
+      let kept = kept_is_offset kind rule (offset +ℤ cast_signed w64 by.low) result (sym (moved_by_constant kind rule offset by t) ∙ e) in
+      (t, kept.0, kept.1)
+  | inr f ↦
+      let is : ◌≡◌ {A = Result Kind ℕ} (Err 15) (Ok result) = sym (cond-false (is_constant by) (within_offsets kind rule (offset +ℤ cast_signed w64 by.low)) (Err 15) f) ∙ e in
+      cc
+]
+
+-- moving an address up by a number below 2^63, and down by one that lacks k + 1 to 2^64
+moved_up : (base : ℕ) (offset : ℤ) (n y : ℕ) → 65536 ≤ base → base < 2 ^ 63 → pos n ≡ pos base +ℤ offset → IsOffset (offset +ℤ pos y) → pos ((n + y) % 2 ^ 64) ≡ pos base +ℤ (offset +ℤ pos y)
+moved_up base offset n y low high is h =
+    let above = h.above in
+    let below = h.below in
+    let sum : n + y < 2 ^ 64 = omega (arith, ints) in
+    let same : (n + y) % 2 ^ 64 ≡ n + y = omega arith in
+    rw same (omega (arith, ints))
+
+moved_down : (base : ℕ) (offset : ℤ) (n y k : ℕ) → 65536 ≤ base → base < 2 ^ 63 → pos n ≡ pos base +ℤ offset → k + 1 + y ≡ 2 ^ 64 → k < 2 ^ 63 → IsOffset (offset +ℤ negsuc k) → pos ((n + y) % 2 ^ 64) ≡ pos base +ℤ (offset +ℤ negsuc k)
+moved_down base offset n y k low high is whole small h =
+    let above = h.above in
+    let below = h.below in
+    let least : 2 ^ 64 ≤ n + y = omega (arith, ints) in
+    let most : n + y < 2 ^ 64 + 2 ^ 64 = omega (arith, ints) in
+    let same : (n + y) % 2 ^ 64 + 2 ^ 64 ≡ n + y = omega arith in
+    omega (arith, ints)
+
+-- Moving an address is adding a number modulo 2^64, of which 2^63 or more stands for itself less 2^64:
+-- the regions of memory are far from both ends of the addresses.
+pub moved_address : (base : ℕ) (offset : ℤ) (n y : ℕ) → 65536 ≤ base → base < 2 ^ 63 → pos n ≡ pos base +ℤ offset → y < 2 ^ 64 → IsOffset (offset +ℤ cast_signed w64 y) → pos ((n + y) % 2 ^ 64) ≡ pos base +ℤ (offset +ℤ cast_signed w64 y)
+moved_address base offset n y low high is fits h = elim (cases_lt y (2 ^ 63)) [
+  | inl less ↦
+      let number : cast_signed w64 y ≡ pos y = to_z_pos w64 y less in
+      rw number (moved_up base offset n y low high is (subst (λ z. IsOffset (offset +ℤ z)) number h))
+  | inr more ↦
+      let k : ℕ = 2 ^ 64 - suc y in
+      let whole : k + 1 + y ≡ 2 ^ 64 = omega arith in
+      let small : k < 2 ^ 63 = omega arith in
+      let same : y ≡ 2 ^ 64 - suc k = omega arith in
+      let number : cast_signed w64 y ≡ negsuc k = ap (λ n. cast_signed w64 n) same ∙ to_z-neg w64 k small in
+      rw number (moved_down base offset n y k low high is whole small (subst (λ z. IsOffset (offset +ℤ z)) number h))
+]

@@ -1,0 +1,160 @@
+-- Alignments and normal ranges: which numbers they have, and that sums keep to them.
+use Rattle.std.proofs.Common.{◌≡◌, ℕ, ◌+◌, ◌-◌, ◌*◌, ◌/◌, ◌%◌, ◌^◌, ◌<◌, ◌≤◌, ◌==◌, refl, arith}
+use Rattle.std.proofs.lemmas.Bool.{cond_both, cond-true, eq-eqb, eqb-true}
+use Rattle.verifier_kinds.specs.declared.kind.Align.{Align}
+use Rattle.verifier_kinds.specs.declared.kind.Align.TheVariants.{One, Two, Four, Eight}
+use Rattle.verifier_kinds.specs.Kinds.{factor, least_align, align_of, normal, constant, full, IsIn, IsNormal}
+
+-- a number is divided by the greatest alignment that divides it
+pub divided_by_align_of : (n : ℕ) → n % factor (align_of n) ≡ 0
+divided_by_align_of n =
+    cond_both (n % 8 == 0) Eight _ (λ d. n % factor d ≡ 0) (λ e. eqb-true _ _ e) (λ _.
+    cond_both (n % 4 == 0) Four _ (λ d. n % factor d ≡ 0) (λ e. eqb-true _ _ e) (λ _.
+    cond_both (n % 2 == 0) Two One (λ d. n % factor d ≡ 0) (λ e. eqb-true _ _ e) (λ _. omega arith)))
+
+-- the lower end of a normal range is the least number at or above the raw end that the alignment divides
+pub first_below : (d : Align) (low n : ℕ) → low ≤ n → n % factor d ≡ 0 → (low + (factor d - 1)) / factor d * factor d ≤ n
+first_below One low n h e = omega arith
+first_below Two low n h e = omega arith
+first_below Four low n h e = omega arith
+first_below Eight low n h e = omega arith
+
+pub first_divided : (d : Align) (low : ℕ) → (low + (factor d - 1)) / factor d * factor d % factor d ≡ 0
+first_divided One low = omega arith
+first_divided Two low = omega arith
+first_divided Four low = omega arith
+first_divided Eight low = omega arith
+
+-- the upper end is the greatest such number at or below the raw end
+pub last_above : (d : Align) (n high : ℕ) → n ≤ high → n % factor d ≡ 0 → n ≤ high / factor d * factor d
+last_above One n high h e = omega arith
+last_above Two n high h e = omega arith
+last_above Four n high h e = omega arith
+last_above Eight n high h e = omega arith
+
+pub last_divided : (d : Align) (high : ℕ) → high / factor d * factor d % factor d ≡ 0
+last_divided One high = omega arith
+last_divided Two high = omega arith
+last_divided Four high = omega arith
+last_divided Eight high = omega arith
+
+pub last_below : (d : Align) (high : ℕ) → high / factor d * factor d ≤ high
+last_below One high = omega arith
+last_below Two high = omega arith
+last_below Four high = omega arith
+last_below Eight high = omega arith
+
+-- what both factors divide, the factor of the least alignment divides
+pub divided_by_least_left : (a b : Align) (n : ℕ) → n % factor a ≡ 0 → n % factor (least_align a b) ≡ 0
+divided_by_least_left One One n e = e
+divided_by_least_left One Two n e = e
+divided_by_least_left One Four n e = e
+divided_by_least_left One Eight n e = e
+divided_by_least_left Two One n e = omega arith
+divided_by_least_left Two Two n e = e
+divided_by_least_left Two Four n e = e
+divided_by_least_left Two Eight n e = e
+divided_by_least_left Four One n e = omega arith
+divided_by_least_left Four Two n e = omega arith
+divided_by_least_left Four Four n e = e
+divided_by_least_left Four Eight n e = e
+divided_by_least_left Eight One n e = omega arith
+divided_by_least_left Eight Two n e = omega arith
+divided_by_least_left Eight Four n e = omega arith
+divided_by_least_left Eight Eight n e = e
+
+pub least_align_comm : (a b : Align) → least_align a b ≡ least_align b a
+least_align_comm One One = refl
+least_align_comm One Two = refl
+least_align_comm One Four = refl
+least_align_comm One Eight = refl
+least_align_comm Two One = refl
+least_align_comm Two Two = refl
+least_align_comm Two Four = refl
+least_align_comm Two Eight = refl
+least_align_comm Four One = refl
+least_align_comm Four Two = refl
+least_align_comm Four Four = refl
+least_align_comm Four Eight = refl
+least_align_comm Eight One = refl
+least_align_comm Eight Two = refl
+least_align_comm Eight Four = refl
+least_align_comm Eight Eight = refl
+
+pub divided_by_least_right : (a b : Align) (n : ℕ) → n % factor b ≡ 0 → n % factor (least_align a b) ≡ 0
+divided_by_least_right a b n e = rw (least_align_comm a b) (divided_by_least_left b a n e)
+
+-- an alignment that divides two numbers divides their sum, also after it wraps
+pub sum_divided : (d : Align) (x y : ℕ) → x % factor d ≡ 0 → y % factor d ≡ 0 → (x + y) % factor d ≡ 0
+sum_divided One x y p q = omega arith
+sum_divided Two x y p q = omega arith
+sum_divided Four x y p q = omega arith
+sum_divided Eight x y p q = omega arith
+
+pub wrapped_divided : (d : Align) (n : ℕ) → n % factor d ≡ 0 → n % 2 ^ 64 % factor d ≡ 0
+wrapped_divided One n e = omega arith
+wrapped_divided Two n e = omega arith
+wrapped_divided Four n e = omega arith
+wrapped_divided Eight n e = omega arith
+
+-- a normal range has each number between the raw ends that the alignment divides
+pub in_normal : (low high : ℕ) (d : Align) (n : ℕ) → low ≤ n → n ≤ high → n % factor d ≡ 0 → IsIn (normal low high d) n
+in_normal low high d n p q e =
+    let first : ℕ = (low + (factor d - 1)) / factor d * factor d in
+    let last : ℕ = high / factor d * factor d in
+    let above : first ≤ n = first_below d low n p e in
+    let below : n ≤ last = last_above d n high q e in
+    record {
+      low = above;
+      high = below;
+      aligned = cond_both (first == last) (align_of first) d (λ a. n % factor a ≡ 0)
+          (λ t. let one : n ≡ first = omega (arith, eqb-true _ _ t) in rw one (divided_by_align_of first))
+          (λ _. e);
+    }
+
+-- a normal range that has a number meets what each range of the verifier meets
+pub normal_is_normal : (low high : ℕ) (d : Align) (n : ℕ) → low ≤ n → n ≤ high → n % factor d ≡ 0 → high < 2 ^ 64 → IsNormal (normal low high d)
+normal_is_normal low high d n p q e fits =
+    let first : ℕ = (low + (factor d - 1)) / factor d * factor d in
+    let last : ℕ = high / factor d * factor d in
+    let above : first ≤ n = first_below d low n p e in
+    let below : n ≤ last = last_above d n high q e in
+    let within : last ≤ high = last_below d high in
+    record {
+      ordered = omega arith;
+      fits = omega arith;
+      low = cond_both (first == last) (align_of first) d (λ a. first % factor a ≡ 0)
+          (λ _. divided_by_align_of first) (λ _. first_divided d low);
+      high = cond_both (first == last) (align_of first) d (λ a. last % factor a ≡ 0)
+          (λ t. rw (← eqb-true first last t) (divided_by_align_of first)) (λ _. last_divided d high);
+      single = λ same. cond-true (first == last) (align_of first) d (eq-eqb first last same);
+    }
+
+-- the range of one number
+pub constant_is_normal : (n : ℕ) → n < 2 ^ 64 → IsNormal (constant n)
+constant_is_normal n h = record {
+  ordered = omega arith;
+  fits = h;
+  low = divided_by_align_of n;
+  high = divided_by_align_of n;
+  single = λ _. refl;
+}
+
+pub in_constant : (n : ℕ) → IsIn (constant n) n
+in_constant n = record { low = omega arith; high = omega arith; aligned = divided_by_align_of n }
+
+-- the range of all numbers that an alignment divides
+pub in_full : (d : Align) (n : ℕ) → n < 2 ^ 64 → n % factor d ≡ 0 → IsIn (full d) n
+in_full d n h e = in_normal 0 18446744073709551615 d n (omega arith) (omega arith) e
+
+pub in_full_one : (n : ℕ) → n < 2 ^ 64 → IsIn (full One) n
+in_full_one n h = in_full One n h (omega arith)
+
+pub full_is_normal : (d : Align) → IsNormal (full d)
+full_is_normal d = normal_is_normal 0 18446744073709551615 d 0 (omega arith) (omega arith) (zero_divided d) (omega arith)
+  where
+    zero_divided : (d : Align) → 0 % factor d ≡ 0
+    zero_divided One = refl
+    zero_divided Two = refl
+    zero_divided Four = refl
+    zero_divided Eight = refl

@@ -1,0 +1,201 @@
+/// A power of 2 that is known to divide a number.
+#[derive(Clone, Copy, Debug, PartialEq, Eq)]
+pub enum Align {
+    One,
+    Two,
+    Four,
+    Eight,
+}
+
+impl Align {
+    ghost use Rattle.std.specs.Prelude.{◌≡◌};
+    ghost use Rattle.verifier_kinds.specs.Kinds.{factor, rank, least_align, align_of};
+
+    /// The power of 2 itself.
+    const fn factor(self) -> u64
+        ensures { result ≡ factor self }
+    {
+        match self {
+            Align::One => 1,
+            Align::Two => 2,
+            Align::Four => 4,
+            Align::Eight => 8,
+        }
+    }
+
+    /// The exponent of the power.
+    const fn rank(self) -> u32
+        ensures { result ≡ rank self }
+    {
+        match self {
+            Align::One => 0,
+            Align::Two => 1,
+            Align::Four => 2,
+            Align::Eight => 3,
+        }
+    }
+
+    /// The least of two alignments.
+    fn least(self, other: Align) -> Align
+        ensures { result ≡ least_align self other }
+    {
+        if self.rank() <= other.rank() {
+            self
+        } else {
+            other
+        }
+    }
+
+    /// The greatest alignment that divides a number.
+    fn of(n: u64) -> Align
+        ensures { result ≡ align_of n }
+    {
+        if n % 8 == 0 {
+            Align::Eight
+        } else if n % 4 == 0 {
+            Align::Four
+        } else if n % 2 == 0 {
+            Align::Two
+        } else {
+            Align::One
+        }
+    }
+}
+
+/// The numbers from `low` to `high` that `align` divides.
+#[derive(Clone, Copy, Debug, PartialEq, Eq)]
+pub struct Range {
+    pub low: u64,
+    pub high: u64,
+    pub align: Align,
+}
+
+impl Range {
+    ghost use Rattle.std.specs.Prelude.{◌≡◌, ◌+◌, ◌-◌, ◌^◌, ◌<◌, ◌↔◌, IsTrue};
+    ghost use Rattle.verifier_kinds.specs.Kinds.{IsNormal, IsWithin, constant, factor, full, is_constant, join_of_ranges, normal};
+    ghost use Rattle.verifier_kinds.specs.Arithmetic.{sum_of};
+
+    /// The range of one number.
+    #[tactic(auto, using(crate::proofs::Ranges::constant_is_normal))]
+    pub fn constant(n: u64) -> Range
+        ensures range { result ≡ constant n }
+        ensures normal { IsNormal result }
+    {
+        Range {
+            low: n,
+            high: n,
+            align: Align::of(n),
+        }
+    }
+
+    /// All numbers of 64 bits that the alignment divides.
+    #[tactic(auto, using(crate::proofs::Ranges::full_is_normal))]
+    pub fn full(align: Align) -> Range
+        ensures range { result ≡ full align }
+        ensures normal { IsNormal result }
+    {
+        Range::normal(0, u64::MAX, align)
+    }
+
+    /// The range with its ends moved inward to multiples of the alignment.
+    fn normal(low: u64, high: u64, align: Align) -> Range
+        requires { low + (factor align - 1) < 2 ^ 64 }
+        ensures { result ≡ normal low high align }
+    {
+        let factor = align.factor();
+        let first = (low + (factor - 1)) / factor * factor;
+        let last = high / factor * factor;
+        let align = if first == last {
+            Align::of(first)
+        } else {
+            align
+        };
+        Range {
+            low: first,
+            high: last,
+            align,
+        }
+    }
+
+    /// Whether the range has one number.
+    pub fn is_constant(&self) -> bool
+        ensures { result ≡ is_constant self.now }
+    {
+        self.low == self.high
+    }
+
+    /// The range of the sums with another's numbers.
+    pub(crate) fn plus(self, other: Range) -> Range
+        requires left { IsNormal self }
+        requires right { IsNormal other }
+        ensures { result ≡ sum_of self other }
+    {
+        if self.is_constant() && other.is_constant() {
+            return Range::constant(self.low.wrapping_add(other.low));
+        }
+        let align = self.align.least(other.align);
+        match self.high.checked_add(other.high) {
+            Some(high) => Range::normal(self.low + other.low, high, align),
+            None => Range::full(align),
+        }
+    }
+
+    /// The least range above two.
+    fn join(self, other: Range) -> Range
+        ensures { result ≡ join_of_ranges self other }
+    {
+        Range {
+            low: self.low.min(other.low),
+            high: self.high.max(other.high),
+            align: self.align.least(other.align),
+        }
+    }
+
+    /// Whether the range lies within another.
+    fn is_within(self, outer: Range) -> bool
+        ensures { IsTrue result ↔ IsWithin self outer }
+    {
+        outer.low <= self.low && self.high <= outer.high && outer.align.rank() <= self.align.rank()
+    }
+}
+
+/// What is known of a value that is set. Of a value of which nothing is known there is no kind:
+/// the verifier writes `None`.
+#[derive(Clone, Copy, Debug, PartialEq, Eq)]
+pub enum Kind {
+    /// A number within a range.
+    Scalar(Range),
+    /// The address that lies this many bytes above the context's.
+    Context(i32),
+    /// The address that lies this many bytes above the stack's end.
+    Stack(i32),
+}
+
+impl Kind {
+    ghost use Rattle.std.specs.Prelude.{◌≡◌, ◌↔◌, IsTrue};
+    ghost use Rattle.verifier_kinds.specs.Kinds.{IsKindBelow, join_of_kinds};
+
+    /// The least kind above two, if there is one.
+    pub fn join(self, other: Kind) -> Option<Kind>
+        ensures { result ≡ join_of_kinds self other }
+    {
+        match (self, other) {
+            (Kind::Scalar(a), Kind::Scalar(b)) => Some(Kind::Scalar(a.join(b))),
+            (Kind::Context(a), Kind::Context(b)) => (a == b).then_some(self),
+            (Kind::Stack(a), Kind::Stack(b)) => (a == b).then_some(self),
+            _ => None,
+        }
+    }
+
+    /// Whether the kind says at least as much as another.
+    pub fn is_below(self, other: Kind) -> bool
+        ensures { IsTrue result ↔ IsKindBelow self other }
+    {
+        match (self, other) {
+            (Kind::Scalar(inner), Kind::Scalar(outer)) => inner.is_within(outer),
+            (Kind::Context(a), Kind::Context(b)) => a == b,
+            (Kind::Stack(a), Kind::Stack(b)) => a == b,
+            _ => false,
+        }
+    }
+}
