@@ -1,5 +1,5 @@
-//! Measures where the host spends its life: decoding and verifying a program of 4,096 slots, and the
-//! steps of its run. It prints times, so it does nothing unless it is asked: `rt run -- measure`.
+//! Measures where the host spends its life: decoding and verifying programs of 4,096 slots, and the
+//! steps of their runs. It prints times, so it does nothing unless it is asked: `rt run -- measure`.
 #![tactic(auto)]
 
 ghost use Rattle.std.specs.Prelude.{◌≡◌, [], IfOk};
@@ -23,26 +23,89 @@ const SLOTS: usize = 4096;
 // How often each call is made.
 const ROUNDS: u32 = 200;
 
-// The bytes of instructions that are repeated to fill the program: arithmetic, a store to the stack and
-// a load from it.
-const BLOCK: [[u8; 8]; 8] = [
-    [0x07, 0x06, 0, 0, 1, 0, 0, 0],
-    [0x0f, 0x67, 0, 0, 0, 0, 0, 0],
+// Sets R6 to R9 and the bytes of the stack that the programs read.
+const SETUP: [[u8; 8]; 8] = [
+    [0xb7, 0x06, 0, 0, 0x01, 0, 0, 0],
+    [0xb7, 0x07, 0, 0, 0x02, 0, 0, 0],
+    [0xb7, 0x08, 0, 0, 0x03, 0, 0, 0],
+    [0xb7, 0x09, 0, 0, 0x04, 0, 0, 0],
     [0x7b, 0x7a, 0xf8, 0xff, 0, 0, 0, 0],
-    [0x79, 0xa8, 0xf8, 0xff, 0, 0, 0, 0],
-    [0xbf, 0x89, 0, 0, 0, 0, 0, 0],
-    [0x0f, 0x96, 0, 0, 0, 0, 0, 0],
-    [0xb7, 0x03, 0, 0, 5, 0, 0, 0],
-    [0x0f, 0x36, 0, 0, 0, 0, 0, 0],
+    [0x63, 0x7a, 0xf4, 0xff, 0, 0, 0, 0],
+    [0x6b, 0x7a, 0xf2, 0xff, 0, 0, 0, 0],
+    [0x73, 0x7a, 0xf1, 0xff, 0, 0, 0, 0],
 ];
 
-// A program of 4,096 slots: R6 and R7 are set first, and R0 last.
-fn text(alloc: Global) -> Result<Vec<u8>> {
+// Arithmetic of both widths on R6 to R9.
+const ARITHMETIC: [[u8; 8]; 16] = [
+    [0x07, 0x06, 0, 0, 0x01, 0, 0, 0],
+    [0x0f, 0x67, 0, 0, 0, 0, 0, 0],
+    [0x1f, 0x86, 0, 0, 0, 0, 0, 0],
+    [0x27, 0x07, 0, 0, 0x03, 0, 0, 0],
+    [0x3f, 0x98, 0, 0, 0, 0, 0, 0],
+    [0x4f, 0x79, 0, 0, 0, 0, 0, 0],
+    [0x57, 0x06, 0, 0, 0xff, 0x7f, 0, 0],
+    [0x67, 0x07, 0, 0, 0x03, 0, 0, 0],
+    [0x77, 0x08, 0, 0, 0x02, 0, 0, 0],
+    [0x97, 0x09, 0, 0, 0x07, 0, 0, 0],
+    [0xaf, 0x76, 0, 0, 0, 0, 0, 0],
+    [0xb7, 0x08, 0, 0, 0x05, 0, 0, 0],
+    [0xcf, 0x89, 0, 0, 0, 0, 0, 0],
+    [0x04, 0x06, 0, 0, 0x09, 0, 0, 0],
+    [0xbc, 0x67, 0, 0, 0, 0, 0, 0],
+    [0xdc, 0x08, 0, 0, 0x20, 0, 0, 0],
+];
+
+// Stores to the stack and loads from it, of each size.
+const STACK: [[u8; 8]; 8] = [
+    [0x7b, 0x7a, 0xf8, 0xff, 0, 0, 0, 0],
+    [0x79, 0xa8, 0xf8, 0xff, 0, 0, 0, 0],
+    [0x63, 0x8a, 0xf4, 0xff, 0, 0, 0, 0],
+    [0x61, 0xa9, 0xf4, 0xff, 0, 0, 0, 0],
+    [0x6b, 0x6a, 0xf2, 0xff, 0, 0, 0, 0],
+    [0x69, 0xa7, 0xf2, 0xff, 0, 0, 0, 0],
+    [0x73, 0x9a, 0xf1, 0xff, 0, 0, 0, 0],
+    [0x91, 0xa6, 0xf1, 0xff, 0, 0, 0, 0],
+];
+
+// How the instructions of a program are drawn.
+#[derive(Clone, Copy)]
+enum Mix {
+    Arithmetic,
+    Stack,
+    Random,
+}
+
+impl Mix {
+    fn name(self) -> &'static str {
+        match self {
+            Mix::Arithmetic => "arithmetic",
+            Mix::Stack => "stack access",
+            Mix::Random => "a random mix",
+        }
+    }
+
+    // The instruction at a place, by a number that is drawn for it.
+    fn insn(self, place: usize, drawn: u32) -> [u8; 8] {
+        let drawn = (drawn / 65536) as usize;
+        match self {
+            Mix::Arithmetic => ARITHMETIC[place % 16],
+            Mix::Stack => STACK[place % 8],
+            Mix::Random if drawn % 3 == 0 => STACK[drawn / 3 % 8],
+            Mix::Random => ARITHMETIC[drawn / 3 % 16],
+        }
+    }
+}
+
+// A program of 4,096 slots.
+fn text(alloc: Global, mix: Mix) -> Result<Vec<u8>> {
     let mut text = Vec::new(alloc);
-    text.extend_from_slice(&[0xb7, 0x06, 0, 0, 1, 0, 0, 0])?;
-    text.extend_from_slice(&[0xb7, 0x07, 0, 0, 2, 0, 0, 0])?;
-    for i in 0..SLOTS - 4 {
-        text.extend_from_slice(&BLOCK[i % 8])?;
+    for insn in SETUP {
+        text.extend_from_slice(&insn)?;
+    }
+    let mut drawn: u32 = 1;
+    for place in 0..SLOTS - 10 {
+        drawn = drawn.wrapping_mul(1103515245).wrapping_add(12345);
+        text.extend_from_slice(&mix.insn(place, drawn))?;
     }
     text.extend_from_slice(&[0xbf, 0x60, 0, 0, 0, 0, 0, 0])?;
     text.extend_from_slice(&[0x95, 0, 0, 0, 0, 0, 0, 0])?;
@@ -115,14 +178,22 @@ fn measure_steps(rt: &(impl Clock + Print + AllocGlobal), program: &Verified) ->
     Ok(())
 }
 
+// Measures one program.
+fn measure(rt: &(impl Clock + Print + AllocGlobal), mix: Mix) -> Result<()> {
+    let text = text(rt.alloc(), mix)?;
+    println!(rt; "{}", mix.name())?;
+    measure_verify(rt, text.as_slice())?;
+    let program = accepted(rt.alloc(), text.as_slice()).map_err(refusal)?;
+    measure_steps(rt, &program)
+}
+
 fn main(rt: HostRuntime) -> Result<()> {
     let mut words = env::args(&rt)?;
     let asked = words.nth(1);
     if asked.is_none() {
         return Ok(());
     }
-    let text = text(rt.alloc())?;
-    measure_verify(&rt, text.as_slice())?;
-    let program = accepted(rt.alloc(), text.as_slice()).map_err(refusal)?;
-    measure_steps(&rt, &program)
+    measure(&rt, Mix::Arithmetic)?;
+    measure(&rt, Mix::Stack)?;
+    measure(&rt, Mix::Random)
 }

@@ -1,4 +1,4 @@
-use crate::operation::{Operation, UsedFields};
+use crate::operation::Operation;
 use crate::slot::{i16_at, i32_at, next_imm_at};
 
 /// An instruction's fields (RFC 9669, sections 3.1 and 3.2). `next_imm` is the second immediate of
@@ -22,15 +22,15 @@ const LAST_REGISTER: u8 = 10;
 // The number of an opcode that isn't in the table.
 const UNKNOWN_OPCODE: u32 = 2;
 
-// The number of a field that isn't zero though unused.
-const BAD_FIELD: u32 = 3;
+// The number of a field with a number that means nothing there.
+pub(crate) const BAD_FIELD: u32 = 3;
 
 // The number of a register above R10.
 const BAD_REGISTER: u32 = 4;
 
 impl Insn {
     ghost use Rattle.std.specs.Prelude.{◌≡◌, ◌<◌, ◌%◌, ◌==◌, if◌then◌else◌, length, IsSome, Some};
-    ghost use Rattle.bpf_decode.specs.Opcodes.{wide_opcode, operation_of, leaves_unused, has_registers, insn_fault, sign_extended};
+    ghost use Rattle.bpf_decode.specs.Opcodes.{wide_opcode, operation_of, has_fields, has_registers, insn_fault, sign_extended, wide_immediate};
     ghost use Rattle.bpf_decode.specs.Text.{slots_of, insn_at};
 
     /// The instruction at a slot of a text of whole slots. The second immediate of a wide
@@ -70,6 +70,14 @@ impl Insn {
         i64::from(self.imm).cast_unsigned()
     }
 
+    /// Both immediates of the wide instruction as one number, `next_imm` above `imm` (RFC 9669,
+    /// section 5.4).
+    pub fn wide_immediate(&self) -> u64
+        ensures { result ≡ wide_immediate self.now }
+    {
+        u64::from(self.next_imm) << 32 | u64::from(self.imm.cast_unsigned())
+    }
+
     /// How many slots the instruction takes: two if it is wide, else one.
     pub fn slots(&self) -> u32
         ensures { result ≡ (if self.now.opcode == wide_opcode then 2 else 1) }
@@ -77,7 +85,7 @@ impl Insn {
         if self.opcode == WIDE { 2 } else { 1 }
     }
 
-    // The smallest number of what is wrong with the instruction.
+    // The smallest number of what is wrong with the instruction's fields.
     #[tactic(auto, unfolding(crate::specs::Opcodes::insn_fault))]
     pub(crate) fn fault(&self) -> Option<u32>
         ensures { result ≡ insn_fault self.now }
@@ -85,32 +93,32 @@ impl Insn {
         let Some(operation) = Operation::of(self.opcode) else {
             return Some(UNKNOWN_OPCODE);
         };
-        let used = operation.used_fields();
-        if !self.leaves_unused(used) {
+        if !self.has_fields(operation) {
             return Some(BAD_FIELD);
         }
-        if !self.has_registers(used) {
+        if !self.has_registers(operation) {
             return Some(BAD_REGISTER);
         }
         None
     }
 
-    // Whether each field that isn't used is zero.
-    #[tactic(auto, unfolding(crate::specs::Opcodes::leaves_unused))]
-    fn leaves_unused(&self, used: UsedFields) -> bool
-        ensures { result ≡ leaves_unused used self.now }
+    // Whether each field has a number that the operation gives a meaning to.
+    #[tactic(auto, unfolding(crate::specs::Opcodes::has_fields))]
+    fn has_fields(&self, operation: Operation) -> bool
+        ensures { result ≡ has_fields operation self.now }
     {
-        (used.dst || self.dst == 0)
-            && (used.src || self.src == 0)
-            && (used.offset || self.offset == 0)
-            && (used.imm || self.imm == 0)
+        (operation.uses_dst() || self.dst == 0)
+            && (operation.uses_src() || self.src == 0)
+            && operation.allows_offset(self.offset)
+            && operation.allows_imm(self.imm)
     }
 
     // Whether each register that is used is there.
     #[tactic(auto, unfolding(crate::specs::Opcodes::has_registers))]
-    fn has_registers(&self, used: UsedFields) -> bool
-        ensures { result ≡ has_registers used self.now }
+    fn has_registers(&self, operation: Operation) -> bool
+        ensures { result ≡ has_registers operation self.now }
     {
-        (!used.dst || self.dst <= LAST_REGISTER) && (!used.src || self.src <= LAST_REGISTER)
+        (!operation.uses_dst() || self.dst <= LAST_REGISTER)
+            && (!operation.uses_src() || self.src <= LAST_REGISTER)
     }
 }

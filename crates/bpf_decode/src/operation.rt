@@ -1,63 +1,115 @@
-/// Where the second operand of an arithmetic instruction comes from (RFC 9669, section 4.1).
+/// Where the second operand of arithmetic or of a store comes from (RFC 9669, sections 4.1 and 5.1).
 #[derive(Clone, Copy, Debug, PartialEq, Eq)]
 pub enum Source {
     Immediate,
     Register,
 }
 
-/// What an arithmetic instruction computes (RFC 9669, section 4.1).
+/// How many bits arithmetic computes with, by its class (RFC 9669, section 4.1).
+#[derive(Clone, Copy, Debug, PartialEq, Eq)]
+pub enum Width {
+    /// The low 32 bits; the upper half of dst becomes zero.
+    Bits32,
+    Bits64,
+}
+
+/// How many bytes a load or store takes (RFC 9669, section 5).
+#[derive(Clone, Copy, Debug, PartialEq, Eq)]
+pub enum Size {
+    Byte,
+    HalfWord,
+    Word,
+    DoubleWord,
+}
+
+/// What becomes of the bits above those that are loaded (RFC 9669, sections 5.1 and 5.2).
+#[derive(Clone, Copy, Debug, PartialEq, Eq)]
+pub enum Extension {
+    Zero,
+    Sign,
+}
+
+/// What an arithmetic instruction computes (RFC 9669, sections 4.1 and 4.2). The field `offset`
+/// tells `Div` and `Mod` of their signed forms, and `Mov` of the move with sign extension. The
+/// byte swaps have their width in `imm`, which is their second operand.
 #[derive(Clone, Copy, Debug, PartialEq, Eq)]
 pub enum AluCode {
     Add,
+    Sub,
+    Mul,
+    Div,
+    Or,
+    And,
+    Lsh,
+    Rsh,
+    Neg,
+    Mod,
+    Xor,
     Mov,
+    Arsh,
+    ToLittleEndian,
+    ToBigEndian,
+    SwapBytes,
 }
 
 /// What an opcode says.
 #[derive(Clone, Copy, Debug, PartialEq, Eq)]
 pub enum Operation {
-    /// Arithmetic on 64 bits (RFC 9669, section 4.1).
-    Alu { code: AluCode, source: Source },
-    /// Loads a double word from memory into a register (RFC 9669, section 5.1).
-    Load,
-    /// Stores a register's double word into memory (RFC 9669, section 5.1).
-    Store,
+    /// Arithmetic (RFC 9669, sections 4.1 and 4.2).
+    Alu {
+        code: AluCode,
+        width: Width,
+        source: Source,
+    },
+    /// Loads a number from memory into a register (RFC 9669, sections 5.1 and 5.2).
+    Load {
+        size: Size,
+        extension: Extension,
+    },
+    /// Stores the low bytes of a number into memory (RFC 9669, section 5.1).
+    Store {
+        size: Size,
+        source: Source,
+    },
+    /// Loads the number of both immediates into a register: the wide instruction (RFC 9669,
+    /// section 5.4).
+    LoadImmediate,
     /// Returns R0 (RFC 9669, section 4.3).
     Exit,
 }
 
-// Which fields an instruction uses; each other one is zero.
-#[derive(Clone, Copy)]
-pub(crate) struct UsedFields {
-    pub dst: bool,
-    pub src: bool,
-    pub offset: bool,
-    pub imm: bool,
-}
+// The class in the three low bits of an opcode (RFC 9669, section 3.1).
+const LD: u8 = 0x0;
 
-// The class in the three low bits of an opcode that loads (RFC 9669, section 3.1).
 const LDX: u8 = 0x1;
 
-// The class of stores of a register.
+const ST: u8 = 0x2;
+
 const STX: u8 = 0x3;
 
-// The class of jumps, calls and the exit.
+const ALU: u8 = 0x4;
+
 const JMP: u8 = 0x5;
 
-// The class of arithmetic on 64 bits.
 const ALU64: u8 = 0x7;
 
-// The mode and size in the five high bits of an opcode on a double word of plain memory (RFC 9669,
-// section 5).
-const MEM_DW: u8 = 0x0f;
+// The code of the exit in the five high bits of its opcode (RFC 9669, section 4.3).
+const EXIT: u8 = 0x12;
 
-// The code in the four high bits of an opcode that adds (RFC 9669, section 4.1).
-const ADD: u8 = 0x0;
+// The mode and size of the wide load in the five high bits of its opcode (RFC 9669, section 5.4).
+const IMM_DW: u8 = 0x03;
 
-// The code of a move (RFC 9669, section 4.1).
-const MOV: u8 = 0xb;
+// The mode of plain memory in the three high bits of an opcode (RFC 9669, section 5).
+const MEM: u8 = 0x3;
 
-// The code of the exit (RFC 9669, section 4.3).
-const EXIT: u8 = 0x9;
+// The mode of loads with sign extension.
+const MEMSX: u8 = 0x4;
+
+// The code of a negation in the four high bits of an arithmetic opcode (RFC 9669, section 4.1).
+const NEG: u8 = 0x8;
+
+// The code of a byte swap.
+const END: u8 = 0xd;
 
 impl Source {
     ghost use Rattle.std.specs.Prelude.{◌≡◌};
@@ -74,25 +126,66 @@ impl Source {
     }
 }
 
+impl Size {
+    ghost use Rattle.std.specs.Prelude.{◌≡◌};
+    ghost use Rattle.bpf_decode.specs.Opcodes.{size_of, byte_count};
+
+    // The size in an opcode of a load or store (RFC 9669, section 5).
+    fn of(opcode: u8) -> Self
+        ensures { result ≡ size_of opcode }
+    {
+        match opcode / 8 % 4 {
+            0 => Size::Word,
+            1 => Size::HalfWord,
+            2 => Size::Byte,
+            _ => Size::DoubleWord,
+        }
+    }
+
+    /// How many bytes those are: 1, 2, 4 or 8.
+    pub const fn bytes(self) -> u32
+        ensures { result ≡ byte_count self }
+    {
+        match self {
+            Size::Byte => 1,
+            Size::HalfWord => 2,
+            Size::Word => 4,
+            Size::DoubleWord => 8,
+        }
+    }
+}
+
 impl AluCode {
     ghost use Rattle.std.specs.Prelude.{◌≡◌};
     ghost use Rattle.bpf_decode.specs.Opcodes.{code_of};
 
-    // What the four high bits of an arithmetic opcode say (RFC 9669, section 4.1).
+    // What the four high bits of an opcode of arithmetic with two operands say (RFC 9669, section
+    // 4.1).
+    #[tactic(auto, unfolding(crate::specs::Opcodes::code_of))]
     fn of(opcode: u8) -> Option<Self>
         ensures { result ≡ code_of opcode }
     {
         match opcode / 16 {
-            ADD => Some(AluCode::Add),
-            MOV => Some(AluCode::Mov),
+            0x0 => Some(AluCode::Add),
+            0x1 => Some(AluCode::Sub),
+            0x2 => Some(AluCode::Mul),
+            0x3 => Some(AluCode::Div),
+            0x4 => Some(AluCode::Or),
+            0x5 => Some(AluCode::And),
+            0x6 => Some(AluCode::Lsh),
+            0x7 => Some(AluCode::Rsh),
+            0x9 => Some(AluCode::Mod),
+            0xa => Some(AluCode::Xor),
+            0xb => Some(AluCode::Mov),
+            0xc => Some(AluCode::Arsh),
             _ => None,
         }
     }
 }
 
 impl Operation {
-    ghost use Rattle.std.specs.Prelude.{◌≡◌};
-    ghost use Rattle.bpf_decode.specs.Opcodes.{alu_operation_of, operation_of, fields_of};
+    ghost use Rattle.std.specs.Prelude.{◌≡◌, ℤ, Bool};
+    ghost use Rattle.bpf_decode.specs.Opcodes.{swap_of, negation_of, alu_operation_of, load_of, store_of, wide_of, exit_of, operation_of, uses_dst, uses_src, allows_offset, allows_imm};
 
     /// What an opcode says; `None` if it isn't in the table.
     #[tactic(auto, unfolding(crate::specs::Opcodes::operation_of))]
@@ -100,48 +193,200 @@ impl Operation {
         ensures { result ≡ operation_of opcode }
     {
         match opcode % 8 {
-            ALU64 => Operation::alu(opcode),
-            LDX if opcode / 8 == MEM_DW => Some(Operation::Load),
-            STX if opcode / 8 == MEM_DW => Some(Operation::Store),
-            JMP if opcode / 16 == EXIT && Source::of(opcode) == Source::Immediate => {
-                Some(Operation::Exit)
-            }
+            LD => Operation::wide(opcode),
+            LDX => Operation::load(opcode),
+            ST => Operation::store(Source::Immediate, opcode),
+            STX => Operation::store(Source::Register, opcode),
+            ALU => Operation::alu(Width::Bits32, opcode),
+            JMP => Operation::exit(opcode),
+            ALU64 => Operation::alu(Width::Bits64, opcode),
             _ => None,
         }
     }
 
     // What an opcode of a class of arithmetic says.
-    fn alu(opcode: u8) -> Option<Self>
-        ensures { result ≡ alu_operation_of opcode }
+    #[tactic(auto, unfolding(crate::specs::Opcodes::alu_operation_of))]
+    fn alu(width: Width, opcode: u8) -> Option<Self>
+        ensures { result ≡ alu_operation_of width opcode }
     {
-        let code = AluCode::of(opcode)?;
         let source = Source::of(opcode);
-        Some(Operation::Alu { code, source })
+        match opcode / 16 {
+            NEG => Operation::negation(width, source),
+            END => Operation::swap(width, source),
+            _ => {
+                let code = AluCode::of(opcode)?;
+                Some(Operation::Alu {
+                    code,
+                    width,
+                    source,
+                })
+            }
+        }
     }
 
-    // Which fields an instruction of this operation uses.
-    pub(crate) fn used_fields(self) -> UsedFields
-        ensures { result ≡ fields_of self }
+    // A negation. It has no second operand.
+    fn negation(width: Width, source: Source) -> Option<Self>
+        ensures { result ≡ negation_of width source }
+    {
+        match source {
+            Source::Immediate => Some(Operation::Alu {
+                code: AluCode::Neg,
+                width,
+                source,
+            }),
+            Source::Register => None,
+        }
+    }
+
+    // A byte swap: its source bit isn't that of an operand (RFC 9669, section 4.2).
+    fn swap(width: Width, source: Source) -> Option<Self>
+        ensures { result ≡ swap_of width source }
+    {
+        let code = match (width, source) {
+            (Width::Bits32, Source::Immediate) => AluCode::ToLittleEndian,
+            (Width::Bits32, Source::Register) => AluCode::ToBigEndian,
+            (Width::Bits64, Source::Immediate) => AluCode::SwapBytes,
+            (Width::Bits64, Source::Register) => return None,
+        };
+        Some(Operation::Alu {
+            code,
+            width,
+            source: Source::Immediate,
+        })
+    }
+
+    // What an opcode of the class of loads says.
+    #[tactic(auto, unfolding(crate::specs::Opcodes::load_of))]
+    fn load(opcode: u8) -> Option<Self>
+        ensures { result ≡ load_of opcode }
+    {
+        let size = Size::of(opcode);
+        match opcode / 32 {
+            MEM => Some(Operation::Load {
+                size,
+                extension: Extension::Zero,
+            }),
+            MEMSX if size != Size::DoubleWord => Some(Operation::Load {
+                size,
+                extension: Extension::Sign,
+            }),
+            _ => None,
+        }
+    }
+
+    // What an opcode of a class of stores says.
+    #[tactic(auto, unfolding(crate::specs::Opcodes::store_of))]
+    fn store(source: Source, opcode: u8) -> Option<Self>
+        ensures { result ≡ store_of source opcode }
+    {
+        let size = Size::of(opcode);
+        match opcode / 32 {
+            MEM => Some(Operation::Store { size, source }),
+            _ => None,
+        }
+    }
+
+    // What an opcode of the class of the wide load says.
+    #[tactic(auto, unfolding(crate::specs::Opcodes::wide_of))]
+    fn wide(opcode: u8) -> Option<Self>
+        ensures { result ≡ wide_of opcode }
+    {
+        match opcode / 8 {
+            IMM_DW => Some(Operation::LoadImmediate),
+            _ => None,
+        }
+    }
+
+    // What an opcode of the class of jumps says.
+    #[tactic(auto, unfolding(crate::specs::Opcodes::exit_of))]
+    fn exit(opcode: u8) -> Option<Self>
+        ensures { result ≡ exit_of opcode }
+    {
+        match opcode / 8 {
+            EXIT => Some(Operation::Exit),
+            _ => None,
+        }
+    }
+
+    // Whether the field `dst` names a register.
+    pub(crate) fn uses_dst(self) -> bool
+        ensures { result ≡ uses_dst self }
+    {
+        !matches!(self, Operation::Exit)
+    }
+
+    // Whether the field `src` names a register.
+    pub(crate) fn uses_src(self) -> bool
+        ensures { result ≡ uses_src self }
     {
         match self {
-            Operation::Alu { source, .. } => UsedFields {
-                dst: true,
-                src: source == Source::Register,
-                offset: false,
-                imm: source == Source::Immediate,
-            },
-            Operation::Load | Operation::Store => UsedFields {
-                dst: true,
-                src: true,
-                offset: true,
-                imm: false,
-            },
-            Operation::Exit => UsedFields {
-                dst: false,
-                src: false,
-                offset: false,
-                imm: false,
-            },
+            Operation::Alu { source, .. } | Operation::Store { source, .. } => {
+                source == Source::Register
+            }
+            Operation::Load { .. } => true,
+            Operation::LoadImmediate | Operation::Exit => false,
+        }
+    }
+
+    // Whether a number may stand in the field `offset`.
+    pub(crate) fn allows_offset(self, offset: i16) -> bool
+        ensures { result ≡ allows_offset self offset }
+    {
+        match self {
+            Operation::Alu {
+                code,
+                width,
+                source,
+            } => code.allows_offset(width, source, offset),
+            Operation::Load { .. } | Operation::Store { .. } => true,
+            Operation::LoadImmediate | Operation::Exit => offset == 0,
+        }
+    }
+
+    // Whether a number may stand in the field `imm`.
+    pub(crate) fn allows_imm(self, imm: i32) -> bool
+        ensures { result ≡ allows_imm self imm }
+    {
+        match self {
+            Operation::Alu { code, source, .. } => code.allows_imm(source, imm),
+            Operation::Store { source, .. } => source == Source::Immediate || imm == 0,
+            Operation::LoadImmediate => true,
+            Operation::Load { .. } | Operation::Exit => imm == 0,
+        }
+    }
+}
+
+impl AluCode {
+    ghost use Rattle.std.specs.Prelude.{◌≡◌};
+    ghost use Rattle.bpf_decode.specs.Opcodes.{alu_allows_offset, alu_allows_imm};
+
+    // Whether a number may stand in the field `offset` of arithmetic: 1 is the signed form of a
+    // division, 8, 16 and 32 are the bits of a move with sign extension (RFC 9669, section 4.1).
+    fn allows_offset(self, width: Width, source: Source, offset: i16) -> bool
+        ensures { result ≡ alu_allows_offset self width source offset }
+    {
+        match (self, source) {
+            (AluCode::Div | AluCode::Mod, _) => offset == 0 || offset == 1,
+            (AluCode::Mov, Source::Register) => {
+                offset == 0
+                    || offset == 8
+                    || offset == 16
+                    || (width == Width::Bits64 && offset == 32)
+            }
+            _ => offset == 0,
+        }
+    }
+
+    // Whether a number may stand in the field `imm` of arithmetic: a byte swap has its width there.
+    fn allows_imm(self, source: Source, imm: i32) -> bool
+        ensures { result ≡ alu_allows_imm self source imm }
+    {
+        match self {
+            AluCode::Neg => imm == 0,
+            AluCode::ToLittleEndian | AluCode::ToBigEndian | AluCode::SwapBytes => {
+                imm == 16 || imm == 32 || imm == 64
+            }
+            _ => source == Source::Immediate || imm == 0,
         }
     }
 }

@@ -2,10 +2,13 @@ ghost use Rattle.std.specs.Prelude.{◌≡◌, ◌+◌, ◌*◌, ◌%◌, ◌<�
 ghost use Rattle.std.specs.Int.{cast_signed, w16, w32};
 ghost use Rattle.host_types.specs.Bytes.{number_of, part_of};
 ghost use Rattle.bpf_decode.specs.Opcodes.{wide_opcode};
-ghost use Rattle.bpf_decode.specs.Text.{slots_of, opcode_at};
+ghost use Rattle.bpf_decode.specs.Text.{slots_of, opcode_at, second_slot_fault};
 
-use crate::insn::WIDE;
+use crate::insn::{BAD_FIELD, WIDE};
 use byteorder::{ByteOrder, LittleEndian};
+
+// The number of a wide instruction in the last slot.
+const CUT_WIDE: u32 = 5;
 
 // The second immediate of the instruction at a slot: 0 in a basic instruction, and where the text
 // ends before it.
@@ -21,6 +24,26 @@ pub(crate) fn next_imm_at(text: &[u8], slot: usize) -> u32
     } else {
         0
     }
+}
+
+// What is wrong with the second slot of a wide instruction, whose first one stands at a slot.
+#[tactic(auto, using(crate::proofs::Numbers::number_past_end), unfolding(crate::specs::Text::second_slot_fault))]
+pub(crate) fn second_slot_fault(text: &[u8], slot: usize) -> Option<u32>
+    requires whole { length text.now % 8 ≡ 0 }
+    requires within { slot < slots_of text.now }
+    ensures { result ≡ second_slot_fault text.now slot }
+{
+    let at = 8 * slot;
+    if text[at] != WIDE {
+        return None;
+    }
+    if text.len() - at == 8 {
+        return Some(CUT_WIDE);
+    }
+    if u32_at(text, at + 8) != 0 {
+        return Some(BAD_FIELD);
+    }
+    None
 }
 
 // The little-endian number of the four bytes at a place.

@@ -1,7 +1,8 @@
-ghost use Rattle.std.specs.Prelude.{◌≡◌, ◌↔◌, ◌%◌, length, IsTrue, MatchOption};
-ghost use Rattle.bpf_decode.specs.Text.{HasLength, IsWellFormed, FailsFirst, IsFirstFault, WellFormedHasNoFault, FirstFaultIsOne};
+ghost use Rattle.std.specs.Prelude.{◌≡◌, ◌↔◌, ◌%◌, ◌<◌, length, IsTrue, MatchOption};
+ghost use Rattle.bpf_decode.specs.Text.{slots_of, insn_at, fault_at, HasLength, IsWellFormed, FailsFirst, IsFirstFault, WellFormedHasNoFault, FirstFaultIsOne};
 
 use crate::insn::Insn;
+use crate::slot::second_slot_fault;
 use host_types::Refused;
 
 // The most bytes of a text: 4096 slots of eight bytes.
@@ -38,7 +39,7 @@ fn first_bad_insn(text: &[u8]) -> Option<Refused>
     let mut slot = 0;
     while slot < text.len() / 8 {
         let insn = Insn::read(text, slot);
-        if let Some(number) = insn.fault() {
+        if let Some(number) = fault_at(text, slot, &insn) {
             return Some(Refused {
                 number,
                 slot: slot as u32,
@@ -47,6 +48,21 @@ fn first_bad_insn(text: &[u8]) -> Option<Refused>
         slot += insn.slots() as usize;
     }
     None
+}
+
+// The smallest number of what is wrong at a slot.
+#[tactic(auto, unfolding(crate::specs::Text::fault_at))]
+fn fault_at(text: &[u8], slot: usize, insn: &Insn) -> Option<u32>
+    requires whole { length text.now % 8 ≡ 0 }
+    requires within { slot < slots_of text.now }
+    requires fields { insn.now ≡ insn_at text.now slot }
+    ensures { result ≡ fault_at text.now slot }
+{
+    match (insn.fault(), second_slot_fault(text, slot)) {
+        (None, fault) => fault,
+        (fault, None) => fault,
+        (Some(number), Some(other)) => Some(number.min(other)),
+    }
 }
 
 /// A text that is well formed has no fault, and a text has one first fault. This is a law about the

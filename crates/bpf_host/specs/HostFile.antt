@@ -1,5 +1,5 @@
 -- Host files (this project's own format, docs/HOST.md): what a TOML document says.
-use Rattle.std.specs.Prelude.{◌≡◌, ℕ, ◌≤◌, pos, List, [], ◌∷◌, codes, Any, MatchOption, Option, Some, None, Ok}
+use Rattle.std.specs.Prelude.{◌≡◌, ℕ, ◌≤◌, pos, List, [], ◌∷◌, codes, Any, MatchOption, Option, Some, Ok}
 use Rattle.host_types.specs.declared.options.Options.{Options}
 use Rattle.host_types.specs.OptionTable.{default_options}
 use Rattle.hex.specs.Hex.{decode_of}

@@ -6,6 +6,8 @@ mod event;
 mod fault;
 mod file;
 mod host;
+#[cfg(test)]
+mod memory_tests;
 mod replay;
 mod words;
 
@@ -33,6 +35,9 @@ fn run<R: AllocGlobal + Env + Files + Print>(rt: &R) -> Result<u8, FileFault> {
     let alloc = rt.alloc();
     let words: Vec<String> = match env::args(rt) {
         Ok(words) => words.collect(alloc)?,
+        Err(error) if error.kind() == io::ErrorKind::OutOfMemory => {
+            return Err(FileFault::OutOfMemory(AllocError));
+        }
         Err(_) => return Err(FileFault::Usage(String::from_str(alloc, "the words can't be read")?)),
     };
     match request_of(alloc, words.as_slice())? {

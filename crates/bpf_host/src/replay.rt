@@ -8,6 +8,8 @@ ghost use Rattle.bpf_host.specs.declared.file.HostFile.{HostFile};
 #[cfg(test)]
 mod input_tests;
 #[cfg(test)]
+mod kernel_tests;
+#[cfg(test)]
 mod output_tests;
 
 use crate::bytes::Bytes;

@@ -1,5 +1,8 @@
 //! The words of the command line.
 
+ghost use Rattle.std.specs.Prelude.{IfErr};
+ghost use Rattle.bpf_host.specs.Faults.{IsOfWords};
+
 use crate::fault::FileFault;
 use clap::{Arg, ArgAction, Command};
 use std::alloc::{AllocError, Global};
@@ -13,15 +16,28 @@ pub enum Request<'a> {
 
 /// What words ask for, the program's name being the first of them. All that isn't a request, help
 /// among it, is a fault of usage with the words to print.
-pub fn request_of<'a>(alloc: Global, words: &'a [String]) -> Result<Request<'a>, FileFault> {
-    let matches = match command(alloc)?.try_get_matches_from(words) {
+pub fn request_of<'a>(alloc: Global, words: &'a [String]) -> Result<Request<'a>, FileFault>
+    ensures { IfErr result IsOfWords }
+{
+    let command = command(alloc).map_err(FileFault::OutOfMemory)?;
+    let matches = match command.try_get_matches_from(words) {
         Ok(matches) => matches,
-        Err(error) => return Err(FileFault::Usage(error.to_string(alloc)?)),
+        Err(error) => return Err(usage(error.to_string(alloc))),
     };
     let replay = matches.subcommand_matches("replay");
     match replay.and_then(|replay| replay.get_str("FILE")) {
         Some(path) => Ok(Request::Replay { path }),
-        None => Err(FileFault::Usage(String::from_str(alloc, "no FILE is given")?)),
+        None => Err(usage(String::from_str(alloc, "no FILE is given"))),
+    }
+}
+
+/// The fault of usage with these words, where there is memory for them.
+fn usage(said: Result<String, AllocError>) -> FileFault
+    ensures { IsOfWords result }
+{
+    match said {
+        Ok(said) => FileFault::Usage(said),
+        Err(error) => FileFault::OutOfMemory(error),
     }
 }
 

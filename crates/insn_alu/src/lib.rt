@@ -4,79 +4,48 @@
 ghost use Rattle.std.specs.Prelude.{◌≡◌};
 ghost use Rattle.insn_alu.specs.Arithmetic.{IsArithmetic, alu, alu_of};
 
-use bpf_decode::{AluCode, Insn, Operation};
+mod swap;
+#[cfg(test)]
+mod tests;
+mod wide;
+mod word;
+
+use crate::swap::{cut, swapped};
+use crate::wide::computed_64;
+use crate::word::computed_32;
+use bpf_decode::{AluCode, Insn, Operation, Width};
+
+// How many numbers a word has.
+const WORD: u64 = 1 << 32;
 
 /// The number that an arithmetic instruction leaves in dst, whose number is `a`. `b` is the number
-/// of src, or imm sign-extended.
+/// of src, or imm sign-extended. With 32 bits only the low halves count, and the upper half of the
+/// result is zero.
 pub fn alu(insn: &Insn, a: u64, b: u64) -> u64
     requires { IsArithmetic insn.now }
     ensures { result ≡ alu_of insn.now a b }
 {
     match insn.operation() {
-        Operation::Alu { code, .. } => computed(code, a, b),
+        Operation::Alu { code, width, .. } => computed(code, width, insn.offset, a, b),
         _ => unreachable!(),
     }
 }
 
-/// What an operation makes of the numbers of dst and of the second operand.
-fn computed(code: AluCode, a: u64, b: u64) -> u64
-    ensures { result ≡ alu code a b }
+/// What an operation with a number in its field `offset` makes of the numbers of dst and of the
+/// second operand.
+#[tactic(auto, unfolding(crate::specs::Arithmetic::alu))]
+pub fn computed(code: AluCode, width: Width, offset: i16, a: u64, b: u64) -> u64
+    ensures { result ≡ alu code width offset a b }
 {
-    match code {
-        AluCode::Add => a.wrapping_add(b),
-        AluCode::Mov => b,
-    }
-}
-
-#[cfg(test)]
-mod tests {
-    use super::*;
-
-    /// ADD with a register (RFC 9669, section 4.1).
-    fn add() -> Insn
-        ensures { IsArithmetic result }
-    {
-        insn(0x0f, 0)
-    }
-
-    /// MOV of an immediate (RFC 9669, section 4.1).
-    fn mov(imm: i32) -> Insn
-        ensures { IsArithmetic result }
-    {
-        insn(0xb7, imm)
-    }
-
-    fn insn(opcode: u8, imm: i32) -> Insn
-        ensures { result.opcode ≡ opcode }
-    {
-        Insn {
-            opcode,
-            dst: 0,
-            src: 0,
-            offset: 0,
-            imm,
-            next_imm: 0,
-        }
-    }
-
-    #[test]
-    fn computes_what_the_standard_says(rt: HostRuntime) {
-        let add = add();
-        for (a, b, sum) in [
-            (5, 7, 12),
-            (u64::MAX, 2, 1),
-            (1 << 63, 1 << 63, 0),
-            (0, u64::MAX, u64::MAX),
-        ] {
-            assert_eq!(rt; alu(&add, a, b), sum, "{a} + {b}");
-        }
-        for (imm, number) in [
-            (7, 7),
-            (-1, 0xffff_ffff_ffff_ffff),
-            (i32::MIN, 0xffff_ffff_8000_0000),
-        ] {
-            let mov = mov(imm);
-            assert_eq!(rt; alu(&mov, 5, mov.immediate()), number, "{imm}");
-        }
+    match (code, width) {
+        (AluCode::ToLittleEndian, _) => cut(b, a),
+        (AluCode::ToBigEndian | AluCode::SwapBytes, _) => swapped(b, a),
+        (_, Width::Bits64) => computed_64(code, offset, a, b),
+        (_, Width::Bits32) => u64::from(computed_32(
+            code,
+            offset,
+            (a % WORD) as u32,
+            (b % WORD) as u32,
+        )),
     }
 }

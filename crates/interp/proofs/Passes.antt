@@ -47,20 +47,20 @@ was_aligned from size at e = by_test (from % size == 0) refl e
     by_test false q e = cc
 
 -- the place in the context of an access that is let through
-pub context_passed : (context_size : ℕ) (offset : ℤ) (at : ℕ) → context_place context_size offset 8 ≡ Ok at → (offset ≡ pos at) × (at + 8 ≤ context_size) × (at % 8 ≡ 0)
-context_passed context_size offset at e =
-    let (from, below, after) = then_passed (lies_below offset 8 context_size 16) (λ from. aligned from 8) at e in
-    let (is, within) = lay_below offset 8 context_size 16 from below in
-    let (same, whole) = was_aligned from 8 at after in
-    (rw (← same) is, omega arith, whole)
+pub context_passed : (context_size : ℕ) (offset : ℤ) (size at : ℕ) → context_place context_size offset size ≡ Ok at → (offset ≡ pos at) × (at + size ≤ context_size) × (at % size ≡ 0)
+context_passed context_size offset size at e =
+    let (from, below, after) = then_passed (lies_below offset size context_size 16) (λ from. aligned from size) at e in
+    let (is, within) = lay_below offset size context_size 16 from below in
+    let (same, whole) = was_aligned from size at after in
+    (rw (← same) is, rw (← same) within, whole)
 
 -- the place in the stack of an access that is let through
-pub stack_passed : (offset : ℤ) (at : ℕ) → stack_place offset 8 ≡ Ok at → (offset +ℤ pos 512 ≡ pos at) × (at + 8 ≤ 512) × (at % 8 ≡ 0)
-stack_passed offset at e =
-    let (from, below, after) = then_passed (lies_below (offset +ℤ pos 512) 8 512 17) (λ from. aligned from 8) at e in
-    let (is, within) = lay_below (offset +ℤ pos 512) 8 512 17 from below in
-    let (same, whole) = was_aligned from 8 at after in
-    (rw (← same) is, omega arith, whole)
+pub stack_passed : (offset : ℤ) (size at : ℕ) → stack_place offset size ≡ Ok at → (offset +ℤ pos 512 ≡ pos at) × (at + size ≤ 512) × (at % size ≡ 0)
+stack_passed offset size at e =
+    let (from, below, after) = then_passed (lies_below (offset +ℤ pos 512) size 512 17) (λ from. aligned from size) at e in
+    let (is, within) = lay_below (offset +ℤ pos 512) size 512 17 from below in
+    let (same, whole) = was_aligned from size at after in
+    (rw (← same) is, rw (← same) within, whole)
 
 -- a kind is written to a register that isn't R10
 pub write_passed : (d : Description) (i : ℕ) (given : Result Kind ℕ) (e : Description) → write_kind d i given ≡ Ok e

@@ -1,5 +1,5 @@
 use crate::Memory;
-use host_types::{Fault, Options};
+use host_types::{Fault, Options, Shape};
 use std::test::Fail;
 
 /// Two tenants and four frames, of which one is the zero frame: each tenant has a map of one page.
@@ -32,6 +32,26 @@ fn stores_reach_their_bytes_alone(rt: HostRuntime) -> Result<(), Fail> {
     assert_eq!(rt; memory.load(0, mine, 4, 4), 0x0807_0605);
     assert_eq!(rt; memory.load(0, mine, 3, 1), 0xab);
     assert_eq!(rt; memory.load(1, other, 0, 8), 0);
+    Ok(())
+}
+
+#[test]
+fn shapes_and_settings_are_told(rt: HostRuntime) -> Result<(), Fail> {
+    let options = Options {
+        max_page_sharing: 3,
+        ..Options::standard()
+    };
+    let mut memory = Memory::new(rt.alloc(), 4, 2, options)?;
+    let map = memory.create_map(1, 24, 5, true)?;
+    let shape = Shape {
+        value_size: 24,
+        entries: 5,
+    };
+    assert_eq!(rt; memory.shape(1, map), Some(shape));
+    assert_eq!(rt; memory.shape(0, map), None);
+    assert_eq!(rt; memory.shape(2, map), None);
+    assert_eq!(rt; memory.tenants(), 2);
+    assert_eq!(rt; memory.options(), options);
     Ok(())
 }
 

@@ -19,22 +19,22 @@ abbrev pub number_in_map : FlatMemory → ℕ → ℕ → ℕ → Option ℕ
 number_in_map memory m at size =
     map_at memory.maps m >>= λ flat. only_if (is_in_value flat.shape at size) (number_of (part_of flat.bytes at size))
 
--- the memory with a double word written to the stack
-abbrev pub with_double_word_in_stack : FlatMemory → ℕ → ℕ → Option FlatMemory
-with_double_word_in_stack memory at number =
-    only_if (nat_le (at + 8) stack_size) (record memory { stack = with_part memory.stack at (map Some (bytes_of 8 number)) })
+-- the memory with a number written as `size` bytes of the stack
+abbrev pub with_number_in_stack : FlatMemory → ℕ → ℕ → ℕ → Option FlatMemory
+with_number_in_stack memory at size number =
+    only_if (nat_le (at + size) stack_size) (record memory { stack = with_part memory.stack at (map Some (bytes_of size number)) })
 
--- the map with a double word written to it
-abbrev pub with_double_word : FlatMap → ℕ → ℕ → FlatMap
-with_double_word flat at number = record flat { bytes = with_part flat.bytes at (bytes_of 8 number) }
+-- the map with a number written as `size` of its bytes
+abbrev pub with_number : FlatMap → ℕ → ℕ → ℕ → FlatMap
+with_number flat at size number = record flat { bytes = with_part flat.bytes at (bytes_of size number) }
 
--- the memory with a double word written to a map, if it lies whole in the value of one element
-abbrev pub with_double_word_in_map : FlatMemory → ℕ → ℕ → ℕ → Option FlatMemory
-with_double_word_in_map memory m at number =
+-- the memory with a number written as `size` bytes of a map, if they lie whole in the value of one element
+abbrev pub with_number_in_map : FlatMemory → ℕ → ℕ → ℕ → ℕ → Option FlatMemory
+with_number_in_map memory m at size number =
     map_at memory.maps m >>= λ flat.
-    only_if (is_in_value flat.shape at 8) (record memory { maps = slice_set memory.maps m (Some (with_double_word flat at number)) })
+    only_if (is_in_value flat.shape at size) (record memory { maps = slice_set memory.maps m (Some (with_number flat at size number)) })
 
--- the memory with a double word written to a map that is there
-abbrev pub with_double_word_put : FlatMemory → ℕ → ℕ → ℕ → FlatMemory
-with_double_word_put memory m at number =
-    record memory { maps = slice_set memory.maps m (option_map (λ flat. with_double_word flat at number) (map_at memory.maps m)) }
+-- the memory with a number written as `size` bytes of a map that is there
+abbrev pub with_number_put : FlatMemory → ℕ → ℕ → ℕ → ℕ → FlatMemory
+with_number_put memory m at size number =
+    record memory { maps = slice_set memory.maps m (option_map (λ flat. with_number flat at size number) (map_at memory.maps m)) }

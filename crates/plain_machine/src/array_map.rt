@@ -1,10 +1,10 @@
-ghost use Rattle.std.specs.Prelude.{◌≡◌, ◌+◌, ◌≤◌, true, length};
+ghost use Rattle.std.specs.Prelude.{◌≡◌, ◌+◌, ◌^◌, ◌<◌, ◌≤◌, true, length};
 ghost use Rattle.host_types.specs.Bytes.{number_of, part_of};
 ghost use Rattle.host_types.specs.Memory.{FlatMap, is_in_value};
 ghost use Rattle.host_types.specs.Shapes.{IsShape, byte_len_of};
-ghost use Rattle.plain_machine.specs.Regions.{with_double_word};
+ghost use Rattle.plain_machine.specs.Regions.{with_number};
 
-use crate::number::{low_bytes, number_of_bytes, put_part};
+use crate::number::{number_of_bytes, put_bytes};
 use host_types::Shape;
 use std::marker::Model;
 
@@ -57,17 +57,19 @@ impl ArrayMap {
     pub(crate) fn number_at(&self, at: usize, size: usize) -> u64
         requires small { size ≤ 8 }
         requires within { at + size ≤ length self.now.bytes }
-        ensures { result ≡ number_of (part_of self.now.bytes at size) }
+        ensures number { result ≡ number_of (part_of self.now.bytes at size) }
+        ensures fits { result < 256 ^ size }
     {
         number_of_bytes(&self.bytes[at..at + size])
     }
 
-    // Writes a number as a double word at a place.
-    #[tactic(auto, using(crate::proofs::Parts::length_double_word))]
-    pub(crate) fn put_double_word(&mut self, at: usize, number: u64)
-        requires within { at + 8 ≤ length self.old.bytes }
-        ensures { self.new ≡ with_double_word self.old at number }
+    // Writes the lowest `size` bytes of a number at a place.
+    #[tactic(auto, using(crate::proofs::Parts::length_bytes))]
+    pub(crate) fn put_number(&mut self, at: usize, size: usize, number: u64)
+        requires small { size ≤ 8 }
+        requires within { at + size ≤ length self.old.bytes }
+        ensures { self.new ≡ with_number self.old at size number }
     {
-        put_part(&mut self.bytes, at, &low_bytes(number));
+        put_bytes(&mut self.bytes, at, size, number);
     }
 }

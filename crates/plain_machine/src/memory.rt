@@ -1,10 +1,10 @@
-ghost use Rattle.std.specs.Prelude.{◌≡◌, ◌≤◌, ◌<◌, replicate, option_map, None, IsNone, IsSomeAnd, ◌+◌, length};
+ghost use Rattle.std.specs.Prelude.{◌≡◌, ◌≤◌, ◌<◌, replicate, option_map, None, IsNone, IfSome, IsSomeAnd, ◌+◌, ◌^◌, length};
 ghost use Rattle.host_types.specs.Layout.{stack_size, region_size};
 ghost use Rattle.host_types.specs.Memory.{FlatMemory, fetch, place, map_at};
-ghost use Rattle.plain_machine.specs.Regions.{number_in_context, number_in_stack, number_in_map, with_double_word_in_stack, with_double_word_in_map, with_double_word_put};
+ghost use Rattle.plain_machine.specs.Regions.{number_in_context, number_in_stack, number_in_map, with_number_in_stack, with_number_in_map, with_number_put};
 
 use crate::array_map::ArrayMap;
-use crate::number::{each_set, low_bytes, number_if_set, number_of_bytes, put_part};
+use crate::number::{number_if_set, number_of_bytes, set_bytes};
 use std::marker::Model;
 
 // How many addresses a region has.
@@ -60,7 +60,8 @@ impl Memory {
     pub(crate) fn fetch(&self, address: u64, size: usize) -> Option<u64>
         requires some { 1 ≤ size }
         requires small { size ≤ 8 }
-        ensures { result ≡ fetch self.now address size }
+        ensures number { result ≡ fetch self.now address size }
+        ensures fits { IfSome result (λ number. number < 256 ^ size) }
     {
         if address % size as u64 != 0 {
             return None;
@@ -79,7 +80,8 @@ impl Memory {
     fn fetch_context(&self, at: usize, size: usize) -> Option<u64>
         requires near { at < region_size }
         requires small { size ≤ 8 }
-        ensures { result ≡ number_in_context self.now at size }
+        ensures number { result ≡ number_in_context self.now at size }
+        ensures fits { IfSome result (λ number. number < 256 ^ size) }
     {
         if at + size > self.context.len() {
             return None;
@@ -92,7 +94,8 @@ impl Memory {
     fn fetch_stack(&self, at: usize, size: usize) -> Option<u64>
         requires near { at < region_size }
         requires small { size ≤ 8 }
-        ensures { result ≡ number_in_stack self.now at size }
+        ensures number { result ≡ number_in_stack self.now at size }
+        ensures fits { IfSome result (λ number. number < 256 ^ size) }
     {
         if at + size > STACK_SIZE {
             return None;
@@ -104,7 +107,8 @@ impl Memory {
     fn fetch_map(&self, number: usize, at: usize, size: usize) -> Option<u64>
         requires near { at < region_size }
         requires small { size ≤ 8 }
-        ensures { result ≡ number_in_map self.now number at size }
+        ensures number { result ≡ number_in_map self.now number at size }
+        ensures fits { IfSome result (λ number. number < 256 ^ size) }
     {
         match self.maps.get(number) {
             Some(Some(map)) if map.has(at, size) => Some(map.number_at(at, size)),
@@ -112,58 +116,66 @@ impl Memory {
         }
     }
 
-    // Writes a number as a double word at an address. The access is aligned to its size. `None` is
-    // a fault, which changes nothing.
+    // Writes the lowest `size` bytes of a number at an address. The access is aligned to its size.
+    // `None` is a fault, which changes nothing.
     #[tactic(auto, unfolding(host_types::specs::Memory::place, host_types::specs::Memory::place_of, host_types::specs::Memory::with_bytes))]
-    pub(crate) fn place(&mut self, address: u64, number: u64) -> Option<()>
-        ensures value { place self.old address 8 number ≡ option_map (λ _. self.new) result }
+    pub(crate) fn place(&mut self, address: u64, size: usize, number: u64) -> Option<()>
+        requires some { 1 ≤ size }
+        requires small { size ≤ 8 }
+        ensures value { place self.old address size number ≡ option_map (λ _. self.new) result }
         ensures fault { IsNone result → self.new ≡ self.old }
     {
-        if address % 8 != 0 {
+        if address % size as u64 != 0 {
             return None;
         }
         let at = (address % REGION) as usize;
         match address / REGION {
-            STACK => self.place_in_stack(at, number),
-            region @ MAP_VALUES.. => self.place_in_map((region - MAP_VALUES) as usize, at, number),
+            STACK => self.place_in_stack(at, size, number),
+            region @ MAP_VALUES.. => {
+                self.place_in_map((region - MAP_VALUES) as usize, at, size, number)
+            }
             _ => None,
         }
     }
 
-    // Writes a double word at a place of the stack.
-    fn place_in_stack(&mut self, at: usize, number: u64) -> Option<()>
-        requires { at < region_size }
-        ensures value { with_double_word_in_stack self.old at number ≡ option_map (λ _. self.new) result }
+    // Writes the lowest `size` bytes of a number at a place of the stack.
+    fn place_in_stack(&mut self, at: usize, size: usize, number: u64) -> Option<()>
+        requires near { at < region_size }
+        requires small { size ≤ 8 }
+        ensures value { with_number_in_stack self.old at size number ≡ option_map (λ _. self.new) result }
         ensures fault { IsNone result → self.new ≡ self.old }
     {
-        if at + 8 > STACK_SIZE {
+        if at + size > STACK_SIZE {
             return None;
         }
-        put_part(&mut self.stack, at, &each_set(low_bytes(number)));
+        set_bytes(&mut self.stack, at, size, number);
         Some(())
     }
 
-    // Writes a double word at a place of a map, if it lies whole in the value of one element.
-    fn place_in_map(&mut self, map_number: usize, at: usize, number: u64) -> Option<()>
-        requires { at < region_size }
-        ensures value { with_double_word_in_map self.old map_number at number ≡ option_map (λ _. self.new) result }
+    // Writes the lowest `size` bytes of a number at a place of a map, if they lie whole in the value
+    // of one element.
+    fn place_in_map(&mut self, map_number: usize, at: usize, size: usize, number: u64) -> Option<()>
+        requires near { at < region_size }
+        requires small { size ≤ 8 }
+        ensures value { with_number_in_map self.old map_number at size number ≡ option_map (λ _. self.new) result }
         ensures fault { IsNone result → self.new ≡ self.old }
     {
         match self.maps.get(map_number) {
-            Some(Some(map)) if map.has(at, 8) => {}
+            Some(Some(map)) if map.has(at, size) => {}
             _ => return None,
         }
-        self.put_in_map(map_number, at, number);
+        self.put_in_map(map_number, at, size, number);
         Some(())
     }
 
-    // Writes a double word at a place of a map that has the place.
-    fn put_in_map(&mut self, map_number: usize, at: usize, number: u64)
-        requires { IsSomeAnd (map_at self.old.maps map_number) (λ flat. at + 8 ≤ length flat.bytes) }
-        ensures { self.new ≡ with_double_word_put self.old map_number at number }
+    // Writes the lowest `size` bytes of a number at a place of a map that has the place.
+    fn put_in_map(&mut self, map_number: usize, at: usize, size: usize, number: u64)
+        requires small { size ≤ 8 }
+        requires within { IsSomeAnd (map_at self.old.maps map_number) (λ flat. at + size ≤ length flat.bytes) }
+        ensures { self.new ≡ with_number_put self.old map_number at size number }
     {
         let slot = &mut self.maps[map_number];
         let Some(map) = slot else { unreachable!() };
-        map.put_double_word(at, number);
+        map.put_number(at, size, number);
     }
 }

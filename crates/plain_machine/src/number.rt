@@ -51,8 +51,28 @@ pub(crate) fn low_bytes(number: u64) -> [u8; 8]
     number.to_le_bytes()
 }
 
-// The bytes of a double word, each set.
-pub(crate) fn each_set(bytes: [u8; 8]) -> [Option<u8>; 8]
+// Writes the lowest `size` bytes of a number, from a place on.
+#[tactic(auto, using(crate::proofs::Parts::first_bytes))]
+pub(crate) fn put_bytes(bytes: &mut [u8], at: usize, size: usize, number: u64)
+    requires small { size ≤ 8 }
+    requires within { at + size ≤ length bytes.old }
+    ensures { bytes.new ≡ with_part bytes.old at (bytes_of size number) }
+{
+    put_part(bytes, at, &low_bytes(number)[..size]);
+}
+
+// Sets the lowest `size` bytes of a number, from a place on.
+#[tactic(auto, using(crate::proofs::Parts::first_set_bytes))]
+pub(crate) fn set_bytes(bytes: &mut [Option<u8>], at: usize, size: usize, number: u64)
+    requires small { size ≤ 8 }
+    requires within { at + size ≤ length bytes.old }
+    ensures { bytes.new ≡ with_part bytes.old at (map Some (bytes_of size number)) }
+{
+    put_part(bytes, at, &each_set(low_bytes(number))[..size]);
+}
+
+// Bytes, each set.
+fn each_set(bytes: [u8; 8]) -> [Option<u8>; 8]
     ensures { result ≡ map Some bytes }
 {
     [

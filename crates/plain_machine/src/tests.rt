@@ -1,3 +1,5 @@
+mod comparison;
+
 use super::*;
 use host_types::Shape;
 use std::alloc::{AllocError, Global};

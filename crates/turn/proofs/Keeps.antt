@@ -75,11 +75,13 @@ take_loses id me s r out there =
     subst (λ (words : List ℕ). CanTake id me (state words s.homes s.views)) (sym out.word)
     (subst (λ (homes : List (mathlib.Core.Option.Option (Option MemoryState))). CanTake id me (state (1 ∷ []) homes s.views)) (sym out.slot) found)
 
--- whatever a take finds, the rule is kept
-pub take_keeps : (slots id : ℕ) (me : Me (Option MemoryState) View)
-    → Allows IsInTurn slots id me 0 (λ n. either (n == 0) 1 n) (Takes (step 1 0 0 1 none) me)
-take_keeps slots id me s r len there small =
-    ⊎_elim (λ home. take_wins id me s r home there) (λ out. take_loses id me s r out there) r.place
+-- whatever a take finds, the rule is kept, where it compares the word with 0 and writes 1
+pub take_keeps : (slots id home out : ℕ) (me : Me (Option MemoryState) View) → home ≡ 0 → out ≡ 1
+    → Allows IsInTurn slots id me 0 (λ n. either (n == home) out n) (Takes (step 1 0 home out none) me)
+take_keeps slots id home out me is_home is_out =
+    subst (λ (h : ℕ). Allows IsInTurn slots id me 0 (λ n. either (n == h) out n) (Takes (step 1 0 h out none) me)) (sym is_home)
+    (subst (λ (o : ℕ). Allows IsInTurn slots id me 0 (λ n. either (n == 0) o n) (Takes (step 1 0 0 o none) me)) (sym is_out)
+    (λ s r len there small. ⊎_elim (λ home. take_wins id me s r home there) (λ out. take_loses id me s r out there) r.place))
 
 -- the value of the slot that a seat took last
 abbrev slot_of : List (ℕ × Option MemoryState) → Option MemoryState
@@ -126,17 +128,18 @@ give_home id view memory s r out there holds spares =
     subst (λ (words : List ℕ). CanGive id view memory (state words s.homes s.views)) (sym out.word)
     (subst (λ (homes : List (mathlib.Core.Option.Option (Option MemoryState))). CanGive id view memory (state (1 ∷ []) homes s.views)) (sym out.slot) found)
 
--- a give by the seat that holds keeps the rule
-pub give_keeps : (slots id : ℕ) (me : Me (Option MemoryState) View) (memory : MemoryState)
+-- a give by the seat that holds keeps the rule, where it writes 0
+pub give_keeps : (slots id home : ℕ) (me : Me (Option MemoryState) View) (memory : MemoryState) → home ≡ 0
     → me.1 ≡ (0, Some memory) ∷ [] → me.0.holds ≡ true → Spares me.0 memory
-    → Allows IsInTurn slots id me 0 (λ _. 0) (λ _. Gives (step 1 0 0 0 none) me 0)
-give_keeps slots id me memory carried holds spares =
-    let P : List (ℕ × Option MemoryState) → Type 0 = λ c. Allows IsInTurn slots id (me.0, c) 0 (λ _. 0) (λ _. Gives (step 1 0 0 0 none) (me.0, c) 0) in
-    subst P (sym carried) (λ s r len there small.
+    → Allows IsInTurn slots id me 0 (λ _. home) (λ _. Gives (step 1 0 0 0 none) me 0)
+give_keeps slots id home me memory is_home carried holds spares =
+    let P : ℕ → List (ℕ × Option MemoryState) → Type 0 = λ h c. Allows IsInTurn slots id (me.0, c) 0 (λ _. h) (λ _. Gives (step 1 0 0 0 none) (me.0, c) 0) in
+    subst (λ (h : ℕ). P h me.1) (sym is_home)
+    (subst (P 0) (sym carried) (λ s r len there small.
     ⊎_elim
     (λ home. absurd (cc (home.unheld id me.0 there, holds)))
     (λ out. give_home id me.0 memory s r out there holds spares)
-    r.place)
+    r.place))
 
 -- a seat that holds nothing may be cut in two
 pub split_keeps : (id : ℕ) (old left right : View) → left.seen ≡ old.seen → right.seen ≡ old.seen

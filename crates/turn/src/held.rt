@@ -5,6 +5,7 @@ use std::snapshot::Snapshot;
 /// The memory while a seat holds it. It must be given back.
 pub struct Held {
     pub(crate) memory: Memory,
+    /// The token of the seat that took it, which contracts alone see.
     pub(crate) by: Snapshot<atomic_table::Seat<Option<Memory>, View>>,
 }
 

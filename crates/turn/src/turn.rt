@@ -1,7 +1,7 @@
-ghost use Rattle.std.specs.Prelude.{◌≡◌, ◌+◌, ◌<◌, ◌≤◌, ℕ, true, false, [], ◌∷◌, length, Some, slice_get, IfOk, OnOk, IfErr, IfSome, IfNone};
+ghost use Rattle.std.specs.Prelude.{◌≡◌, ◌+◌, ◌<◌, ◌≤◌, ℕ, true, false, [], ◌∷◌, length, Some, None, slice_get, IfOk, OnOk, IfErr, IfSome, IfNone};
 ghost use Rattle.atomic_table.specs.Seated.{TableId};
 ghost use Rattle.page_table.specs.State.{MemoryState};
-ghost use Rattle.turn.specs.Views.{Agrees, Spares, new_view};
+ghost use Rattle.turn.specs.Views.{Agrees, Spares, new_view, holding, resting};
 ghost use Rattle.turn.specs.Seats.{SeatState, took, gave, IsNewSeat, RefusesTurn};
 ghost use Rattle.turn.specs.Held.{memory_of, IsBy};
 
@@ -191,16 +191,27 @@ impl Turn {
         ensures by { IfSome result (λ held. IsBy held seat.old) }
         ensures known { IfSome result (λ held. Agrees seat.old.view (memory_of held)) }
     {
+        let memory = self.take_out(&mut seat.token)?;
+        let by = Snapshot::of(&seat.token);
+        Some(Held { memory, by })
+    }
+
+    /// Writes `OUT` where the memory is home, and then empties the slot. `None` where it was out.
+    fn take_out(&self, token: &mut Token) -> Option<Memory>
+        requires turn { token.old.table_id ≡ self.now }
+        requires empty { token.old.me.1 ≡ [] }
+        ensures none { IfNone result (token.new.me ≡ token.old.me) }
+        ensures same { (token.new.table_id ≡ token.old.table_id) × (token.new.id ≡ token.old.id) }
+        ensures won { IfSome result (λ memory.
+            token.new.me ≡ (holding token.old.me.0 memory, (0, None) ∷ [])) }
+        ensures known { IfSome result (Agrees token.old.me.0) }
+    {
         let shared = &self.table.shared;
-        let found = shared.compare_exchange::<Take>(&mut seat.token, 0, HOME, OUT);
+        let found = shared.compare_exchange::<Take>(token, 0, HOME, OUT);
         if found != HOME {
             return None;
         }
-        let Some(memory) = shared.exchange(&mut seat.token, 0, None) else {
-            unreachable!()
-        };
-        let by = Snapshot::of(&seat.token);
-        Some(Held { memory, by })
+        shared.exchange(token, 0, None)
     }
 
     /// Gives the memory back, and waits for nobody.
@@ -212,12 +223,24 @@ impl Turn {
         ensures { seat.new ≡ gave seat.old (memory_of held) }
     {
         let Held { memory, by: _ } = held;
-        let shared = &self.table.shared;
-        let _empty = shared.exchange(&mut seat.token, 0, Some(memory));
-        shared.store::<Give>(&mut seat.token, 0, HOME);
+        self.put_back(&mut seat.token, memory);
         if self.waiting.load(Ordering::SeqCst) != 0 {
-            shared.wake_one(0);
+            self.table.shared.wake_one(0);
         }
+    }
+
+    /// Puts a memory into the slot that the token emptied, and then writes `HOME`.
+    fn put_back(&self, token: &mut Token, memory: Memory)
+        requires turn { token.old.table_id ≡ self.now }
+        requires holds { token.old.me.0.holds ≡ true }
+        requires empty { token.old.me.1 ≡ (0, None) ∷ [] }
+        requires others { Spares token.old.me.0 memory }
+        ensures same { (token.new.table_id ≡ token.old.table_id) × (token.new.id ≡ token.old.id) }
+        ensures after { token.new.me ≡ (resting token.old.me.0 memory, []) }
+    {
+        let shared = &self.table.shared;
+        let _empty = shared.exchange(token, 0, Some(memory));
+        shared.store::<Give>(token, 0, HOME);
     }
 
     /// Ends the turn, and gives the memory if it is home. In it the seat's tenant has its part.

@@ -1,10 +1,10 @@
 -- Where an instruction that breaks no rule leads.
-use Rattle.std.proofs.Common.{◌≡◌, ℕ, suc, ◌+◌, ◌<◌, ◌==◌, nat_lt, Bool, true, false, if◌then◌else◌, List, [], ◌∷◌, All, Option, Some, None, Result, Ok, Err, refl, sym, ap, subst, inl, inr, arith}
+use Rattle.std.proofs.Common.{◌≡◌, ℕ, suc, ◌+◌, ◌<◌, nat_lt, Bool, true, false, if◌then◌else◌, List, [], ◌∷◌, All, Option, Some, None, Result, Ok, Err, refl, sym, ap, subst, inl, inr, arith}
 use Rattle.std.proofs.lemmas.Bool.Decides.{eqb_tells, nat_tests}
 use Rattle.std.proofs.lemmas.List.Elements.{All-nil, All-cons, All-weaker}
 use Rattle.bpf_decode.specs.declared.operation.Operation.{Operation}
-use Rattle.bpf_decode.specs.declared.operation.Operation.TheVariants.{Alu, Load, Store, Exit}
-use Rattle.bpf_decode.specs.Opcodes.{operation_of}
+use Rattle.bpf_decode.specs.declared.operation.Operation.TheVariants.{Alu, Load, Store, LoadImmediate, Exit}
+use Rattle.bpf_decode.specs.Opcodes.{wide_opcode, operation_of}
 use Rattle.bpf_decode.specs.Text.{insn_at, opcode_at, slots_of, width_at, is_instruction, IsInstruction}
 use Rattle.verifier_kinds.specs.declared.description.Description.{Description}
 use Rattle.verifier.specs.Subject.{Subject}
@@ -46,22 +46,15 @@ one_target p slot after targets e =
 
 falls_by : (p : Subject) (operation : Operation) (slot : ℕ) (d : Description) (targets : List (ℕ × Description)) → flow_by p operation slot d ≡ Ok targets → All (FallsTo p slot) targets
 unfolding flow_by
-falls_by p (Alu code source) slot d targets e = one_target p slot (after p (Alu code source) (insn_at p.text slot) d) targets e
-falls_by p Load slot d targets e = one_target p slot (after p Load (insn_at p.text slot) d) targets e
-falls_by p Store slot d targets e = one_target p slot (after p Store (insn_at p.text slot) d) targets e
+falls_by p (Alu code width source) slot d targets e = one_target p slot (after p (Alu code width source) (insn_at p.text slot) d) targets e
+falls_by p (Load size extension) slot d targets e = one_target p slot (after p (Load size extension) (insn_at p.text slot) d) targets e
+falls_by p (Store size source) slot d targets e = one_target p slot (after p (Store size source) (insn_at p.text slot) d) targets e
+falls_by p LoadImmediate slot d targets e = one_target p slot (after p LoadImmediate (insn_at p.text slot) d) targets e
 falls_by p Exit slot d targets e =
     let found = then_ok (read_kind d 0) (λ kind. is_returned kind >>= λ returned. Ok []) targets e in
     let returned = then_ok (is_returned found.0) (λ returned. Ok []) targets found.2 in
     let none : [] ≡ targets = cc (returned.2) in
     subst (λ xs. All (FallsTo p slot) xs) none (All-nil (FallsTo p slot))
-
--- the wide opcode isn't in the table yet
-not_wide : (opcode : ℕ) (operation : Operation) → operation_of opcode ≡ Some operation → (opcode == 24) ≡ false
-unfolding operation_of
-not_wide opcode operation e = elim (eqb_tells opcode 24) [
-  | inl wide ↦ let P : ℕ → Type 0 = λ n. operation_of n ≡ Some operation in let none : operation_of 24 ≡ Some operation = subst P wide.1 e in absurd cc
-  | inr other ↦ other.0
-]
 
 -- a target lies above the slot, and is an instruction
 pub record IsAhead (p : Subject) (slot : ℕ) (t : ℕ × Description) : Type 0 where
@@ -76,33 +69,41 @@ chosen_ok false n to rule e = absurd cc
 below_from_test : (a b : ℕ) → nat_lt a b ≡ true → a < b
 below_from_test a b e = grind (arith, nat_tests)
 
-falls_within : (text : List ℕ) (slot to : ℕ) → (opcode_at text slot == 24) ≡ false → falls_to text slot ≡ Ok to → (to ≡ suc slot) × (to < slots_of text)
-falls_within text slot to narrow e =
-    let one : width_at text slot ≡ 1 = rw narrow refl in
+-- an instruction that falls through leads behind itself
+falls_within : (text : List ℕ) (slot to : ℕ) → falls_to text slot ≡ Ok to → (to ≡ slot + width_at text slot) × (to < slots_of text)
+falls_within text slot to e =
     let chosen = chosen_ok (nat_lt (slot + width_at text slot) (slots_of text)) (slot + width_at text slot) to 13 e in
     let below = below_from_test (slot + width_at text slot) (slots_of text) chosen.0 in
-    (omega (arith, one, chosen.1), omega (arith, below, chosen.1))
+    (chosen.1, omega (arith, below, chosen.1))
 
-falls_ahead : (p : Subject) (slot to : ℕ) → is_instruction p.text slot ≡ true → (opcode_at p.text slot == 24) ≡ false → falls_to p.text slot ≡ Ok to → (to ≡ suc slot) × IsInstruction p.text to
+-- behind an instruction the next one begins
+next_begins : (text : List ℕ) (slot : ℕ) → is_instruction text slot ≡ true → is_instruction text (slot + width_at text slot) ≡ true
 unfolding is_instruction
-falls_ahead p slot to begins narrow e =
-    let falls = falls_within p.text slot to narrow e in
+next_begins text slot begins = elim (eqb_tells (opcode_at text slot) wide_opcode) [
+  | inl wide ↦
+      let two : slot + 2 ≡ suc (suc slot) = omega arith in
+      let P : ℕ → Type 0 = λ s. is_instruction text s ≡ true in
+      rw wide.0 (subst P (sym two) (rw (begins, wide.0) refl))
+  | inr narrow ↦
+      let one : slot + 1 ≡ suc slot = omega arith in
+      let P : ℕ → Type 0 = λ s. is_instruction text s ≡ true in
+      rw narrow.0 (subst P (sym one) (rw (begins, narrow.0) refl))
+]
+
+above_slot : (text : List ℕ) (slot : ℕ) → slot < slot + width_at text slot
+above_slot text slot = elim (eqb_tells (opcode_at text slot) wide_opcode) [ inl wide ↦ rw wide.0 (omega arith) | inr narrow ↦ rw narrow.0 (omega arith) ]
+
+falls_ahead : (p : Subject) (slot : ℕ) (t : ℕ × Description) → is_instruction p.text slot ≡ true → FallsTo p slot t → IsAhead p slot t
+falls_ahead p slot t begins e =
+    let falls = falls_within p.text slot t.0 e in
     let P : ℕ → Type 0 = λ s. is_instruction p.text s ≡ true in
-    let next : is_instruction p.text (suc slot) ≡ true = rw (begins, narrow) refl in
-    (falls.0, record { within = falls.1; begins = subst P (sym falls.0) next })
+    record {
+      above = omega (arith, falls.0, above_slot p.text slot);
+      instruction = record { within = falls.1; begins = subst P (sym falls.0) (next_begins p.text slot begins) };
+    }
 
 -- where an instruction leads, there are instructions
 pub flow_ahead : (p : Subject) (slot : ℕ) (d : Description) (targets : List (ℕ × Description)) → IsInstruction p.text slot → flow p slot d ≡ Ok targets → All (IsAhead p slot) targets
-unfolding insn_at
 flow_ahead p slot d targets i e =
     let found = flow_ok p slot d targets e in
-    let narrow : (opcode_at p.text slot == 24) ≡ false = not_wide (opcode_at p.text slot) found.0 found.1 in
-    All-weaker (FallsTo p slot) (IsAhead p slot) (λ t f. let to = falls_ahead p slot t.0 i.begins narrow f in record { above = omega (arith, to.0); instruction = to.1 }) targets (falls_by p found.0 slot d targets found.2)
-
--- no instruction is wide yet, so each leads to the next slot
-pub flow_next : (p : Subject) (slot : ℕ) (d : Description) (targets : List (ℕ × Description)) → flow p slot d ≡ Ok targets → All (λ t. t.0 ≡ suc slot) targets
-unfolding insn_at
-flow_next p slot d targets e =
-    let found = flow_ok p slot d targets e in
-    let narrow : (opcode_at p.text slot == 24) ≡ false = not_wide (opcode_at p.text slot) found.0 found.1 in
-    All-weaker (FallsTo p slot) (λ t. t.0 ≡ suc slot) (λ t f. (falls_within p.text slot t.0 narrow f).0) targets (falls_by p found.0 slot d targets found.2)
+    All-weaker (FallsTo p slot) (IsAhead p slot) (λ t f. falls_ahead p slot t i.begins f) targets (falls_by p found.0 slot d targets found.2)

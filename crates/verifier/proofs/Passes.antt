@@ -1,17 +1,18 @@
 -- One step of the pass over the slots of a program.
-use Rattle.std.proofs.Common.{◌≡◌, ℕ, zero, suc, ◌+◌, ◌<◌, List, [], ◌∷◌, length, get_or, replicate, take, ◌++◌, ◌-◌, slice_set, All, IfSome, Option, Some, None, Result, Ok, Err, refl, sym, ap, subst, ◌∙◌, inl, inr, arith, add-one}
-use Rattle.std.proofs.lemmas.List.Elements.{All-nil, All-head, All-weaker}
+use Rattle.std.proofs.Common.{◌≡◌, ℕ, zero, suc, ◌+◌, ◌<◌, ◌==◌, if◌then◌else◌, List, [], ◌∷◌, length, get_or, replicate, take, ◌++◌, ◌-◌, slice_set, All, IfSome, Option, Some, None, Ok, Err, refl, sym, ap, subst, ◌∙◌, inl, inr, arith, add-one}
+use Rattle.std.proofs.lemmas.List.Elements.{All-nil, All-head, All-tail, All-weaker}
 use Rattle.std.proofs.lemmas.List.{get_or-set_same, get_or-set_other, length-set, length-replicate, get_or_read}
 use Rattle.bpf_decode.specs.Text.{slots_of, IsInstruction, IsWellFormed}
 use Rattle.verifier_kinds.specs.declared.description.Description.{Description}
 use Rattle.verifier_kinds.specs.Descriptions.{start_description, IsDescription}
+use Rattle.verifier.specs.declared.flow.Target.{Target}
 use Rattle.verifier.specs.Subject.{Subject}
 use Rattle.verifier.specs.Flow.{flow}
-use Rattle.verifier.specs.Table.{Table, described, flows_by, flows_from, targets_of, arrived, incoming, Breaks, IsTightTable, IsRefusal}
-use Rattle.verifier.specs.Pass.{AreDescribed, IsPassed}
+use Rattle.verifier.specs.Table.{Table, described, flows_by, flows_from, targets_of, joined, arrived, incoming, Breaks, IsTightTable, IsRefusal}
+use Rattle.verifier.specs.Pass.{target_in, AreDescribed, IsPassed}
 use Rattle.verifier.specs.Verified.{IsSubject, IsVerified}
 use Rattle.verifier.proofs.Tables.{if_same, below_next, incoming-agree, arrived-elsewhere, IsDescription-incoming, IsTightBefore}
-use Rattle.verifier.proofs.Flows.{IsAhead, flow_ahead, flow_next}
+use Rattle.verifier.proofs.Flows.{IsAhead, flow_ahead}
 use Rattle.verifier.proofs.Lawful.{first_instruction, described_instruction, flows_ahead, lawful_from_tight}
 
 -- up to the slot itself the table is tight
@@ -94,29 +95,32 @@ passed_unreached p table slot w h i found =
     refl
     (λ s. ap (arrived s (described table s)) (sym same))
 
--- what flows from a slot flows to the next
-flows_next : (p : Subject) (slot : ℕ) (known : Option Description) → All (λ t. t.0 ≡ suc slot) (flows_by p slot known)
-flows_next p slot None = All-nil (λ t. t.0 ≡ suc slot)
-flows_next p slot (Some d) = by_result (flow p slot d) refl
-  where
-    by_result : (result : Result (List (ℕ × Description)) ℕ) → flow p slot d ≡ result → All (λ t. t.0 ≡ suc slot) (targets_of result)
-    by_result (Ok targets) e = flow_next p slot d targets e
-    by_result (Err rule) e = All-nil (λ t. t.0 ≡ suc slot)
-
--- nothing flows further than to the next slot
-incoming-further : (p : Subject) (table : Table) (slot n : ℕ) → n < slot → incoming p table slot n ≡ None
-unfolding incoming
-incoming-further p table slot zero h = if_same (λ o. o ≡ None) slot 0 (Some start_description) None (λ e. absurd (omega arith)) (λ ne. refl)
-incoming-further p table slot (suc n) h =
-    let elsewhere = arrived-elsewhere slot (incoming p table slot n) (flows_from p table n) (All-weaker (λ t. t.0 ≡ suc n) (λ t. t.0 ≡ slot → ⊥) (λ t e same. omega arith) (flows_from p table n) (flows_next p n (described table n))) in
-    elsewhere ∙ incoming-further p table slot n (omega arith)
-
--- a target is a slot of which nothing is known yet
-pub target_unknown : (p : Subject) (table : Table) (slot : ℕ) (d : Description) (target : ℕ × Description) → IsWellFormed p.text → slot < slots_of p.text → IsPassed p table slot → described table slot ≡ Some d → flow p slot d ≡ Ok (target ∷ []) → (target.0 < length table) × (described table target.0 ≡ None)
-target_unknown p table slot d target w h i found e =
+-- where a slot leads is within the table
+pub targets_within : (p : Subject) (table : Table) (slot : ℕ) (d : Description) (targets : List (ℕ × Description)) → IsWellFormed p.text → slot < slots_of p.text → IsPassed p table slot → described table slot ≡ Some d → flow p slot d ≡ Ok targets → All (λ t. t.0 < length table) targets
+targets_within p table slot d targets w h i found e =
     let begins : IsInstruction p.text slot = subst (λ o. IfSome o (λ d. IsInstruction p.text slot)) found (passed_instruction p table slot w h i) in
-    let a : IsAhead p slot target = All-head (IsAhead p slot) target [] (flow_ahead p slot d (target ∷ []) begins e) in
-    (omega (arith, i.whole, a.instruction.within), i.ahead target.0 (omega (arith, a.above)) a.instruction.within ∙ incoming-further p table target.0 slot a.above)
+    All-weaker (IsAhead p slot) (λ t. t.0 < length table) (λ t a. omega (arith, i.whole, a.instruction.within)) targets (flow_ahead p slot d targets begins e)
+
+-- what holds of both targets of an instruction holds of the one to which it falls through
+pub next_holds : (P : ℕ × Description → Type 0) (next jump : Option Target) → All P (target_in next ++ target_in jump) → IfSome next (λ t. P (t.slot, t.description))
+next_holds P None jump q = tt
+next_holds P (Some t) jump q = All-head P (t.slot, t.description) (target_in jump) q
+
+-- and of the one to which it jumps
+pub jump_holds : (P : ℕ × Description → Type 0) (next jump : Option Target) → All P (target_in next ++ target_in jump) → IfSome jump (λ t. P (t.slot, t.description))
+jump_holds P next None q = tt
+jump_holds P None (Some t) q = All-head P (t.slot, t.description) [] q
+jump_holds P (Some n) (Some t) q = All-head P (t.slot, t.description) [] (All-tail P (n.slot, n.description) ((t.slot, t.description) ∷ []) q)
+
+-- targets that are reached in two parts
+arrived-append : (slot : ℕ) (known : Option Description) (some more : List (ℕ × Description)) → arrived slot known (some ++ more) ≡ arrived slot (arrived slot known some) more
+arrived-append slot known [] more = refl
+arrived-append slot known (t ∷ some) more = arrived-append slot (if t.0 == slot then Some (joined known t.1) else known) some more
+
+-- a table in which both targets of an instruction are entered
+pub entered_both : (table between after : Table) (next jump : Option Target) → ((s : ℕ) → described between s ≡ arrived s (described table s) (target_in next)) → ((s : ℕ) → described after s ≡ arrived s (described between s) (target_in jump)) → (s : ℕ) → described after s ≡ arrived s (described table s) (target_in next ++ target_in jump)
+entered_both table between after next jump first second s =
+    second s ∙ ap (λ known. arrived s known (target_in jump)) (first s) ∙ sym (arrived-append s (described table s) (target_in next) (target_in jump))
 
 -- with the start's description at slot 0 alone a pass begins
 pub passed_start : (p : Subject) (blank : Table) → IsWellFormed p.text → length blank ≡ slots_of p.text → ((s : ℕ) → described blank s ≡ None) → IsPassed p (slice_set blank 0 (Some start_description)) 0

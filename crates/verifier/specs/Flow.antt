@@ -1,24 +1,31 @@
 -- What flows on from an instruction, or which rule it breaks (this project's own profile, docs/VERIFIER.md;
 -- the numbers are those of the refusals).
-use Rattle.std.specs.Prelude.{ℕ, ◌+◌, ◌/◌, ◌%◌, nat_lt, nat_le, ◌==◌, ℤ, pos, negsuc, ◌+ℤ◌, Bool, not, if◌then◌else◌, List, [], ◌∷◌, Option, Some, None, Result, Ok, Err}
+use Rattle.std.specs.Prelude.{ℕ, ◌+◌, ◌-◌, ◌*◌, ◌/◌, ◌%◌, ◌^◌, bit_and, bit_or, nat_lt, nat_le, ◌==◌, ℤ, pos, negsuc, ◌+ℤ◌, Bool, not, if◌then◌else◌, List, [], ◌∷◌, Option, Some, None, Result, Ok, Err}
 use Rattle.host_types.specs.Layout.{stack_size}
 use Rattle.bpf_decode.specs.declared.insn.Insn.{Insn}
 use Rattle.bpf_decode.specs.declared.operation.Source.{Source}
 use Rattle.bpf_decode.specs.declared.operation.Source.TheVariants.{Immediate, Register}
+use Rattle.bpf_decode.specs.declared.operation.Width.{Width}
+use Rattle.bpf_decode.specs.declared.operation.Width.TheVariants.{Bits64}
+use Rattle.bpf_decode.specs.declared.operation.Size.{Size}
+use Rattle.bpf_decode.specs.declared.operation.Size.TheVariants.{Byte, HalfWord, Word, DoubleWord}
+use Rattle.bpf_decode.specs.declared.operation.Extension.{Extension}
+use Rattle.bpf_decode.specs.declared.operation.Extension.TheVariants.{Zero, Sign}
 use Rattle.bpf_decode.specs.declared.operation.AluCode.{AluCode}
 use Rattle.bpf_decode.specs.declared.operation.Operation.{Operation}
-use Rattle.bpf_decode.specs.declared.operation.Operation.TheVariants.{Alu, Load, Store, Exit}
-use Rattle.bpf_decode.specs.Opcodes.{operation_of, sign_extended}
+use Rattle.bpf_decode.specs.declared.operation.Operation.TheVariants.{Alu, Load, Store, LoadImmediate, Exit}
+use Rattle.bpf_decode.specs.Opcodes.{operation_of, byte_count, sign_extended, wide_immediate}
 use Rattle.bpf_decode.specs.Text.{insn_at, slots_of, width_at}
-use Rattle.insn_alu.specs.Arithmetic.{reads_dst}
+use Rattle.insn_alu.specs.Arithmetic.{low, reads_dst}
 use Rattle.verifier_kinds.specs.declared.kind.Align.TheVariants.{One}
+use Rattle.verifier_kinds.specs.declared.kind.Range.{Range}
 use Rattle.verifier_kinds.specs.declared.kind.Kind.{Kind}
 use Rattle.verifier_kinds.specs.declared.kind.Kind.TheVariants.{Scalar, Context, Stack}
 use Rattle.verifier_kinds.specs.declared.description.StackSlot.{StackSlot}
 use Rattle.verifier_kinds.specs.declared.description.StackSlot.TheVariants.{Kept, Bytes}
 use Rattle.verifier_kinds.specs.declared.description.Description.{Description}
-use Rattle.verifier_kinds.specs.Kinds.{constant, full}
-use Rattle.verifier_kinds.specs.Descriptions.{register_of, slot_of, with_kind, with_slot}
+use Rattle.verifier_kinds.specs.Kinds.{constant, full, normal}
+use Rattle.verifier_kinds.specs.Descriptions.{register_of, slot_of, with_kind, with_slot, places_of}
 use Rattle.verifier_kinds.specs.Arithmetic.{arith_by}
 use Rattle.verifier.specs.Subject.{Subject}
 
@@ -56,23 +63,27 @@ writable i = holds_or (not (i == 10)) 22
 abbrev pub write_kind : Description → ℕ → Result Kind ℕ → Result Description ℕ
 write_kind d i kind = both kind (writable i) >>= λ x. Ok (with_kind d i x.0)
 
+-- the kind of a number of an immediate, as a width takes it
+abbrev pub immediate_kind : Width → Insn → Kind
+immediate_kind width insn = Scalar (constant (low width (sign_extended insn.imm)))
+
 -- the kind of the second operand of arithmetic
-abbrev pub operand_kind : Source → Insn → Description → Result Kind ℕ
-operand_kind Immediate insn d = Ok (Scalar (constant (sign_extended insn.imm)))
-operand_kind Register insn d = read_kind d insn.src
+abbrev pub operand_kind : Width → Source → Insn → Description → Result Kind ℕ
+operand_kind width Immediate insn d = Ok (immediate_kind width insn)
+operand_kind width Register insn d = read_kind d insn.src
 
 -- dst is known where the arithmetic reads it
 abbrev pub dst_is_known : AluCode → Insn → Description → Result (Unit {0}) ℕ
 dst_is_known code insn d = if reads_dst code then (read_kind d insn.dst >>= λ kind. Ok tt) else Ok tt
 
 -- the kind that arithmetic leaves in dst
-abbrev pub computed_kind : AluCode → Source → Insn → Description → Result Kind ℕ
-computed_kind code source insn d =
-    both (dst_is_known code insn d) (operand_kind source insn d) >>= λ x. arith_by code (register_of d insn.dst) x.1
+abbrev pub computed_kind : AluCode → Width → Source → Insn → Description → Result Kind ℕ
+computed_kind code width source insn d =
+    both (dst_is_known code insn d) (operand_kind width source insn d) >>= λ x. arith_by code width insn.offset (register_of d insn.dst) x.1
 
 -- arithmetic
-unfoldable pub after_alu : AluCode → Source → Insn → Description → Result Description ℕ
-after_alu code source insn d = write_kind d insn.dst (computed_kind code source insn d)
+unfoldable pub after_alu : AluCode → Width → Source → Insn → Description → Result Description ℕ
+after_alu code width source insn d = write_kind d insn.dst (computed_kind code width source insn d)
 
 -- the place of `size` bytes that lie whole between 0 and an end
 abbrev pub lies_below : ℤ → ℕ → ℕ → ℕ → Result ℕ ℕ
@@ -91,39 +102,69 @@ context_place context_size offset size = lies_below offset size context_size 16 
 abbrev pub stack_place : ℤ → ℕ → Result ℕ ℕ
 stack_place offset size = lies_below (offset +ℤ pos stack_size) size stack_size 17 >>= λ at. aligned at size
 
--- what a double word of the stack holds
-abbrev pub kept_kind : StackSlot → Result Kind ℕ
-kept_kind (Kept kind) = Ok kind
-kept_kind (Bytes set) = Err 18
+-- the numbers that are loaded: with sign extension they are all numbers
+abbrev pub loaded_range : Size → Extension → Range
+loaded_range Byte Zero = normal 0 255 One
+loaded_range HalfWord Zero = normal 0 65535 One
+loaded_range Word Zero = normal 0 4294967295 One
+loaded_range DoubleWord Zero = full One
+loaded_range size Sign = full One
 
--- what a double word that is loaded through a base is known to be
-abbrev pub load_kind : Subject → Insn → Description → Kind → Result Kind ℕ
-load_kind p insn d (Context k) = context_place p.context_size (k +ℤ insn.offset) 8 >>= λ at. Ok (Scalar (full One))
-load_kind p insn d (Stack k) = stack_place (k +ℤ insn.offset) 8 >>= λ at. kept_kind (slot_of d (at / 8))
-load_kind p insn d (Scalar range) = Err 15
+-- the bytes of an access in a slot of the stack, by the bits of a number
+abbrev pub places : ℕ → Size → ℕ
+places at size = (2 ^ byte_count size - 1) * 2 ^ (at % 8)
 
--- what a double word that is loaded is known to be
-abbrev pub loaded_kind : Subject → Insn → Description → Result Kind ℕ
-loaded_kind p insn d = read_kind d insn.src >>= λ base. load_kind p insn d base
+-- what is known of bytes of a slot that are loaded: a double word that is kept, or a number; the bytes of
+-- a kept pointer aren't read one by one
+abbrev pub slot_kind : Size → Extension → StackSlot → ℕ → Result Kind ℕ
+slot_kind DoubleWord extension (Kept kind) at = Ok kind
+slot_kind size extension (Kept (Scalar range)) at = Ok (Scalar (loaded_range size extension))
+slot_kind size extension (Kept pointer) at = Err 25
+slot_kind size extension (Bytes set) at =
+    if bit_and set (places at size) == places at size then Ok (Scalar (loaded_range size extension)) else Err 18
+
+-- what is known of a number that is loaded through a base
+abbrev pub load_kind : Subject → Size → Extension → Insn → Description → Kind → Result Kind ℕ
+load_kind p size extension insn d (Context k) =
+    context_place p.context_size (k +ℤ insn.offset) (byte_count size) >>= λ at. Ok (Scalar (loaded_range size extension))
+load_kind p size extension insn d (Stack k) =
+    stack_place (k +ℤ insn.offset) (byte_count size) >>= λ at. slot_kind size extension (slot_of d (at / 8)) at
+load_kind p size extension insn d (Scalar range) = Err 15
+
+-- what is known of a number that is loaded
+abbrev pub loaded_kind : Subject → Size → Extension → Insn → Description → Result Kind ℕ
+loaded_kind p size extension insn d = read_kind d insn.src >>= λ base. load_kind p size extension insn d base
 
 -- a load
-unfoldable pub after_load : Subject → Insn → Description → Result Description ℕ
-after_load p insn d = write_kind d insn.dst (loaded_kind p insn d)
+unfoldable pub after_load : Subject → Size → Extension → Insn → Description → Result Description ℕ
+after_load p size extension insn d = write_kind d insn.dst (loaded_kind p size extension insn d)
+
+-- the load of both immediates
+unfoldable pub after_load_immediate : Insn → Description → Result Description ℕ
+after_load_immediate insn d = write_kind d insn.dst (Ok (Scalar (constant (wide_immediate insn))))
 
 -- where a store through a base goes; the context is read-only
-abbrev pub store_place : Insn → Kind → Result ℕ ℕ
-store_place insn (Stack k) = stack_place (k +ℤ insn.offset) 8
-store_place insn base = Err 15
+abbrev pub store_place : Size → Insn → Kind → Result ℕ ℕ
+store_place size insn (Stack k) = stack_place (k +ℤ insn.offset) (byte_count size)
+store_place size insn base = Err 15
 
 -- where a store goes
-abbrev pub stored_place : Insn → Description → Result ℕ ℕ
-stored_place insn d = read_kind d insn.dst >>= λ base. store_place insn base
+abbrev pub stored_place : Size → Insn → Description → Result ℕ ℕ
+stored_place size insn d = read_kind d insn.dst >>= λ base. store_place size insn base
+
+-- a slot of the stack with some of its bytes written: a double word is kept, and a pointer is stored whole
+-- alone
+abbrev pub written_slot : Size → StackSlot → ℕ → Kind → Result StackSlot ℕ
+written_slot DoubleWord slot at kind = Ok (Kept kind)
+written_slot size slot at (Scalar range) = Ok (Bytes (bit_or (places_of slot) (places at size)))
+written_slot size slot at pointer = Err 25
 
 -- a store
-unfoldable pub after_store : Insn → Description → Result Description ℕ
-after_store insn d = do
-  x ← both (read_kind d insn.src) (stored_place insn d)
-  Ok (with_slot d (x.1 / 8) (Kept x.0))
+unfoldable pub after_store : Size → Source → Insn → Description → Result Description ℕ
+after_store size source insn d = do
+  x ← both (operand_kind Bits64 source insn d) (stored_place size insn d)
+  slot ← written_slot size (slot_of d (x.1 / 8)) x.1 x.0
+  Ok (with_slot d (x.1 / 8) slot)
 
 -- R0 is returned, and no pointer is
 abbrev pub is_returned : Kind → Result (Unit {0}) ℕ
@@ -132,9 +173,10 @@ is_returned pointer = Err 25
 
 -- what is known after an instruction that falls through
 abbrev pub after : Subject → Operation → Insn → Description → Result Description ℕ
-after p (Alu code source) insn d = after_alu code source insn d
-after p Load insn d = after_load p insn d
-after p Store insn d = after_store insn d
+after p (Alu code width source) insn d = after_alu code width source insn d
+after p (Load size extension) insn d = after_load p size extension insn d
+after p (Store size source) insn d = after_store size source insn d
+after p LoadImmediate insn d = after_load_immediate insn d
 after p Exit insn d = Ok d
 
 -- the slot to which an instruction falls through

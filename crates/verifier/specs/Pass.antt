@@ -1,19 +1,24 @@
 -- One pass over the slots of a program, in order: what has been found out before a slot.
-use Rattle.std.specs.Prelude.{◌≡◌, ℕ, ◌<◌, ◌≤◌, List, [], ◌∷◌, length, All, Option, Some, None, Result, Ok, Err}
+use Rattle.std.specs.Prelude.{◌≡◌, ℕ, ◌<◌, ◌≤◌, List, [], ◌∷◌, ◌++◌, length, All, Option, Some, None, Result, Ok, Err}
 use Rattle.bpf_decode.specs.Text.{slots_of}
 use Rattle.verifier_kinds.specs.declared.description.Description.{Description}
 use Rattle.verifier_kinds.specs.Descriptions.{IsDescription}
 use Rattle.verifier.specs.declared.flow.Target.{Target}
+use Rattle.verifier.specs.declared.flow.Onward.{Onward}
 use Rattle.verifier.specs.Subject.{Subject}
 use Rattle.verifier.specs.Table.{Table, described, flows_from, incoming, IsCleanBefore}
 
--- the targets of an instruction that leads to one slot, or to none
-abbrev pub targets_in : Option Target → List (ℕ × Description)
-targets_in None = []
-targets_in (Some t) = (t.slot, t.description) ∷ []
+-- the target of an instruction that may lead to a slot
+abbrev pub target_in : Option Target → List (ℕ × Description)
+target_in None = []
+target_in (Some t) = (t.slot, t.description) ∷ []
+
+-- the targets of an instruction: the slot to which it falls through before the one to which it jumps
+abbrev pub targets_in : Onward → List (ℕ × Description)
+targets_in onward = target_in onward.next ++ target_in onward.jump
 
 -- the same of an answer
-abbrev pub flow_in : Result (Option Target) ℕ → Result (List (ℕ × Description)) ℕ
+abbrev pub flow_in : Result Onward ℕ → Result (List (ℕ × Description)) ℕ
 flow_in (Ok onward) = Ok (targets_in onward)
 flow_in (Err rule) = Err rule
 

@@ -3,9 +3,11 @@
 //! docs/VERIFIER.md).
 #![tactic(auto)]
 
+mod access;
 mod candidate;
 mod flow;
 mod laws;
+mod rules;
 mod table;
 #[cfg(test)]
 mod tests;

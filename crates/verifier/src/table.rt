@@ -1,10 +1,10 @@
 //! The table of a program, made in one pass over its slots.
 
-ghost use Rattle.std.specs.Prelude.{◌≡◌, ℕ, ◌+◌, ◌<◌, [], ◌∷◌, length, IfOk, IfErr, OnOk, None, ◌⊎◌};
+ghost use Rattle.std.specs.Prelude.{◌≡◌, ℕ, ◌+◌, ◌<◌, length, IfSome, IfOk, IfErr, OnOk, ◌⊎◌};
 ghost use Rattle.host_types.specs.declared.fault.Refused.{Refused};
 ghost use Rattle.bpf_decode.specs.Text.{slots_of, IsWellFormed, out_of_memory};
-ghost use Rattle.verifier.specs.Table.{described, arrived, IsRefusal};
-ghost use Rattle.verifier.specs.Pass.{IsPassed};
+ghost use Rattle.verifier.specs.Table.{described, joined, arrived, IsRefusal};
+ghost use Rattle.verifier.specs.Pass.{target_in, IsPassed};
 
 use crate::candidate::Candidate;
 use crate::flow::Target;
@@ -18,14 +18,27 @@ pub(crate) const OUT_OF_MEMORY: Refused = Refused {
     slot: 0,
 };
 
-/// Lets a description flow to a slot of which nothing is known before.
-fn enter(table: &mut Vec<Option<Description>>, target: Target)
-    requires within { target.slot < length table.old.items }
-    requires unknown { described table.old.items target.slot ≡ None }
+/// Lets a description flow to a slot, if there is one: what is known there is joined with it.
+fn enter(table: &mut Vec<Option<Description>>, target: Option<Target>)
+    requires within { IfSome target (λ t. t.slot < length table.old.items) }
     ensures len { length table.new.items ≡ length table.old.items }
-    ensures arrived { (s : ℕ) → described table.new.items s ≡ arrived s (described table.old.items s) ((target.slot, target.description) ∷ []) }
+    ensures arrived { (s : ℕ) → described table.new.items s ≡ arrived s (described table.old.items s) (target_in target) }
 {
-    table[target.slot as usize] = Some(target.description);
+    let Some(target) = target else {
+        return;
+    };
+    let known = &mut table[target.slot as usize];
+    *known = Some(joined(known, target.description));
+}
+
+/// What is known, joined with what comes.
+fn joined(known: &Option<Description>, coming: Description) -> Description
+    ensures { result ≡ joined known.now coming }
+{
+    match known {
+        Some(known) => known.join(&coming),
+        None => coming,
+    }
 }
 
 /// Lets flow on what is known at a slot. The error is the number of the rule that the slot breaks.
@@ -43,9 +56,9 @@ fn pass_slot(
     let Some(known) = &table[slot as usize] else {
         return Ok(());
     };
-    if let Some(target) = candidate.flow(slot, known)? {
-        enter(table, target);
-    }
+    let onward = candidate.flow(slot, known)?;
+    enter(table, onward.next);
+    enter(table, onward.jump);
     Ok(())
 }
 

@@ -1,6 +1,8 @@
 pub mod Descriptions
 pub mod Ranges
-pub mod Sums
+pub mod Operands
+pub mod RowLaws
+pub mod Computed
 pub mod Moves
 pub mod Order
 pub mod Meaning

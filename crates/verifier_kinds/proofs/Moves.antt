@@ -1,14 +1,14 @@
 -- Pointers that a constant moves.
-use Rattle.std.proofs.Common.{◌≡◌, ℕ, suc, ◌+◌, ◌-◌, ◌%◌, ◌<◌, ◌≤◌, ◌^◌, ℤ, pos, negsuc, ◌+ℤ◌, ◌≤ℤ◌, ◌<ℤ◌, ◌&&◌, ◌⊎◌, inl, inr, ◌∙◌, true, false, Result, Ok, Err, sym, ap, subst, arith}
-use Rattle.std.specs.Prelude.{int_le}
+use Rattle.std.proofs.Common.{◌≡◌, ℕ, suc, ◌+◌, ◌-◌, ◌%◌, ◌<◌, ◌≤◌, ◌^◌, ℤ, pos, negsuc, ◌+ℤ◌, ◌≤ℤ◌, ◌<ℤ◌, ◌&&◌, ◌⊎◌, inl, inr, ◌∙◌, true, false, Result, Ok, Err, FitsSigned, sym, ap, subst, arith}
+use Rattle.std.specs.Prelude.{int_le, ◌-ℤ◌}
 use Rattle.std.specs.Int.{cast_signed, w64}
 use Rattle.std.proofs.lemmas.Int.{ints, to_z_pos}
 use Rattle.std.proofs.Math.Facts.{to_z-neg}
-use Rattle.std.proofs.lemmas.Bool.{cond-true, cond-false, and_from, and_left, and_right, and_parts, cases_Bool, cases_lt}
+use Rattle.std.proofs.lemmas.Bool.{cond-true, cond-false, and_left, and_right, and_parts, cases_Bool, cases_lt}
 use Rattle.verifier_kinds.specs.declared.kind.Range.{Range}
 use Rattle.verifier_kinds.specs.declared.kind.Kind.{Kind}
 use Rattle.verifier_kinds.specs.Kinds.{IsOffset, is_constant}
-use Rattle.verifier_kinds.specs.Arithmetic.{moved, within_offsets}
+use Rattle.verifier_kinds.specs.Arithmetic.{moved, moved_back, within_offsets}
 
 -- a test on whole numbers says their order
 pub int_le_true : (a b : ℤ) → a ≤ℤ b → int_le a b ≡ true
@@ -20,25 +20,30 @@ int_le_false a b h = grind (arith, ints)
 pub true_int_le : (a b : ℤ) → int_le a b ≡ true → a ≤ℤ b
 true_int_le a b t = grind (arith, ints)
 
-pub false_int_le : (a b : ℤ) → int_le a b ≡ false → b <ℤ a
-false_int_le a b t = grind (arith, ints)
-
--- an offset that a pointer may have is kept
-pub offset_kept : (kind : ℤ → Kind) (rule : ℕ) (k : ℤ) → IsOffset k → within_offsets kind rule k ≡ Ok (kind k)
-offset_kept kind rule k h =
-    cond-true _ (Ok (kind k)) (Err rule)
-    (and_from (int_le (negsuc 65535) k) (int_le k (pos 65536)) (int_le_true _ _ h.above) (int_le_true _ _ h.below))
-
--- any other is refused
+-- an offset that a pointer may not have is refused
 pub offset_refused : (kind : ℤ → Kind) (rule : ℕ) (k : ℤ) → (k <ℤ negsuc 65535) ⊎ (pos 65536 <ℤ k) → within_offsets kind rule k ≡ Err rule
 offset_refused kind rule k (inl h) =
     cond-false _ (Ok (kind k)) (Err rule) (and_left (int_le (negsuc 65535) k) (int_le k (pos 65536)) (int_le_false _ _ h))
 offset_refused kind rule k (inr h) =
     cond-false _ (Ok (kind k)) (Err rule) (and_right (int_le (negsuc 65535) k) (int_le k (pos 65536)) (int_le_false _ _ h))
 
+-- what doesn't fit 64 bits is no such offset
+pub far_away : (z : ℤ) → (FitsSigned w64 z → ⊥) → (z <ℤ negsuc 65535) ⊎ (pos 65536 <ℤ z)
+far_away (pos n) h = elim (cases_lt n 65537) [
+  | inl less ↦ absurd (h (omega arith))
+  | inr more ↦ inr (omega (arith, ints))
+]
+far_away (negsuc n) h = elim (cases_lt n 65536) [
+  | inl less ↦ absurd (h (omega arith))
+  | inr more ↦ inl (omega (arith, ints))
+]
+
 -- a move by a constant
 pub moved_by_constant : (kind : ℤ → Kind) (rule : ℕ) (offset : ℤ) (by : Range) → is_constant by ≡ true → moved kind rule offset by ≡ within_offsets kind rule (offset +ℤ cast_signed w64 by.low)
 moved_by_constant kind rule offset by one = cond-true (is_constant by) _ _ one
+
+pub moved_back_by_constant : (kind : ℤ → Kind) (rule : ℕ) (offset : ℤ) (by : Range) → is_constant by ≡ true → moved_back kind rule offset by ≡ within_offsets kind rule (offset -ℤ cast_signed w64 by.low)
+moved_back_by_constant kind rule offset by one = cond-true (is_constant by) _ _ one
 
 -- what is kept is an offset that a pointer may have
 kept_is_offset : (kind : ℤ → Kind) (rule : ℕ) (k : ℤ) (result : Kind) → within_offsets kind rule k ≡ Ok result → (result ≡ kind k) × IsOffset k
@@ -60,6 +65,16 @@ moved_is kind rule offset by result e = elim (cases_Bool (is_constant by)) [
       (t, kept.0, kept.1)
   | inr f ↦
       let is : ◌≡◌ {A = Result Kind ℕ} (Err 15) (Ok result) = sym (cond-false (is_constant by) (within_offsets kind rule (offset +ℤ cast_signed w64 by.low)) (Err 15) f) ∙ e in
+      cc
+]
+
+pub moved_back_is : (kind : ℤ → Kind) (rule : ℕ) (offset : ℤ) (by : Range) (result : Kind) → moved_back kind rule offset by ≡ Ok result → (is_constant by ≡ true) × (result ≡ kind (offset -ℤ cast_signed w64 by.low)) × IsOffset (offset -ℤ cast_signed w64 by.low)
+moved_back_is kind rule offset by result e = elim (cases_Bool (is_constant by)) [
+  | inl t ↦
+      let kept = kept_is_offset kind rule (offset -ℤ cast_signed w64 by.low) result (sym (moved_back_by_constant kind rule offset by t) ∙ e) in
+      (t, kept.0, kept.1)
+  | inr f ↦
+      let is : ◌≡◌ {A = Result Kind ℕ} (Err 15) (Ok result) = sym (cond-false (is_constant by) (within_offsets kind rule (offset -ℤ cast_signed w64 by.low)) (Err 15) f) ∙ e in
       cc
 ]
 
@@ -95,4 +110,36 @@ moved_address base offset n y low high is fits h = elim (cases_lt y (2 ^ 63)) [
       let same : y ≡ 2 ^ 64 - suc k = omega arith in
       let number : cast_signed w64 y ≡ negsuc k = ap (λ n. cast_signed w64 n) same ∙ to_z-neg w64 k small in
       rw number (moved_down base offset n y k low high is whole small (subst (λ z. IsOffset (offset +ℤ z)) number h))
+]
+
+-- moving it back by a number below 2^63, and by one that lacks k + 1 to 2^64
+back_down : (base : ℕ) (offset : ℤ) (n y : ℕ) → 65536 ≤ base → base < 2 ^ 63 → pos n ≡ pos base +ℤ offset → n < 2 ^ 64 → y < 2 ^ 63 → IsOffset (offset -ℤ pos y) → pos ((n + (2 ^ 64 - y)) % 2 ^ 64) ≡ pos base +ℤ (offset -ℤ pos y)
+back_down base offset n y low high is fits small h =
+    let above = h.above in
+    let below = h.below in
+    let least : y ≤ n = omega (arith, ints) in
+    let same : (n + (2 ^ 64 - y)) % 2 ^ 64 + y ≡ n = omega arith in
+    omega (arith, ints)
+
+back_up : (base : ℕ) (offset : ℤ) (n y k : ℕ) → 65536 ≤ base → base < 2 ^ 63 → pos n ≡ pos base +ℤ offset → k + 1 + y ≡ 2 ^ 64 → k < 2 ^ 63 → IsOffset (offset -ℤ negsuc k) → pos ((n + (2 ^ 64 - y)) % 2 ^ 64) ≡ pos base +ℤ (offset -ℤ negsuc k)
+back_up base offset n y k low high is whole small h =
+    let above = h.above in
+    let below = h.below in
+    let sum : n + (k + 1) < 2 ^ 64 = omega (arith, ints) in
+    let same : (n + (2 ^ 64 - y)) % 2 ^ 64 ≡ n + (k + 1) = omega arith in
+    omega (arith, ints)
+
+-- moving an address back is subtracting a number modulo 2^64
+pub moved_back_address : (base : ℕ) (offset : ℤ) (n y : ℕ) → 65536 ≤ base → base < 2 ^ 63 → pos n ≡ pos base +ℤ offset → n < 2 ^ 64 → y < 2 ^ 64 → IsOffset (offset -ℤ cast_signed w64 y) → pos ((n + (2 ^ 64 - y)) % 2 ^ 64) ≡ pos base +ℤ (offset -ℤ cast_signed w64 y)
+moved_back_address base offset n y low high is fits whole h = elim (cases_lt y (2 ^ 63)) [
+  | inl less ↦
+      let number : cast_signed w64 y ≡ pos y = to_z_pos w64 y less in
+      rw number (back_down base offset n y low high is fits less (subst (λ z. IsOffset (offset -ℤ z)) number h))
+  | inr more ↦
+      let k : ℕ = 2 ^ 64 - suc y in
+      let all : k + 1 + y ≡ 2 ^ 64 = omega arith in
+      let small : k < 2 ^ 63 = omega arith in
+      let same : y ≡ 2 ^ 64 - suc k = omega arith in
+      let number : cast_signed w64 y ≡ negsuc k = ap (λ n. cast_signed w64 n) same ∙ to_z-neg w64 k small in
+      rw number (back_up base offset n y k low high is all small (subst (λ z. IsOffset (offset -ℤ z)) number h))
 ]

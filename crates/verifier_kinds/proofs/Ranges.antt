@@ -84,18 +84,12 @@ least_align_comm Eight Eight = refl
 pub divided_by_least_right : (a b : Align) (n : ℕ) → n % factor b ≡ 0 → n % factor (least_align a b) ≡ 0
 divided_by_least_right a b n e = rw (least_align_comm a b) (divided_by_least_left b a n e)
 
--- an alignment that divides two numbers divides their sum, also after it wraps
+-- an alignment that divides two numbers divides their sum
 pub sum_divided : (d : Align) (x y : ℕ) → x % factor d ≡ 0 → y % factor d ≡ 0 → (x + y) % factor d ≡ 0
 sum_divided One x y p q = omega arith
 sum_divided Two x y p q = omega arith
 sum_divided Four x y p q = omega arith
 sum_divided Eight x y p q = omega arith
-
-pub wrapped_divided : (d : Align) (n : ℕ) → n % factor d ≡ 0 → n % 2 ^ 64 % factor d ≡ 0
-wrapped_divided One n e = omega arith
-wrapped_divided Two n e = omega arith
-wrapped_divided Four n e = omega arith
-wrapped_divided Eight n e = omega arith
 
 -- a normal range has each number between the raw ends that the alignment divides
 pub in_normal : (low high : ℕ) (d : Align) (n : ℕ) → low ≤ n → n ≤ high → n % factor d ≡ 0 → IsIn (normal low high d) n
@@ -144,12 +138,6 @@ pub in_constant : (n : ℕ) → IsIn (constant n) n
 in_constant n = record { low = omega arith; high = omega arith; aligned = divided_by_align_of n }
 
 -- the range of all numbers that an alignment divides
-pub in_full : (d : Align) (n : ℕ) → n < 2 ^ 64 → n % factor d ≡ 0 → IsIn (full d) n
-in_full d n h e = in_normal 0 18446744073709551615 d n (omega arith) (omega arith) e
-
-pub in_full_one : (n : ℕ) → n < 2 ^ 64 → IsIn (full One) n
-in_full_one n h = in_full One n h (omega arith)
-
 pub full_is_normal : (d : Align) → IsNormal (full d)
 full_is_normal d = normal_is_normal 0 18446744073709551615 d 0 (omega arith) (omega arith) (zero_divided d) (omega arith)
   where

@@ -1,77 +1,133 @@
 -- Arithmetic is sound: the number that it computes is of the kind that it gives.
-use Rattle.std.proofs.Common.{◌≡◌, ℕ, ◌+◌, ◌%◌, ◌^◌, ◌<◌, ◌≤◌, ◌∙◌, true, ℤ, pos, ◌+ℤ◌, Option, Some, None, Ok, refl, sym, ap, subst, arith}
+use Rattle.std.proofs.Common.{◌≡◌, ℕ, ◌+◌, ◌-◌, ◌%◌, ◌^◌, ◌<◌, ◌≤◌, ◌∙◌, true, inl, inr, ℤ, pos, ◌+ℤ◌, ◌-ℤ◌, Option, Some, None, Result, Ok, refl, sym, ap, subst, arith}
 use Rattle.std.specs.Int.{cast_signed, w64}
-use Rattle.std.proofs.lemmas.Bool.{eqb-true}
-use Rattle.bpf_decode.specs.declared.insn.Insn.{Insn}
+use Rattle.std.proofs.lemmas.Bool.{cases_Bool, cond-true, cond-false}
+use Rattle.bpf_decode.specs.declared.operation.Width.{Width}
+use Rattle.bpf_decode.specs.declared.operation.Width.TheVariants.{Bits32, Bits64}
 use Rattle.bpf_decode.specs.declared.operation.AluCode.{AluCode}
-use Rattle.bpf_decode.specs.declared.operation.AluCode.TheVariants.{Add, Mov}
-use Rattle.bpf_decode.specs.declared.operation.Operation.TheVariants.{Alu}
-use Rattle.bpf_decode.specs.declared.operation.Source.{Source}
-use Rattle.bpf_decode.specs.Opcodes.{operation_of}
-use Rattle.insn_alu.specs.Arithmetic.{IsArithmetic, alu, alu_by, alu_of, reads_dst}
+use Rattle.bpf_decode.specs.declared.operation.AluCode.TheVariants.{Add, Sub, Mov}
+use Rattle.bpf_decode.specs.Opcodes.{is}
+use Rattle.insn_alu.specs.Arithmetic.{alu, reads_dst}
+use Rattle.insn_alu.proofs.Halves.{low_of_small}
 use Rattle.host_types.specs.Layout.{context_base, stack_end}
 use Rattle.verifier_kinds.specs.declared.kind.Range.{Range}
 use Rattle.verifier_kinds.specs.declared.kind.Kind.{Kind}
 use Rattle.verifier_kinds.specs.declared.kind.Kind.TheVariants.{Scalar, Context, Stack}
-use Rattle.verifier_kinds.specs.Kinds.{IsOfKind, IsOffset, Describes, IsIn, is_constant}
-use Rattle.verifier_kinds.specs.Arithmetic.{ReadsDst, arith_by, arith_of, sum_of, sum_of_kinds, moved}
-use Rattle.verifier_kinds.proofs.Sums.{in_sum}
-use Rattle.verifier_kinds.proofs.Moves.{moved_is, moved_address}
+use Rattle.verifier_kinds.specs.Kinds.{IsOfKind, IsOffset, Describes, IsIn}
+use Rattle.verifier_kinds.specs.Arithmetic.{arith_by, range_of, moved, moved_back, displaced, kind_of, kind_with_dst, moved_number, copied}
+use Rattle.verifier_kinds.proofs.Operands.{constant_number}
+use Rattle.verifier_kinds.proofs.Computed.{in_range_of}
+use Rattle.verifier_kinds.proofs.Moves.{moved_is, moved_address, moved_back_is, moved_back_address}
+use Rattle.verifier_kinds.proofs.Joins.{same_offset}
 
--- the one number of a constant
-pub constant_number : (by : Range) (y : ℕ) → is_constant by ≡ true → IsIn by y → by.low ≡ y
-constant_number by y one within =
-    let same : by.low ≡ by.high = eqb-true by.low by.high one in
-    let low = within.low in
-    let high = within.high in
-    omega arith
+-- ---- pointers
+
+-- a kind of pointers whose offsets count from an address that is far from both ends
+record IsPointer (kind : ℤ → Kind) (base : ℕ) : Type 0 where
+  pub numbers : (k : ℤ) (n : ℕ) → pos n ≡ pos base +ℤ k → IsOfKind (kind k) n
+  pub low : 65536 ≤ base
+  pub high : base < 2 ^ 63
 
 -- the address of a pointer that a number moves
-moved_sound : (kind : ℤ → Kind) (base rule : ℕ) → ((k : ℤ) (n : ℕ) → pos n ≡ pos base +ℤ k → IsOfKind (kind k) n) → 65536 ≤ base → base < 2 ^ 63 → (offset : ℤ) (by : Range) (result : Kind) (x y : ℕ) → moved kind rule offset by ≡ Ok result → pos x ≡ pos base +ℤ offset → IsIn by y → y < 2 ^ 64 → IsOfKind result ((x + y) % 2 ^ 64)
-moved_sound kind base rule is_kind low high offset by result x y e is within ys =
+moved_sound : (kind : ℤ → Kind) (base rule : ℕ) → IsPointer kind base → (offset : ℤ) (by : Range) (result : Kind) (x y : ℕ) → moved kind rule offset by ≡ Ok result → pos x ≡ pos base +ℤ offset → IsIn by y → y < 2 ^ 64 → IsOfKind result ((x + y) % 2 ^ 64)
+moved_sound kind base rule pointer offset by result x y e is within ys =
     let moves = moved_is kind rule offset by result e in
     let number = constant_number by y moves.0 within in
     let kept : IsOffset (offset +ℤ cast_signed w64 y) = subst (λ n. IsOffset (offset +ℤ cast_signed w64 n)) number moves.2 in
-    let where_to = moved_address base offset x y low high is ys kept in
+    let where_to = moved_address base offset x y pointer.low pointer.high is ys kept in
     let same : result ≡ kind (offset +ℤ cast_signed w64 y) = moves.1 ∙ ap (λ n. kind (offset +ℤ cast_signed w64 n)) number in
-    subst (λ k. IsOfKind k ((x + y) % 2 ^ 64)) (sym same) (is_kind (offset +ℤ cast_signed w64 y) ((x + y) % 2 ^ 64) where_to)
+    subst (λ k. IsOfKind k ((x + y) % 2 ^ 64)) (sym same) (pointer.numbers (offset +ℤ cast_signed w64 y) ((x + y) % 2 ^ 64) where_to)
 
--- a sum is sound
-pub sum_sound : (a b kind : Kind) (x y : ℕ) → sum_of_kinds a b ≡ Ok kind → IsOfKind a x → IsOfKind b y → x < 2 ^ 64 → y < 2 ^ 64 → IsOfKind kind ((x + y) % 2 ^ 64)
-sum_sound (Scalar a) (Scalar b) kind x y e p q xs ys =
-    let same : Scalar (sum_of a b) ≡ kind = cc in
-    subst (λ k. IsOfKind k ((x + y) % 2 ^ 64)) same (in_sum a b x y p q xs ys)
-sum_sound (Context offset) (Scalar by) kind x y e p q xs ys =
-    moved_sound Context context_base 16 (λ k n is. is) (omega arith) (omega arith) offset by kind x y e p q ys
-sum_sound (Stack offset) (Scalar by) kind x y e p q xs ys =
-    moved_sound Stack stack_end 17 (λ k n is. is) (omega arith) (omega arith) offset by kind x y e p q ys
-sum_sound (Scalar a) (Context k) kind x y e p q xs ys = cc
-sum_sound (Scalar a) (Stack k) kind x y e p q xs ys = cc
-sum_sound (Context offset) (Context k) kind x y e p q xs ys = cc
-sum_sound (Context offset) (Stack k) kind x y e p q xs ys = cc
-sum_sound (Stack offset) (Context k) kind x y e p q xs ys = cc
-sum_sound (Stack offset) (Stack k) kind x y e p q xs ys = cc
+-- the address of a pointer that a number moves back
+moved_back_sound : (kind : ℤ → Kind) (base rule : ℕ) → IsPointer kind base → (offset : ℤ) (by : Range) (result : Kind) (x y : ℕ) → moved_back kind rule offset by ≡ Ok result → pos x ≡ pos base +ℤ offset → IsIn by y → x < 2 ^ 64 → y < 2 ^ 64 → IsOfKind result ((x + (2 ^ 64 - y)) % 2 ^ 64)
+moved_back_sound kind base rule pointer offset by result x y e is within xs ys =
+    let moves = moved_back_is kind rule offset by result e in
+    let number = constant_number by y moves.0 within in
+    let kept : IsOffset (offset -ℤ cast_signed w64 y) = subst (λ n. IsOffset (offset -ℤ cast_signed w64 n)) number moves.2 in
+    let where_to = moved_back_address base offset x y pointer.low pointer.high is xs ys kept in
+    let same : result ≡ kind (offset -ℤ cast_signed w64 y) = moves.1 ∙ ap (λ n. kind (offset -ℤ cast_signed w64 n)) number in
+    subst (λ k. IsOfKind k ((x + (2 ^ 64 - y)) % 2 ^ 64)) (sym same) (pointer.numbers (offset -ℤ cast_signed w64 y) ((x + (2 ^ 64 - y)) % 2 ^ 64) where_to)
+
+-- the machine moves an address back by the same number
+subtracted : (offset : ℤ) (x y : ℕ) → x < 2 ^ 64 → y < 2 ^ 64 → (x + (2 ^ 64 - y)) % 2 ^ 64 ≡ alu Sub Bits64 offset x y
+unfolding alu
+subtracted offset x y xs ys = rw (low_of_small Bits64 x xs, low_of_small Bits64 y ys) refl
+
+added : (offset : ℤ) (x y : ℕ) → (x + y) % 2 ^ 64 ≡ alu Add Bits64 offset x y
+unfolding alu
+added offset x y = refl
+
+-- a pointer takes part in additions and subtractions of 64 bits alone
+displaced_sound : (code : AluCode) (width : Width) (field : ℤ) (kind : ℤ → Kind) (base rule : ℕ) → IsPointer kind base → (offset : ℤ) (by : Range) (result : Kind) (x y : ℕ) → displaced kind rule code width offset by ≡ Ok result → pos x ≡ pos base +ℤ offset → IsIn by y → x < 2 ^ 64 → y < 2 ^ 64 → IsOfKind result (alu code width field x y)
+displaced_sound Add Bits64 field kind base rule pointer offset by result x y e is within xs ys =
+    subst (IsOfKind result) (added field x y) (moved_sound kind base rule pointer offset by result x y e is within ys)
+displaced_sound Sub Bits64 field kind base rule pointer offset by result x y e is within xs ys =
+    subst (IsOfKind result) (subtracted field x y xs ys) (moved_back_sound kind base rule pointer offset by result x y e is within xs ys)
+displaced_sound code width field kind base rule pointer offset by result x y e is within xs ys = cc
+
+context_pointer : IsPointer Context context_base
+context_pointer = record { numbers = λ k n is. is; low = omega arith; high = omega arith }
+
+stack_pointer : IsPointer Stack stack_end
+stack_pointer = record { numbers = λ k n is. is; low = omega arith; high = omega arith }
+
+-- ---- kinds
+
+-- what an operation makes of two kinds
+kinds_sound : (code : AluCode) (width : Width) (offset : ℤ) (a b kind : Kind) (x y : ℕ) → kind_of code width offset a b ≡ Ok kind → IsOfKind a x → IsOfKind b y → x < 2 ^ 64 → y < 2 ^ 64 → IsOfKind kind (alu code width offset x y)
+kinds_sound code width offset (Scalar a) (Scalar b) kind x y e p q xs ys =
+    let same : Scalar (range_of code width offset a b) ≡ kind = cc in
+    subst (λ k. IsOfKind k (alu code width offset x y)) same (in_range_of code width offset a b x y p q xs ys)
+kinds_sound code width offset (Context k) (Scalar by) kind x y e p q xs ys =
+    displaced_sound code width offset Context context_base 16 context_pointer k by kind x y e p q xs ys
+kinds_sound code width offset (Stack k) (Scalar by) kind x y e p q xs ys =
+    displaced_sound code width offset Stack stack_end 17 stack_pointer k by kind x y e p q xs ys
+kinds_sound code width offset (Scalar a) (Context k) kind x y e p q xs ys = cc
+kinds_sound code width offset (Scalar a) (Stack k) kind x y e p q xs ys = cc
+kinds_sound code width offset (Context a) (Context k) kind x y e p q xs ys = cc
+kinds_sound code width offset (Context a) (Stack k) kind x y e p q xs ys = cc
+kinds_sound code width offset (Stack a) (Context k) kind x y e p q xs ys = cc
+kinds_sound code width offset (Stack a) (Stack k) kind x y e p q xs ys = cc
+
+-- the same where dst may not be known
+with_dst_sound : (code : AluCode) (width : Width) (offset : ℤ) (a : Option Kind) (b kind : Kind) (x y : ℕ) → kind_with_dst code width offset a b ≡ Ok kind → Describes a (Some x) → IsOfKind b y → x < 2 ^ 64 → y < 2 ^ 64 → IsOfKind kind (alu code width offset x y)
+with_dst_sound code width offset (Some a) b kind x y e p q xs ys = kinds_sound code width offset a b kind x y e p q xs ys
+with_dst_sound code width offset None b kind x y e p q xs ys = cc
+
+-- ---- moves
+
+-- a move doesn't ask for the first operand
+moved_alone : (width : Width) (offset : ℤ) (x y : ℕ) → alu Mov width offset y y ≡ alu Mov width offset x y
+unfolding alu
+moved_alone width offset x y = refl
+
+moved_number_sound : (width : Width) (offset : ℤ) (b kind : Kind) (x y : ℕ) → moved_number width offset b ≡ Ok kind → IsOfKind b y → y < 2 ^ 64 → IsOfKind kind (alu Mov width offset x y)
+moved_number_sound width offset (Scalar b) kind x y e q ys =
+    let same : Scalar (range_of Mov width offset b b) ≡ kind = cc in
+    let number : IsIn (range_of Mov width offset b b) (alu Mov width offset x y) = subst (IsIn (range_of Mov width offset b b)) (moved_alone width offset x y) (in_range_of Mov width offset b b y y q q ys ys) in
+    subst (λ k. IsOfKind k (alu Mov width offset x y)) same number
+moved_number_sound width offset (Context k) kind x y e q ys = cc
+moved_number_sound width offset (Stack k) kind x y e q ys = cc
+
+-- a move of all bits copies
+moved_whole : (offset : ℤ) (x y : ℕ) → is offset 0 ≡ true → y < 2 ^ 64 → y ≡ alu Mov Bits64 offset x y
+unfolding alu
+moved_whole offset x y t ys = rw (same_offset offset (pos 0) t) (sym (low_of_small Bits64 y ys))
+
+copied_sound : (width : Width) (offset : ℤ) (b kind : Kind) (x y : ℕ) → copied width offset b ≡ Ok kind → IsOfKind b y → y < 2 ^ 64 → IsOfKind kind (alu Mov width offset x y)
+copied_sound Bits32 offset b kind x y e q ys = moved_number_sound Bits32 offset b kind x y e q ys
+copied_sound Bits64 offset b kind x y e q ys = elim (cases_Bool (is offset 0)) [
+  | inl t ↦
+      let copy : ◌≡◌ {A = Result Kind ℕ} (Ok b) (Ok kind) = sym (cond-true (is offset 0) (Ok b) (moved_number Bits64 offset b) t) ∙ e in
+      let same : b ≡ kind = cc in
+      subst (IsOfKind kind) (moved_whole offset x y t ys) (subst (λ k. IsOfKind k y) same q)
+  | inr f ↦ moved_number_sound Bits64 offset b kind x y (sym (cond-false (is offset 0) (Ok b) (moved_number Bits64 offset b) f) ∙ e) q ys
+]
+
+-- ---- instructions
 
 -- Arithmetic on numbers that its operands' kinds describe gives a number of the kind that it gives. Only
 -- code that reads dst asks what is known of dst.
-pub arithmetic_sound : (code : AluCode) (a : Option Kind) (b kind : Kind) (x y : ℕ) → arith_by code a b ≡ Ok kind → (reads_dst code ≡ true → Describes a (Some x)) → IsOfKind b y → x < 2 ^ 64 → y < 2 ^ 64 → IsOfKind kind (alu code x y)
-arithmetic_sound Mov a b kind x y e p q xs ys =
-    let same : b ≡ kind = cc in
-    subst (λ k. IsOfKind k y) same q
-arithmetic_sound Add (Some a) b kind x y e p q xs ys = sum_sound a b kind x y e (p refl) q xs ys
-arithmetic_sound Add None b kind x y e p q xs ys = cc
-
--- what arithmetic makes of kinds, by the instruction's code
-pub arith_of_code : (insn : Insn) (code : AluCode) (source : Source) (a : Option Kind) (b : Kind) → operation_of insn.opcode ≡ Some (Alu code source) → arith_of insn a b ≡ arith_by code a b
-arith_of_code insn code source a b is = rw is refl
-
--- the same of an arithmetic instruction
-pub instruction_sound : (insn : Insn) (a : Option Kind) (b kind : Kind) (x y : ℕ) → IsArithmetic insn → arith_of insn a b ≡ Ok kind → (ReadsDst insn → Describes a (Some x)) → IsOfKind b y → x < 2 ^ 64 → y < 2 ^ 64 → IsOfKind kind (alu_of insn x y)
-instruction_sound insn a b kind x y (code, source, is) e p q xs ys =
-    let given : arith_by code a b ≡ Ok kind = sym (arith_of_code insn code source a b is) ∙ e in
-    let number : alu_of insn x y ≡ alu code x y = ap (λ o. alu_by o x y) is in
-    subst (IsOfKind kind) (sym number) (arithmetic_sound code a b kind x y given (λ reads. p (reads_as insn code source is reads)) q xs ys)
-  where
-    reads_as : (insn : Insn) (code : AluCode) (source : Source) → operation_of insn.opcode ≡ Some (Alu code source) → reads_dst code ≡ true → ReadsDst insn
-    reads_as insn Add source is reads = (source, is)
-    reads_as insn Mov source is reads = cc
+pub arithmetic_sound : (code : AluCode) (width : Width) (offset : ℤ) (a : Option Kind) (b kind : Kind) (x y : ℕ) → arith_by code width offset a b ≡ Ok kind → (reads_dst code ≡ true → Describes a (Some x)) → IsOfKind b y → x < 2 ^ 64 → y < 2 ^ 64 → IsOfKind kind (alu code width offset x y)
+arithmetic_sound Mov width offset a b kind x y e p q xs ys = copied_sound width offset b kind x y e q ys
+arithmetic_sound code width offset a b kind x y e p q xs ys = with_dst_sound code width offset a b kind x y e (p refl) q xs ys

@@ -26,6 +26,21 @@ rank Eight = 3
 abbrev pub least_align : Align → Align → Align
 least_align a b = if nat_le (rank a) (rank b) then a else b
 
+-- the greatest of two alignments
+abbrev pub greatest_align : Align → Align → Align
+greatest_align a b = if nat_le (rank a) (rank b) then b else a
+
+-- the alignment with an exponent, at most that of 8
+abbrev pub of_rank : ℕ → Align
+of_rank n =
+    if n == 0 then One else (
+    if n == 1 then Two else (
+    if n == 2 then Four else Eight))
+
+-- the alignment of a number's products with a power of 2
+abbrev pub raised : Align → ℕ → Align
+raised align exponent = of_rank (rank align + exponent)
+
 -- the greatest alignment that divides a number
 abbrev pub align_of : ℕ → Align
 align_of n =

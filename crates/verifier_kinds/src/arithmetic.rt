@@ -2,11 +2,12 @@
 
 ghost use Rattle.std.specs.Prelude.{◌≡◌, ◌⊎◌, ℤ, IfOk, IfSome, MatchResult, Ok, Err};
 ghost use Rattle.insn_alu.specs.Arithmetic.{IsArithmetic};
-ghost use Rattle.verifier_kinds.specs.Arithmetic.{arith_of, moved, sum_of_kinds};
+ghost use Rattle.verifier_kinds.specs.Arithmetic.{arith_of, copied, displaced, kind_of, moved, moved_back, moved_number, within_offsets};
 ghost use Rattle.verifier_kinds.specs.Kinds.{IsKind, IsNormal, IsOffset};
 
 use crate::kind::{Kind, Range};
-use bpf_decode::{AluCode, Insn, Operation};
+use crate::rows::range_of;
+use bpf_decode::{AluCode, Insn, Operation, Width};
 
 /// Arithmetic on a register of which nothing is known.
 const UNSET_REGISTER: u32 = 14;
@@ -23,8 +24,8 @@ const OUTSIDE_STACK: u32 = 17;
 /// The kind that an arithmetic instruction leaves in dst, of which `a` is known before; `b` is the
 /// kind of the second operand. The error is the number of the rule that it breaks: 14 where it
 /// reads a dst of which nothing is known, 15 for any use of a pointer but a copy and the addition
-/// of a constant to it, 16 or 17 where that moves a pointer of the context or of the stack more
-/// than 65536 bytes away.
+/// or subtraction of a constant, 16 or 17 where that moves a pointer of the context or of the stack
+/// more than 65536 bytes away.
 pub fn arith(insn: &Insn, a: Option<Kind>, b: Kind) -> Result<Kind, u32>
     requires arithmetic { IsArithmetic insn.now }
     requires destination { IfSome a IsKind }
@@ -35,39 +36,78 @@ pub fn arith(insn: &Insn, a: Option<Kind>, b: Kind) -> Result<Kind, u32>
     match insn.operation() {
         Operation::Alu {
             code: AluCode::Mov,
+            width,
             ..
-        } => Ok(b),
-        Operation::Alu {
-            code: AluCode::Add,
-            ..
-        } => match a {
-            Some(a) => sum(a, b),
+        } => copied(width, insn.offset, b),
+        Operation::Alu { code, width, .. } => match a {
+            Some(a) => kind_of(code, width, insn.offset, a, b),
             None => Err(UNSET_REGISTER),
         },
         _ => unreachable!(),
     }
 }
 
-/// What is known of a sum. A pointer is added to as dst alone.
-fn sum(a: Kind, b: Kind) -> Result<Kind, u32>
+/// What a move makes of a kind. One of all 64 bits copies any kind, any other takes a number.
+fn copied(width: Width, offset: i16, kind: Kind) -> Result<Kind, u32>
+    requires { IsKind kind }
+    ensures result { result ≡ copied width offset kind }
+    ensures kind { IfOk result IsKind }
+{
+    match width {
+        Width::Bits64 if offset == 0 => Ok(kind),
+        _ => moved_number(width, offset, kind),
+    }
+}
+
+/// What a move of a number makes of its kind.
+fn moved_number(width: Width, offset: i16, kind: Kind) -> Result<Kind, u32>
+    requires { IsKind kind }
+    ensures result { result ≡ moved_number width offset kind }
+    ensures kind { IfOk result IsKind }
+{
+    match kind {
+        Kind::Scalar(b) => Ok(Kind::Scalar(range_of(AluCode::Mov, width, offset, b, b))),
+        _ => Err(WRONG_KIND),
+    }
+}
+
+/// What any other operation makes of the kinds of dst and of the second operand. A pointer is
+/// moved as dst alone.
+fn kind_of(code: AluCode, width: Width, offset: i16, a: Kind, b: Kind) -> Result<Kind, u32>
     requires left { IsKind a }
     requires right { IsKind b }
-    ensures result { result ≡ sum_of_kinds a b }
+    ensures result { result ≡ kind_of code width offset a b }
     ensures kind { IfOk result IsKind }
 {
     match (a, b) {
-        (Kind::Scalar(a), Kind::Scalar(b)) => Ok(Kind::Scalar(a.plus(b))),
+        (Kind::Scalar(a), Kind::Scalar(b)) => Ok(Kind::Scalar(range_of(code, width, offset, a, b))),
         (Kind::Context(offset), Kind::Scalar(by)) => {
-            Ok(Kind::Context(moved(offset, by, OUTSIDE_CONTEXT)?))
+            Ok(Kind::Context(displaced(code, width, offset, by, OUTSIDE_CONTEXT)?))
         }
         (Kind::Stack(offset), Kind::Scalar(by)) => {
-            Ok(Kind::Stack(moved(offset, by, OUTSIDE_STACK)?))
+            Ok(Kind::Stack(displaced(code, width, offset, by, OUTSIDE_STACK)?))
         }
         _ => Err(WRONG_KIND),
     }
 }
 
-/// The offset of a pointer that a number moves; `rule` is broken where that is too far.
+/// The offset of a pointer that an operation moves; `rule` is broken where that is too far.
+fn displaced(code: AluCode, width: Width, offset: i32, by: Range, rule: u32) -> Result<i32, u32>
+    requires offset { IsOffset offset }
+    requires by { IsNormal by }
+    ensures result { MatchResult result
+        (λ k. (kind : ℤ → Kind) → displaced kind rule code width offset by ≡ Ok (kind k))
+        (λ n. (kind : ℤ → Kind) → displaced kind rule code width offset by ≡ Err n) }
+    ensures offset { IfOk result IsOffset }
+{
+    match (code, width) {
+        (AluCode::Add, Width::Bits64) => moved(offset, by, rule),
+        (AluCode::Sub, Width::Bits64) => moved_back(offset, by, rule),
+        _ => Err(WRONG_KIND),
+    }
+}
+
+/// The offset of a pointer that a number moves.
 fn moved(offset: i32, by: Range, rule: u32) -> Result<i32, u32>
     requires offset { IsOffset offset }
     requires by { IsNormal by }
@@ -79,11 +119,39 @@ fn moved(offset: i32, by: Range, rule: u32) -> Result<i32, u32>
     if !by.is_constant() {
         return Err(WRONG_KIND);
     }
-    let Some(sum) = i64::from(offset).checked_add(by.low.cast_signed()) else {
-        return Err(rule);
-    };
-    if -65536 <= sum && sum <= 65536 {
-        Ok(sum as i32)
+    match i64::from(offset).checked_add(by.low.cast_signed()) {
+        Some(sum) => within_offsets(sum, rule),
+        None => Err(rule),
+    }
+}
+
+/// The offset of a pointer that a number moves back.
+fn moved_back(offset: i32, by: Range, rule: u32) -> Result<i32, u32>
+    requires offset { IsOffset offset }
+    requires by { IsNormal by }
+    ensures result { MatchResult result
+        (λ k. (kind : ℤ → Kind) → moved_back kind rule offset by ≡ Ok (kind k))
+        (λ n. (kind : ℤ → Kind) → moved_back kind rule offset by ≡ Err n) }
+    ensures offset { IfOk result IsOffset }
+{
+    if !by.is_constant() {
+        return Err(WRONG_KIND);
+    }
+    match i64::from(offset).checked_sub(by.low.cast_signed()) {
+        Some(difference) => within_offsets(difference, rule),
+        None => Err(rule),
+    }
+}
+
+/// An offset that a pointer may have; beyond that `rule` is broken.
+fn within_offsets(offset: i64, rule: u32) -> Result<i32, u32>
+    ensures result { MatchResult result
+        (λ k. (kind : ℤ → Kind) → within_offsets kind rule offset ≡ Ok (kind k))
+        (λ n. (kind : ℤ → Kind) → within_offsets kind rule offset ≡ Err n) }
+    ensures offset { IfOk result IsOffset }
+{
+    if -65536 <= offset && offset <= 65536 {
+        Ok(offset as i32)
     } else {
         Err(rule)
     }
@@ -94,16 +162,26 @@ mod tests {
     use super::*;
     use crate::kind::Align;
 
-    /// An instruction of 64-bit arithmetic with a register (RFC 9669, section 4.1).
-    fn insn(opcode: u8) -> Insn
-        requires { opcode ≡ 15 ⊎ opcode ≡ 191 }
+    const ADD: u8 = 0x0f;
+
+    const SUB: u8 = 0x1f;
+
+    const ADD_32: u8 = 0x0c;
+
+    const MOV: u8 = 0xbf;
+
+    const MOV_32: u8 = 0xbc;
+
+    /// An instruction with two registers (RFC 9669, section 4.1).
+    fn insn(opcode: u8, offset: i16) -> Insn
+        requires { opcode ≡ 15 ⊎ (opcode ≡ 31 ⊎ (opcode ≡ 12 ⊎ (opcode ≡ 191 ⊎ opcode ≡ 188))) }
         ensures { IsArithmetic result }
     {
         Insn {
             opcode,
             dst: 1,
             src: 2,
-            offset: 0,
+            offset,
             imm: 0,
             next_imm: 0,
         }
@@ -113,7 +191,14 @@ mod tests {
         requires left { IsKind a }
         requires right { IsKind b }
     {
-        arith(&insn(0x0f), Some(a), b)
+        arith(&insn(ADD, 0), Some(a), b)
+    }
+
+    fn sub(a: Kind, b: Kind) -> Result<Kind, u32>
+        requires left { IsKind a }
+        requires right { IsKind b }
+    {
+        arith(&insn(SUB, 0), Some(a), b)
     }
 
     fn constant(n: u64) -> Kind
@@ -122,35 +207,43 @@ mod tests {
         Kind::Scalar(Range::constant(n))
     }
 
-    fn range(low: u64, high: u64, align: Align) -> Range {
-        Range { low, high, align }
+    fn byte() -> Kind
+        ensures { IsKind result }
+    {
+        Kind::Scalar(Range {
+            low: 0,
+            high: 255,
+            align: Align::One,
+        })
+    }
+
+    fn minus(n: u64) -> u64 {
+        n.wrapping_neg()
     }
 
     #[test]
-    fn adds_numbers(rt: HostRuntime) {
-        let twelve = Kind::Scalar(range(12, 12, Align::Four));
+    fn computes_with_numbers(rt: HostRuntime) {
+        let twelve = Kind::Scalar(Range {
+            low: 12,
+            high: 12,
+            align: Align::Four,
+        });
         assert_eq!(rt; add(constant(5), constant(7)), Ok(twelve));
-        let one = Kind::Scalar(range(1, 1, Align::One));
-        assert_eq!(rt; add(constant(u64::MAX), constant(2)), Ok(one));
-        let to_eight = Kind::Scalar(Range {
-            low: 0,
-            high: 8,
-            align: Align::Eight,
-        });
-        let to_sixteen = Kind::Scalar(range(8, 16, Align::Eight));
-        assert_eq!(rt; add(to_eight, constant(8)), Ok(to_sixteen));
-        let halves = Kind::Scalar(Range {
-            low: 6,
-            high: 1 << 63,
-            align: Align::Two,
-        });
-        let all_even = Kind::Scalar(range(0, u64::MAX - 1, Align::Two));
-        assert_eq!(rt; add(halves, constant(1 << 63)), Ok(all_even));
+        assert_eq!(rt; add(constant(minus(1)), constant(13)), Ok(twelve));
+        assert_eq!(rt; sub(constant(5), constant(minus(7))), Ok(twelve));
+        assert_eq!(rt;
+            arith(&insn(ADD_32, 0), Some(constant(5)), constant(7)),
+            Ok(twelve)
+        );
+        assert_eq!(rt; arith(&insn(MOV, 0), None, byte()), Ok(byte()));
+        assert_eq!(rt; arith(&insn(MOV_32, 0), None, byte()), Ok(byte()));
+        assert_eq!(rt; arith(&insn(MOV, 8), None, constant(0x10c)), Ok(twelve));
+        assert_eq!(rt; arith(&insn(ADD, 0), None, byte()), Err(14));
+        assert_eq!(rt; arith(&insn(ADD_32, 0), None, Kind::Stack(0)), Err(14));
     }
 
     #[test]
     fn moves_pointers(rt: HostRuntime) {
-        let minus = |n: u64| n.wrapping_neg();
         assert_eq!(rt;
             add(Kind::Stack(0), constant(minus(8))),
             Ok(Kind::Stack(-8))
@@ -162,18 +255,35 @@ mod tests {
         assert_eq!(rt; add(Kind::Stack(-65536), constant(minus(1))), Err(17));
         assert_eq!(rt; add(Kind::Context(65536), constant(1)), Err(16));
         assert_eq!(rt; add(Kind::Context(0), constant(1 << 63)), Err(16));
-        let byte = Kind::Scalar(Range {
-            low: 0,
-            high: 255,
-            align: Align::One,
-        });
-        assert_eq!(rt; add(Kind::Context(0), byte), Err(15));
-        assert_eq!(rt; add(byte, Kind::Stack(0)), Err(15));
-        assert_eq!(rt; add(Kind::Stack(0), Kind::Stack(0)), Err(15));
-        assert_eq!(rt; arith(&insn(0x0f), None, byte), Err(14));
+    }
+
+    #[test]
+    fn moves_pointers_back(rt: HostRuntime) {
+        assert_eq!(rt; sub(Kind::Stack(0), constant(8)), Ok(Kind::Stack(-8)));
         assert_eq!(rt;
-            arith(&insn(0xbf), None, Kind::Stack(-8)),
-            Ok(Kind::Stack(-8))
+            sub(Kind::Stack(-8), constant(minus(8))),
+            Ok(Kind::Stack(0))
         );
+        assert_eq!(rt;
+            sub(Kind::Context(65536), constant(65536)),
+            Ok(Kind::Context(0))
+        );
+        assert_eq!(rt; sub(Kind::Stack(-65536), constant(1)), Err(17));
+        assert_eq!(rt; sub(Kind::Context(65536), constant(minus(1))), Err(16));
+        assert_eq!(rt; sub(Kind::Context(0), constant(1 << 63)), Err(16));
+    }
+
+    #[test]
+    fn refuses_other_uses_of_pointers(rt: HostRuntime) {
+        let stack = Kind::Stack(-8);
+        assert_eq!(rt; add(Kind::Context(0), byte()), Err(15));
+        assert_eq!(rt; sub(Kind::Context(0), byte()), Err(15));
+        assert_eq!(rt; add(byte(), stack), Err(15));
+        assert_eq!(rt; add(stack, stack), Err(15));
+        assert_eq!(rt; sub(stack, stack), Err(15));
+        assert_eq!(rt; arith(&insn(ADD_32, 0), Some(stack), constant(8)), Err(15));
+        assert_eq!(rt; arith(&insn(MOV, 0), None, stack), Ok(stack));
+        assert_eq!(rt; arith(&insn(MOV_32, 0), None, stack), Err(15));
+        assert_eq!(rt; arith(&insn(MOV, 32), None, stack), Err(15));
     }
 }

@@ -8,11 +8,11 @@ pub enum Align {
 }
 
 impl Align {
-    ghost use Rattle.std.specs.Prelude.{◌≡◌};
-    ghost use Rattle.verifier_kinds.specs.Kinds.{factor, rank, least_align, align_of};
+    ghost use Rattle.std.specs.Prelude.{◌≡◌, ◌<◌, ◌≤◌};
+    ghost use Rattle.verifier_kinds.specs.Kinds.{factor, rank, of_rank, raised, least_align, greatest_align, align_of};
 
     /// The power of 2 itself.
-    const fn factor(self) -> u64
+    pub(crate) const fn factor(self) -> u64
         ensures { result ≡ factor self }
     {
         match self {
@@ -24,8 +24,9 @@ impl Align {
     }
 
     /// The exponent of the power.
-    const fn rank(self) -> u32
-        ensures { result ≡ rank self }
+    pub(crate) const fn rank(self) -> u32
+        ensures rank { result ≡ rank self }
+        ensures small { result ≤ 3 }
     {
         match self {
             Align::One => 0,
@@ -35,8 +36,28 @@ impl Align {
         }
     }
 
+    /// The power of 2 with an exponent, at most 8.
+    fn of_rank(exponent: u32) -> Align
+        ensures { result ≡ of_rank exponent }
+    {
+        match exponent {
+            0 => Align::One,
+            1 => Align::Two,
+            2 => Align::Four,
+            _ => Align::Eight,
+        }
+    }
+
+    /// The alignment of a number's products with a power of 2.
+    pub(crate) fn raised(self, exponent: u32) -> Align
+        requires { exponent < 64 }
+        ensures { result ≡ raised self exponent }
+    {
+        Align::of_rank(self.rank() + exponent)
+    }
+
     /// The least of two alignments.
-    fn least(self, other: Align) -> Align
+    pub(crate) fn least(self, other: Align) -> Align
         ensures { result ≡ least_align self other }
     {
         if self.rank() <= other.rank() {
@@ -46,8 +67,19 @@ impl Align {
         }
     }
 
+    /// The greatest of two alignments.
+    pub(crate) fn greatest(self, other: Align) -> Align
+        ensures { result ≡ greatest_align self other }
+    {
+        if self.rank() <= other.rank() {
+            other
+        } else {
+            self
+        }
+    }
+
     /// The greatest alignment that divides a number.
-    fn of(n: u64) -> Align
+    pub(crate) fn of(n: u64) -> Align
         ensures { result ≡ align_of n }
     {
         if n % 8 == 0 {
@@ -73,7 +105,7 @@ pub struct Range {
 impl Range {
     ghost use Rattle.std.specs.Prelude.{◌≡◌, ◌+◌, ◌-◌, ◌^◌, ◌<◌, ◌↔◌, IsTrue};
     ghost use Rattle.verifier_kinds.specs.Kinds.{IsNormal, IsWithin, constant, factor, full, is_constant, join_of_ranges, normal};
-    ghost use Rattle.verifier_kinds.specs.Arithmetic.{sum_of};
+    ghost use Rattle.verifier_kinds.specs.Arithmetic.{normal_of};
 
     /// The range of one number.
     #[tactic(auto, using(crate::proofs::Ranges::constant_is_normal))]
@@ -117,27 +149,19 @@ impl Range {
         }
     }
 
+    /// The range with its ends moved inward to multiples of its alignment.
+    pub(crate) fn normalized(self) -> Range
+        requires { self.low + (factor self.align - 1) < 2 ^ 64 }
+        ensures { result ≡ normal_of self }
+    {
+        Range::normal(self.low, self.high, self.align)
+    }
+
     /// Whether the range has one number.
     pub fn is_constant(&self) -> bool
         ensures { result ≡ is_constant self.now }
     {
         self.low == self.high
-    }
-
-    /// The range of the sums with another's numbers.
-    pub(crate) fn plus(self, other: Range) -> Range
-        requires left { IsNormal self }
-        requires right { IsNormal other }
-        ensures { result ≡ sum_of self other }
-    {
-        if self.is_constant() && other.is_constant() {
-            return Range::constant(self.low.wrapping_add(other.low));
-        }
-        let align = self.align.least(other.align);
-        match self.high.checked_add(other.high) {
-            Some(high) => Range::normal(self.low + other.low, high, align),
-            None => Range::full(align),
-        }
     }
 
     /// The least range above two.

@@ -5,6 +5,7 @@
 mod arithmetic;
 mod description;
 mod kind;
+mod rows;
 
 pub use arithmetic::arith;
 pub use description::{Description, StackSlot};

@@ -1,8 +1,9 @@
-ghost use Rattle.std.specs.Prelude.{◌≡◌, ◌↔◌, option_map, Any, IfNone, IfOk, IfSome, IsTrue, OnOk};
+ghost use Rattle.std.specs.Prelude.{◌≡◌, ◌↔◌, ℕ, option_map, Any, IfNone, IfOk, IfSome, IsTrue, OnOk};
 ghost use Rattle.toml.specs.Data.{array, table};
 ghost use Rattle.toml.specs.View.{view, array_view, table_view};
 ghost use Rattle.bpf_host.specs.HostFile.{HasHex, HasNumber, HasNumberOr, HasOnly, HasString, IsNumber, key_name, value_at};
 ghost use Rattle.bpf_host.specs.Section.{members_of};
+ghost use Rattle.bpf_host.specs.declared.fault.FileFault.TheVariants.{Bad};
 
 use super::Key;
 use crate::bytes::Bytes;
@@ -21,13 +22,16 @@ pub struct Section<'a> {
 
 impl<'a> Section<'a> {
     pub fn new(table: &'a Table, place: Place) -> Self
-        ensures { members_of result ≡ table_view table.now }
+        ensures table { members_of result ≡ table_view table.now }
+        ensures place { result.place ≡ place }
     {
         Section { table, place }
     }
 
     /// The fault that this is wrong here.
-    pub fn bad(&self, cause: Cause) -> FileFault {
+    pub fn bad(&self, cause: Cause) -> FileFault
+        ensures { result ≡ Bad (record { place = self.now.place; cause = cause }) }
+    {
         FileFault::Bad(BadFile {
             place: self.place,
             cause,
@@ -52,7 +56,8 @@ impl<'a> Section<'a> {
 
     /// The first key that is none of these.
     fn other_key(&self, keys: &[Key]) -> Option<&'a str>
-        ensures { IfNone result (HasOnly (members_of self.now) keys.now) }
+        ensures none { IfNone result (HasOnly (members_of self.now) keys.now) }
+        ensures other { IfSome result (λ name. Any (λ key. key_name key ≡ name.now) keys.now → ⊥) }
     {
         for (name, _) in self.table {
             if !is_among(keys, name.as_str()) {
@@ -148,7 +153,8 @@ fn is_among(keys: &[Key], name: &str) -> bool
 
 /// The number that a value is.
 fn number_of(value: &Value) -> Option<u32>
-    ensures { IfSome result (IsNumber (view value.now)) }
+    ensures some { IfSome result (IsNumber (view value.now)) }
+    ensures none { IfNone result ((n : ℕ) → IsNumber (view value.now) n → ⊥) }
 {
     match value {
         Value::Integer(number) => u32::try_from(*number).ok(),

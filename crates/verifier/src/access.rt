@@ -1,0 +1,287 @@
+//! Loads and stores: where they go, and what is known of what they load and of the stack after them.
+
+ghost use Rattle.std.specs.Prelude.{◌≡◌, ◌+◌, ◌-◌, ◌%◌, ◌^◌, ◌<◌, ◌≤◌, pos, ◌+ℤ◌, ◌≤ℤ◌, IfOk};
+ghost use Rattle.bpf_decode.specs.Opcodes.{byte_count};
+ghost use Rattle.verifier_kinds.specs.Kinds.{IsKind, IsNormal};
+ghost use Rattle.verifier_kinds.specs.Descriptions.{IsDescription, IsSlot, places_of};
+ghost use Rattle.verifier.specs.Flow.{lies_below, aligned, context_place, stack_place, loaded_range, places, slot_kind, load_kind, loaded_kind, after_load, after_load_immediate, store_place, stored_place, written_slot, after_store};
+
+use crate::candidate::Candidate;
+use crate::rules::{
+    MISALIGNED, OUTSIDE_CONTEXT, OUTSIDE_STACK, POINTER_LEAKS, UNSET_STACK, WRONG_KIND, both,
+    operand_kind, read_kind, write_kind,
+};
+use bpf_decode::{Extension, Insn, Size, Source, Width};
+use verifier_kinds::{Align, Description, Kind, Range, StackSlot};
+
+/// The bytes of the stack.
+const STACK_SIZE: u64 = 512;
+
+/// The bytes of a slot of the stack.
+const SLOT_SIZE: u64 = 8;
+
+/// The place of `size` bytes that lie whole between 0 and an end.
+fn lies_below(at: i64, size: u64, end: u64, rule: u32) -> Result<u64, u32>
+    requires { size ≤ 8 }
+    ensures place { result ≡ lies_below at size end rule }
+    ensures within { IfOk result (λ place. place + size ≤ end) }
+{
+    match u64::try_from(at) {
+        Ok(place) if place + size <= end => Ok(place),
+        _ => Err(rule),
+    }
+}
+
+/// The place of an access that is aligned to its size.
+fn aligned(at: u64, size: u64) -> Result<u64, u32>
+    requires { 0 < size }
+    ensures place { result ≡ aligned at size }
+    ensures aligned { IfOk result (λ at. at % size ≡ 0) }
+{
+    if at % size == 0 {
+        Ok(at)
+    } else {
+        Err(MISALIGNED)
+    }
+}
+
+/// The place in the context of an access at an offset from its beginning.
+fn context_place(ctx_size: u32, offset: i64, size: u64) -> Result<u64, u32>
+    requires some { 0 < size }
+    requires word { size ≤ 8 }
+    ensures { result ≡ context_place ctx_size offset size }
+{
+    let at = lies_below(offset, size, u64::from(ctx_size), OUTSIDE_CONTEXT)?;
+    aligned(at, size)
+}
+
+/// The place in the stack of an access at an offset from its end.
+fn stack_place(offset: i64, size: u64) -> Result<u64, u32>
+    requires near { offset ≤ℤ pos 4294967296 }
+    requires some { 0 < size }
+    requires word { size ≤ 8 }
+    ensures place { result ≡ stack_place offset size }
+    ensures within { IfOk result (λ at. at < 512) }
+    ensures aligned { IfOk result (λ at. at % size ≡ 0) }
+{
+    let at = lies_below(offset + STACK_SIZE as i64, size, STACK_SIZE, OUTSIDE_STACK)?;
+    aligned(at, size)
+}
+
+/// An offset that an instruction moves on.
+fn displaced(offset: i32, by: i16) -> i64
+    ensures sum { result ≡ offset +ℤ by }
+    ensures near { result ≤ℤ pos 4294967296 }
+{
+    i64::from(offset) + i64::from(by)
+}
+
+/// The numbers that are loaded: with sign extension they are all numbers.
+fn loaded_range(size: Size, extension: Extension) -> Range
+    ensures range { result ≡ loaded_range size extension }
+    ensures normal { IsNormal result }
+{
+    let high = match (size, extension) {
+        (Size::Byte, Extension::Zero) => u64::from(u8::MAX),
+        (Size::HalfWord, Extension::Zero) => u64::from(u16::MAX),
+        (Size::Word, Extension::Zero) => u64::from(u32::MAX),
+        (Size::DoubleWord, Extension::Zero) | (_, Extension::Sign) => u64::MAX,
+    };
+    Range {
+        low: 0,
+        high,
+        align: Align::One,
+    }
+}
+
+/// As many low bits as an access has bytes.
+const fn low_bits(size: Size) -> u8
+    ensures { result ≡ 2 ^ byte_count size - 1 }
+{
+    match size {
+        Size::Byte => 0x01,
+        Size::HalfWord => 0x03,
+        Size::Word => 0x0f,
+        Size::DoubleWord => 0xff,
+    }
+}
+
+/// The bytes of an access in a slot of the stack, by the bits of a number.
+#[tactic(auto, using(crate::proofs::Places::places_fit))]
+fn places(at: u64, size: Size) -> u8
+    requires { at % byte_count size ≡ 0 }
+    ensures { result ≡ places at size }
+{
+    low_bits(size) << (at % SLOT_SIZE)
+}
+
+/// What is known of bytes of a slot that are loaded. The bytes of a kept pointer aren't read one by
+/// one.
+fn slot_kind(size: Size, extension: Extension, slot: StackSlot, at: u64) -> Result<Kind, u32>
+    requires slot { IsSlot slot }
+    requires aligned { at % byte_count size ≡ 0 }
+    ensures kind { result ≡ slot_kind size extension slot at }
+    ensures meets { IfOk result IsKind }
+{
+    match (size, slot) {
+        (Size::DoubleWord, StackSlot::Kept(kind)) => Ok(kind),
+        (_, StackSlot::Kept(Kind::Scalar(_))) => Ok(Kind::Scalar(loaded_range(size, extension))),
+        (_, StackSlot::Kept(Kind::Context(_) | Kind::Stack(_))) => Err(POINTER_LEAKS),
+        (_, StackSlot::Bytes(set)) => {
+            let asked = places(at, size);
+            if set & asked == asked {
+                Ok(Kind::Scalar(loaded_range(size, extension)))
+            } else {
+                Err(UNSET_STACK)
+            }
+        }
+    }
+}
+
+/// What is known of a number that is loaded through a base.
+fn load_kind(
+    candidate: &Candidate,
+    size: Size,
+    extension: Extension,
+    insn: &Insn,
+    d: &Description,
+    base: Kind,
+) -> Result<Kind, u32>
+    requires description { IsDescription d.now }
+    ensures kind { result ≡ load_kind candidate.now size extension insn.now d.now base }
+    ensures meets { IfOk result IsKind }
+{
+    let bytes = u64::from(size.bytes());
+    match base {
+        Kind::Context(k) => {
+            context_place(candidate.ctx_size(), displaced(k, insn.offset), bytes)?;
+            Ok(Kind::Scalar(loaded_range(size, extension)))
+        }
+        Kind::Stack(k) => {
+            let at = stack_place(displaced(k, insn.offset), bytes)?;
+            slot_kind(size, extension, d.slot((at / SLOT_SIZE) as usize), at)
+        }
+        Kind::Scalar(_) => Err(WRONG_KIND),
+    }
+}
+
+/// What is known of a number that an instruction loads.
+fn loaded_kind(
+    candidate: &Candidate,
+    size: Size,
+    extension: Extension,
+    insn: &Insn,
+    d: &Description,
+) -> Result<Kind, u32>
+    requires src { insn.now.src ≤ 10 }
+    requires description { IsDescription d.now }
+    ensures kind { result ≡ loaded_kind candidate.now size extension insn.now d.now }
+    ensures meets { IfOk result IsKind }
+{
+    let base = read_kind(d, insn.src)?;
+    load_kind(candidate, size, extension, insn, d, base)
+}
+
+/// What is known after a load.
+#[tactic(auto, unfolding(crate::specs::Flow::after_load))]
+pub(crate) fn after_load(
+    candidate: &Candidate,
+    size: Size,
+    extension: Extension,
+    insn: &Insn,
+    d: &Description,
+) -> Result<Description, u32>
+    requires dst { insn.now.dst ≤ 10 }
+    requires src { insn.now.src ≤ 10 }
+    requires description { IsDescription d.now }
+    ensures description { result ≡ after_load candidate.now size extension insn.now d.now }
+    ensures meets { IfOk result IsDescription }
+{
+    let kind = loaded_kind(candidate, size, extension, insn, d);
+    write_kind(d, insn.dst, kind)
+}
+
+/// What is known after a load of both immediates.
+#[tactic(auto, unfolding(crate::specs::Flow::after_load_immediate))]
+pub(crate) fn after_load_immediate(insn: &Insn, d: &Description) -> Result<Description, u32>
+    requires dst { insn.now.dst ≤ 10 }
+    requires description { IsDescription d.now }
+    ensures description { result ≡ after_load_immediate insn.now d.now }
+    ensures meets { IfOk result IsDescription }
+{
+    let kind = Kind::Scalar(Range::constant(insn.wide_immediate()));
+    write_kind(d, insn.dst, Ok(kind))
+}
+
+/// Where a store through a base goes. The context is read-only.
+fn store_place(size: Size, insn: &Insn, base: Kind) -> Result<u64, u32>
+    ensures place { result ≡ store_place size insn.now base }
+    ensures within { IfOk result (λ at. at < 512) }
+    ensures aligned { IfOk result (λ at. at % byte_count size ≡ 0) }
+{
+    match base {
+        Kind::Stack(k) => stack_place(displaced(k, insn.offset), u64::from(size.bytes())),
+        Kind::Scalar(_) | Kind::Context(_) => Err(WRONG_KIND),
+    }
+}
+
+/// Where an instruction stores.
+fn stored_place(size: Size, insn: &Insn, d: &Description) -> Result<u64, u32>
+    requires dst { insn.now.dst ≤ 10 }
+    requires description { IsDescription d.now }
+    ensures place { result ≡ stored_place size insn.now d.now }
+    ensures within { IfOk result (λ at. at < 512) }
+    ensures aligned { IfOk result (λ at. at % byte_count size ≡ 0) }
+{
+    let base = read_kind(d, insn.dst)?;
+    store_place(size, insn, base)
+}
+
+/// The bytes of a slot that are known to hold numbers, by the bits of a number: of a kept pointer
+/// none.
+fn known_places(slot: StackSlot) -> u8
+    ensures { result ≡ places_of slot }
+{
+    match slot {
+        StackSlot::Kept(Kind::Scalar(_)) => u8::MAX,
+        StackSlot::Kept(Kind::Context(_) | Kind::Stack(_)) => 0,
+        StackSlot::Bytes(set) => set,
+    }
+}
+
+/// A slot of the stack with some of its bytes written. A pointer is stored whole alone.
+fn written_slot(size: Size, slot: StackSlot, at: u64, kind: Kind) -> Result<StackSlot, u32>
+    requires kind { IsKind kind }
+    requires aligned { at % byte_count size ≡ 0 }
+    ensures slot { result ≡ written_slot size slot at kind }
+    ensures meets { IfOk result IsSlot }
+{
+    match (size, kind) {
+        (Size::DoubleWord, kind) => Ok(StackSlot::Kept(kind)),
+        (_, Kind::Scalar(_)) => Ok(StackSlot::Bytes(known_places(slot) | places(at, size))),
+        (_, Kind::Context(_) | Kind::Stack(_)) => Err(POINTER_LEAKS),
+    }
+}
+
+/// What is known after a store.
+#[tactic(auto, unfolding(crate::specs::Flow::after_store))]
+pub(crate) fn after_store(
+    size: Size,
+    source: Source,
+    insn: &Insn,
+    d: &Description,
+) -> Result<Description, u32>
+    requires dst { insn.now.dst ≤ 10 }
+    requires src { insn.now.src ≤ 10 }
+    requires description { IsDescription d.now }
+    ensures description { result ≡ after_store size source insn.now d.now }
+    ensures meets { IfOk result IsDescription }
+{
+    let stored = operand_kind(Width::Bits64, source, insn, d);
+    let (kind, at) = both(stored, stored_place(size, insn, d))?;
+    let slot = (at / SLOT_SIZE) as usize;
+    let written = written_slot(size, d.slot(slot), at, kind)?;
+    let mut after = *d;
+    after.set_slot(slot, written);
+    Ok(after)
+}

@@ -1,0 +1,118 @@
+//! The rules that a slot may break, and the questions that several operations ask.
+
+ghost use Rattle.std.specs.Prelude.{◌≡◌, ◌≤◌, IfOk};
+ghost use Rattle.verifier_kinds.specs.Kinds.{IsKind};
+ghost use Rattle.verifier_kinds.specs.Descriptions.{IsDescription};
+ghost use Rattle.verifier.specs.Flow.{both, read_kind, writable, write_kind, immediate_kind, operand_kind};
+
+use bpf_decode::{Insn, Source, Width};
+use verifier_kinds::{Description, Kind, Range};
+
+// The rules, by the numbers of their refusals.
+pub(crate) const FALLS_OFF: u32 = 13;
+
+const UNSET_REGISTER: u32 = 14;
+
+pub(crate) const WRONG_KIND: u32 = 15;
+
+pub(crate) const OUTSIDE_CONTEXT: u32 = 16;
+
+pub(crate) const OUTSIDE_STACK: u32 = 17;
+
+pub(crate) const UNSET_STACK: u32 = 18;
+
+pub(crate) const MISALIGNED: u32 = 20;
+
+const FRAME_WRITTEN: u32 = 22;
+
+pub(crate) const POINTER_LEAKS: u32 = 25;
+
+/// The register that holds the frame pointer.
+const FRAME_POINTER: u8 = 10;
+
+/// How many numbers 32 bits have.
+const WORD: u64 = 1 << 32;
+
+/// Two questions that are asked at once: the smallest number of those that break names the rule.
+pub(crate) fn both<A: Drop, B: Drop>(a: Result<A, u32>, b: Result<B, u32>) -> Result<(A, B), u32>
+    ensures { result ≡ both a b }
+{
+    match (a, b) {
+        (Ok(x), Ok(y)) => Ok((x, y)),
+        (Ok(_), Err(n)) => Err(n),
+        (Err(m), Ok(_)) => Err(m),
+        (Err(m), Err(n)) => Err(if n < m { n } else { m }),
+    }
+}
+
+/// The kind of a register that is read.
+pub(crate) fn read_kind(d: &Description, register: u8) -> Result<Kind, u32>
+    requires register { register ≤ 10 }
+    requires description { IsDescription d.now }
+    ensures kind { result ≡ read_kind d.now register }
+    ensures meets { IfOk result IsKind }
+{
+    match d.register(register) {
+        Some(kind) => Ok(kind),
+        None => Err(UNSET_REGISTER),
+    }
+}
+
+/// R10 is read-only.
+fn writable(register: u8) -> Result<(), u32>
+    ensures { result ≡ writable register }
+{
+    if register == FRAME_POINTER {
+        Err(FRAME_WRITTEN)
+    } else {
+        Ok(())
+    }
+}
+
+/// The description with a kind written to a register.
+pub(crate) fn write_kind(
+    d: &Description,
+    register: u8,
+    kind: Result<Kind, u32>,
+) -> Result<Description, u32>
+    requires register { register ≤ 10 }
+    requires description { IsDescription d.now }
+    requires kind { IfOk kind IsKind }
+    ensures description { result ≡ write_kind d.now register kind }
+    ensures meets { IfOk result IsDescription }
+{
+    let (kind, ()) = both(kind, writable(register))?;
+    let mut after = *d;
+    after.set_register(register, kind);
+    Ok(after)
+}
+
+/// The kind of the number of an immediate, as a width takes it.
+fn immediate_kind(width: Width, insn: &Insn) -> Kind
+    ensures kind { result ≡ immediate_kind width insn.now }
+    ensures meets { IsKind result }
+{
+    let number = match width {
+        Width::Bits32 => insn.immediate() % WORD,
+        Width::Bits64 => insn.immediate(),
+    };
+    Kind::Scalar(Range::constant(number))
+}
+
+/// The kind of the second operand of arithmetic, or of what is stored.
+pub(crate) fn operand_kind(
+    width: Width,
+    source: Source,
+    insn: &Insn,
+    d: &Description,
+) -> Result<Kind, u32>
+    requires src { insn.now.src ≤ 10 }
+    requires description { IsDescription d.now }
+    ensures kind { result ≡ operand_kind width source insn.now d.now }
+    ensures meets { IfOk result IsKind }
+{
+    match source {
+        Source::Immediate => Ok(immediate_kind(width, insn)),
+        Source::Register => read_kind(d, insn.src),
+    }
+}

@@ -1,0 +1,418 @@
+//! What arithmetic makes of ranges: a row for each operation.
+
+ghost use Rattle.std.specs.Prelude.{◌≡◌, ◌-◌, ◌<◌, ◌≤◌};
+ghost use Rattle.insn_alu.specs.Arithmetic.{count, modulus};
+ghost use Rattle.verifier_kinds.specs.Kinds.{IsNormal};
+ghost use Rattle.verifier_kinds.specs.Arithmetic.{all, and_of, computed_range, difference_of, greatest_of_bits, left_by, left_shift_of, ones_from, or_of, product_of, quotient_of, range_of, remainder_of, right_shift_of, row, sum_of, swap_of, taken, xor_of};
+
+use crate::kind::{Align, Range};
+use bpf_decode::{AluCode, Width};
+use insn_alu::computed;
+
+/// The range of what an operation with a number in its field `offset` makes of the numbers of two
+/// ranges.
+#[tactic(auto, using(crate::proofs::Operands::taken_below))]
+pub(crate) fn range_of(code: AluCode, width: Width, offset: i16, a: Range, b: Range) -> Range
+    requires left { IsNormal a }
+    requires right { IsNormal b }
+    ensures range { result ≡ range_of code width offset a b }
+    ensures normal { IsNormal result }
+{
+    computed_range(code, width, offset, taken(width, a), taken(width, b))
+}
+
+/// The same of two ranges of the operation's width: of two numbers just theirs.
+fn computed_range(code: AluCode, width: Width, offset: i16, a: Range, b: Range) -> Range
+    requires left { IsNormal a }
+    requires right { IsNormal b }
+    requires left_fits { a.high < modulus width }
+    requires right_fits { b.high < modulus width }
+    ensures range { result ≡ computed_range code width offset a b }
+    ensures normal { IsNormal result }
+{
+    if a.is_constant() && b.is_constant() {
+        Range::constant(computed(code, width, offset, a.low, b.low))
+    } else {
+        row(code, width, offset, a, b).normalized()
+    }
+}
+
+/// What a width takes of an operand: with 32 bits, of a range with larger numbers the alignment
+/// alone.
+#[tactic(auto, using(crate::proofs::Operands::all_starts))]
+fn taken(width: Width, range: Range) -> Range
+    requires { IsNormal range }
+    ensures taken { result ≡ taken width range }
+    ensures normal { IsNormal result }
+{
+    if range.high <= greatest(width) {
+        range
+    } else {
+        all(width, range.align).normalized()
+    }
+}
+
+/// The greatest number of a width.
+fn greatest(width: Width) -> u64
+    ensures { result ≡ modulus width - 1 }
+{
+    match width {
+        Width::Bits32 => u64::from(u32::MAX),
+        Width::Bits64 => u64::MAX,
+    }
+}
+
+/// All numbers of a width that an alignment divides.
+fn all(width: Width, align: Align) -> Range
+    ensures { result ≡ all width align }
+{
+    Range {
+        low: 0,
+        high: greatest(width),
+        align,
+    }
+}
+
+/// What an operation makes of two ranges of its width, the ends raw. Where a result may wrap, it is
+/// all numbers. The field `offset` tells the signed forms.
+#[tactic(auto, unfolding(crate::specs::Arithmetic::row))]
+fn row(code: AluCode, width: Width, offset: i16, a: Range, b: Range) -> Range
+    requires left { IsNormal a }
+    requires right { IsNormal b }
+    ensures { result ≡ row code width offset a b }
+{
+    match code {
+        AluCode::Add => sum_of(width, a, b),
+        AluCode::Sub => difference_of(width, a, b),
+        AluCode::Mul => product_of(width, a, b),
+        AluCode::Div if offset == 0 => quotient_of(a, b),
+        AluCode::Or => or_of(a, b),
+        AluCode::And => and_of(a, b),
+        AluCode::Lsh => left_shift_of(width, a, b),
+        AluCode::Rsh => right_shift_of(width, a, b),
+        AluCode::Mod if offset == 0 => remainder_of(a, b),
+        AluCode::Xor => xor_of(a, b),
+        AluCode::Mov if offset == 0 => b,
+        AluCode::Div | AluCode::Mod | AluCode::Mov | AluCode::Neg | AluCode::Arsh => {
+            all(width, Align::One)
+        }
+        AluCode::ToLittleEndian | AluCode::ToBigEndian | AluCode::SwapBytes => swap_of(b),
+    }
+}
+
+fn sum_of(width: Width, a: Range, b: Range) -> Range
+    requires left { a.low ≤ a.high }
+    requires right { b.low ≤ b.high }
+    ensures { result ≡ sum_of width a b }
+{
+    let align = a.align.least(b.align);
+    match a.high.checked_add(b.high) {
+        Some(high) if high <= greatest(width) => Range {
+            low: a.low + b.low,
+            high,
+            align,
+        },
+        _ => all(width, align),
+    }
+}
+
+/// A difference may wrap where the second number may be the larger one.
+fn difference_of(width: Width, a: Range, b: Range) -> Range
+    requires left { a.low ≤ a.high }
+    requires right { b.low ≤ b.high }
+    ensures { result ≡ difference_of width a b }
+{
+    let align = a.align.least(b.align);
+    if b.high <= a.low {
+        Range {
+            low: a.low - b.high,
+            high: a.high - b.low,
+            align,
+        }
+    } else {
+        all(width, align)
+    }
+}
+
+fn product_of(width: Width, a: Range, b: Range) -> Range
+    requires left { a.low ≤ a.high }
+    requires right { b.low ≤ b.high }
+    ensures { result ≡ product_of width a b }
+{
+    let align = a.align.raised(b.align.rank());
+    match a.high.checked_mul(b.high) {
+        Some(high) if high <= greatest(width) => Range {
+            low: a.low * b.low,
+            high,
+            align,
+        },
+        _ => all(width, align),
+    }
+}
+
+/// A division by zero gives 0.
+fn quotient_of(a: Range, b: Range) -> Range
+    requires { b.low ≤ b.high }
+    ensures { result ≡ quotient_of a b }
+{
+    let (low, high) = if b.low == 0 {
+        (0, a.high)
+    } else {
+        (a.low / b.high, a.high / b.low)
+    };
+    Range {
+        low,
+        high,
+        align: Align::One,
+    }
+}
+
+/// A division by zero leaves all.
+fn remainder_of(a: Range, b: Range) -> Range
+    requires { b.low ≤ b.high }
+    ensures { result ≡ remainder_of a b }
+{
+    let high = if b.low == 0 {
+        a.high
+    } else {
+        a.high.min(b.high - 1)
+    };
+    Range {
+        low: 0,
+        high,
+        align: Align::One,
+    }
+}
+
+/// The bits that both numbers have.
+fn and_of(a: Range, b: Range) -> Range
+    ensures { result ≡ and_of a b }
+{
+    Range {
+        low: 0,
+        high: a.high.min(b.high),
+        align: a.align.greatest(b.align),
+    }
+}
+
+fn or_of(a: Range, b: Range) -> Range
+    ensures { result ≡ or_of a b }
+{
+    Range {
+        low: a.low.max(b.low),
+        high: ones_from(a.high.max(b.high)),
+        align: a.align.least(b.align),
+    }
+}
+
+fn xor_of(a: Range, b: Range) -> Range
+    ensures { result ≡ xor_of a b }
+{
+    Range {
+        low: 0,
+        high: ones_from(a.high.max(b.high)),
+        align: a.align.least(b.align),
+    }
+}
+
+/// The least number at or above another whose bits are all ones.
+fn ones_from(n: u64) -> u64
+    ensures { result ≡ ones_from n }
+{
+    match n.leading_zeros() {
+        64 => 0,
+        zeros => u64::MAX >> zeros,
+    }
+}
+
+/// A shift by a number, of which the low bits count.
+fn left_shift_of(width: Width, a: Range, b: Range) -> Range
+    requires { a.low ≤ a.high }
+    ensures { result ≡ left_shift_of width a b }
+{
+    if b.is_constant() {
+        left_by(width, count(width, b.low), a)
+    } else {
+        all(width, a.align)
+    }
+}
+
+fn left_by(width: Width, bits: u32, a: Range) -> Range
+    requires few { bits < 64 }
+    requires ordered { a.low ≤ a.high }
+    ensures { result ≡ left_by width bits a }
+{
+    let power = 1 << bits;
+    let align = a.align.raised(bits);
+    match a.high.checked_mul(power) {
+        Some(high) if high <= greatest(width) => Range {
+            low: a.low * power,
+            high,
+            align,
+        },
+        _ => all(width, align),
+    }
+}
+
+fn right_shift_of(width: Width, a: Range, b: Range) -> Range
+    ensures { result ≡ right_shift_of width a b }
+{
+    let (low, high) = if b.is_constant() {
+        let bits = count(width, b.low);
+        (a.low >> bits, a.high >> bits)
+    } else {
+        (0, a.high)
+    };
+    Range {
+        low,
+        high,
+        align: Align::One,
+    }
+}
+
+/// The low bits of a shift's count.
+fn count(width: Width, n: u64) -> u32
+    ensures count { result ≡ count width n }
+    ensures small { result < 64 }
+{
+    match width {
+        Width::Bits32 => (n % 32) as u32,
+        Width::Bits64 => (n % 64) as u32,
+    }
+}
+
+/// All numbers of a byte swap's width, which is its second operand.
+fn swap_of(b: Range) -> Range
+    ensures { result ≡ swap_of b }
+{
+    let bits = if b.is_constant() { b.low } else { 64 };
+    Range {
+        low: 0,
+        high: greatest_of_bits(bits),
+        align: Align::One,
+    }
+}
+
+/// The greatest number of 16, 32 or 64 bits.
+fn greatest_of_bits(bits: u64) -> u64
+    ensures { result ≡ greatest_of_bits bits }
+{
+    match bits {
+        16 => u64::from(u16::MAX),
+        32 => u64::from(u32::MAX),
+        _ => u64::MAX,
+    }
+}
+
+#[cfg(test)]
+mod tests {
+    use super::*;
+    use AluCode::{Add, And, Arsh, Div, Lsh, Mod, Mov, Mul, Neg, Or, Rsh, Sub, ToBigEndian, Xor};
+    use Width::{Bits32, Bits64};
+
+    /// Numbers from one to another that 1, 2, 4 or 8 divides.
+    type Ends = (u64, u64, u64);
+
+    /// A normal range of more numbers than one, or the constant at its lower end.
+    fn range(ends: Ends) -> Range
+        ensures { IsNormal result }
+    {
+        let (low, high, factor) = ends;
+        let align = Align::of(factor);
+        if low < high && low % align.factor() == 0 && high % align.factor() == 0 {
+            Range { low, high, align }
+        } else {
+            Range::constant(low)
+        }
+    }
+
+    fn made(code: AluCode, width: Width, offset: i16, a: Ends, b: Ends) -> Range {
+        range_of(code, width, offset, range(a), range(b))
+    }
+
+    const WORD: u64 = 1 << 32;
+
+    const TO_MAX: Ends = (0, u64::MAX, 1);
+
+    #[test]
+    fn computes_with_ranges(rt: HostRuntime) {
+        for (code, a, b, result) in [
+            (Add, (0, 8, 8), (4, 12, 4), (4, 20, 4)),
+            (Add, (6, 1 << 63, 2), (1 << 63, 0, 8), (0, u64::MAX - 1, 2)),
+            (Sub, (16, 32, 8), (4, 12, 4), (4, 28, 4)),
+            (Sub, (8, 32, 8), (4, 12, 4), (0, u64::MAX - 3, 4)),
+            (Mul, (2, 4, 2), (4, 12, 4), (8, 48, 8)),
+            (Mul, (8, 16, 8), (1, 3, 1), (8, 48, 8)),
+            (Mul, (0, 1 << 63, 2), (2, 4, 2), (0, u64::MAX - 3, 4)),
+            (Div, (10, 100, 1), (3, 7, 1), (1, 33, 1)),
+            (Div, (10, 100, 1), (0, 7, 1), (0, 100, 1)),
+            (Mod, (10, 100, 1), (3, 7, 1), (0, 6, 1)),
+            (Mod, (2, 4, 2), (3, 7, 1), (0, 4, 1)),
+            (Mod, (10, 100, 1), (0, 7, 1), (0, 100, 1)),
+            (And, (10, 100, 2), (3, 7, 1), (0, 6, 2)),
+            (Or, (4, 100, 4), (2, 6, 2), (4, 126, 2)),
+            (Or, (1, 128, 1), (2, 3, 1), (2, 255, 1)),
+            (Xor, (4, 100, 4), (8, 16, 8), (0, 124, 4)),
+            (Neg, (1, 2, 1), (0, 0, 8), TO_MAX),
+            (Mov, (1, 2, 1), (4, 8, 4), (4, 8, 4)),
+        ] {
+            assert_eq!(rt; made(code, Bits64, 0, a, b), range(result));
+        }
+    }
+
+    #[test]
+    fn shifts_ranges(rt: HostRuntime) {
+        for (code, a, b, result) in [
+            (Lsh, (1, 5, 1), (3, 0, 1), (8, 40, 8)),
+            (Lsh, (1, 5, 1), (67, 0, 1), (8, 40, 8)),
+            (Lsh, (2, 6, 2), (1, 0, 1), (4, 12, 4)),
+            (Lsh, (1, 16, 1), (60, 0, 4), (0, u64::MAX - 7, 8)),
+            (Lsh, (4, 8, 4), (0, 3, 1), (0, u64::MAX - 3, 4)),
+            (Rsh, (5, 100, 1), (2, 0, 2), (1, 25, 1)),
+            (Rsh, (5, 100, 1), (66, 0, 2), (1, 25, 1)),
+            (Rsh, (5, 100, 1), (0, 3, 1), (0, 100, 1)),
+            (Arsh, (4, 8, 4), (1, 0, 1), TO_MAX),
+            (ToBigEndian, (0, 70000, 1), (16, 0, 8), (0, 65535, 1)),
+        ] {
+            assert_eq!(rt; made(code, Bits64, 0, a, b), range(result));
+        }
+    }
+
+    #[test]
+    fn computes_with_words(rt: HostRuntime) {
+        let some = (4, 8, 4);
+        for (code, a, b, result) in [
+            (Add, (0, 4_294_967_290, 2), (4, 0, 4), (4, 4_294_967_294, 2)),
+            (Add, (0, 4_294_967_290, 2), (6, 0, 2), (0, 4_294_967_294, 2)),
+            (Add, (3, 0, 1), (4_294_967_295, 0, 1), (2, 0, 2)),
+            (Rsh, (0, 1 << 33, 8), (4, 0, 4), (0, 268_435_455, 1)),
+            (And, (0, 1 << 33, 8), (0, 1 << 40, 1), (0, 4_294_967_288, 8)),
+            (Lsh, (1, 3, 1), (33, 0, 1), (2, 6, 2)),
+            (Lsh, (0, 1 << 31, 1), (1, 0, 1), (0, 4_294_967_294, 2)),
+            (Mov, some, (WORD, 0, 8), (0, 4_294_967_288, 8)),
+            (Mov, some, (4_294_967_295, 0, 1), (4_294_967_295, 0, 1)),
+            (Neg, some, (0, 0, 8), (0, 4_294_967_295, 1)),
+            (ToBigEndian, (WORD, 0, 8), (16, 0, 8), (0, 65535, 1)),
+            (ToBigEndian, (WORD, 0, 8), (32, 0, 8), (0, 4_294_967_295, 1)),
+            (ToBigEndian, (WORD, 0, 8), (64, 0, 8), TO_MAX),
+            (ToBigEndian, (1, 0, 1), (64, 0, 8), (1 << 56, 0, 8)),
+        ] {
+            assert_eq!(rt; made(code, Bits32, 0, a, b), range(result));
+        }
+    }
+
+    #[test]
+    fn computes_with_signed_numbers(rt: HostRuntime) {
+        let minus = |n: u64| n.wrapping_neg();
+        for (code, offset, a, b, result) in [
+            (Div, 1, (10, 100, 1), (3, 7, 1), TO_MAX),
+            (Div, 1, (minus(7), 0, 1), (2, 0, 2), (minus(3), 0, 1)),
+            (Mod, 1, (10, 100, 1), (3, 7, 1), TO_MAX),
+            (Mod, 1, (minus(7), 0, 1), (2, 0, 2), (minus(1), 0, 1)),
+            (Mov, 8, (0, 0, 8), (0, 3, 1), TO_MAX),
+            (Mov, 8, (0, 0, 8), (255, 0, 1), (minus(1), 0, 1)),
+        ] {
+            assert_eq!(rt; made(code, Bits64, offset, a, b), range(result));
+        }
+    }
+}
