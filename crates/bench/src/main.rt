@@ -67,12 +67,19 @@ const STACK: [[u8; 8]; 8] = [
     [0x91, 0xa6, 0xf1, 0xff, 0, 0, 0, 0],
 ];
 
+// A jump over the next instruction, so that two ways meet at every second slot.
+const JUMPS: [[u8; 8]; 2] = [
+    [0x15, 0x06, 0x01, 0, 0x05, 0, 0, 0],
+    [0x07, 0x06, 0, 0, 0x01, 0, 0, 0],
+];
+
 // How the instructions of a program are drawn.
 #[derive(Clone, Copy)]
 enum Mix {
     Arithmetic,
     Stack,
     Random,
+    Jumps,
 }
 
 impl Mix {
@@ -81,6 +88,7 @@ impl Mix {
             Mix::Arithmetic => "arithmetic",
             Mix::Stack => "stack access",
             Mix::Random => "a random mix",
+            Mix::Jumps => "jumps",
         }
     }
 
@@ -92,6 +100,7 @@ impl Mix {
             Mix::Stack => STACK[place % 8],
             Mix::Random if drawn % 3 == 0 => STACK[drawn / 3 % 8],
             Mix::Random => ARITHMETIC[drawn / 3 % 16],
+            Mix::Jumps => JUMPS[place % 2],
         }
     }
 }
@@ -195,5 +204,6 @@ fn main(rt: HostRuntime) -> Result<()> {
     }
     measure(&rt, Mix::Arithmetic)?;
     measure(&rt, Mix::Stack)?;
-    measure(&rt, Mix::Random)
+    measure(&rt, Mix::Random)?;
+    measure(&rt, Mix::Jumps)
 }

@@ -1,3 +1,4 @@
 pub mod Accepted
+pub mod Begins
 pub mod Numbers
 pub mod Walk

@@ -1,4 +1,4 @@
-use crate::operation::Operation;
+use crate::operation::{Distance, Operation};
 use crate::slot::{i16_at, i32_at, next_imm_at};
 
 /// An instruction's fields (RFC 9669, sections 3.1 and 3.2). `next_imm` is the second immediate of
@@ -30,7 +30,7 @@ const BAD_REGISTER: u32 = 4;
 
 impl Insn {
     ghost use Rattle.std.specs.Prelude.{◌≡◌, ◌<◌, ◌%◌, ◌==◌, if◌then◌else◌, length, IsSome, Some};
-    ghost use Rattle.bpf_decode.specs.Opcodes.{wide_opcode, operation_of, has_fields, has_registers, insn_fault, sign_extended, wide_immediate};
+    ghost use Rattle.bpf_decode.specs.Opcodes.{wide_opcode, operation_of, has_fields, has_registers, insn_fault, sign_extended, wide_immediate, distance_of};
     ghost use Rattle.bpf_decode.specs.Text.{slots_of, insn_at};
 
     /// The instruction at a slot of a text of whole slots. The second immediate of a wide
@@ -78,6 +78,17 @@ impl Insn {
         u64::from(self.next_imm) << 32 | u64::from(self.imm.cast_unsigned())
     }
 
+    /// The distance of a jump that is always taken, in slots from the next instruction (RFC 9669,
+    /// section 4.3).
+    pub fn distance(&self, stands: Distance) -> i32
+        ensures { result ≡ distance_of stands self.now }
+    {
+        match stands {
+            Distance::Offset => i32::from(self.offset),
+            Distance::Imm => self.imm,
+        }
+    }
+
     /// How many slots the instruction takes: two if it is wide, else one.
     pub fn slots(&self) -> u32
         ensures { result ≡ (if self.now.opcode == wide_opcode then 2 else 1) }
@@ -108,7 +119,7 @@ impl Insn {
         ensures { result ≡ has_fields operation self.now }
     {
         (operation.uses_dst() || self.dst == 0)
-            && (operation.uses_src() || self.src == 0)
+            && operation.allows_src(self.src, self.next_imm)
             && operation.allows_offset(self.offset)
             && operation.allows_imm(self.imm)
     }

@@ -11,6 +11,6 @@ mod tests;
 mod text;
 
 pub use insn::Insn;
-pub use operation::{AluCode, Extension, Operation, Size, Source, Width};
+pub use operation::{AluCode, Comparison, Distance, Extension, Operation, Size, Source, Width};
 pub use program::{Program, decode};
 pub use text::judgement_is_one;

@@ -52,6 +52,30 @@ pub enum AluCode {
     SwapBytes,
 }
 
+/// Where a jump that is always taken has its distance (RFC 9669, section 4.3).
+#[derive(Clone, Copy, Debug, PartialEq, Eq)]
+pub enum Distance {
+    Offset,
+    Imm,
+}
+
+/// What a conditional jump asks of dst and of the second operand (RFC 9669, section 4.3).
+#[derive(Clone, Copy, Debug, PartialEq, Eq)]
+pub enum Comparison {
+    Equal,
+    NotEqual,
+    Greater,
+    GreaterOrEqual,
+    Less,
+    LessOrEqual,
+    /// Some bit is set in both.
+    AnyBit,
+    SignedGreater,
+    SignedGreaterOrEqual,
+    SignedLess,
+    SignedLessOrEqual,
+}
+
 /// What an opcode says.
 #[derive(Clone, Copy, Debug, PartialEq, Eq)]
 pub enum Operation {
@@ -71,9 +95,21 @@ pub enum Operation {
         size: Size,
         source: Source,
     },
-    /// Loads the number of both immediates into a register: the wide instruction (RFC 9669,
-    /// section 5.4).
+    /// Loads the number of both immediates into a register, or the name of a map, by the field
+    /// `src`: the wide instruction (RFC 9669, section 5.4).
     LoadImmediate,
+    /// Goes on elsewhere (RFC 9669, section 4.3).
+    Jump {
+        distance: Distance,
+    },
+    /// Goes on elsewhere, by `offset`, where the comparison holds (RFC 9669, section 4.3).
+    Branch {
+        comparison: Comparison,
+        width: Width,
+        source: Source,
+    },
+    /// Calls a helper by its number (RFC 9669, section 4.3).
+    Call,
     /// Returns R0 (RFC 9669, section 4.3).
     Exit,
 }
@@ -91,9 +127,16 @@ const ALU: u8 = 0x4;
 
 const JMP: u8 = 0x5;
 
+const JMP32: u8 = 0x6;
+
 const ALU64: u8 = 0x7;
 
-// The code of the exit in the five high bits of its opcode (RFC 9669, section 4.3).
+// The codes of jumps without a comparison in the five high bits of their opcodes (RFC 9669,
+// section 4.3).
+const JA: u8 = 0x00;
+
+const CALL: u8 = 0x10;
+
 const EXIT: u8 = 0x12;
 
 // The mode and size of the wide load in the five high bits of its opcode (RFC 9669, section 5.4).
@@ -183,9 +226,35 @@ impl AluCode {
     }
 }
 
+impl Comparison {
+    ghost use Rattle.std.specs.Prelude.{◌≡◌};
+    ghost use Rattle.bpf_decode.specs.Opcodes.{comparison_of};
+
+    // What the four high bits of an opcode of a conditional jump say (RFC 9669, section 4.3).
+    #[tactic(auto, unfolding(crate::specs::Opcodes::comparison_of))]
+    fn of(opcode: u8) -> Option<Self>
+        ensures { result ≡ comparison_of opcode }
+    {
+        match opcode / 16 {
+            0x1 => Some(Comparison::Equal),
+            0x2 => Some(Comparison::Greater),
+            0x3 => Some(Comparison::GreaterOrEqual),
+            0x4 => Some(Comparison::AnyBit),
+            0x5 => Some(Comparison::NotEqual),
+            0x6 => Some(Comparison::SignedGreater),
+            0x7 => Some(Comparison::SignedGreaterOrEqual),
+            0xa => Some(Comparison::Less),
+            0xb => Some(Comparison::LessOrEqual),
+            0xc => Some(Comparison::SignedLess),
+            0xd => Some(Comparison::SignedLessOrEqual),
+            _ => None,
+        }
+    }
+}
+
 impl Operation {
     ghost use Rattle.std.specs.Prelude.{◌≡◌, ℤ, Bool};
-    ghost use Rattle.bpf_decode.specs.Opcodes.{swap_of, negation_of, alu_operation_of, load_of, store_of, wide_of, exit_of, operation_of, uses_dst, uses_src, allows_offset, allows_imm};
+    ghost use Rattle.bpf_decode.specs.Opcodes.{swap_of, negation_of, alu_operation_of, load_of, store_of, wide_of, branch_of, jump_of, jump32_of, operation_of, allows_src, uses_dst, uses_src, allows_offset, allows_imm};
 
     /// What an opcode says; `None` if it isn't in the table.
     #[tactic(auto, unfolding(crate::specs::Opcodes::operation_of))]
@@ -198,7 +267,8 @@ impl Operation {
             ST => Operation::store(Source::Immediate, opcode),
             STX => Operation::store(Source::Register, opcode),
             ALU => Operation::alu(Width::Bits32, opcode),
-            JMP => Operation::exit(opcode),
+            JMP => Operation::jump(opcode),
+            JMP32 => Operation::jump32(opcode),
             ALU64 => Operation::alu(Width::Bits64, opcode),
             _ => None,
         }
@@ -297,14 +367,44 @@ impl Operation {
         }
     }
 
-    // What an opcode of the class of jumps says.
-    #[tactic(auto, unfolding(crate::specs::Opcodes::exit_of))]
-    fn exit(opcode: u8) -> Option<Self>
-        ensures { result ≡ exit_of opcode }
+    // What an opcode of a class of jumps says that compares.
+    fn branch(width: Width, opcode: u8) -> Option<Self>
+        ensures { result ≡ branch_of width opcode }
+    {
+        let comparison = Comparison::of(opcode)?;
+        let source = Source::of(opcode);
+        Some(Operation::Branch {
+            comparison,
+            width,
+            source,
+        })
+    }
+
+    // What an opcode of the class of jumps by 64 bits says.
+    #[tactic(auto, unfolding(crate::specs::Opcodes::jump_of))]
+    fn jump(opcode: u8) -> Option<Self>
+        ensures { result ≡ jump_of opcode }
     {
         match opcode / 8 {
+            JA => Some(Operation::Jump {
+                distance: Distance::Offset,
+            }),
+            CALL => Some(Operation::Call),
             EXIT => Some(Operation::Exit),
-            _ => None,
+            _ => Operation::branch(Width::Bits64, opcode),
+        }
+    }
+
+    // What an opcode of the class of jumps by 32 bits says.
+    #[tactic(auto, unfolding(crate::specs::Opcodes::jump32_of))]
+    fn jump32(opcode: u8) -> Option<Self>
+        ensures { result ≡ jump32_of opcode }
+    {
+        match opcode / 8 {
+            JA => Some(Operation::Jump {
+                distance: Distance::Imm,
+            }),
+            _ => Operation::branch(Width::Bits32, opcode),
         }
     }
 
@@ -312,7 +412,10 @@ impl Operation {
     pub(crate) fn uses_dst(self) -> bool
         ensures { result ≡ uses_dst self }
     {
-        !matches!(self, Operation::Exit)
+        match self {
+            Operation::Jump { .. } | Operation::Call | Operation::Exit => false,
+            _ => true,
+        }
     }
 
     // Whether the field `src` names a register.
@@ -320,11 +423,23 @@ impl Operation {
         ensures { result ≡ uses_src self }
     {
         match self {
-            Operation::Alu { source, .. } | Operation::Store { source, .. } => {
-                source == Source::Register
-            }
+            Operation::Alu { source, .. }
+            | Operation::Store { source, .. }
+            | Operation::Branch { source, .. } => source == Source::Register,
             Operation::Load { .. } => true,
-            Operation::LoadImmediate | Operation::Exit => false,
+            Operation::LoadImmediate | Operation::Jump { .. } | Operation::Call | Operation::Exit =>
+                false,
+        }
+    }
+
+    // Whether a number may stand in the field `src`, where that names no register. In the wide
+    // instruction 1 says that a map is named, and then there is no second immediate.
+    pub(crate) fn allows_src(self, src: u8, next_imm: u32) -> bool
+        ensures { result ≡ allows_src self src next_imm }
+    {
+        match self {
+            Operation::LoadImmediate => src == 0 || src == 1 && next_imm == 0,
+            _ => self.uses_src() || src == 0,
         }
     }
 
@@ -338,8 +453,9 @@ impl Operation {
                 width,
                 source,
             } => code.allows_offset(width, source, offset),
-            Operation::Load { .. } | Operation::Store { .. } => true,
-            Operation::LoadImmediate | Operation::Exit => offset == 0,
+            Operation::Load { .. } | Operation::Store { .. } | Operation::Branch { .. } => true,
+            Operation::Jump { distance } => distance == Distance::Offset || offset == 0,
+            Operation::LoadImmediate | Operation::Call | Operation::Exit => offset == 0,
         }
     }
 
@@ -349,8 +465,11 @@ impl Operation {
     {
         match self {
             Operation::Alu { code, source, .. } => code.allows_imm(source, imm),
-            Operation::Store { source, .. } => source == Source::Immediate || imm == 0,
-            Operation::LoadImmediate => true,
+            Operation::Store { source, .. } | Operation::Branch { source, .. } => {
+                source == Source::Immediate || imm == 0
+            }
+            Operation::Jump { distance } => distance == Distance::Imm || imm == 0,
+            Operation::LoadImmediate | Operation::Call => true,
             Operation::Load { .. } | Operation::Exit => imm == 0,
         }
     }

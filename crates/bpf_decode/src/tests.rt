@@ -9,12 +9,15 @@ const EXIT: u64 = 0x95000000_00000000;
 const WIDE: u64 = 0x18000000_00000000;
 
 // The opcodes of docs/INSTRUCTIONS.md, table by table.
-const IN_THE_TABLE: [u8; 70] = [
+const IN_THE_TABLE: [u8; 117] = [
     0x07, 0x0f, 0x17, 0x1f, 0x27, 0x2f, 0x37, 0x3f, 0x47, 0x4f, 0x57, 0x5f, 0x67, 0x6f, 0x77, 0x7f,
     0x87, 0x97, 0x9f, 0xa7, 0xaf, 0xb7, 0xbf, 0xc7, 0xcf, 0xd7, 0x04, 0x0c, 0x14, 0x1c, 0x24, 0x2c,
     0x34, 0x3c, 0x44, 0x4c, 0x54, 0x5c, 0x64, 0x6c, 0x74, 0x7c, 0x84, 0x94, 0x9c, 0xa4, 0xac, 0xb4,
     0xbc, 0xc4, 0xcc, 0xd4, 0xdc, 0x61, 0x69, 0x71, 0x79, 0x81, 0x89, 0x91, 0x62, 0x6a, 0x72, 0x7a,
-    0x63, 0x6b, 0x73, 0x7b, 0x18, 0x95,
+    0x63, 0x6b, 0x73, 0x7b, 0x18, 0x95, 0x05, 0x15, 0x1d, 0x25, 0x2d, 0x35, 0x3d, 0x45, 0x4d, 0x55,
+    0x5d, 0x65, 0x6d, 0x75, 0x7d, 0xa5, 0xad, 0xb5, 0xbd, 0xc5, 0xcd, 0xd5, 0xdd, 0x85, 0x06, 0x16,
+    0x1e, 0x26, 0x2e, 0x36, 0x3e, 0x46, 0x4e, 0x56, 0x5e, 0x66, 0x6e, 0x76, 0x7e, 0xa6, 0xae, 0xb6,
+    0xbe, 0xc6, 0xce, 0xd6, 0xde,
 ];
 
 // A text of whole slots, each of which is written as a dump shows its bytes.
@@ -127,6 +130,18 @@ fn refuses_fields_that_mean_nothing(rt: HostRuntime) -> Result<(), Fail> {
         0x61000000_01000000,
         0x62100000_00000000,
         0x63000000_01000000,
+        // A jump has its distance in one field alone, and compares nothing.
+        0x05000000_01000000,
+        0x06000100_00000000,
+        0x05010000_00000000,
+        0x06100000_00000000,
+        // A conditional jump has one second operand.
+        0x15100000_00000000,
+        0x1d000000_01000000,
+        // A call has nothing but its number.
+        0x85010000_01000000,
+        0x85100000_01000000,
+        0x85000100_01000000,
         0x95000000_01000000,
         0x95000100_00000000,
         0x95010000_00000000,
@@ -153,6 +168,8 @@ fn refuses_registers_above_the_last(rt: HostRuntime) -> Result<(), Fail> {
         0x620b0000_00000000,
         0x630b0000_00000000,
         0x63b00000_00000000,
+        0x150b0000_00000000,
+        0x1eb00000_00000000,
     ] {
         assert_eq!(rt;
             refusal_of(rt.alloc(), &[slot, EXIT])?,
@@ -166,7 +183,9 @@ fn refuses_registers_above_the_last(rt: HostRuntime) -> Result<(), Fail> {
 #[test]
 fn refuses_wide_instructions(rt: HostRuntime) -> Result<(), Fail> {
     for (first, second, number) in [
-        (0x18100000_00000000, 0, 3),
+        (0x18200000_00000000, 0, 3),
+        (0x18a00000_00000000, 0, 3),
+        (0x18100000_00000000, 0x00000000_01000000, 3),
         (0x18000100_00000000, 0, 3),
         (0x180b0000_00000000, 0, 4),
         (WIDE, 0x95000000_00000000, 3),
@@ -184,8 +203,9 @@ fn refuses_wide_instructions(rt: HostRuntime) -> Result<(), Fail> {
     // The text's end cuts these; a smaller number comes first.
     for (slot, number) in [
         (WIDE, 5),
+        (0x18100000_00000000, 5),
         (0x180b0000_00000000, 4),
-        (0x18100000_00000000, 3),
+        (0x18200000_00000000, 3),
     ] {
         assert_eq!(rt;
             refusal_of(rt.alloc(), &[slot])?,
@@ -223,6 +243,12 @@ fn accepts_instructions(rt: HostRuntime) -> Result<(), Fail> {
         0x91100080_00000000,
         0x720afcff_01000000,
         0x7b1af8ff_00000000,
+        // Jumps to any distance, and calls of any number.
+        0x0500ff7f_00000000,
+        0x06000000_00000080,
+        0x15010080_07000000,
+        0xde120100_00000000,
+        0x85000000_ffffffff,
     ] {
         assert_eq!(rt; refusal_of(rt.alloc(), &[slot, EXIT])?, None, "{slot:#x}");
     }
@@ -231,6 +257,8 @@ fn accepts_instructions(rt: HostRuntime) -> Result<(), Fail> {
         refusal_of(rt.alloc(), &[0x180a0000_ffffffff, 0x00000000_ffffffff])?,
         None
     );
+    // The name of a map.
+    assert_eq!(rt; refusal_of(rt.alloc(), &[0x18110000_07000000, 0])?, None);
     Ok(())
 }
 
@@ -319,6 +347,54 @@ fn names_loads_and_stores(rt: HostRuntime) {
 }
 
 #[test]
+fn names_jumps(rt: HostRuntime) {
+    for (bits, comparison) in [
+        (0x10, Comparison::Equal),
+        (0x20, Comparison::Greater),
+        (0x30, Comparison::GreaterOrEqual),
+        (0x40, Comparison::AnyBit),
+        (0x50, Comparison::NotEqual),
+        (0x60, Comparison::SignedGreater),
+        (0x70, Comparison::SignedGreaterOrEqual),
+        (0xa0, Comparison::Less),
+        (0xb0, Comparison::LessOrEqual),
+        (0xc0, Comparison::SignedLess),
+        (0xd0, Comparison::SignedLessOrEqual),
+    ] {
+        for (class, width, source) in [
+            (0x05, Width::Bits64, Source::Immediate),
+            (0x0d, Width::Bits64, Source::Register),
+            (0x06, Width::Bits32, Source::Immediate),
+            (0x0e, Width::Bits32, Source::Register),
+        ] {
+            let operation = Operation::Branch {
+                comparison,
+                width,
+                source,
+            };
+            assert_eq!(rt; Operation::of(bits | class), Some(operation));
+        }
+    }
+    let by_offset = Operation::Jump {
+        distance: Distance::Offset,
+    };
+    let by_imm = Operation::Jump {
+        distance: Distance::Imm,
+    };
+    assert_eq!(rt; Operation::of(0x05), Some(by_offset));
+    assert_eq!(rt; Operation::of(0x06), Some(by_imm));
+    assert_eq!(rt; Operation::of(0x85), Some(Operation::Call));
+}
+
+#[test]
+fn reads_distances(rt: HostRuntime) {
+    let backwards = fields(0x0500ffff_00000000);
+    assert_eq!(rt; backwards.distance(Distance::Offset), -1);
+    let far = fields(0x06000000_00010000);
+    assert_eq!(rt; far.distance(Distance::Imm), 256);
+}
+
+#[test]
 fn reads_fields(rt: HostRuntime) {
     let load = Insn {
         opcode: 0x79,
@@ -362,5 +438,24 @@ fn reads_a_program_s_instruction(rt: HostRuntime) -> Result<(), Fail> {
         extension: Extension::Zero,
     };
     assert_eq!(rt; insn.operation(), load);
+    Ok(())
+}
+
+// R1 = a number with the wide opcode in both halves, which takes two slots; R0 = 0x18; EXIT
+#[test]
+fn tells_where_instructions_begin(rt: HostRuntime) -> Result<(), Fail> {
+    let slots = [
+        0x18010000_18181818,
+        0x00000000_18181818,
+        0xb7000000_18000000,
+        EXIT,
+    ];
+    let program = decode(rt.alloc(), &text_of(rt.alloc(), &slots)?)?;
+    let begins = [true, false, true, true];
+    assert_eq!(rt; program.slots(), 4);
+    for slot in 0..program.slots() {
+        let expected = begins.get(slot as usize).copied();
+        assert_eq!(rt; Some(program.begins(slot)), expected, "{slot}");
+    }
     Ok(())
 }

@@ -12,3 +12,8 @@ abbrev pub IsOfWords : FileFault → Type 0
 IsOfWords (Usage said) = Unit {0}
 IsOfWords (OutOfMemory error) = Unit {0}
 IsOfWords _ = ⊥
+
+-- the words of the command line are none that the program takes
+abbrev pub IsUsage : FileFault → Type 0
+IsUsage (Usage said) = Unit {0}
+IsUsage _ = ⊥

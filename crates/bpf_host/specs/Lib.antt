@@ -4,3 +4,4 @@ pub mod HostView
 pub mod HostFile
 pub mod Section
 pub mod Faults
+pub mod Check

@@ -1,3 +1,6 @@
+ghost use Rattle.std.specs.Prelude.{IfErr};
+ghost use Rattle.bpf_host.specs.Faults.{IsBad, IsOfWords};
+
 use crate::file::Key;
 use hex::FromHexError;
 use std::alloc::AllocError;
@@ -74,5 +77,26 @@ impl fmt::Display for Place {
             Place::Options => write!(f, "options: "),
             Place::Event(number) => write!(f, "event {number}: "),
         }
+    }
+}
+
+/// The fault of usage with these words, where there is memory for them.
+pub fn usage(said: Result<String, AllocError>) -> FileFault
+    ensures { IsOfWords result }
+{
+    match said {
+        Ok(said) => FileFault::Usage(said),
+        Err(error) => FileFault::OutOfMemory(error),
+    }
+}
+
+/// The fault of a write that failed.
+pub fn written(outcome: io::Result<()>) -> Result<(), FileFault>
+    ensures bad { IfErr result (λ fault. ¬ IsBad fault) }
+    ensures words { IfErr result (λ fault. ¬ IsOfWords fault) }
+{
+    match outcome {
+        Ok(()) => Ok(()),
+        Err(error) => Err(FileFault::Write(error)),
     }
 }

@@ -2,26 +2,30 @@
 #![tactic(auto)]
 
 mod bytes;
+mod check;
 mod event;
 mod fault;
 mod file;
 mod host;
+mod judge;
 #[cfg(test)]
 mod memory_tests;
 mod replay;
 mod words;
 
+use check::check;
 use fault::FileFault;
 use replay::replay;
 use std::alloc::AllocError;
-use std::io::{self, BufWriter};
+use std::io::{self, BufWriter, Write};
 use std::process::ExitCode;
 use std::rt::{Env, Files};
 use std::{env, fs};
 use words::{Request, request_of};
 
 fn main(rt: HostRuntime) -> ExitCode {
-    match run(&rt) {
+    let errors = rt.stderr();
+    match run(&rt, &mut io::writer(&errors)) {
         Ok(status) => ExitCode::from(status),
         Err(fault) => {
             let _ = rt.eprintln(&fault);
@@ -30,8 +34,12 @@ fn main(rt: HostRuntime) -> ExitCode {
     }
 }
 
-/// Does what the command line asks for. Answers the status 0 or 1, or the fault of status 2.
-fn run<R: AllocGlobal + Env + Files + Print>(rt: &R) -> Result<u8, FileFault> {
+/// Does what the command line asks for. What a refusal means goes to `errors`. Answers the status 0
+/// or 1, or the fault of status 2.
+fn run<R: AllocGlobal + Env + Files + Print, E: Write>(
+    rt: &R,
+    errors: &mut E,
+) -> Result<u8, FileFault> {
     let alloc = rt.alloc();
     let words: Vec<String> = match env::args(rt) {
         Ok(words) => words.collect(alloc)?,
@@ -40,12 +48,18 @@ fn run<R: AllocGlobal + Env + Files + Print>(rt: &R) -> Result<u8, FileFault> {
         }
         Err(_) => return Err(FileFault::Usage(String::from_str(alloc, "the words can't be read")?)),
     };
-    match request_of(alloc, words.as_slice())? {
+    let request = request_of(alloc, words.as_slice())?;
+    let output = BufWriter::new(alloc, io::writer(rt));
+    let mut output = output.map_err(|_| FileFault::OutOfMemory(AllocError))?;
+    match request {
         Request::Replay { path } => {
             let mut file = fs::open(rt, path).map_err(FileFault::Read)?;
-            let output = BufWriter::new(alloc, io::writer(rt));
-            let mut output = output.map_err(|_| FileFault::OutOfMemory(AllocError))?;
             replay(alloc, &mut file, &mut output)
         }
+        Request::Check {
+            hex,
+            shapes,
+            context,
+        } => check(alloc, hex, shapes.as_slice(), context, &mut output, errors),
     }
 }

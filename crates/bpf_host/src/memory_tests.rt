@@ -3,6 +3,7 @@
 //! `rt try --test --fail-alloc N` refuses the Nth.
 
 use crate::bytes::Bytes;
+use crate::check::check;
 use crate::event::{Event, Reply};
 use crate::fault::FileFault;
 use crate::file::read_file;
@@ -157,5 +158,29 @@ fn replays_again(rt: HostRuntime) -> Result<(), Fail> {
     };
     assert_eq!(rt; status, 0);
     assert_eq!(rt; output.as_slice(), PRINTED.as_bytes());
+    Ok(())
+}
+
+// A check whose memory is refused ends without a line, or with the refusal that its line tells.
+#[test]
+fn checks_again(rt: HostRuntime) -> Result<(), Fail> {
+    let hex = "79100000000000009500000000000000";
+    let mut output = room(rt.alloc())?;
+    let mut words = room(rt.alloc())?;
+    let status = match check(rt.alloc(), hex, &[], "8", &mut output, &mut words) {
+        Err(FileFault::OutOfMemory(_)) => {
+            assert!(rt; output.is_empty());
+            check(rt.alloc(), hex, &[], "8", &mut output, &mut words)?
+        }
+        Ok(1) => {
+            assert_eq!(rt; output.as_slice(), b"refused 41 OutOfMemory\n".as_slice());
+            output.clear();
+            check(rt.alloc(), hex, &[], "8", &mut output, &mut words)?
+        }
+        answer => answer?,
+    };
+    assert_eq!(rt; status, 0);
+    let printed = "accepted slots 2 instructions 2 reserve 0\n";
+    assert_eq!(rt; output.as_slice(), printed.as_bytes());
     Ok(())
 }

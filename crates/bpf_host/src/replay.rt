@@ -14,7 +14,7 @@ mod output_tests;
 
 use crate::bytes::Bytes;
 use crate::event::{Event, Reply};
-use crate::fault::{BadFile, Cause, FileFault, Place};
+use crate::fault::{BadFile, Cause, FileFault, Place, written};
 use crate::file::{Command, HostFile, read_file};
 use crate::host::Host;
 use std::alloc::{AllocError, Global};
@@ -80,16 +80,6 @@ fn replay_file<W: Write>(alloc: Global, file: HostFile, writer: &mut W) -> Resul
         session.perform(command, writer)?;
     }
     Ok(u8::from(session.has_refused))
-}
-
-/// The fault of a write that failed.
-fn written(outcome: io::Result<()>) -> Result<(), FileFault>
-    ensures { IfErr result (λ fault. ¬ IsBad fault) }
-{
-    match outcome {
-        Ok(()) => Ok(()),
-        Err(error) => Err(FileFault::Write(error)),
-    }
 }
 
 /// A host at work, and what its output needs to know.

@@ -3,15 +3,27 @@
 ghost use Rattle.std.specs.Prelude.{IfErr};
 ghost use Rattle.bpf_host.specs.Faults.{IsOfWords};
 
-use crate::fault::FileFault;
-use clap::{Arg, ArgAction, Command};
+#[cfg(test)]
+mod tests;
+
+use crate::fault::{FileFault, usage};
+use clap::{Arg, ArgAction, ArgMatches, Command};
 use std::alloc::{AllocError, Global};
 
 /// What the words of the command line ask for.
 #[derive(Debug, Drop)]
 pub enum Request<'a> {
     /// To replay the host file at a path.
-    Replay { path: &'a str },
+    Replay {
+        path: &'a str,
+    },
+    /// To judge the program of a hex text, with maps of these shapes and a context of a size. The
+    /// words are as they were given.
+    Check {
+        hex: &'a str,
+        shapes: Vec<&'a str>,
+        context: &'a str,
+    },
 }
 
 /// What words ask for, the program's name being the first of them. All that isn't a request, help
@@ -24,6 +36,9 @@ pub fn request_of<'a>(alloc: Global, words: &'a [String]) -> Result<Request<'a>,
         Ok(matches) => matches,
         Err(error) => return Err(usage(error.to_string(alloc))),
     };
+    if let Some(check) = matches.subcommand_matches("check") {
+        return check_of(alloc, check);
+    }
     let replay = matches.subcommand_matches("replay");
     match replay.and_then(|replay| replay.get_str("FILE")) {
         Some(path) => Ok(Request::Replay { path }),
@@ -31,71 +46,56 @@ pub fn request_of<'a>(alloc: Global, words: &'a [String]) -> Result<Request<'a>,
     }
 }
 
-/// The fault of usage with these words, where there is memory for them.
-fn usage(said: Result<String, AllocError>) -> FileFault
-    ensures { IsOfWords result }
+/// What the words after `check` ask for.
+fn check_of<'a>(alloc: Global, check: &ArgMatches<'a>) -> Result<Request<'a>, FileFault>
+    ensures { IfErr result IsOfWords }
 {
-    match said {
-        Ok(said) => FileFault::Usage(said),
-        Err(error) => FileFault::OutOfMemory(error),
-    }
+    let Some(hex) = check.get_str("HEX") else {
+        return Err(usage(String::from_str(alloc, "no HEX is given")));
+    };
+    let shapes = check.get_strs("V:E").unwrap_or(&[]);
+    Ok(Request::Check {
+        hex,
+        shapes: shapes.to_vec(alloc).map_err(FileFault::OutOfMemory)?,
+        context: check.get_str("context").unwrap_or("0"),
+    })
 }
 
 fn command<'a>(alloc: Global) -> Result<Command<'a>, AllocError> {
+    Command::new(alloc, "bpf_host")
+        .about("runs eBPF programs of several tenants")
+        .subcommand_required(true)
+        .subcommand(replay(alloc)?)?
+        .subcommand(check(alloc)?)
+}
+
+fn replay<'a>(alloc: Global) -> Result<Command<'a>, AllocError> {
     let file = Arg::new(alloc, "FILE")
         .help("the host file")
         .required(true)
         .action(ArgAction::Set);
-    let replay = Command::new(alloc, "replay")
+    Command::new(alloc, "replay")
         .about("applies the events of a host file in their order")
-        .arg(file)?;
-    Command::new(alloc, "bpf_host")
-        .about("runs eBPF programs of several tenants")
-        .subcommand_required(true)
-        .subcommand(replay)
+        .arg(file)
 }
 
-#[cfg(test)]
-mod tests {
-    use super::*;
-    use std::test::Fail;
-
-    fn owned(alloc: Global, words: &[&str]) -> Result<Vec<String>, AllocError> {
-        let mut all = Vec::new(alloc);
-        for word in words {
-            all.push(String::from_str(alloc, word)?)?;
-        }
-        Ok(all)
-    }
-
-    #[test]
-    fn a_file_to_replay(rt: HostRuntime) -> Result<(), Fail> {
-        let words = owned(rt.alloc(), &["bpf_host", "replay", "a b.toml"])?;
-        let Request::Replay { path } = request_of(rt.alloc(), words.as_slice())?;
-        assert_eq!(rt; path, "a b.toml");
-        Ok(())
-    }
-
-    #[test]
-    fn all_else_is_usage(rt: HostRuntime) -> Result<(), Fail> {
-        let rows: [&[&str]; 9] = [
-            &["bpf_host"],
-            &["bpf_host", "help"],
-            &["bpf_host", "--help"],
-            &["bpf_host", "replay"],
-            &["bpf_host", "replay", "--help"],
-            &["bpf_host", "replay", "a", "b"],
-            &["bpf_host", "replay", "--fast", "a"],
-            &["bpf_host", "serve", "a"],
-            &[],
-        ];
-        for row in rows {
-            let words = owned(rt.alloc(), row)?;
-            match request_of(rt.alloc(), words.as_slice()) {
-                Err(FileFault::Usage(said)) => assert!(rt; !said.is_empty()),
-                _ => return Err(Fail::from("it is no usage")),
-            }
-        }
-        Ok(())
-    }
+fn check<'a>(alloc: Global) -> Result<Command<'a>, AllocError> {
+    let hex = Arg::new(alloc, "HEX")
+        .help("the program, as hex text")
+        .required(true)
+        .action(ArgAction::Set);
+    let shapes = Arg::new(alloc, "V:E")
+        .help("the value size and the entries of each map")
+        .num_args(0..)
+        .action(ArgAction::Append);
+    let context = Arg::new(alloc, "context")
+        .long("context")
+        .value_name("N")
+        .help("the bytes of the context, 0 if it isn't given")
+        .action(ArgAction::Set);
+    Command::new(alloc, "check")
+        .about("judges a program without running it")
+        .arg(hex)?
+        .arg(shapes)?
+        .arg(context)
 }

@@ -5,3 +5,5 @@ pub mod Memory
 pub mod OptionTable
 pub mod Refusals
 pub mod Tenant
+pub mod Pages
+pub mod Sharing

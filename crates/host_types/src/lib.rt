@@ -6,7 +6,9 @@
 mod fault;
 mod options;
 mod shape;
+mod status;
 
 pub use fault::{Fault, Refused};
 pub use options::{Opt, Options};
 pub use shape::{MapNo, Page, Shape};
+pub use status::Status;

@@ -1,3 +1,4 @@
+pub mod Comparisons
 pub mod Halves
 pub mod Quotients
 pub mod Small

@@ -1,9 +1,10 @@
-//! What arithmetic instructions compute (RFC 9669, section 4.1).
+//! What arithmetic instructions compute, and what conditional jumps ask (RFC 9669, sections 4.1 to 4.3).
 #![tactic(auto)]
 
 ghost use Rattle.std.specs.Prelude.{◌≡◌};
 ghost use Rattle.insn_alu.specs.Arithmetic.{IsArithmetic, alu, alu_of};
 
+mod comparison;
 mod swap;
 #[cfg(test)]
 mod tests;
@@ -14,6 +15,7 @@ use crate::swap::{cut, swapped};
 use crate::wide::computed_64;
 use crate::word::computed_32;
 use bpf_decode::{AluCode, Insn, Operation, Width};
+pub use comparison::{compares, holds};
 
 // How many numbers a word has.
 const WORD: u64 = 1 << 32;

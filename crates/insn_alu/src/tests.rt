@@ -1,6 +1,7 @@
 ghost use Rattle.std.specs.Prelude.{◌≡◌};
 
 use super::*;
+use bpf_decode::Comparison;
 
 /// What an instruction makes of the numbers of dst and of the second operand; `None` if its opcode
 /// isn't that of arithmetic.
@@ -288,4 +289,48 @@ fn leaves_other_instructions_alone(rt: HostRuntime) {
     for opcode in [0x18, 0x61, 0x7b, 0x95, 0xe7] {
         assert_eq!(rt; computes(opcode, 0, 5, 7), None, "{opcode:#x}");
     }
+}
+
+// Of each comparison: 64 bits of 5 and 7, of 7 and 7, of -1 and 1; and 32 bits of 2^32 and 0.
+#[test]
+fn compares_as_the_standard_says(rt: HostRuntime) {
+    for (comparison, answers) in [
+        (Comparison::Equal, [false, true, false, true]),
+        (Comparison::NotEqual, [true, false, true, false]),
+        (Comparison::Greater, [false, false, true, false]),
+        (Comparison::GreaterOrEqual, [false, true, true, true]),
+        (Comparison::Less, [true, false, false, false]),
+        (Comparison::LessOrEqual, [true, true, false, true]),
+        (Comparison::AnyBit, [true, true, true, false]),
+        (Comparison::SignedGreater, [false, false, false, false]),
+        (Comparison::SignedGreaterOrEqual, [false, true, false, true]),
+        (Comparison::SignedLess, [true, false, true, false]),
+        (Comparison::SignedLessOrEqual, [true, true, true, true]),
+    ] {
+        let found = [
+            compares(comparison, Width::Bits64, 5, 7),
+            compares(comparison, Width::Bits64, 7, 7),
+            compares(comparison, Width::Bits64, u64::MAX, 1),
+            compares(comparison, Width::Bits32, 1 << 32, 0),
+        ];
+        assert_eq!(rt; found, answers);
+    }
+}
+
+/// Whether a conditional jump's comparison holds; `None` if its opcode is none of those.
+fn asks(opcode: u8, a: u64, b: u64) -> Option<bool> {
+    let insn = insn(opcode, 0, 0);
+    match Operation::of(opcode) {
+        Some(Operation::Branch { .. }) => Some(holds(&insn, a, b)),
+        _ => None,
+    }
+}
+
+// JSLT: the low half of 2^32 - 1 is -1.
+#[test]
+fn asks_what_an_instruction_says(rt: HostRuntime) {
+    assert_eq!(rt; asks(0xce, 0xffff_ffff, 1 << 32), Some(true));
+    assert_eq!(rt; asks(0xcd, 0xffff_ffff, 1 << 32), Some(true));
+    assert_eq!(rt; asks(0xce, 1 << 32, 0xffff_ffff), Some(false));
+    assert_eq!(rt; asks(0x05, 0, 0), None);
 }

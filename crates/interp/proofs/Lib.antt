@@ -14,6 +14,7 @@ pub mod States
 pub mod Places
 pub mod Instructions
 pub mod Steps
+pub mod Jumps
 pub mod Soundness
 pub mod InTable
 pub mod Starts

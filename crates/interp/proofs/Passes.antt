@@ -2,10 +2,14 @@
 use Rattle.std.specs.Prelude.{◌≡◌, ℕ, ◌+◌, ◌%◌, ◌≤◌, nat_le, ◌==◌, ℤ, pos, negsuc, ◌+ℤ◌, Bool, true, false, not, if◌then◌else◌, Option, Some, None, Result, Ok, Err, refl}
 use Rattle.std.proofs.Common.{arith}
 use Rattle.std.proofs.lemmas.Bool.Decides.{nat_tests}
+use Rattle.bpf_decode.specs.declared.insn.Insn.{Insn}
+use Rattle.bpf_decode.specs.Opcodes.{wide_immediate}
 use Rattle.verifier_kinds.specs.declared.kind.Kind.{Kind}
+use Rattle.verifier_kinds.specs.declared.kind.Kind.TheVariants.{Scalar}
 use Rattle.verifier_kinds.specs.declared.description.Description.{Description}
+use Rattle.verifier_kinds.specs.Kinds.{constant}
 use Rattle.verifier_kinds.specs.Descriptions.{with_kind}
-use Rattle.verifier.specs.Flow.{◌>>=◌, both, holds_or, known_or, writable, write_kind, lies_below, aligned, context_place, stack_place}
+use Rattle.verifier.specs.Flow.{◌>>=◌, both, holds_or, known_or, writable, write_kind, lies_below, aligned, context_place, stack_place, wide_kind}
 
 -- both questions passed, with the parts of the answer
 pub both_passed : {A B : Type 0} (a : Result A ℕ) (b : Result B ℕ) (x : A × B) → both a b ≡ Ok x → (a ≡ Ok x.0) × (b ≡ Ok x.1)
@@ -69,3 +73,11 @@ write_passed d i given e h =
     let (x, passed, is) = then_passed (both given (writable i)) (λ x. Ok (with_kind d i x.0)) e h in
     let (known, may) = both_passed given (writable i) x passed in
     (x.0, known, held (not (i == 10)) 22 x.1 may, cc)
+
+-- the wide instruction names no map
+pub wide_passed : (insn : Insn) (kind : Kind) → wide_kind insn ≡ Ok kind → ((insn.src == 0) ≡ true) × (Scalar (constant (wide_immediate insn)) ≡ kind)
+wide_passed insn kind e = by_test (insn.src == 0) e
+  where
+    by_test : (b : Bool) → if◌then◌else◌ {A = Result Kind ℕ} b (Ok (Scalar (constant (wide_immediate insn)))) (Err 24) ≡ Ok kind → (b ≡ true) × (Scalar (constant (wide_immediate insn)) ≡ kind)
+    by_test true e = (refl, cc)
+    by_test false e = absurd (cc)

@@ -182,3 +182,117 @@ fn stores_of_each_size(rt: HostRuntime) {
         assert_eq!(rt; returned, Ok(Some((number, 5))), "{store:#x}");
     }
 }
+
+// R0 = 0; R1 = [R1]; if R1 == 0 then pass over R0 = 1
+#[test]
+fn jumps_by_the_context(rt: HostRuntime) {
+    let text = [
+        0xb7000000_00000000,
+        0x79110000_00000000,
+        0x15010100_00000000,
+        0xb7000000_01000000,
+        EXIT,
+    ];
+    for (word, returned) in [(0, (0, 4)), (7, (1, 5))] {
+        let context = [word, 0, 0, 0, 0, 0, 0, 0];
+        assert_eq!(rt;
+            outcome(rt.alloc(), &text, &context),
+            Ok(Some(returned)),
+            "{word}"
+        );
+    }
+}
+
+// R0 = 1; R0 = 2 is passed over, at the distance in the field offset or imm (RFC 9669, section 4.3).
+#[test]
+fn jumps_always(rt: HostRuntime) {
+    for jump in [0x05000100_00000000, 0x06000000_01000000] {
+        let text = [0xb7000000_01000000, jump, 0xb7000000_02000000, EXIT];
+        assert_eq!(rt;
+            outcome(rt.alloc(), &text, &[]),
+            Ok(Some((1, 3))),
+            "{jump:#x}"
+        );
+    }
+}
+
+// What a program returns that has two numbers in R1 and R2: 1 if it makes the jump, else 2.
+fn branched(alloc: Global, branch: u64, first: u64, second: u64) -> Result<Option<u64>, Fault> {
+    let (first, second) = (first.swap_bytes(), second.swap_bytes());
+    let text = [
+        0x18010000_00000000 | (first >> 32),
+        first % (1 << 32),
+        0x18020000_00000000 | (second >> 32),
+        second % (1 << 32),
+        0xb7000000_01000000,
+        branch,
+        0xb7000000_02000000,
+        EXIT,
+    ];
+    let returned = outcome(alloc, &text, &[])?;
+    Ok(returned.map(|(number, _)| number))
+}
+
+// A row for each comparison, by the high bits of its opcode: two numbers, and what it returns by 64
+// bits and by 32 (RFC 9669, section 4.3).
+#[test]
+fn compares_by_each_width(rt: HostRuntime) {
+    for (code, first, second, by_64, by_32) in [
+        (0x1, 5, 5, 1, 1),
+        (0x1, 0x1_0000_0005, 5, 2, 1),
+        (0x1, 5, 6, 2, 2),
+        (0x2, 0x1_0000_0001, 2, 1, 2),
+        (0x2, 2, 0x1_0000_0001, 2, 1),
+        (0x2, 2, 2, 2, 2),
+        (0x3, 0x1_0000_0001, 2, 1, 2),
+        (0x3, 2, 0x1_0000_0001, 2, 1),
+        (0x3, 2, 2, 1, 1),
+        (0x4, 0x1_0000_0001, 0x1_0000_0002, 1, 2),
+        (0x4, 3, 0x1_0000_0002, 1, 1),
+        (0x4, 1, 2, 2, 2),
+        (0x5, 5, 5, 2, 2),
+        (0x5, 0x1_0000_0005, 5, 1, 2),
+        (0x5, 5, 6, 1, 1),
+        (0x6, 0x8000_0000, 1, 1, 2),
+        (0x6, 1, 0x8000_0000, 2, 1),
+        (0x6, 1, 1, 2, 2),
+        (0x7, 0x8000_0000, 1, 1, 2),
+        (0x7, 1, 0x8000_0000, 2, 1),
+        (0x7, 1, 1, 1, 1),
+        (0xa, 2, 0x1_0000_0001, 1, 2),
+        (0xa, 0x1_0000_0001, 2, 2, 1),
+        (0xa, 2, 2, 2, 2),
+        (0xb, 2, 0x1_0000_0001, 1, 2),
+        (0xb, 0x1_0000_0001, 2, 2, 1),
+        (0xb, 2, 2, 1, 1),
+        (0xc, 1, 0x8000_0000, 1, 2),
+        (0xc, 0x8000_0000, 1, 2, 1),
+        (0xc, 1, 1, 2, 2),
+        (0xd, 1, 0x8000_0000, 1, 2),
+        (0xd, 0x8000_0000, 1, 2, 1),
+        (0xd, 1, 1, 1, 1),
+    ] {
+        let branch = (code << 60) | 0x0d210100_00000000;
+        let returned = branched(rt.alloc(), branch, first, second);
+        assert_eq!(rt; returned, Ok(Some(by_64)), "{code:#x} {first} {second}");
+        let branch = (code << 60) | 0x0e210100_00000000;
+        let returned = branched(rt.alloc(), branch, first, second);
+        assert_eq!(rt; returned, Ok(Some(by_32)), "{code:#x} {first} {second}");
+    }
+}
+
+// An immediate is extended by its sign, and 32 bits of it count in a comparison by 32 bits.
+#[test]
+fn compares_with_immediates(rt: HostRuntime) {
+    for (branch, first, number) in [
+        (0x15010100_ffffffff, u64::MAX, 1),
+        (0x15010100_ffffffff, 0xffff_ffff, 2),
+        (0x16010100_ffffffff, 0xffff_ffff, 1),
+        (0x16010100_ffffffff, 0xffff_fffe, 2),
+        (0xc5010100_00000000, 1 << 63, 1),
+        (0xc6010100_00000000, 1 << 63, 2),
+    ] {
+        let returned = branched(rt.alloc(), branch, first, 0);
+        assert_eq!(rt; returned, Ok(Some(number)), "{branch:#x} {first}");
+    }
+}

@@ -1,11 +1,12 @@
 use std::alloc::Global;
 
-/// A result that the kernel computed: what a program returns, and in how many steps.
+/// A result that the kernel computed: what a program returns, and, where it has no jump, in how many
+/// steps.
 #[derive(Drop)]
 pub(crate) struct Row {
     pub text: Vec<u8>,
     pub number: u64,
-    pub steps: u32,
+    pub steps: Option<u32>,
 }
 
 impl Row {
@@ -15,7 +16,10 @@ impl Row {
         let _name = texts.next()?;
         let text = hex::decode(alloc, texts.next()?).ok()?;
         let number = texts.next()?.parse().ok()?;
-        let steps = texts.next()?.parse().ok()?;
+        let steps = match texts.next()? {
+            "-" => None,
+            steps => Some(steps.parse().ok()?),
+        };
         Some(Row {
             text,
             number,

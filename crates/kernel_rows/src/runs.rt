@@ -10,34 +10,42 @@ use plain_machine::{Ending, Machine};
 use std::alloc::Global;
 use verifier::{Verified, verify};
 
-// More steps than a program has instructions.
+// As many steps as a program has instructions at most.
 const STEPS: u32 = 4096;
+
+// The number of a refusal for want of memory.
+const OUT_OF_MEMORY: u32 = 41;
 
 /// How a program went, with no context and no maps.
 #[derive(Clone, Copy, PartialEq, Eq)]
 pub(crate) enum Outcome {
     Returned { number: u64, steps: u32 },
-    /// It was refused or cut, or it was at fault.
-    Not,
+    /// The decoder or the verifier refused it.
+    Refused,
+    /// It had no memory to run in.
+    Unable,
+    /// It was at fault, or it didn't end.
+    Endless,
 }
 
 /// How a program goes that is decoded, verified and run.
 pub(crate) fn on_the_host(alloc: Global, text: &[u8]) -> Outcome {
     match accepted(alloc, text) {
         Ok(program) => run_to_end(alloc, &program),
-        Err(_) => Outcome::Not,
+        Err(refused) if refused.number == OUT_OF_MEMORY => Outcome::Unable,
+        Err(_) => Outcome::Refused,
     }
 }
 
 /// How a text goes on the plain machine.
 pub(crate) fn on_the_plain_machine(alloc: Global, text: &[u8]) -> Outcome {
     if text.len() % 8 != 0 {
-        return Outcome::Not;
+        return Outcome::Refused;
     }
     let mut machine = Machine::start(Vec::new(alloc), Vec::new(alloc));
     match machine.run(text, STEPS) {
         Ending::Exited { number, steps } => Outcome::Returned { number, steps },
-        _ => Outcome::Not,
+        _ => Outcome::Endless,
     }
 }
 
@@ -55,7 +63,7 @@ fn run_to_end(alloc: Global, program: &Verified) -> Outcome
 {
     match Run::begin(alloc, program, &[]) {
         Ok(run) => ended(run, program),
-        Err(_) => Outcome::Not,
+        Err(_) => Outcome::Unable,
     }
 }
 
@@ -72,5 +80,5 @@ fn ended(mut run: Run, program: &Verified) -> Outcome
             Need::Private => {}
         }
     }
-    Outcome::Not
+    Outcome::Endless
 }

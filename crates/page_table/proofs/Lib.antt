@@ -1,2 +1,13 @@
 pub mod Numbers
-pub mod Parts
+pub mod Entries
+pub mod Adding
+pub mod Unused
+pub mod Putting
+pub mod Maps
+pub mod Reading
+pub mod Free
+pub mod Writing
+pub mod Creating
+pub mod Empty
+pub mod Shapes
+pub mod Owning

@@ -1,29 +1,10 @@
--- Numbers as bytes: what a word of eight bytes reads as and holds, and bytes written into a list.
-use Rattle.std.proofs.Common.{◌≡◌, ℕ, zero, suc, ◌+◌, ◌-◌, ◌*◌, ◌/◌, ◌%◌, ◌^◌, ◌<◌, ◌≤◌, List, [], ◌∷◌, ◌++◌, length, take, drop, replicate, All, refl, sym, ap, ◌∙◌, arith, append_assoc, length-append, length-take, length-drop}
-use Rattle.std.proofs.Math.Nat.{div-div-eq-div-mul, div-one, mod-lt, pow-suc}
-use Rattle.std.proofs.lemmas.List.{drop-replicate, drop-drop}
-use Rattle.std.proofs.lemmas.List.Elements.{All-nil, All-cons, All-append, All-take, All-drop}
+-- Numbers as bytes, and where loads and stores lie in pages.
+use Rattle.std.proofs.Common.{◌≡◌, ◌⊎◌, ℕ, zero, suc, ◌+◌, ◌/◌, ◌%◌, ◌^◌, ◌≤◌, ◌∷◌, take, refl, sym, ap, subst, ⊎_elim, ◌∙◌, arith}
+use Rattle.std.proofs.Math.Nat.{div-div-eq-div-mul, div-one, pow-suc}
+use Rattle.std.proofs.lemmas.Bool.Decides.{nat_tests}
 use Rattle.std.specs.Int.{byte_at, bytes_low_first}
-use borrow.Rule.Slice.PartMut.{put_mid}
-use Rattle.byteorder.specs.Endian.{little_from}
-use Rattle.byteorder.specs.Numbers.{little_from-cons}
-use Rattle.byteorder.proofs.Bytes.{little_from-zeros_after, take-bytes_low_first}
-use Rattle.host_types.specs.Bytes.{number_of, bytes_of, with_part}
-
--- a whole list of bytes, read by places, is its number
-little_from-number_of : (bytes : List ℕ) → little_from 0 (length bytes) bytes ≡ number_of bytes
-unfolding number_of
-little_from-number_of [] = refl
-little_from-number_of (byte ∷ bytes) =
-    ap (λ (rest : ℕ). byte + 256 * rest) (little_from-cons 0 (length bytes) byte bytes ∙ little_from-number_of bytes)
-
--- a word with bytes at its start and zeros after them reads as the number of the bytes
-pub word-number_of : (bytes : List ℕ) (size : ℕ) → length bytes ≡ size → size ≤ 8
-    → little_from 0 8 (put_mid 0 size (replicate 8 0) bytes) ≡ number_of bytes
-word-number_of bytes size is small =
-    let shape : put_mid 0 size (replicate 8 0) bytes ≡ bytes ++ replicate (8 - size) 0 =
-    rw (drop-replicate {X = ℕ} size 8 0) refl in
-    ap (little_from 0 8) shape ∙ little_from-zeros_after bytes (8 - size) 8 (omega arith) ∙ little_from-number_of bytes
+use Rattle.host_types.specs.Bytes.{bytes_of}
+use Rattle.page_table.specs.Limits.{IsAccessSize}
 
 -- the byte at a place is the lowest byte of what is above it
 byte_at-shifted : (i number : ℕ) → byte_at i number ≡ number / 256 ^ i % 256
@@ -41,44 +22,27 @@ bytes_low_first-shifted i (suc n) number =
     bytes_low_first-shifted (suc i) n number ∙ ap (bytes_of n) next in
     rw (byte_at-shifted i number, rest) refl
 
--- the first bytes of a word of eight are the number's lowest bytes
-pub take-word : (size number : ℕ) → size ≤ 8 → take size (bytes_low_first 0 8 number) ≡ bytes_of size number
-take-word size number small =
-    take-bytes_low_first 0 8 size number small
-    ∙ bytes_low_first-shifted 0 size number
-    ∙ ap (bytes_of size) (div-one number)
+-- the bytes of a number by their places
+pub bytes_low_first-bytes_of : (n number : ℕ) → bytes_low_first 0 n number ≡ bytes_of n number
+bytes_low_first-bytes_of n number = bytes_low_first-shifted 0 n number ∙ ap (bytes_of n) (div-one number)
 
-pub length-bytes_of : (n number : ℕ) → length (bytes_of n number) ≡ n
+-- the first bytes of a number are its lowest
+pub take-bytes_of : (size n number : ℕ) → size ≤ n → take size (bytes_of n number) ≡ bytes_of size number
 unfolding bytes_of
-length-bytes_of zero number = refl
-length-bytes_of (suc n) number = let rest = length-bytes_of n (number / 256) in omega (arith, rest)
+take-bytes_of zero n number h = refl
+take-bytes_of (suc size) zero number h = absurd (omega arith)
+take-bytes_of (suc size) (suc n) number h = ap (λ l. number % 256 ∷ l) (take-bytes_of size n (number / 256) (omega arith))
 
-pub All-bytes_of : (n number : ℕ) → All (λ (byte : ℕ). byte < 256) (bytes_of n number)
-unfolding bytes_of
-All-bytes_of zero number = All-nil (λ (byte : ℕ). byte < 256)
-All-bytes_of (suc n) number =
-    All-cons (λ (byte : ℕ). byte < 256) (number % 256) (bytes_of n (number / 256)) (mod-lt number (omega arith)) (All-bytes_of n (number / 256))
+pub access_size : (size : ℕ) → IsAccessSize size → (size ≡ 1) ⊎ (size ≡ 2) ⊎ (size ≡ 4) ⊎ (size ≡ 8)
+access_size size is = grind (arith, nat_tests)
 
--- a part written over a range
-pub put_mid-with_part : (xs part : List ℕ) (at size : ℕ) → length part ≡ size
-    → put_mid at (at + size - at) xs part ≡ with_part xs at part
-unfolding with_part
-put_mid-with_part xs part at size is =
-    let span : at + size - at ≡ size = omega arith in
-    rw (span, drop-drop, append_assoc, is) refl
+pub small_size : (size : ℕ) → IsAccessSize size → size ≤ 8
+small_size size is = grind (arith, nat_tests)
 
-pub length-with_part : (xs part : List ℕ) (at : ℕ) → at + length part ≤ length xs → length (with_part xs at part) ≡ length xs
-unfolding with_part
-length-with_part xs part at fits =
-    let front = length-take at xs in
-    let back = length-drop (at + length part) xs in
-    let whole = length-append (take at xs ++ part) (drop (at + length part) xs) in
-    let begin = length-append (take at xs) part in
-    omega (arith, front, back, whole, begin)
-
-pub All-with_part : (P : ℕ → Type 0) (xs part : List ℕ) (at : ℕ) → All P xs → All P part → All P (with_part xs at part)
-unfolding with_part
-All-with_part P xs part at old new =
-    All-append P (take at xs ++ part) (drop (at + length part) xs)
-    (All-append P (take at xs) part (All-take P at xs old) new)
-    (All-drop P (at + length part) xs old)
+-- an aligned load or store lies in one page
+pub access_in_page : (at size : ℕ) → IsAccessSize size → at % size ≡ 0 → at % 4096 + size ≤ 4096
+access_in_page at size is aligned =
+    let P : ℕ → Type 0 = λ n. at % n ≡ 0 → at % 4096 + n ≤ 4096 in
+    ⊎_elim (λ e. subst P (sym e) (λ h. omega arith)) (λ more.
+    ⊎_elim (λ e. subst P (sym e) (λ h. omega arith)) (λ more.
+    ⊎_elim (λ e. subst P (sym e) (λ h. omega arith)) (λ e. subst P (sym e) (λ h. omega arith)) more) more) (access_size size is) aligned

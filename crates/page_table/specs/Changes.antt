@@ -1,16 +1,19 @@
 -- What the calls change, and when they refuse.
-use Rattle.std.specs.Prelude.{◌≡◌, ◌≢◌, ℕ, ◌<◌, ◌≤◌, ◌==◌, ◌&&◌, if◌then◌else◌, Bool, List, length, replicate, slice_set, Some, IsSome, IsNone, option_map}
+use Rattle.std.specs.Prelude.{◌≡◌, ◌≢◌, ℕ, ◌*◌, ◌<◌, ◌≤◌, Bool, true, false, List, length, replicate, slice_set, Some, IsSome, IfSome, IsNone, option_map}
 use Rattle.host_types.specs.declared.fault.Fault.{Fault}
 use Rattle.host_types.specs.declared.fault.Fault.TheVariants.{NoFrames, TooManyMaps, BadShape, BadOption, OutOfMemory, BadTenant}
 use Rattle.host_types.specs.declared.options.Options.{Options}
+use Rattle.host_types.specs.declared.shape.Page.{Page}
 use Rattle.host_types.specs.declared.shape.Shape.{Shape}
 use Rattle.host_types.specs.Bytes.{bytes_of, with_part}
 use Rattle.host_types.specs.Memory.{FlatMap, map_at}
 use Rattle.host_types.specs.OptionTable.{AreOptions}
+use Rattle.host_types.specs.Pages.{page_place}
 use Rattle.host_types.specs.Shapes.{IsShape, byte_len_of}
+use Rattle.host_types.specs.Sharing.{Sharing, state_at, new_page, is_shared}
 use Rattle.host_types.specs.Tenant.{TenantPart}
 use Rattle.page_table.specs.Limits.{AreLimits, page_count}
-use Rattle.page_table.specs.State.{MemoryState, part, is_mergeable, free_number}
+use Rattle.page_table.specs.State.{MemoryState, part, bytes_of_map, free_number, have_of}
 
 -- a map whose bytes are all zero
 abbrev pub zero_map : Shape → FlatMap
@@ -20,10 +23,13 @@ zero_map shape = record { shape = shape; bytes = replicate (byte_len_of shape) 0
 abbrev pub map_written : ℕ → List ℕ → FlatMap → FlatMap
 map_written at bytes flat = record flat { bytes = with_part flat.bytes at bytes }
 
+-- a tenant's part with bytes written into its map m
+abbrev pub part_written : TenantPart → ℕ → ℕ → List ℕ → TenantPart
+part_written owned m at bytes = record owned { maps = slice_set owned.maps m (option_map (map_written at bytes) (map_at owned.maps m)) }
+
 -- a tenant's part with a number written as `size` bytes of its map m
 abbrev pub part_stored : TenantPart → ℕ → ℕ → ℕ → ℕ → TenantPart
-part_stored owned m at size number =
-    record owned { maps = slice_set owned.maps m (option_map (map_written at (bytes_of size number)) (map_at owned.maps m)) }
+part_stored owned m at size number = part_written owned m at (bytes_of size number)
 
 -- a tenant's part with a new map m of zeros
 abbrev pub part_created : TenantPart → ℕ → Shape → TenantPart
@@ -33,27 +39,36 @@ part_created owned m shape = record owned { maps = slice_set owned.maps m (Some 
 abbrev pub IsKeptBut : ℕ → MemoryState → MemoryState → Type 0
 IsKeptBut tenant old new = (t : ℕ) → t ≢ tenant → part new t ≡ part old t
 
+-- every tenant's part stays
+abbrev pub AreKept : MemoryState → MemoryState → Type 0
+AreKept old new = (t : ℕ) → part new t ≡ part old t
+
 -- every other map of a tenant stays
 abbrev pub AreMapsKeptBut : ℕ → TenantPart → TenantPart → Type 0
 AreMapsKeptBut number old new = (m : ℕ) → m ≢ number → map_at new.maps m ≡ map_at old.maps m
 
--- there are as many tenants as before, and the options stay
+-- there are as many frames as before, and what is recorded of the tenants stays
 pub record KeepsSettings (old new : MemoryState) : Type 0 where
-  pub tenants : length new.tenants ≡ length old.tenants
-  pub options : new.options ≡ old.options
+  pub tenants : new.tenants ≡ old.tenants
+  pub frames : length new.arena ≡ length old.arena
 
--- the same maps as before may be merged
-abbrev pub KeepsMergeable : MemoryState → MemoryState → Type 0
-KeepsMergeable old new = (t m : ℕ) → is_mergeable new t m ≡ is_mergeable old t m
+-- the page is there
+abbrev pub IsPageOf : MemoryState → Page → Type 0
+IsPageOf memory page = page.number * 4096 < length (bytes_of_map memory page)
 
--- of the maps that may be merged, one alone is set anew
-abbrev pub SetsMergeable : ℕ → ℕ → Bool → MemoryState → MemoryState → Type 0
-SetsMergeable tenant number mergeable old new =
-    (t m : ℕ) → is_mergeable new t m ≡ (if t == tenant && m == number then mergeable else is_mergeable old t m)
+-- the page has a frame of its own
+abbrev pub IsOwn : MemoryState → Page → Type 0
+IsOwn memory page = IfSome (state_at memory.sharing (page_place page)) (λ state. is_shared state.status ≡ false)
 
--- the frames that a new page may have: the free ones less all recorded reserves, which are 0
-abbrev pub have_of : MemoryState → ℕ
-have_of memory = memory.free
+-- the page may be merged, and has a frame of its own
+abbrev pub MayMerge : MemoryState → Page → Type 0
+MayMerge memory page =
+    IfSome (state_at memory.sharing (page_place page)) (λ state. (state.mergeable ≡ true) × (is_shared state.status ≡ false))
+
+-- the pages of a new map, which were never visited
+unfoldable pub with_new_pages : Sharing → ℕ → ℕ → Bool → Sharing
+with_new_pages sharing place count mergeable =
+    record sharing { pages = with_part sharing.pages place (replicate count (Some (new_page mergeable))) }
 
 -- what has to hold for a new map: the tenant has a free number, the shape is within the limits, and there are frames
 pub record FitsMap (memory : MemoryState) (tenant : ℕ) (shape : Shape) : Type 0 where

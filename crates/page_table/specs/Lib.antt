@@ -1,3 +1,5 @@
 pub mod Limits
 pub mod State
 pub mod Changes
+pub mod Table
+pub mod View

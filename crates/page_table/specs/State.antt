@@ -1,48 +1,68 @@
--- What a memory is to its callers: each tenant's part, the frames that no page has, and the options.
-use Rattle.std.specs.Prelude.{ℕ, ◌-◌, Bool, false, List, [], replicate, slice_index_or, Option, None, option_map, unwrap_or, is_none, position}
+-- What a memory is to its callers: the maps of all tenants, which pages share frames, and the pages of the frames.
+use Rattle.std.specs.Prelude.{ℕ, ◌-◌, ◌*◌, List, [], length, replicate, sum_by, slice_index_or, Option, None, option_map, unwrap_or, is_none, position}
 use Rattle.host_types.specs.declared.options.Options.{Options}
-use Rattle.host_types.specs.Memory.{FlatMap, map_at}
+use Rattle.host_types.specs.declared.shape.Page.{Page}
+use Rattle.host_types.specs.Bytes.{part_of}
+use Rattle.host_types.specs.Memory.{FlatMap, FlatMaps, map_at}
+use Rattle.host_types.specs.Sharing.{Sharing, frames_free}
 use Rattle.host_types.specs.Tenant.{TenantPart}
+use Rattle.frame_arena.specs.Pages.{zero_page}
+use Rattle.page_table.specs.declared.tenant.Tenant.{Tenant}
 
--- a tenant's part, and for each map number whether that map's pages may be merged
-pub record TenantState : Type 0 where
-  pub part : TenantPart
-  pub mergeable : List Bool
-
--- the tenants by number, how many frames no page has, and the options
+-- What is recorded of each tenant beside its maps; the maps of all tenants by place; which pages
+-- share frames; the page in each frame; and the frame of each page by place.
 pub record MemoryState : Type 0 where
-  pub tenants : List TenantState
-  pub free : ℕ
-  pub options : Options
+  pub tenants : List Tenant
+  pub maps : FlatMaps
+  pub sharing : Sharing
+  pub arena : List (List ℕ)
+  pub frames : List (Option ℕ)
 
--- what belongs to a tenant that isn't there
-abbrev pub no_tenant : TenantState
-no_tenant = record { part = record { maps = []; reserve = 0 }; mergeable = [] }
+-- a tenant for whose run no frame is reserved
+abbrev pub new_tenant : Tenant
+new_tenant = record { reserve = 0 }
 
--- a tenant that has its eight map numbers and no map
-abbrev pub new_tenant : TenantState
-new_tenant = record { part = record { maps = replicate 8 None; reserve = 0 }; mergeable = replicate 8 false }
+-- the state of sharing without pages
+abbrev pub no_sharing : ℕ → Options → Sharing
+no_sharing places options =
+    record { pages = replicate places None; groups = []; waiting = []; cursor = None; options = options; full_scans = 0 }
 
--- a memory without maps; one of its frames is the zero frame
-abbrev pub new_memory : ℕ → ℕ → Options → MemoryState
+-- a memory without maps: each tenant has eight map numbers, each map 256 pages
+unfoldable pub new_memory : ℕ → ℕ → Options → MemoryState
 new_memory frames tenants options =
-    record { tenants = replicate tenants new_tenant; free = frames - 1; options = options }
-
-abbrev pub tenant_at : MemoryState → ℕ → TenantState
-tenant_at memory t = slice_index_or memory.tenants t no_tenant
+    record {
+      tenants = replicate tenants new_tenant;
+      maps = replicate (tenants * 8) None;
+      sharing = no_sharing (tenants * 2048) options;
+      arena = replicate frames zero_page;
+      frames = replicate (tenants * 2048) None;
+    }
 
 -- what belongs to the tenant t
-abbrev pub part : MemoryState → ℕ → TenantPart
-part memory t = (tenant_at memory t).part
-
--- whether pages of the tenant's map m may be merged
-abbrev pub is_mergeable : MemoryState → ℕ → ℕ → Bool
-is_mergeable memory t m = slice_index_or (tenant_at memory t).mergeable m false
+unfoldable pub part : MemoryState → ℕ → TenantPart
+part memory t =
+    record { maps = part_of memory.maps (t * 8) 8; reserve = (slice_index_or memory.tenants t new_tenant).reserve }
 
 -- the bytes of a tenant's map; none where there is no such map
 abbrev pub map_bytes : TenantPart → ℕ → List ℕ
 map_bytes owned m = unwrap_or (option_map (λ (flat : FlatMap). flat.bytes) (map_at owned.maps m)) []
 
+-- the bytes of the map that a page is of
+abbrev pub bytes_of_map : MemoryState → Page → List ℕ
+bytes_of_map memory page = map_bytes (part memory page.tenant) page.map
+
 -- the first of a tenant's map numbers that no map has
 abbrev pub free_number : TenantPart → Option ℕ
 free_number owned = position (λ (slot : Option FlatMap). is_none slot) owned.maps
+
+-- the frame of the page at a place
+abbrev pub frame_at : MemoryState → ℕ → Option ℕ
+frame_at memory i = slice_index_or memory.frames i None
+
+-- the frames that no page has, the zero frame aside
+abbrev pub free_of : MemoryState → ℕ
+free_of memory = frames_free (length memory.arena) memory.sharing
+
+-- the frames that new pages may have: the free ones less all recorded reserves
+abbrev pub have_of : MemoryState → ℕ
+have_of memory = free_of memory - sum_by (λ (tenant : Tenant). tenant.reserve) memory.tenants

@@ -1,11 +1,17 @@
-//! The one store of all tenants' array maps. Contracts see each tenant's part, the frames that no
-//! page has, and the options; each map is a flat list of bytes here, and a page counts as one frame.
+//! The one store of all tenants' array maps. Contracts see each tenant's maps as flat lists of
+//! bytes and which pages share frames; the bytes lie in frames, on which several pages of the same
+//! bytes may lie.
 #![tactic(auto)]
 
-mod array_map;
+mod counts;
+mod entry;
 mod memory;
+mod number;
+mod table;
 mod tenant;
 #[cfg(test)]
 mod tests;
 
+pub use entry::Entry;
 pub use memory::Memory;
+pub use tenant::Tenant;

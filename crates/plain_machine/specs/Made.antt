@@ -1,6 +1,12 @@
 -- What a step and a run of the machine made.
-use Rattle.std.specs.Prelude.{◌≡◌, ℕ, ◌<◌, ◌≤◌, List, Option, Some, None}
-use Rattle.interp.specs.Machine.{MachineState, Next, Exits, register, step}
+use Rattle.std.specs.Prelude.{◌≡◌, ℕ, ◌<◌, ◌≤◌, ℤ, pos, negsuc, Bool, List, Option, Some, None}
+use Rattle.host_types.specs.Memory.{◌>>=◌}
+use Rattle.bpf_decode.specs.declared.insn.Insn.{Insn}
+use Rattle.bpf_decode.specs.declared.operation.Comparison.{Comparison}
+use Rattle.bpf_decode.specs.declared.operation.Source.{Source}
+use Rattle.bpf_decode.specs.declared.operation.Width.{Width}
+use Rattle.insn_alu.specs.Comparisons.{holds}
+use Rattle.interp.specs.Machine.{MachineState, Next, Exits, register, operand, step}
 use Rattle.interp.specs.Runs.{Reaches}
 use Rattle.plain_machine.specs.declared.machine.Made.{Made}
 use Rattle.plain_machine.specs.declared.machine.Made.TheVariants as made
@@ -23,6 +29,18 @@ IsExit s made.Fault = register s 0 ≡ None
 abbrev pub IsPassed : Option (Unit {0}) → ℕ → MachineState → Made → MachineState → Type 0
 IsPassed (Some _) behind old result new = (result ≡ made.Next) × (new ≡ record old { slot = behind })
 IsPassed None behind old result new = (result ≡ made.Fault) × (new ≡ old)
+
+-- where a jump goes on; before the text there is nothing
+abbrev pub IsLanded : ℤ → MachineState → Made → MachineState → Type 0
+IsLanded (pos to) old result new = (result ≡ made.Next) × (new ≡ record old { slot = to })
+IsLanded (negsuc n) old result new = (result ≡ made.Fault) × (new ≡ old)
+
+-- whether the comparison of a conditional jump holds, where both operands are set
+abbrev pub comparison_in : Comparison → Width → Source → Insn → MachineState → Option Bool
+comparison_in comparison width source insn s = do
+  a ← register s insn.dst
+  b ← operand source insn s
+  Some (holds comparison width a b)
 
 -- The steps of a run, at most as many as were allowed, lead to its end: the exit with these maps, the
 -- state whose step is a fault, or the state after as many steps as were allowed.

@@ -1,5 +1,5 @@
 ghost use Rattle.std.specs.Prelude.{◌≤◌, length, IfOk};
-ghost use Rattle.page_table.specs.State.{map_bytes};
+ghost use Rattle.page_table.specs.State.{part, map_bytes};
 ghost use Rattle.turn.specs.Seats.{IsIdle, part_of};
 
 use crate::{Seat, Turn};
@@ -19,15 +19,38 @@ struct Two {
     second_map: MapNo,
 }
 
+/// A memory of two tenants and four frames, with a map of one number for each tenant.
+struct Maps {
+    memory: Memory,
+    first: MapNo,
+    second: MapNo,
+}
+
+fn two_maps(alloc: Global) -> Result<Maps, Fault>
+    ensures first { IfOk result (λ maps. 8 ≤ length (map_bytes (part maps.memory 0) maps.first)) }
+    ensures second { IfOk result (λ maps. 8 ≤ length (map_bytes (part maps.memory 1) maps.second)) }
+{
+    let mut memory = Memory::new(alloc, 4, 2, Options::standard())?;
+    let first = memory.create_map(0, 8, 1, true)?;
+    let second = memory.create_map(1, 8, 1, true)?;
+    Ok(Maps {
+        memory,
+        first,
+        second,
+    })
+}
+
 fn two_tenants(alloc: Global) -> Result<Two, Fault>
     ensures first { IfOk result (λ two. IsIdle two.turn two.first) }
     ensures second { IfOk result (λ two. IsIdle two.turn two.second) }
     ensures first_map { IfOk result (λ two. 8 ≤ length (map_bytes (part_of two.first) two.first_map)) }
     ensures second_map { IfOk result (λ two. 8 ≤ length (map_bytes (part_of two.second) two.second_map)) }
 {
-    let mut memory = Memory::new(alloc, 4, 2, Options::standard())?;
-    let first_map = memory.create_map(0, 8, 1, true)?;
-    let second_map = memory.create_map(1, 8, 1, true)?;
+    let Maps {
+        memory,
+        first: first_map,
+        second: second_map,
+    } = two_maps(alloc)?;
     let (turn, mut seats, _scanner, _host) = Turn::new(alloc, memory, 2)?;
     let second = seats.remove(1);
     let first = seats.remove(0);

@@ -2,7 +2,7 @@
 //! The one argument is the number of turns; without it nothing is measured or printed.
 #![tactic(auto)]
 
-ghost use Rattle.std.specs.Prelude.{◌≡◌, ◌≤◌, IfOk};
+ghost use Rattle.std.specs.Prelude.{◌≡◌, ◌≤◌, ℕ, length, slice_get, IfOk, IfSome};
 ghost use Rattle.turn.specs.Seats.{IsIdle};
 
 use host_types::{Fault, Options};
@@ -22,9 +22,14 @@ struct Four {
     seats: (Seat, Seat, Seat, Seat),
 }
 
-/// A memory of four tenants without maps.
-fn empty_memory(alloc: Global) -> Result<Memory, Fault> {
-    Memory::new(alloc, 5, 4, Options::standard())
+/// A turn over a memory of four tenants without maps, and the tenants' seats.
+fn opened(alloc: Global) -> Result<(Turn, Vec<Seat>), Fault>
+    ensures count { IfOk result (λ r. length r.1.items ≡ 4) }
+    ensures idle { IfOk result (λ r. (t : ℕ) → IfSome (slice_get r.1.items t) (IsIdle r.0)) }
+{
+    let memory = Memory::new(alloc, 5, 4, Options::standard())?;
+    let (turn, seats, _scanner, _host) = Turn::new(alloc, memory, 4)?;
+    Ok((turn, seats))
 }
 
 fn four_seats(alloc: Global) -> Result<Four, Fault>
@@ -33,8 +38,7 @@ fn four_seats(alloc: Global) -> Result<Four, Fault>
     ensures third { IfOk result (λ four. IsIdle four.turn four.seats.2) }
     ensures fourth { IfOk result (λ four. IsIdle four.turn four.seats.3) }
 {
-    let memory = empty_memory(alloc)?;
-    let (turn, mut seats, _scanner, _host) = Turn::new(alloc, memory, 4)?;
+    let (turn, mut seats) = opened(alloc)?;
     let fourth = seats.remove(3);
     let third = seats.remove(2);
     let second = seats.remove(1);
@@ -164,7 +168,7 @@ fn main(rt: HostRuntime) -> io::Result<()> {
     let Ok(four) = four_seats(rt.alloc()) else {
         return Ok(());
     };
-    let Ok(memory) = empty_memory(rt.alloc()) else {
+    let Ok(memory) = Memory::new(rt.alloc(), 5, 4, Options::standard()) else {
         return Ok(());
     };
     measure_turns(&rt, four, count)?;

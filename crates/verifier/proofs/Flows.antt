@@ -1,14 +1,20 @@
 -- Where an instruction that breaks no rule leads.
-use Rattle.std.proofs.Common.{◌≡◌, ℕ, suc, ◌+◌, ◌<◌, nat_lt, Bool, true, false, if◌then◌else◌, List, [], ◌∷◌, All, Option, Some, None, Result, Ok, Err, refl, sym, ap, subst, inl, inr, arith}
+use Rattle.std.proofs.Common.{◌≡◌, ℕ, suc, ◌+◌, ◌<◌, nat_lt, nat_le, ℤ, pos, negsuc, ◌+ℤ◌, Bool, true, false, ◌&&◌, if◌then◌else◌, List, [], ◌++◌, All, Option, Some, None, Result, Ok, Err, refl, sym, ap, subst, inl, inr, arith}
 use Rattle.std.proofs.lemmas.Bool.Decides.{eqb_tells, nat_tests}
-use Rattle.std.proofs.lemmas.List.Elements.{All-nil, All-cons, All-weaker}
+use Rattle.std.proofs.lemmas.List.Elements.{All-nil, All-cons, All-append}
+use Rattle.bpf_decode.specs.declared.insn.Insn.{Insn}
+use Rattle.bpf_decode.specs.declared.operation.Source.{Source}
+use Rattle.bpf_decode.specs.declared.operation.Width.{Width}
+use Rattle.bpf_decode.specs.declared.operation.Distance.{Distance}
+use Rattle.bpf_decode.specs.declared.operation.Comparison.{Comparison}
 use Rattle.bpf_decode.specs.declared.operation.Operation.{Operation}
-use Rattle.bpf_decode.specs.declared.operation.Operation.TheVariants.{Alu, Load, Store, LoadImmediate, Exit}
-use Rattle.bpf_decode.specs.Opcodes.{wide_opcode, operation_of}
+use Rattle.bpf_decode.specs.declared.operation.Operation.TheVariants.{Alu, Load, Store, LoadImmediate, Jump, Branch, Call, Exit}
+use Rattle.bpf_decode.specs.Opcodes.{wide_opcode, operation_of, distance_of}
 use Rattle.bpf_decode.specs.Text.{insn_at, opcode_at, slots_of, width_at, is_instruction, IsInstruction}
+use Rattle.verifier_kinds.specs.declared.kind.Range.{Range}
 use Rattle.verifier_kinds.specs.declared.description.Description.{Description}
 use Rattle.verifier.specs.Subject.{Subject}
-use Rattle.verifier.specs.Flow.{◌>>=◌, both, known_or, read_kind, is_returned, falls_to, falls_on, after, flow_by, flow}
+use Rattle.verifier.specs.Flow.{◌>>=◌, both, known_or, read_kind, is_returned, falls_to, lands_on, jumps_to, target, compared_ranges, on_way, flow_of_branch, flow_of_jump, falls_on, after, flow_by, flow}
 
 -- two questions that break no rule have both an answer
 pub both_ok : {A B : Type 0} (a : Result A ℕ) (b : Result B ℕ) (x : A × B) → both a b ≡ Ok x → (a ≡ Ok x.0) × (b ≡ Ok x.1)
@@ -33,41 +39,34 @@ flow_ok p slot d targets e =
     let found = then_ok (known_or (operation_of (insn_at p.text slot).opcode) 2) (λ operation. flow_by p operation slot d) targets e in
     (found.0, known_ok (operation_of (insn_at p.text slot).opcode) 2 found.0 found.1, found.2)
 
--- each target is where the instruction falls to
-abbrev pub FallsTo : Subject → ℕ → ℕ × Description → Type 0
-FallsTo p slot t = falls_to p.text slot ≡ Ok t.0
-
-one_target : (p : Subject) (slot : ℕ) (after : Result Description ℕ) (targets : List (ℕ × Description)) → falls_on p slot after ≡ Ok targets → All (FallsTo p slot) targets
-one_target p slot after targets e =
-    let found = then_ok (both after (falls_to p.text slot)) (λ x. Ok ((x.1, x.0) ∷ [])) targets e in
-    let falls = both_ok after (falls_to p.text slot) found.0 found.1 in
-    let same : (found.0.1, found.0.0) ∷ [] ≡ targets = cc (found.2) in
-    subst (λ xs. All (FallsTo p slot) xs) same (All-cons (FallsTo p slot) (found.0.1, found.0.0) [] falls.1 (All-nil (FallsTo p slot)))
-
-falls_by : (p : Subject) (operation : Operation) (slot : ℕ) (d : Description) (targets : List (ℕ × Description)) → flow_by p operation slot d ≡ Ok targets → All (FallsTo p slot) targets
-unfolding flow_by
-falls_by p (Alu code width source) slot d targets e = one_target p slot (after p (Alu code width source) (insn_at p.text slot) d) targets e
-falls_by p (Load size extension) slot d targets e = one_target p slot (after p (Load size extension) (insn_at p.text slot) d) targets e
-falls_by p (Store size source) slot d targets e = one_target p slot (after p (Store size source) (insn_at p.text slot) d) targets e
-falls_by p LoadImmediate slot d targets e = one_target p slot (after p LoadImmediate (insn_at p.text slot) d) targets e
-falls_by p Exit slot d targets e =
-    let found = then_ok (read_kind d 0) (λ kind. is_returned kind >>= λ returned. Ok []) targets e in
-    let returned = then_ok (is_returned found.0) (λ returned. Ok []) targets found.2 in
-    let none : [] ≡ targets = cc (returned.2) in
-    subst (λ xs. All (FallsTo p slot) xs) none (All-nil (FallsTo p slot))
-
 -- a target lies above the slot, and is an instruction
 pub record IsAhead (p : Subject) (slot : ℕ) (t : ℕ × Description) : Type 0 where
   pub above : slot < t.0
   pub instruction : IsInstruction p.text t.0
+
+-- the same of a slot, whatever is known there
+abbrev pub LeadsTo : Subject → ℕ → ℕ → Type 0
+LeadsTo p slot to = (d : Description) → IsAhead p slot (to, d)
 
 -- a choice that is no error was made by its test
 chosen_ok : (test : Bool) (n to rule : ℕ) → (let choice : Result ℕ ℕ = if test then Ok n else Err rule in choice ≡ Ok to) → (test ≡ true) × (to ≡ n)
 chosen_ok true n to rule e = (refl, cc)
 chosen_ok false n to rule e = absurd cc
 
+-- and where the test asks for an error, it was answered with no
+passed_ok : (test : Bool) (rule to : ℕ) (other : Result ℕ ℕ) → (if test then Err rule else other) ≡ Ok to → (test ≡ false) × (other ≡ Ok to)
+passed_ok true rule to other e = absurd cc
+passed_ok false rule to other e = (refl, e)
+
+both_true : (a b : Bool) → (a && b) ≡ true → (a ≡ true) × (b ≡ true)
+both_true true b e = (refl, e)
+both_true false b e = absurd cc
+
 below_from_test : (a b : ℕ) → nat_lt a b ≡ true → a < b
 below_from_test a b e = grind (arith, nat_tests)
+
+above_from_test : (a b : ℕ) → nat_le a b ≡ false → b < a
+above_from_test a b e = grind (arith, nat_tests)
 
 -- an instruction that falls through leads behind itself
 falls_within : (text : List ℕ) (slot to : ℕ) → falls_to text slot ≡ Ok to → (to ≡ slot + width_at text slot) × (to < slots_of text)
@@ -93,17 +92,85 @@ next_begins text slot begins = elim (eqb_tells (opcode_at text slot) wide_opcode
 above_slot : (text : List ℕ) (slot : ℕ) → slot < slot + width_at text slot
 above_slot text slot = elim (eqb_tells (opcode_at text slot) wide_opcode) [ inl wide ↦ rw wide.0 (omega arith) | inr narrow ↦ rw narrow.0 (omega arith) ]
 
-falls_ahead : (p : Subject) (slot : ℕ) (t : ℕ × Description) → is_instruction p.text slot ≡ true → FallsTo p slot t → IsAhead p slot t
-falls_ahead p slot t begins e =
-    let falls = falls_within p.text slot t.0 e in
+falls_ahead : (p : Subject) (slot to : ℕ) → is_instruction p.text slot ≡ true → falls_to p.text slot ≡ Ok to → LeadsTo p slot to
+falls_ahead p slot to begins e d =
+    let falls = falls_within p.text slot to e in
     let P : ℕ → Type 0 = λ s. is_instruction p.text s ≡ true in
     record {
       above = omega (arith, falls.0, above_slot p.text slot);
       instruction = record { within = falls.1; begins = subst P (sym falls.0) (next_begins p.text slot begins) };
     }
 
+-- a jump that lands leads to an instruction behind itself
+lands_ahead : (p : Subject) (slot to : ℕ) (at : ℤ) → lands_on p.text slot at ≡ Ok to → LeadsTo p slot to
+lands_ahead p slot to (negsuc n) e d = absurd cc
+lands_ahead p slot to (pos at) e d =
+    let there = nat_lt at (slots_of p.text) && is_instruction p.text at in
+    let passed = passed_ok (nat_le at slot) 11 to (if there then Ok at else Err 12) e in
+    let chosen = chosen_ok there at to 12 passed.1 in
+    let found = both_true (nat_lt at (slots_of p.text)) (is_instruction p.text at) chosen.0 in
+    let P : ℕ → Type 0 = λ s. is_instruction p.text s ≡ true in
+    record {
+      above = omega (arith, chosen.1, above_from_test at slot passed.0);
+      instruction = record { within = omega (arith, chosen.1, below_from_test at (slots_of p.text) found.0); begins = subst P (sym chosen.1) found.1 };
+    }
+
+-- a target that may be reached leads ahead
+target_ahead : (p : Subject) (slot to : ℕ) (known : Option Description) → LeadsTo p slot to → All (IsAhead p slot) (target to known)
+target_ahead p slot to None leads = All-nil (IsAhead p slot)
+target_ahead p slot to (Some d) leads = All-cons (IsAhead p slot) (to, d) [] (leads d) (All-nil (IsAhead p slot))
+
+-- where an instruction leads that falls through
+on_ahead : (p : Subject) (slot : ℕ) (after : Result Description ℕ) (targets : List (ℕ × Description)) → is_instruction p.text slot ≡ true → falls_on p slot after ≡ Ok targets → All (IsAhead p slot) targets
+on_ahead p slot after targets begins e =
+    let found = then_ok (both after (falls_to p.text slot)) (λ x. Ok (target x.1 (Some x.0))) targets e in
+    let falls = both_ok after (falls_to p.text slot) found.0 found.1 in
+    let same : target found.0.1 (Some found.0.0) ≡ targets = cc (found.2) in
+    subst (λ xs. All (IsAhead p slot) xs) same (target_ahead p slot found.0.1 (Some found.0.0) (falls_ahead p slot found.0.1 begins falls.1))
+
+-- where a jump leads that is always taken
+jump_ahead : (p : Subject) (distance : Distance) (insn : Insn) (slot : ℕ) (d : Description) (targets : List (ℕ × Description)) → flow_of_jump p distance insn slot d ≡ Ok targets → All (IsAhead p slot) targets
+jump_ahead p distance insn slot d targets e =
+    let found = then_ok (jumps_to p.text slot (distance_of distance insn)) (λ to. Ok (target to (Some d))) targets e in
+    let same : target found.0 (Some d) ≡ targets = cc (found.2) in
+    subst (λ xs. All (IsAhead p slot) xs) same (target_ahead p slot found.0 (Some d) (lands_ahead p slot found.0 (pos (slot + width_at p.text slot) +ℤ distance_of distance insn) found.1))
+
+-- where a conditional jump leads
+branch_ahead : (p : Subject) (comparison : Comparison) (width : Width) (source : Source) (insn : Insn) (slot : ℕ) (d : Description) (targets : List (ℕ × Description)) → is_instruction p.text slot ≡ true → flow_of_branch p comparison width source insn slot d ≡ Ok targets → All (IsAhead p slot) targets
+branch_ahead p comparison width source insn slot d targets begins e =
+    let compared = compared_ranges width source insn d in
+    let falls = falls_to p.text slot in
+    let jumps = jumps_to p.text slot insn.offset in
+    let way : Bool → Range × Range → Option Description = λ taken ranges. on_way comparison width taken insn d ranges in
+    let found = then_ok (both compared (both falls jumps)) (λ x. Ok (target x.1.0 (way false x.0) ++ target x.1.1 (way true x.0))) targets e in
+    let asked = both_ok compared (both falls jumps) found.0 found.1 in
+    let led = both_ok falls jumps found.0.1 asked.1 in
+    let next = found.0.1.0 in
+    let jump = found.0.1.1 in
+    let same : (target next (way false found.0.0) ++ target jump (way true found.0.0)) ≡ targets = cc (found.2) in
+    subst (λ xs. All (IsAhead p slot) xs) same
+    (All-append (IsAhead p slot) (target next (way false found.0.0)) (target jump (way true found.0.0))
+    (target_ahead p slot next (way false found.0.0) (falls_ahead p slot next begins led.0))
+    (target_ahead p slot jump (way true found.0.0) (lands_ahead p slot jump (pos (slot + width_at p.text slot) +ℤ insn.offset) led.1)))
+
+-- where an operation leads, there are instructions
+ahead_by : (p : Subject) (operation : Operation) (slot : ℕ) (d : Description) (targets : List (ℕ × Description)) → is_instruction p.text slot ≡ true → flow_by p operation slot d ≡ Ok targets → All (IsAhead p slot) targets
+unfolding flow_by
+ahead_by p (Alu code width source) slot d targets i e = on_ahead p slot (after p (Alu code width source) (insn_at p.text slot) d) targets i e
+ahead_by p (Load size extension) slot d targets i e = on_ahead p slot (after p (Load size extension) (insn_at p.text slot) d) targets i e
+ahead_by p (Store size source) slot d targets i e = on_ahead p slot (after p (Store size source) (insn_at p.text slot) d) targets i e
+ahead_by p LoadImmediate slot d targets i e = on_ahead p slot (after p LoadImmediate (insn_at p.text slot) d) targets i e
+ahead_by p Call slot d targets i e = on_ahead p slot (after p Call (insn_at p.text slot) d) targets i e
+ahead_by p (Jump distance) slot d targets i e = jump_ahead p distance (insn_at p.text slot) slot d targets e
+ahead_by p (Branch comparison width source) slot d targets i e = branch_ahead p comparison width source (insn_at p.text slot) slot d targets i e
+ahead_by p Exit slot d targets i e =
+    let found = then_ok (read_kind d 0) (λ kind. is_returned kind >>= λ returned. Ok []) targets e in
+    let returned = then_ok (is_returned found.0) (λ returned. Ok []) targets found.2 in
+    let none : [] ≡ targets = cc (returned.2) in
+    subst (λ xs. All (IsAhead p slot) xs) none (All-nil (IsAhead p slot))
+
 -- where an instruction leads, there are instructions
 pub flow_ahead : (p : Subject) (slot : ℕ) (d : Description) (targets : List (ℕ × Description)) → IsInstruction p.text slot → flow p slot d ≡ Ok targets → All (IsAhead p slot) targets
 flow_ahead p slot d targets i e =
     let found = flow_ok p slot d targets e in
-    All-weaker (FallsTo p slot) (IsAhead p slot) (λ t f. falls_ahead p slot t i.begins f) targets (falls_by p found.0 slot d targets found.2)
+    ahead_by p found.0 slot d targets i.begins found.2

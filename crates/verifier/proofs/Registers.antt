@@ -3,7 +3,7 @@ use Rattle.std.proofs.Common.{◌≡◌, ◌≤◌, true, Option, Some, None, Is
 use Rattle.bpf_decode.specs.declared.insn.Insn.{Insn}
 use Rattle.bpf_decode.specs.declared.operation.Source.TheVariants.{Immediate, Register}
 use Rattle.bpf_decode.specs.declared.operation.Operation.{Operation}
-use Rattle.bpf_decode.specs.declared.operation.Operation.TheVariants.{Alu, Load, Store, LoadImmediate, Exit}
+use Rattle.bpf_decode.specs.declared.operation.Operation.TheVariants.{Alu, Load, Store, LoadImmediate, Jump, Branch, Call, Exit}
 use Rattle.bpf_decode.specs.Opcodes.{operation_of, has_fields, has_registers, insn_fault}
 use Rattle.bpf_decode.proofs.Accepted.{accepted_operation, accepted_fields, accepted_registers}
 
@@ -20,6 +20,10 @@ small_by insn (Load size extension) fields there = record { dst = grind arith; s
 small_by insn (Store size Immediate) fields there = record { dst = grind arith; src = grind arith }
 small_by insn (Store size Register) fields there = record { dst = grind arith; src = grind arith }
 small_by insn LoadImmediate fields there = record { dst = grind arith; src = grind arith }
+small_by insn (Jump distance) fields there = record { dst = grind arith; src = grind arith }
+small_by insn (Branch comparison width Immediate) fields there = record { dst = grind arith; src = grind arith }
+small_by insn (Branch comparison width Register) fields there = record { dst = grind arith; src = grind arith }
+small_by insn Call fields there = record { dst = grind arith; src = grind arith }
 small_by insn Exit fields there = record { dst = grind arith; src = grind arith }
 
 pub accepted_small : (insn : Insn) → insn_fault insn ≡ None → HasSmall insn

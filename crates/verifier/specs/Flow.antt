@@ -1,6 +1,6 @@
 -- What flows on from an instruction, or which rule it breaks (this project's own profile, docs/VERIFIER.md;
 -- the numbers are those of the refusals).
-use Rattle.std.specs.Prelude.{ℕ, ◌+◌, ◌-◌, ◌*◌, ◌/◌, ◌%◌, ◌^◌, bit_and, bit_or, nat_lt, nat_le, ◌==◌, ℤ, pos, negsuc, ◌+ℤ◌, Bool, not, if◌then◌else◌, List, [], ◌∷◌, Option, Some, None, Result, Ok, Err}
+use Rattle.std.specs.Prelude.{ℕ, ◌+◌, ◌-◌, ◌*◌, ◌/◌, ◌%◌, ◌^◌, bit_and, bit_or, nat_lt, nat_le, ◌==◌, ℤ, pos, negsuc, ◌+ℤ◌, Bool, true, false, not, ◌&&◌, ◌||◌, if◌then◌else◌, List, [], ◌∷◌, ◌++◌, Option, Some, None, option_map, Result, Ok, Err}
 use Rattle.host_types.specs.Layout.{stack_size}
 use Rattle.bpf_decode.specs.declared.insn.Insn.{Insn}
 use Rattle.bpf_decode.specs.declared.operation.Source.{Source}
@@ -11,11 +11,13 @@ use Rattle.bpf_decode.specs.declared.operation.Size.{Size}
 use Rattle.bpf_decode.specs.declared.operation.Size.TheVariants.{Byte, HalfWord, Word, DoubleWord}
 use Rattle.bpf_decode.specs.declared.operation.Extension.{Extension}
 use Rattle.bpf_decode.specs.declared.operation.Extension.TheVariants.{Zero, Sign}
+use Rattle.bpf_decode.specs.declared.operation.Distance.{Distance}
+use Rattle.bpf_decode.specs.declared.operation.Comparison.{Comparison}
 use Rattle.bpf_decode.specs.declared.operation.AluCode.{AluCode}
 use Rattle.bpf_decode.specs.declared.operation.Operation.{Operation}
-use Rattle.bpf_decode.specs.declared.operation.Operation.TheVariants.{Alu, Load, Store, LoadImmediate, Exit}
-use Rattle.bpf_decode.specs.Opcodes.{operation_of, byte_count, sign_extended, wide_immediate}
-use Rattle.bpf_decode.specs.Text.{insn_at, slots_of, width_at}
+use Rattle.bpf_decode.specs.declared.operation.Operation.TheVariants.{Alu, Load, Store, LoadImmediate, Jump, Branch, Call, Exit}
+use Rattle.bpf_decode.specs.Opcodes.{operation_of, is, byte_count, distance_of, sign_extended, wide_immediate}
+use Rattle.bpf_decode.specs.Text.{insn_at, is_instruction, slots_of, width_at}
 use Rattle.insn_alu.specs.Arithmetic.{low, reads_dst}
 use Rattle.verifier_kinds.specs.declared.kind.Align.TheVariants.{One}
 use Rattle.verifier_kinds.specs.declared.kind.Range.{Range}
@@ -27,6 +29,7 @@ use Rattle.verifier_kinds.specs.declared.description.Description.{Description}
 use Rattle.verifier_kinds.specs.Kinds.{constant, full, normal}
 use Rattle.verifier_kinds.specs.Descriptions.{register_of, slot_of, with_kind, with_slot, places_of}
 use Rattle.verifier_kinds.specs.Arithmetic.{arith_by}
+use Rattle.verifier_kinds.specs.Refinement.{refined}
 use Rattle.verifier.specs.Subject.{Subject}
 
 infixl 10 ◌>>=◌
@@ -139,9 +142,14 @@ loaded_kind p size extension insn d = read_kind d insn.src >>= λ base. load_kin
 unfoldable pub after_load : Subject → Size → Extension → Insn → Description → Result Description ℕ
 after_load p size extension insn d = write_kind d insn.dst (loaded_kind p size extension insn d)
 
+-- what is known of what the wide instruction loads: a number, or the name of a map, and no program has
+-- maps yet
+abbrev pub wide_kind : Insn → Result Kind ℕ
+wide_kind insn = if insn.src == 0 then Ok (Scalar (constant (wide_immediate insn))) else Err 24
+
 -- the load of both immediates
 unfoldable pub after_load_immediate : Insn → Description → Result Description ℕ
-after_load_immediate insn d = write_kind d insn.dst (Ok (Scalar (constant (wide_immediate insn))))
+after_load_immediate insn d = write_kind d insn.dst (wide_kind insn)
 
 -- where a store through a base goes; the context is read-only
 abbrev pub store_place : Size → Insn → Kind → Result ℕ ℕ
@@ -171,21 +179,73 @@ abbrev pub is_returned : Kind → Result (Unit {0}) ℕ
 is_returned (Scalar range) = Ok tt
 is_returned pointer = Err 25
 
+-- the slot to which an instruction falls through
+abbrev pub falls_to : List ℕ → ℕ → Result ℕ ℕ
+falls_to text slot = let to = slot + width_at text slot in if nat_lt to (slots_of text) then Ok to else Err 13
+
+-- a slot to which an instruction may jump: one behind it, at which an instruction begins
+abbrev pub lands_on : List ℕ → ℕ → ℤ → Result ℕ ℕ
+lands_on text slot (negsuc n) = Err 11
+lands_on text slot (pos to) =
+    if nat_le to slot then Err 11 else (
+    if nat_lt to (slots_of text) && is_instruction text to then Ok to else Err 12)
+
+-- the slot to which an instruction jumps; the distance counts from the next instruction
+abbrev pub jumps_to : List ℕ → ℕ → ℤ → Result ℕ ℕ
+jumps_to text slot distance = lands_on text slot (pos (slot + width_at text slot) +ℤ distance)
+
+-- a target that is reached where something is known there
+abbrev pub target : ℕ → Option Description → List (ℕ × Description)
+target to None = []
+target to (Some d) = (to, d) ∷ []
+
+-- only numbers are compared
+abbrev pub are_numbers : Kind × Kind → Result (Range × Range) ℕ
+are_numbers (Scalar a, Scalar b) = Ok (a, b)
+are_numbers kinds = Err 15
+
+-- the ranges of the numbers that a conditional jump compares
+abbrev pub compared_ranges : Width → Source → Insn → Description → Result (Range × Range) ℕ
+compared_ranges width source insn d = both (read_kind d insn.dst) (operand_kind width source insn d) >>= are_numbers
+
+-- what is known on one way of a conditional jump: the comparison tells of dst alone
+abbrev pub on_way : Comparison → Width → Bool → Insn → Description → Range × Range → Option Description
+on_way comparison width taken insn d ranges =
+    option_map (λ range. with_kind d insn.dst (Scalar range)) (refined comparison width taken ranges.0 ranges.1)
+
+-- Where a conditional jump leads. Both targets are judged, also where nothing goes one way.
+abbrev pub flow_of_branch : Subject → Comparison → Width → Source → Insn → ℕ → Description → Result (List (ℕ × Description)) ℕ
+flow_of_branch p comparison width source insn slot d = do
+  x ← both (compared_ranges width source insn d) (both (falls_to p.text slot) (jumps_to p.text slot insn.offset))
+  Ok (target x.1.0 (on_way comparison width false insn d x.0) ++ target x.1.1 (on_way comparison width true insn d x.0))
+
+-- where a jump leads that is always taken
+abbrev pub flow_of_jump : Subject → Distance → Insn → ℕ → Description → Result (List (ℕ × Description)) ℕ
+flow_of_jump p distance insn slot d = jumps_to p.text slot (distance_of distance insn) >>= λ to. Ok (target to (Some d))
+
+-- the registers that a helper reads are known
+abbrev pub arguments_are_known : ℤ → Description → Result (Unit {0}) ℕ
+arguments_are_known number d =
+    both (read_kind d 1) (read_kind d 2) >>= λ x.
+    if is number 2 then (both (read_kind d 3) (read_kind d 4) >>= λ y. Ok tt) else Ok tt
+
+-- A call of a helper: its first argument is the name of a map, of which there is none yet.
+abbrev pub after_call : Insn → Description → Result Description ℕ
+after_call insn d =
+    if is insn.imm 1 || (is insn.imm 2 || is insn.imm 3) then (arguments_are_known insn.imm d >>= λ known. Err 15) else Err 23
+
 -- what is known after an instruction that falls through
 abbrev pub after : Subject → Operation → Insn → Description → Result Description ℕ
 after p (Alu code width source) insn d = after_alu code width source insn d
 after p (Load size extension) insn d = after_load p size extension insn d
 after p (Store size source) insn d = after_store size source insn d
 after p LoadImmediate insn d = after_load_immediate insn d
-after p Exit insn d = Ok d
-
--- the slot to which an instruction falls through
-abbrev pub falls_to : List ℕ → ℕ → Result ℕ ℕ
-falls_to text slot = let to = slot + width_at text slot in if nat_lt to (slots_of text) then Ok to else Err 13
+after p Call insn d = after_call insn d
+after p other insn d = Ok d
 
 -- where an instruction leads that falls through, from what is known after it
 abbrev pub falls_on : Subject → ℕ → Result Description ℕ → Result (List (ℕ × Description)) ℕ
-falls_on p slot after = both after (falls_to p.text slot) >>= λ x. Ok ((x.1, x.0) ∷ [])
+falls_on p slot after = both after (falls_to p.text slot) >>= λ x. Ok (target x.1 (Some x.0))
 
 -- where EXIT leads: nowhere, if R0 may be returned
 abbrev pub flow_of_exit : Description → Result (List (ℕ × Description)) ℕ
@@ -195,6 +255,8 @@ flow_of_exit d = read_kind d 0 >>= λ kind. is_returned kind >>= λ returned. Ok
 -- through before the one to which it jumps.
 unfoldable pub flow_by : Subject → Operation → ℕ → Description → Result (List (ℕ × Description)) ℕ
 flow_by p Exit slot d = flow_of_exit d
+flow_by p (Jump distance) slot d = flow_of_jump p distance (insn_at p.text slot) slot d
+flow_by p (Branch comparison width source) slot d = flow_of_branch p comparison width source (insn_at p.text slot) slot d
 flow_by p operation slot d = falls_on p slot (after p operation (insn_at p.text slot) d)
 
 -- where the instruction at a slot leads from a description, or the rule that it breaks

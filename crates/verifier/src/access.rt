@@ -4,12 +4,12 @@ ghost use Rattle.std.specs.Prelude.{◌≡◌, ◌+◌, ◌-◌, ◌%◌, ◌^�
 ghost use Rattle.bpf_decode.specs.Opcodes.{byte_count};
 ghost use Rattle.verifier_kinds.specs.Kinds.{IsKind, IsNormal};
 ghost use Rattle.verifier_kinds.specs.Descriptions.{IsDescription, IsSlot, places_of};
-ghost use Rattle.verifier.specs.Flow.{lies_below, aligned, context_place, stack_place, loaded_range, places, slot_kind, load_kind, loaded_kind, after_load, after_load_immediate, store_place, stored_place, written_slot, after_store};
+ghost use Rattle.verifier.specs.Flow.{lies_below, aligned, context_place, stack_place, loaded_range, places, slot_kind, load_kind, loaded_kind, after_load, wide_kind, after_load_immediate, store_place, stored_place, written_slot, after_store};
 
 use crate::candidate::Candidate;
 use crate::rules::{
-    MISALIGNED, OUTSIDE_CONTEXT, OUTSIDE_STACK, POINTER_LEAKS, UNSET_STACK, WRONG_KIND, both,
-    operand_kind, read_kind, write_kind,
+    MISALIGNED, NO_MAP, OUTSIDE_CONTEXT, OUTSIDE_STACK, POINTER_LEAKS, UNSET_STACK, WRONG_KIND,
+    both, operand_kind, read_kind, write_kind,
 };
 use bpf_decode::{Extension, Insn, Size, Source, Width};
 use verifier_kinds::{Align, Description, Kind, Range, StackSlot};
@@ -201,6 +201,19 @@ pub(crate) fn after_load(
     write_kind(d, insn.dst, kind)
 }
 
+/// What is known of what the wide instruction loads: a number, or the name of a map, and no program
+/// has maps yet.
+fn wide_kind(insn: &Insn) -> Result<Kind, u32>
+    ensures kind { result ≡ wide_kind insn.now }
+    ensures meets { IfOk result IsKind }
+{
+    if insn.src == 0 {
+        Ok(Kind::Scalar(Range::constant(insn.wide_immediate())))
+    } else {
+        Err(NO_MAP)
+    }
+}
+
 /// What is known after a load of both immediates.
 #[tactic(auto, unfolding(crate::specs::Flow::after_load_immediate))]
 pub(crate) fn after_load_immediate(insn: &Insn, d: &Description) -> Result<Description, u32>
@@ -209,8 +222,7 @@ pub(crate) fn after_load_immediate(insn: &Insn, d: &Description) -> Result<Descr
     ensures description { result ≡ after_load_immediate insn.now d.now }
     ensures meets { IfOk result IsDescription }
 {
-    let kind = Kind::Scalar(Range::constant(insn.wide_immediate()));
-    write_kind(d, insn.dst, Ok(kind))
+    write_kind(d, insn.dst, wide_kind(insn))
 }
 
 /// Where a store through a base goes. The context is read-only.

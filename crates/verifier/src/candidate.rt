@@ -24,9 +24,9 @@ impl Model for Candidate {
 }
 
 impl Candidate {
-    ghost use Rattle.std.specs.Prelude.{◌≡◌, ◌≤◌, IfOk, IsSome};
+    ghost use Rattle.std.specs.Prelude.{◌≡◌, ◌<◌, ◌≤◌, IfOk, IsSome};
     ghost use Rattle.bpf_decode.specs.Opcodes.{operation_of};
-    ghost use Rattle.bpf_decode.specs.Text.{slots_of, insn_at, instructions_of, IsInstruction};
+    ghost use Rattle.bpf_decode.specs.Text.{slots_of, insn_at, is_instruction, instructions_of, IsInstruction};
     ghost use Rattle.verifier.specs.Subject.{IsContextSize, all_there};
     ghost use Rattle.verifier.specs.Verified.{IsSubject, AreShapes};
 
@@ -56,6 +56,14 @@ impl Candidate {
         ensures subject { IsSubject self.now }
     {
         self.program.slots()
+    }
+
+    /// Whether an instruction begins at a slot.
+    pub(crate) fn begins(&self, slot: u32) -> bool
+        requires { slot < slots_of self.now.text }
+        ensures { result ≡ is_instruction self.now.text slot }
+    {
+        self.program.begins(slot)
     }
 
     /// The instruction at a slot at which one begins.

@@ -6,12 +6,13 @@ ghost use Rattle.bpf_decode.specs.Opcodes.{operation_of};
 ghost use Rattle.bpf_decode.specs.Text.{IsInstruction};
 ghost use Rattle.verifier_kinds.specs.Kinds.{IsKind};
 ghost use Rattle.verifier_kinds.specs.Descriptions.{IsDescription};
-ghost use Rattle.verifier.specs.Flow.{dst_is_known, computed_kind, after_alu, is_returned, falls_to, falls_on, flow_of_exit, flow};
+ghost use Rattle.verifier.specs.Flow.{dst_is_known, computed_kind, after_alu, is_returned, falls_on, flow_of_exit, flow};
 ghost use Rattle.verifier.specs.Pass.{AreDescribed, targets_in, flow_in};
 
 use crate::access::{after_load, after_load_immediate, after_store};
+use crate::calls::after_call;
 use crate::candidate::Candidate;
-use crate::rules::{FALLS_OFF, POINTER_LEAKS, both, operand_kind, read_kind, write_kind};
+use crate::rules::{POINTER_LEAKS, both, operand_kind, read_kind, write_kind};
 use bpf_decode::{AluCode, Insn, Operation, Source, Width};
 use verifier_kinds::{Description, Kind, arith};
 
@@ -106,17 +107,6 @@ fn returned(d: &Description) -> Result<Onward, u32>
 }
 
 impl Candidate {
-    /// The slot to which the instruction at a slot falls through.
-    #[tactic(auto, unfolding(bpf_decode::specs::Text::insn_at))]
-    fn falls_to(&self, slot: u32) -> Result<u32, u32>
-        requires { IsInstruction self.now.text slot }
-        ensures { result ≡ falls_to self.now.text slot }
-    {
-        let slots = self.slots();
-        let to = slot + self.insn(slot).slots();
-        if to < slots { Ok(to) } else { Err(FALLS_OFF) }
-    }
-
     /// Where the instruction at a slot leads that falls through.
     fn falls_on(&self, slot: u32, after: Result<Description, u32>) -> Result<Onward, u32>
         requires instruction { IsInstruction self.now.text slot }
@@ -150,6 +140,13 @@ impl Candidate {
             Operation::Load { size, extension } => after_load(self, size, extension, &insn, d),
             Operation::Store { size, source } => after_store(size, source, &insn, d),
             Operation::LoadImmediate => after_load_immediate(&insn, d),
+            Operation::Call => after_call(&insn, d),
+            Operation::Jump { distance } => return self.jumps(distance, slot, &insn, d),
+            Operation::Branch {
+                comparison,
+                width,
+                source,
+            } => return self.branches(comparison, width, source, slot, &insn, d),
             Operation::Exit => return returned(d),
         };
         self.falls_on(slot, after)

@@ -4,11 +4,14 @@
 #![tactic(auto)]
 
 mod access;
+mod calls;
 mod candidate;
 mod flow;
+mod jumps;
 mod laws;
 mod rules;
 mod table;
+mod targets;
 #[cfg(test)]
 mod tests;
 mod verified;

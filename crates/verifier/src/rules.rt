@@ -9,6 +9,10 @@ use bpf_decode::{Insn, Source, Width};
 use verifier_kinds::{Description, Kind, Range};
 
 // The rules, by the numbers of their refusals.
+pub(crate) const JUMPS_BACK: u32 = 11;
+
+pub(crate) const NO_TARGET: u32 = 12;
+
 pub(crate) const FALLS_OFF: u32 = 13;
 
 const UNSET_REGISTER: u32 = 14;
@@ -24,6 +28,10 @@ pub(crate) const UNSET_STACK: u32 = 18;
 pub(crate) const MISALIGNED: u32 = 20;
 
 const FRAME_WRITTEN: u32 = 22;
+
+pub(crate) const NO_HELPER: u32 = 23;
+
+pub(crate) const NO_MAP: u32 = 24;
 
 pub(crate) const POINTER_LEAKS: u32 = 25;
 
@@ -99,7 +107,7 @@ fn immediate_kind(width: Width, insn: &Insn) -> Kind
     Kind::Scalar(Range::constant(number))
 }
 
-/// The kind of the second operand of arithmetic, or of what is stored.
+/// The kind of the second operand of arithmetic or of a comparison, or of what is stored.
 pub(crate) fn operand_kind(
     width: Width,
     source: Source,

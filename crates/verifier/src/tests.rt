@@ -1,5 +1,8 @@
 ghost use Rattle.verifier.specs.Subject.{IsContextSize};
 
+mod calls;
+mod jumps;
+
 use crate::table::OUT_OF_MEMORY;
 use crate::verified::{Verified, verify};
 use bpf_decode::decode;

@@ -9,3 +9,4 @@ pub mod Meaning
 pub mod Joins
 pub mod Least
 pub mod Soundness
+pub mod Refinement

@@ -1,3 +1,4 @@
 pub mod Kinds
 pub mod Descriptions
 pub mod Arithmetic
+pub mod Refinement

@@ -1,12 +1,15 @@
-//! What the verifier knows of a register or of a slot of the stack: kinds, their order, and what
-//! arithmetic makes of them (this project's own profile; docs/VERIFIER.md has its tables).
+//! What the verifier knows of a register or of a slot of the stack: kinds, their order, what
+//! arithmetic makes of them, and what a conditional jump tells of them (this project's own profile;
+//! docs/VERIFIER.md has its tables).
 #![tactic(auto)]
 
 mod arithmetic;
+mod branches;
 mod description;
 mod kind;
 mod rows;
 
 pub use arithmetic::arith;
+pub use branches::{refine, refined};
 pub use description::{Description, StackSlot};
 pub use kind::{Align, Kind, Range};

@@ -1,27 +1,13 @@
-ghost use Rattle.std.specs.Prelude.{◌≡◌, ◌==◌, if◌then◌else◌, IfOk, IfErr};
-ghost use Rattle.host_types.specs.declared.fault.Fault.TheVariants.{OutOfMemory, Program};
-ghost use Rattle.bpf_decode.specs.Text.{IsWellFormed};
-ghost use Rattle.verifier.specs.Subject.{IsContextSize};
-ghost use Rattle.verifier.specs.Verified.{IsVerified};
-ghost use Rattle.bpf_host.specs.Happens.{is_context_size};
-ghost use Rattle.bpf_host.specs.HostView.{unmapped, IsJudgement};
-
 use crate::event::{Event, Reply};
-use bpf_decode::decode;
-use host_types::{Fault, Refused};
+use crate::judge::{accepted, is_context_size};
+use host_types::Fault;
 use interp::{Need, Run};
 use std::alloc::Global;
 use std::marker::Model;
-use verifier::{Verified, verify};
+use verifier::Verified;
 
 // The most programs of a tenant.
 const MAX_PROGRAMS: usize = 8;
-
-// The most bytes of a context.
-const MAX_CONTEXT: u32 = 256;
-
-// The number of a program's refusal for want of memory.
-const OUT_OF_MEMORY: u32 = 41;
 
 // A tenant: its programs by number, and its open run, if it has one.
 #[derive(Drop)]
@@ -164,41 +150,5 @@ impl OpenRun {
             → StandsFor accepted self.old.run s → Follows accepted s result self.new.run }
     {
         self.run.next(&programs[self.program as usize])
-    }
-}
-
-// Whether a context may have so many bytes.
-fn is_context_size(size: u32) -> bool
-    ensures { result ≡ is_context_size size }
-{
-    size <= MAX_CONTEXT && size % 8 == 0
-}
-
-// Judges a text that is to run without maps.
-fn accepted(alloc: Global, text: &[u8], context_size: u32) -> Result<Verified, Fault>
-    requires { IsContextSize context_size }
-    ensures subject { IfOk result (λ v. v.subject ≡ unmapped text.now context_size) }
-    ensures well_formed { IfOk result (λ _. IsWellFormed text.now) }
-    ensures verified { IfOk result IsVerified }
-    ensures refused { IfErr result (IsJudgement (unmapped text.now context_size)) }
-{
-    let program = match decode(alloc, text) {
-        Ok(program) => program,
-        Err(refused) => return Err(fault_of(refused)),
-    };
-    match verify(alloc, program, &[], context_size) {
-        Ok(program) => Ok(program),
-        Err(refused) => Err(fault_of(refused)),
-    }
-}
-
-// A program's refusal as a host answers it.
-fn fault_of(refused: Refused) -> Fault
-    ensures { result ≡ (if refused.number == 41 then OutOfMemory else Program refused) }
-{
-    if refused.number == OUT_OF_MEMORY {
-        Fault::OutOfMemory
-    } else {
-        Fault::Program(refused)
     }
 }

@@ -1,0 +1,16 @@
+-- Pages of maps: where a page stands among all pages, and what it holds (this project's own rule).
+use Rattle.std.specs.Prelude.{ℕ, ◌+◌, ◌*◌, List, ◌++◌, take, drop, replicate}
+use Rattle.host_types.specs.declared.shape.Page.{Page}
+
+-- where a tenant's map stands among the maps of all tenants, of which each has eight numbers
+abbrev pub map_place : ℕ → ℕ → ℕ
+map_place tenant m = tenant * 8 + m
+
+-- where a page stands among the pages of all maps, of which each has 256 numbers: the order of these
+-- places is the order of visits
+abbrev pub page_place : Page → ℕ
+page_place page = map_place page.tenant page.map * 256 + page.number
+
+-- the content of a map's page: 4096 bytes of the map, the last page filled up with zeros
+unfoldable pub page_bytes : List ℕ → ℕ → List ℕ
+page_bytes bytes number = take 4096 (drop (number * 4096) bytes ++ replicate 4096 0)

@@ -1,0 +1,371 @@
+-- New pages at places one after another, and what a memory tells of a new map.
+use Rattle.std.proofs.Common.{◌≡◌, ◌≢◌, ◌∙◌, ◌⊎◌, ⊎_elim, ℕ, zero, suc, ◌+◌, ◌-◌, ◌*◌, ◌<◌, ◌≤◌, List, [], ◌∷◌, ◌++◌, length, take, drop, replicate, slice_index_or, slice_set, Option, Some, None, All, Bool, option_map, refl, sym, ap, subst, arith, length-set, append_assoc}
+use Rattle.std.specs.List.{concat}
+use Rattle.std.proofs.lemmas.List.{get_or-set_same, get_or-set_other, get_or_past, length-take-le, length-take, length-append, length-replicate, set-append_right, append-nil, take-append-drop, replicate-append-replicate, get_or-drop, get_or-replicate, take-replicate, drop-replicate, get_or-append_right, length-map}
+use Rattle.std.proofs.lemmas.List.Elements.{All-append, All-take, All-drop, All-replicate}
+use Rattle.host_types.specs.declared.options.Options.{Options}
+use Rattle.host_types.specs.declared.shape.Shape.{Shape}
+use Rattle.host_types.specs.Bytes.{part_of, with_part}
+use Rattle.host_types.specs.Memory.{FlatMaps, map_at}
+use Rattle.host_types.specs.Pages.{map_place}
+use Rattle.host_types.specs.Shapes.{IsShape, byte_len_of}
+use Rattle.host_types.specs.Sharing.{PageState, new_page}
+use Rattle.host_types.proofs.Lists.{length-with_part, part-with_part_before, part-with_part_behind}
+use Rattle.frame_arena.specs.Pages.{zero_page}
+use Rattle.frame_arena.proofs.Pages.{length-zero_page, replicate-zero_page}
+use Rattle.page_table.specs.declared.entry.Entry.{Entry}
+use Rattle.page_table.specs.declared.tenant.Tenant.{Tenant}
+use Rattle.page_table.specs.Limits.{page_count}
+use Rattle.page_table.specs.State.{MemoryState, part, free_of, have_of}
+use Rattle.page_table.specs.Changes.{zero_map, part_created, IsKeptBut, AreMapsKeptBut, KeepsSettings, with_new_pages}
+use Rattle.page_table.specs.View.{view_of, IsMemory, IsOwnPage}
+use Rattle.page_table.proofs.Maps.{maps_of-changed, AreMaps-changed, length-maps_of, map_at-maps_of}
+use Rattle.page_table.proofs.Reading.{content_in, few_pages, map_at-part}
+use Rattle.page_table.proofs.Writing.{part-set_same, part-set_other, maps-set_other}
+use Rattle.page_table.proofs.Free.{free_is}
+use Rattle.page_table.specs.Table.{TableState, groups_of, used_by, state_of, states_of, maps_of, flat_of, ArePages, ArePagesOf, contents_of, content}
+
+-- a part longer by one element is that element set behind it
+pub with_part-more : {X : Type 0} (xs ys : List X) (at : ℕ) (x : X) → at + length ys < length xs → slice_set (with_part xs at ys) (at + length ys) x ≡ with_part xs at (ys ++ x ∷ [])
+unfolding with_part
+with_part-more {X = X} xs ys at x h =
+    let front = length-take-le at xs (omega arith) in
+    let long : length (take at xs ++ ys) ≡ at + length ys = length-append (take at xs) ys ∙ omega (arith, front) in
+    let longer : length (ys ++ x ∷ []) ≡ length ys + 1 = length-append ys (x ∷ []) in
+    let none : at + length ys - (at + length ys) ≡ 0 = omega arith in
+    let next : at + length (ys ++ x ∷ []) ≡ suc (at + length ys) = omega (arith, longer) in
+    set-append_right (take at xs ++ ys) (drop (at + length ys) xs) (at + length ys) (at + length ys) x long (omega arith)
+    ∙ ap (λ (n : ℕ). (take at xs ++ ys) ++ slice_set (drop (at + length ys) xs) n x) none
+    ∙ ap (λ l. (take at xs ++ ys) ++ l) (first xs (at + length ys) h)
+    ∙ sym (ap (λ (n : ℕ). take at xs ++ (ys ++ x ∷ []) ++ drop n xs) next ∙ ap (λ l. l ++ drop (suc (at + length ys)) xs) (sym (append_assoc (take at xs) ys (x ∷ []))) ∙ append_assoc (take at xs ++ ys) (x ∷ []) (drop (suc (at + length ys)) xs))
+  where
+    first : (xs : List X) (n : ℕ) → n < length xs → slice_set (drop n xs) 0 x ≡ x ∷ drop (suc n) xs
+    first [] n h = absurd (omega arith)
+    first (y ∷ ys) zero h = refl
+    first (y ∷ ys) (suc n) h = first ys n (omega arith)
+
+replicate-more : {X : Type 0} (n : ℕ) (x : X) → replicate n x ++ x ∷ [] ≡ replicate (n + 1) x
+replicate-more n x = replicate-append-replicate n 1 x
+
+-- one more of many equal elements
+pub filled_more : {X : Type 0} (xs : List X) (at n : ℕ) (x : X) → at + n < length xs → slice_set (with_part xs at (replicate n x)) (at + n) x ≡ with_part xs at (replicate (n + 1) x)
+filled_more xs at n x h =
+    let long = length-replicate n x in
+    ap (λ (m : ℕ). slice_set (with_part xs at (replicate n x)) (at + m) x) (sym long)
+    ∙ with_part-more xs (replicate n x) at x (omega (arith, h, long))
+    ∙ ap (with_part xs at) (replicate-more n x)
+
+-- behind the filled places is what was there
+pub behind_filled : {X : Type 0} (xs : List X) (at n i : ℕ) (x d : X) → at + n ≤ length xs → at + n ≤ i → slice_index_or (with_part xs at (replicate n x)) i d ≡ slice_index_or xs i d
+unfolding with_part
+behind_filled {X = X} xs at n i x d fits past =
+    let front = length-take-le at xs (omega arith) in
+    let filled = length-replicate n x in
+    let long : length (take at xs ++ replicate n x) ≡ at + n = length-append (take at xs) (replicate n x) ∙ omega (arith, front, filled) in
+    let rest : ℕ = i - (at + n) in
+    let place : i ≡ at + n + rest = omega (arith, past) in
+    let behind : at + length (replicate n x) ≡ at + n = omega (arith, filled) in
+    ap (λ (j : ℕ). slice_index_or ((take at xs ++ replicate n x) ++ drop (at + length (replicate n x)) xs) j d) place
+    ∙ ap (λ (m : ℕ). slice_index_or ((take at xs ++ replicate n x) ++ drop m xs) (at + n + rest) d) behind
+    ∙ ap (λ (m : ℕ). slice_index_or ((take at xs ++ replicate n x) ++ drop (at + n) xs) (m + rest) d) (sym long)
+    ∙ after (take at xs ++ replicate n x) (drop (at + n) xs) rest
+    ∙ get_or-drop (at + n) xs rest d
+    ∙ ap (λ (j : ℕ). slice_index_or xs j d) (sym place)
+  where
+    after : (ys zs : List X) (j : ℕ) → slice_index_or (ys ++ zs) (length ys + j) d ≡ slice_index_or zs j d
+    after ys zs j =
+        let left : length ys + j - length ys ≡ j = omega arith in
+        get_or-append_right ys zs (length ys) (length ys + j) d refl (omega arith) ∙ ap (λ (m : ℕ). slice_index_or zs m d) left
+
+in_front : {X : Type 0} (ys zs : List X) (j : ℕ) (d : X) → j < length ys → slice_index_or (ys ++ zs) j d ≡ slice_index_or ys j d
+in_front [] zs j d h = absurd (omega arith)
+in_front (y ∷ ys) zs zero d h = refl
+in_front (y ∷ ys) zs (suc j) d h = in_front ys zs j d (omega arith)
+
+pub in_filled : {X : Type 0} (xs : List X) (at n i : ℕ) (x d : X) → at + n ≤ length xs → i < n → slice_index_or (with_part xs at (replicate n x)) (at + i) d ≡ x
+unfolding with_part
+in_filled xs at n i x d fits inside =
+    let front = length-take-le at xs (omega arith) in
+    let filled = length-replicate n x in
+    let long : length (take at xs ++ replicate n x) ≡ at + n = length-append (take at xs) (replicate n x) ∙ omega (arith, front, filled) in
+    let left : at + i - at ≡ i = omega arith in
+    in_front (take at xs ++ replicate n x) (drop (at + length (replicate n x)) xs) (at + i) d (omega (arith, long, inside))
+    ∙ get_or-append_right (take at xs) (replicate n x) at (at + i) d front (omega arith)
+    ∙ ap (λ (m : ℕ). slice_index_or (replicate n x) m d) left
+    ∙ get_or-replicate n i x d inside
+
+pub with_part-none : {X : Type 0} (xs : List X) (at : ℕ) → xs ≡ with_part xs at []
+unfolding with_part
+with_part-none xs at =
+    let place : at + 0 ≡ at = omega arith in
+    sym (ap (λ l. l ++ drop (at + 0) xs) (append-nil (take at xs)) ∙ ap (λ (n : ℕ). take at xs ++ drop n xs) place ∙ take-append-drop at xs)
+
+pub length-contents : (table : TableState) → length (contents_of table) ≡ length table.entries
+unfolding contents_of
+length-contents table = length-map table.entries (content table.arena)
+
+pub length-states : (entries : List (Option Entry)) → length (states_of entries) ≡ length entries
+length-states entries = length-map entries (option_map state_of)
+
+-- pages with frames of their own, where more of them are added
+own_filled : (xs : List (Option PageState)) (at n : ℕ) (x : Option PageState) → All IsOwnPage xs → IsOwnPage x → All IsOwnPage (with_part xs at (replicate n x))
+unfolding with_part
+own_filled xs at n x old new =
+    All-append IsOwnPage (take at xs ++ replicate n x) (drop (at + length (replicate n x)) xs)
+    (All-append IsOwnPage (take at xs) (replicate n x) (All-take IsOwnPage at xs old) (All-replicate IsOwnPage n x new))
+    (All-drop IsOwnPage (at + length (replicate n x)) xs old)
+
+-- pages of zeros one after another
+zeros_joined : (n m : ℕ) → n ≡ 4096 → zero_page ++ replicate m 0 ≡ replicate (n + m) 0
+zeros_joined n m e = ap (λ l. l ++ replicate m 0) (sym (replicate-zero_page n e)) ∙ replicate-append-replicate n m 0
+
+concat-zeros : (pages : List (List ℕ)) (count : ℕ) → ((n : ℕ) → n < count → slice_index_or pages n [] ≡ zero_page) → ((n : ℕ) → count ≤ n → slice_index_or pages n [] ≡ [])
+    → concat pages ≡ replicate (count * 4096) 0
+concat-zeros [] zero there none = refl
+concat-zeros [] (suc count) there none = absurd (let e = ap length (there 0 (omega arith)) in omega (arith, e, length-zero_page))
+concat-zeros (page ∷ pages) zero there none =
+    let rest = concat-zeros pages 0 (λ n less. absurd (omega arith)) (λ n le. none (suc n) (omega arith)) in
+    ap (λ l. l ++ concat pages) (none 0 (omega arith)) ∙ rest
+concat-zeros (page ∷ pages) (suc count) there none =
+    let rest = concat-zeros pages count (λ n less. there (suc n) (omega arith)) (λ n le. none (suc n) (omega arith)) in
+    ap (λ l. l ++ concat pages) (there 0 (omega arith)) ∙ ap (λ l. zero_page ++ l) rest ∙ joined 4096 refl
+  where
+    joined : (n : ℕ) → n ≡ 4096 → zero_page ++ replicate (count * 4096) 0 ≡ replicate (suc count * 4096) 0
+    joined n e =
+        let more : n + count * 4096 ≡ suc count * 4096 = omega (arith, e) in
+        zeros_joined n (count * 4096) e ∙ ap (λ (m : ℕ). replicate m 0) more
+
+part_of-short : {X : Type 0} (xs : List X) (at size : ℕ) → length (part_of xs at size) ≤ size
+unfolding part_of
+part_of-short xs at size = let h = length-take size (drop at xs) in omega arith
+
+-- a map whose pages are new
+module _ (shape : Shape) (pages : List (List ℕ)) (is : IsShape shape) (there : (n : ℕ) → n < page_count shape → slice_index_or pages n [] ≡ zero_page) (none : (n : ℕ) → page_count shape ≤ n → slice_index_or pages n [] ≡ []) where
+  pub pages_created : ArePagesOf shape pages
+  pages_created =
+      record {
+        shaped = is;
+        there = λ n less. ap length (there n less) ∙ length-zero_page;
+        none = none;
+        padded = ap (drop (byte_len_of shape)) (concat-zeros pages (page_count shape) there none) ∙ drop-replicate (byte_len_of shape) (page_count shape * 4096) 0;
+      }
+
+  pub flat_created : flat_of pages shape ≡ zero_map shape
+  flat_created =
+      let fits : byte_len_of shape ≤ page_count shape * 4096 = omega arith in
+      ap (λ l. record { shape = shape; bytes = take (byte_len_of shape) l }) (concat-zeros pages (page_count shape) there none)
+      ∙ ap (λ l. record { shape = shape; bytes = l }) (take-replicate (byte_len_of shape) (page_count shape * 4096) 0 fits)
+
+-- what a new map at a place without one needs is there
+module _ (table : TableState) (shapes : List (Option Shape)) (tenants : List Tenant) (options : Options) (reserved tenant m : ℕ) (shape : Shape)
+    (is : IsMemory table shapes tenants reserved) (small : m < 8) (inside : tenant < length tenants) (empty : slice_index_or shapes (map_place tenant m) None ≡ None) (shaped : IsShape shape) where
+  pub index_inside : map_place tenant m < length shapes
+  index_inside = omega (arith, is.numbers, inside, small)
+
+  pub places_inside : map_place tenant m * 256 + page_count shape ≤ length table.entries
+  places_inside =
+      let few = few_pages shape shaped in
+      let h = index_inside in
+      let long = length-contents table in
+      omega (arith, is.maps.places, long, few, h)
+
+  pub few_entries : length table.entries ≤ 32768
+  few_entries = let long = length-contents table in omega (arith, is.maps.places, long, is.numbers, is.few)
+
+  pub no_contents : (i : ℕ) → map_place tenant m * 256 ≤ i → i < map_place tenant m * 256 + page_count shape → slice_index_or (contents_of table) i [] ≡ []
+  no_contents i from less =
+      let few = few_pages shape shaped in
+      let n : ℕ = i - map_place tenant m * 256 in
+      let place : i ≡ map_place tenant m * 256 + n = omega (arith, from) in
+      let none : (n : ℕ) → slice_index_or (part_of (contents_of table) (map_place tenant m * 256) 256) n [] ≡ [] =
+      subst (λ s. ArePages s (part_of (contents_of table) (map_place tenant m * 256) 256)) empty (is.maps.each (map_place tenant m) index_inside) in
+      ap (λ (j : ℕ). slice_index_or (contents_of table) j []) place ∙ content_in (contents_of table) (map_place tenant m) n (omega (arith, less, few, place)) ∙ none n
+
+-- a number without a map has no shape
+pub shape_none : (shapes : List (Option Shape)) (contents : List (List ℕ)) (t m : ℕ) → m < 8 → map_at (part_of (maps_of shapes contents) (t * 8) 8) m ≡ None → slice_index_or shapes (map_place t m) None ≡ None
+shape_none shapes contents t m small none =
+    by_shape (slice_index_or shapes (map_place t m) None) refl (sym (map_at-part (maps_of shapes contents) t m small ∙ map_at-maps_of shapes contents (map_place t m)) ∙ none)
+  where
+    by_shape : (s : Option Shape) → slice_index_or shapes (map_place t m) None ≡ s → option_map (flat_of (part_of contents (map_place t m * 256) 256)) (slice_index_or shapes (map_place t m) None) ≡ None → slice_index_or shapes (map_place t m) None ≡ None
+    by_shape None e h = e
+    by_shape (Some s) e h = absurd (cc (ap (option_map (flat_of (part_of contents (map_place t m * 256) 256))) e))
+
+-- a new map was made, and nothing else has changed
+pub record Creates (old new : MemoryState) (tenant m : ℕ) (shape : Shape) (mergeable : Bool) : Type 0 where
+  pub created : part new tenant ≡ part_created (part old tenant) m shape
+  pub there : map_at (part new tenant).maps m ≡ Some (zero_map shape)
+  pub other_maps : AreMapsKeptBut m (part old tenant) (part new tenant)
+  pub others : IsKeptBut tenant old new
+  pub sharing : new.sharing ≡ with_new_pages old.sharing (map_place tenant m * 256) (page_count shape) mergeable
+  pub free : free_of new + page_count shape ≡ free_of old
+  pub settings : KeepsSettings old new
+
+module _ (table new : TableState) (shapes : List (Option Shape)) (tenants : List Tenant) (options : Options) (reserved tenant m : ℕ) (shape : Shape) (mergeable : Bool)
+    (is : IsMemory table shapes tenants reserved) (small : m < 8) (inside : tenant < length tenants) (empty : slice_index_or shapes (map_place tenant m) None ≡ None) (shaped : IsShape shape)
+    (contents : contents_of new ≡ with_part (contents_of table) (map_place tenant m * 256) (replicate (page_count shape) zero_page))
+    (states : states_of new.entries ≡ with_part (states_of table.entries) (map_place tenant m * 256) (replicate (page_count shape) (Some (new_page mergeable))))
+    (groups : groups_of new ≡ groups_of table) (used : used_by new ≡ used_by table + page_count shape) (arena : length new.arena ≡ length table.arena)
+    (room : reserved + used_by table + page_count shape ≤ length table.arena) where
+  abbrev k : ℕ
+  k = map_place tenant m
+
+  place_inside : k < length shapes
+  place_inside = omega (arith, is.numbers, inside, small)
+
+  few : page_count shape ≤ 256
+  few = few_pages shape shaped
+
+  all : k * 256 + 256 ≤ length (contents_of table)
+  all = let h = place_inside in omega (arith, is.maps.places, h)
+
+  old_none : (n : ℕ) → slice_index_or (part_of (contents_of table) (k * 256) 256) n [] ≡ []
+  old_none = subst (λ s. ArePages s (part_of (contents_of table) (k * 256) 256)) empty (is.maps.each k place_inside)
+
+  others_new : (j : ℕ) → j ≢ k → part_of (contents_of new) (j * 256) 256 ≡ part_of (contents_of table) (j * 256) 256
+  others_new j ne = ap (λ l. part_of l (j * 256) 256) contents ∙ ⊎_elim (λ less. before less) (λ more. behind more) (order j k ne)
+    where
+      order : (a b : ℕ) → a ≢ b → (a < b) ⊎ (b < a)
+      order a b ne = grind arith
+
+      before : j < k → part_of (with_part (contents_of table) (k * 256) (replicate (page_count shape) zero_page)) (j * 256) 256 ≡ part_of (contents_of table) (j * 256) 256
+      before less =
+          let rest : ℕ = (k - j) * 256 in
+          let place : k * 256 ≡ j * 256 + rest = omega (arith, less) in
+          let h = all in
+          ap (λ (at : ℕ). part_of (with_part (contents_of table) at (replicate (page_count shape) zero_page)) (j * 256) 256) place
+          ∙ part-with_part_before (contents_of table) (replicate (page_count shape) zero_page) (j * 256) 256 rest (omega (arith, less)) (omega (arith, place, h))
+
+      behind : k < j → part_of (with_part (contents_of table) (k * 256) (replicate (page_count shape) zero_page)) (j * 256) 256 ≡ part_of (contents_of table) (j * 256) 256
+      behind more =
+          let long = length-replicate (page_count shape) zero_page in
+          let rest : ℕ = j * 256 - (k * 256 + page_count shape) in
+          let h = all in
+          let f = few in
+          let place : j * 256 ≡ k * 256 + length (replicate (page_count shape) zero_page) + rest = omega (arith, more, long, f) in
+          ap (λ (at : ℕ). part_of (with_part (contents_of table) (k * 256) (replicate (page_count shape) zero_page)) at 256) place
+          ∙ part-with_part_behind (contents_of table) (k * 256) (replicate (page_count shape) zero_page) 256 rest (omega (arith, long, h, f))
+          ∙ ap (λ (at : ℕ). part_of (contents_of table) at 256) (sym place)
+
+  abbrev pages_new : List (List ℕ)
+  pages_new = part_of (contents_of new) (k * 256) 256
+
+  new_there : (n : ℕ) → n < page_count shape → slice_index_or pages_new n [] ≡ zero_page
+  new_there n less =
+      let f = few in
+      let h = all in
+      sym (content_in (contents_of new) k n (omega arith)) ∙ ap (λ l. slice_index_or l (k * 256 + n) []) contents
+      ∙ in_filled (contents_of table) (k * 256) (page_count shape) n zero_page [] (omega arith) less
+
+  new_none : (n : ℕ) → page_count shape ≤ n → slice_index_or pages_new n [] ≡ []
+  new_none n past = ⊎_elim (λ less. within less) (λ more. get_or_past pages_new n [] (past_part more)) (order n 256)
+    where
+      order : (a b : ℕ) → (a < b) ⊎ (b ≤ a)
+      order a b = grind arith
+
+      past_part : 256 ≤ n → length pages_new ≤ n
+      past_part more = let h = part_of-short (contents_of new) (k * 256) 256 in omega arith
+
+      within : n < 256 → slice_index_or pages_new n [] ≡ []
+      within less =
+          let f = few in
+          let h = all in
+          sym (content_in (contents_of new) k n less) ∙ ap (λ l. slice_index_or l (k * 256 + n) []) contents
+          ∙ behind_filled (contents_of table) (k * 256) (page_count shape) (k * 256 + n) zero_page [] (omega arith) (omega arith)
+          ∙ content_in (contents_of table) k n less ∙ old_none n
+
+  abbrev shapes_new : List (Option Shape)
+  shapes_new = slice_set shapes k (Some shape)
+
+  shape_there : slice_index_or shapes_new k None ≡ Some shape
+  shape_there = get_or-set_same shapes k (Some shape) None place_inside
+
+  maps_new : maps_of shapes_new (contents_of new) ≡ slice_set (maps_of shapes (contents_of table)) k (Some (zero_map shape))
+  maps_new =
+      maps_of-changed shapes shapes_new (contents_of table) (contents_of new) k (Some (zero_map shape)) (length-set shapes k (Some shape)) place_inside
+      (λ j ne. get_or-set_other shapes k j (Some shape) None ne) others_new
+      (ap (option_map (flat_of pages_new)) shape_there ∙ ap (λ f. Some f) (flat_created shape pages_new shaped new_there new_none))
+
+  pub memory_created : IsMemory new shapes_new tenants reserved
+  memory_created =
+      let long = length-replicate (page_count shape) zero_page in
+      let h = all in
+      let f = few in
+      record {
+        maps = AreMaps-changed shapes shapes_new (contents_of table) (contents_of new) k (length-set shapes k (Some shape))
+            (ap length contents ∙ length-with_part (contents_of table) (k * 256) (replicate (page_count shape) zero_page) (omega (arith, long, h, f)))
+            (λ j ne. get_or-set_other shapes k j (Some shape) None ne) others_new
+            (subst (λ s. ArePages s pages_new) (sym shape_there) (pages_created shape pages_new shaped new_there new_none))
+            is.maps;
+        numbers = length-set shapes k (Some shape) ∙ is.numbers;
+        few = is.few;
+        frames = omega (arith, arena, is.frames);
+        sum = is.sum;
+        room = omega (arith, arena, used, room);
+        own = rw states (own_filled (states_of table.entries) (map_place tenant m * 256) (page_count shape) (Some (new_page mergeable)) is.own refl);
+      }
+
+  abbrev before : MemoryState
+  before = view_of table shapes tenants options
+
+  abbrev after : MemoryState
+  after = view_of new shapes_new tenants options
+
+  maps_after : after.maps ≡ slice_set before.maps k (Some (zero_map shape))
+  unfolding view_of
+  maps_after = maps_new
+
+  tenants_after : after.tenants ≡ before.tenants
+  unfolding view_of
+  tenants_after = refl
+
+  map_after : map_at (part after tenant).maps m ≡ Some (zero_map shape)
+  unfolding view_of part
+  map_after =
+      let long = length-maps_of shapes (contents_of table) in
+      let h = place_inside in
+      map_at-part (maps_of shapes_new (contents_of new)) tenant m small
+      ∙ ap (λ (maps : FlatMaps). map_at maps k) maps_new
+      ∙ get_or-set_same (maps_of shapes (contents_of table)) k (Some (zero_map shape)) None (omega (arith, long, h))
+
+  sharing_after : after.sharing ≡ with_new_pages before.sharing (k * 256) (page_count shape) mergeable
+  unfolding view_of with_new_pages
+  sharing_after = rw (states, groups) refl
+
+  free_after : free_of after + page_count shape ≡ free_of before
+  free_after =
+      let old = free_is table shapes tenants options (omega (arith, room)) in
+      let newer = free_is new shapes_new tenants options (omega (arith, room, used, arena)) in
+      omega (arith, old, newer, used, arena)
+
+  settings_after : KeepsSettings before after
+  unfolding view_of
+  settings_after = record { tenants = refl; frames = arena }
+
+  pub creates : Creates before after tenant m shape mergeable
+  creates =
+      record {
+        created = part-set_same before after tenant m (Some (zero_map shape)) small tenants_after maps_after;
+        there = map_after;
+        other_maps = maps-set_other before after tenant m (Some (zero_map shape)) small tenants_after maps_after;
+        others = part-set_other before after tenant m (Some (zero_map shape)) small tenants_after maps_after;
+        sharing = sharing_after;
+        free = free_after;
+        settings = settings_after;
+      }
+
+-- the conditions of a new map, over what callers see
+module _ (table : TableState) (shapes : List (Option Shape)) (tenants : List Tenant) (options : Options) (now : MemoryState) (same : view_of table shapes tenants options ≡ now) where
+  pub tenant_inside : (t : ℕ) → t < length now.tenants → t < length tenants
+  unfolding view_of
+  tenant_inside t h = rw (← same) at h
+
+  pub number_empty : (t m : ℕ) → m < 8 → map_at (part now t).maps m ≡ None → slice_index_or shapes (map_place t m) None ≡ None
+  unfolding view_of part
+  number_empty t m small h = shape_none shapes (contents_of table) t m small (rw (← same) at h)
+
+  pub room_inside : (reserved count : ℕ) → IsMemory table shapes tenants reserved → count ≤ have_of now → reserved + used_by table + count ≤ length table.arena
+  unfolding view_of
+  room_inside reserved count is h =
+      let told = free_is table shapes tenants options (omega (arith, is.room)) in
+      let enough = rw (← same) at h in
+      omega (arith, told, enough, is.sum, is.room)

@@ -1,0 +1,85 @@
+-- A memory without maps.
+use Rattle.std.proofs.Common.{◌≡◌, ◌∙◌, ℕ, zero, suc, ◌+◌, ◌*◌, ◌<◌, ◌≤◌, List, [], ◌∷◌, length, map, take, drop, replicate, slice_index_or, sum_by, Option, None, option_map, All, subst, refl, sym, ap, arith, ⊎_elim, ◌⊎◌}
+use Rattle.std.proofs.lemmas.List.{length-replicate, length-take, get_or-take, get_or-drop, get_or_past}
+use Rattle.std.proofs.lemmas.List.Folds.{sum_by-replicate}
+use Rattle.std.proofs.lemmas.List.Elements.{All-replicate}
+use Rattle.host_types.specs.declared.options.Options.{Options}
+use Rattle.host_types.specs.declared.shape.Shape.{Shape}
+use Rattle.host_types.specs.Bytes.{part_of}
+use Rattle.frame_arena.specs.Pages.{zero_page}
+use Rattle.page_table.specs.declared.entry.Entry.{Entry}
+use Rattle.page_table.specs.declared.tenant.Tenant.{Tenant}
+use Rattle.page_table.specs.Limits.{AreLimits}
+use Rattle.page_table.specs.State.{new_memory, new_tenant}
+use Rattle.page_table.specs.Table.{TableState, ArePages, content, contents_of, groups_of, own_pages, state_of, maps_of, used_by}
+use Rattle.page_table.specs.View.{view_of, IsMemory, IsOwnPage}
+use Rattle.page_table.proofs.Adding.{own_one}
+use Rattle.page_table.proofs.Putting.{empty_table}
+
+map-replicate : {X Y : Type 0} (f : X → Y) (n : ℕ) (x : X) → map f (replicate n x) ≡ replicate n (f x)
+map-replicate f zero x = refl
+map-replicate f (suc n) x = ap (λ l. f x ∷ l) (map-replicate f n x)
+
+nothing : (n i : ℕ) → slice_index_or (replicate {A = List ℕ} n []) i [] ≡ []
+nothing zero i = refl
+nothing (suc n) zero = refl
+nothing (suc n) (suc i) = nothing n i
+
+no_shape : (n k : ℕ) → slice_index_or (replicate {A = Option Shape} n None) k None ≡ None
+no_shape zero k = refl
+no_shape (suc n) zero = refl
+no_shape (suc n) (suc k) = no_shape n k
+
+no_maps : (n : ℕ) (contents : List (List ℕ)) → maps_of (replicate n None) contents ≡ replicate n None
+unfolding maps_of
+no_maps zero contents = refl
+no_maps (suc n) contents = ap (λ l. None ∷ l) (no_maps n (drop 256 contents))
+
+part_nothing : (xs : List (List ℕ)) (at w n : ℕ) → ((i : ℕ) → slice_index_or xs i [] ≡ []) → slice_index_or (part_of xs at w) n [] ≡ []
+unfolding part_of
+part_nothing xs at w n none = ⊎_elim (λ less. get_or-take w (drop at xs) n [] less ∙ get_or-drop at xs n [] ∙ none (at + n)) (λ more. get_or_past (take w (drop at xs)) n [] (let h = length-take w (drop at xs) in omega arith)) (order n w)
+  where
+    order : (a b : ℕ) → (a < b) ⊎ (b ≤ a)
+    order a b = grind arith
+
+module _ (frames tenants : ℕ) (options : Options) (limits : AreLimits frames tenants) where
+  abbrev table : TableState
+  table = empty_table frames (tenants * 2048)
+
+  no_contents : contents_of table ≡ replicate (tenants * 2048) []
+  unfolding contents_of
+  no_contents = map-replicate (content (replicate frames zero_page)) (tenants * 2048) None
+
+  used_none : used_by table ≡ 1
+  unfolding own_pages
+  used_none = let none = sum_by-replicate own_one (tenants * 2048) None in omega (arith, none)
+
+  no_reserves : sum_by (λ (tenant : Tenant). tenant.reserve) (replicate tenants new_tenant) ≡ 0
+  no_reserves = sum_by-replicate (λ (tenant : Tenant). tenant.reserve) tenants new_tenant ∙ omega arith
+
+  pub memory_new : IsMemory table (replicate (tenants * 8) None) (replicate tenants new_tenant) 0
+  memory_new =
+      let long = length-replicate {A = Option Shape} (tenants * 8) None in
+      let places = ap length no_contents ∙ length-replicate {A = List ℕ} (tenants * 2048) [] in
+      let count = length-replicate tenants new_tenant in
+      let arena = length-replicate frames zero_page in
+      let used = used_none in
+      record {
+        maps = record {
+          places = omega (arith, places, long);
+          each = λ k less. pages k (slice_index_or (replicate (tenants * 8) None) k None) (no_shape (tenants * 8) k);
+        };
+        numbers = omega (arith, long, count);
+        few = omega (arith, count, limits.few_tenants);
+        frames = omega (arith, arena, limits.few_frames);
+        sum = sym no_reserves;
+        room = omega (arith, used, arena, limits.two_frames);
+        own = subst (λ l. All IsOwnPage l) (sym (map-replicate {X = Option Entry} (option_map state_of) (tenants * 2048) None)) (All-replicate IsOwnPage (tenants * 2048) None refl);
+      }
+    where
+      pages : (k : ℕ) (shape : Option Shape) → shape ≡ None → ArePages shape (part_of (contents_of table) (k * 256) 256)
+      pages k shape e = rw e (λ n. part_nothing (contents_of table) (k * 256) 256 n (λ i. ap (λ l. slice_index_or l i []) no_contents ∙ nothing (tenants * 2048) i))
+
+  pub view_new : view_of table (replicate (tenants * 8) None) (replicate tenants new_tenant) options ≡ new_memory frames tenants options
+  unfolding view_of groups_of new_memory
+  view_new = rw (no_maps (tenants * 8) (contents_of table), map-replicate {X = Option Entry} (option_map state_of) (tenants * 2048) None, map-replicate {X = Option Entry} (option_map (λ (entry : Entry). entry.frame)) (tenants * 2048) None) refl

@@ -1,0 +1,29 @@
+-- The frames that are free, by the formula of the counters.
+use Rattle.std.proofs.Common.{◌≡◌, ◌+◌, ◌≤◌, List, [], ◌∷◌, length, sum_by, Option, option_map, refl, arith}
+use Rattle.std.proofs.lemmas.List.{length-map}
+use Rattle.std.proofs.lemmas.List.Sums.{sum_by-cons}
+use Rattle.host_types.specs.declared.options.Options.{Options}
+use Rattle.host_types.specs.declared.shape.Shape.{Shape}
+use Rattle.host_types.specs.Sharing.{own_frame, frames_free}
+use Rattle.page_table.specs.declared.entry.Entry.{Entry}
+use Rattle.page_table.specs.declared.tenant.Tenant.{Tenant}
+use Rattle.page_table.specs.State.{free_of}
+use Rattle.page_table.specs.Table.{TableState, states_of, state_of, groups_of, own_pages, places_on, used_by}
+use Rattle.page_table.specs.View.{view_of}
+use Rattle.page_table.proofs.Adding.{own_one}
+
+own_of_states : (entries : List (Option Entry)) → sum_by own_frame (states_of entries) ≡ sum_by own_one entries
+own_of_states [] = refl
+own_of_states (x ∷ xs) =
+    let one = sum_by-cons own_frame (option_map state_of x) (states_of xs) in
+    let other = sum_by-cons own_one x xs in
+    let rest = own_of_states xs in
+    omega (arith, one, other, rest)
+
+pub free_is : (table : TableState) (shapes : List (Option Shape)) (tenants : List Tenant) (options : Options) → used_by table ≤ length table.arena
+    → free_of (view_of table shapes tenants options) + used_by table ≡ length table.arena
+unfolding view_of frames_free groups_of own_pages
+free_is table shapes tenants options fits =
+    let long = length-map table.groups (λ f. places_on 0 f table.entries) in
+    let own = own_of_states table.entries in
+    omega (arith, long, own, fits)

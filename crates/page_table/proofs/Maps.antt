@@ -1,0 +1,227 @@
+-- Maps as flat bytes, out of the contents of their pages.
+use Rattle.std.proofs.Common.{◌≡◌, ◌≢◌, ◌∙◌, ◌⊎◌, ⊎_elim, ℕ, zero, suc, ◌+◌, ◌-◌, ◌*◌, ◌<◌, ◌≤◌, List, [], ◌∷◌, ◌++◌, length, take, drop, replicate, slice_index_or, slice_set, Option, None, option_map, refl, sym, ap, subst, arith, append_assoc, length-append, length-drop}
+use Rattle.std.specs.List.{concat}
+use Rattle.std.proofs.lemmas.List.{get_or-set_same, get_or-set_other, length-set, ext_get_or, length-take-le, drop_at, take_at, append-nil, drop-append-le, take-append-le, drop-drop, take-append-drop, take-replicate, drop-set-lt, drop-set-add, take-set-le}
+use Rattle.std.proofs.Math.Seq.{take-set-lt, take-append-add}
+use Rattle.std.proofs.lemmas.Bool.Decides.{eqb_tells}
+use Rattle.host_types.specs.declared.shape.Shape.{Shape}
+use Rattle.host_types.specs.Bytes.{part_of, with_part}
+use Rattle.host_types.specs.Memory.{FlatMap}
+use Rattle.host_types.specs.Pages.{page_bytes}
+use Rattle.host_types.specs.Shapes.{byte_len_of}
+use Rattle.host_types.proofs.Lists.{length-with_part}
+use Rattle.page_table.specs.Limits.{page_count}
+use Rattle.page_table.specs.Table.{maps_of, flat_of, ArePages, ArePagesOf, AreMaps}
+
+-- parts of lists
+
+part_of-drop : {X : Type 0} (xs : List X) (size i width : ℕ) → part_of (drop size xs) (i * size) width ≡ part_of xs (suc i * size) width
+unfolding part_of
+part_of-drop xs size i width =
+    let same : size + i * size ≡ suc i * size = omega arith in
+    ap (take width) (drop-drop (i * size) size xs ∙ ap (λ (n : ℕ). drop n xs) same)
+
+part_of-first : {X : Type 0} (xs : List X) (size : ℕ) → part_of xs (0 * size) size ≡ take size xs
+unfolding part_of
+part_of-first xs size =
+    let none : 0 * size ≡ 0 = omega arith in
+    ap (λ (n : ℕ). take size (drop n xs)) none
+
+with_part-front : {X : Type 0} (xs ys part : List X) (at : ℕ) → at + length part ≤ length xs → with_part (xs ++ ys) at part ≡ with_part xs at part ++ ys
+unfolding with_part
+with_part-front xs ys part at h =
+    rw (take-append-le at xs ys (omega arith), drop-append-le (at + length part) xs ys h, append_assoc (take at xs ++ part) (drop (at + length part) xs) ys) refl
+
+with_part-behind : {X : Type 0} (xs ys part : List X) (n at : ℕ) → length xs ≡ n → with_part (xs ++ ys) (n + at) part ≡ xs ++ with_part ys at part
+unfolding with_part
+with_part-behind xs ys part n at h =
+    let place : n + at + length part ≡ length xs + (at + length part) = omega arith in
+    let front : n + at ≡ length xs + at = omega arith in
+    let back : drop (length xs + (at + length part)) (xs ++ ys) ≡ drop (at + length part) ys =
+    sym (drop-drop (at + length part) (length xs) (xs ++ ys)) ∙ ap (drop (at + length part)) (drop_at xs ys (length xs) refl) in
+    rw (place, front, take-append-add xs ys at, back, append_assoc xs (take at ys) part, append_assoc xs (take at ys ++ part) (drop (at + length part) ys)) refl
+
+pub take-with_part : {X : Type 0} (xs part : List X) (size at : ℕ) → size ≤ length xs → at + length part ≤ size → take size (with_part xs at part) ≡ with_part (take size xs) at part
+take-with_part xs part size at long fits =
+    let first = length-take-le size xs long in
+    let split : with_part xs at part ≡ with_part (take size xs) at part ++ drop size xs =
+    ap (λ l. with_part l at part) (sym (take-append-drop size xs)) ∙ with_part-front (take size xs) (drop size xs) part at (omega (arith, first, fits)) in
+    let kept : length (with_part (take size xs) at part) ≡ size = length-with_part (take size xs) at part (omega (arith, first, fits)) ∙ first in
+    ap (take size) split ∙ take_at (with_part (take size xs) at part) (drop size xs) size kept
+
+pub drop-with_part : {X : Type 0} (xs part : List X) (size at : ℕ) → size ≤ length xs → at + length part ≤ size → drop size (with_part xs at part) ≡ drop size xs
+drop-with_part xs part size at long fits =
+    let first = length-take-le size xs long in
+    let split : with_part xs at part ≡ with_part (take size xs) at part ++ drop size xs =
+    ap (λ l. with_part l at part) (sym (take-append-drop size xs)) ∙ with_part-front (take size xs) (drop size xs) part at (omega (arith, first, fits)) in
+    let kept : length (with_part (take size xs) at part) ≡ size = length-with_part (take size xs) at part (omega (arith, first, fits)) ∙ first in
+    ap (drop size) split ∙ drop_at (with_part (take size xs) at part) (drop size xs) size kept
+
+-- one element set, in a part
+pub part_of-set_same : {X : Type 0} (xs : List X) (k n width : ℕ) (x : X) → n < width → part_of (slice_set xs (k + n) x) k width ≡ slice_set (part_of xs k width) n x
+unfolding part_of
+part_of-set_same xs k n width x h = ap (take width) (drop-set-add k xs n x) ∙ take-set-lt width (drop k xs) n x h
+
+pub part_of-set_other : {X : Type 0} (xs : List X) (k n j width : ℕ) (x : X) → n < width → j ≢ k → part_of (slice_set xs (k * width + n) x) (j * width) width ≡ part_of xs (j * width) width
+unfolding part_of
+part_of-set_other xs k n j width x h ne = ⊎_elim (λ less. before less) (λ more. behind more) (order j k ne)
+  where
+    order : (j k : ℕ) → j ≢ k → (j < k) ⊎ (k < j)
+    order j k ne = grind arith
+
+    before : j < k → take width (drop (j * width) (slice_set xs (k * width + n) x)) ≡ take width (drop (j * width) xs)
+    before less =
+        let rest : ℕ = k - suc j in
+        let apart : k ≡ suc j + rest = omega (arith, less) in
+        let place : k * width + n ≡ j * width + (width + rest * width + n) = ap (λ (m : ℕ). m * width + n) apart ∙ omega arith in
+        ap (λ (m : ℕ). take width (drop (j * width) (slice_set xs m x))) place
+        ∙ ap (take width) (drop-set-add (j * width) xs (width + rest * width + n) x)
+        ∙ take-set-le width (drop (j * width) xs) (width + rest * width + n) x (omega arith)
+
+    behind : k < j → take width (drop (j * width) (slice_set xs (k * width + n) x)) ≡ take width (drop (j * width) xs)
+    behind more =
+        let rest : ℕ = j - suc k in
+        let apart : j ≡ suc k + rest = omega (arith, more) in
+        let place : j * width ≡ k * width + width + rest * width = ap (λ (m : ℕ). m * width) apart ∙ omega arith in
+        ap (take width) (drop-set-lt (j * width) xs (k * width + n) x (omega (arith, place, h)))
+
+-- the map at a place
+pub map_at-maps_of : (shapes : List (Option Shape)) (contents : List (List ℕ)) (k : ℕ)
+    → slice_index_or (maps_of shapes contents) k None ≡ option_map (flat_of (part_of contents (k * 256) 256)) (slice_index_or shapes k None)
+unfolding maps_of
+map_at-maps_of [] contents k = refl
+map_at-maps_of (shape ∷ shapes) contents zero = ap (λ pages. option_map (flat_of pages) shape) (sym (part_of-first contents 256))
+map_at-maps_of (shape ∷ shapes) contents (suc k) =
+    map_at-maps_of shapes (drop 256 contents) k ∙ ap (λ pages. option_map (flat_of pages) (slice_index_or shapes k None)) (part_of-drop contents 256 k 256)
+
+pub length-maps_of : (shapes : List (Option Shape)) (contents : List (List ℕ)) → length (maps_of shapes contents) ≡ length shapes
+unfolding maps_of
+length-maps_of [] contents = refl
+length-maps_of (shape ∷ shapes) contents = ap suc (length-maps_of shapes (drop 256 contents))
+
+-- the maps where one of them changes
+pub maps_of-changed : (old new : List (Option Shape)) (before after : List (List ℕ)) (k : ℕ) (flat : Option FlatMap) → length new ≡ length old → k < length old
+    → ((j : ℕ) → j ≢ k → slice_index_or new j None ≡ slice_index_or old j None)
+    → ((j : ℕ) → j ≢ k → part_of after (j * 256) 256 ≡ part_of before (j * 256) 256)
+    → option_map (flat_of (part_of after (k * 256) 256)) (slice_index_or new k None) ≡ flat
+    → maps_of new after ≡ slice_set (maps_of old before) k flat
+maps_of-changed old new before after k flat long inside shapes pages here =
+    let same : length (maps_of new after) ≡ length (slice_set (maps_of old before) k flat) =
+    length-maps_of new after ∙ long ∙ sym (length-set (maps_of old before) k flat ∙ length-maps_of old before) in
+    ext_get_or None (maps_of new after) (slice_set (maps_of old before) k flat) same (λ i less. ⊎_elim (λ e. at_place i e.1) (λ ne. else_where i ne.1) (eqb_tells i k))
+  where
+    at_place : (i : ℕ) → i ≡ k → slice_index_or (maps_of new after) i None ≡ slice_index_or (slice_set (maps_of old before) k flat) i None
+    at_place i e =
+        let wide = length-maps_of old before in
+        let known : slice_index_or (maps_of new after) k None ≡ slice_index_or (slice_set (maps_of old before) k flat) k None =
+        map_at-maps_of new after k ∙ here ∙ sym (get_or-set_same (maps_of old before) k flat None (omega (arith, wide, inside))) in
+        subst (λ (n : ℕ). slice_index_or (maps_of new after) n None ≡ slice_index_or (slice_set (maps_of old before) k flat) n None) (sym e) known
+
+    else_where : (i : ℕ) → i ≢ k → slice_index_or (maps_of new after) i None ≡ slice_index_or (slice_set (maps_of old before) k flat) i None
+    else_where i ne =
+        map_at-maps_of new after i
+        ∙ ap (λ shape. option_map (flat_of (part_of after (i * 256) 256)) shape) (shapes i ne)
+        ∙ ap (λ p. option_map (flat_of p) (slice_index_or old i None)) (pages i ne)
+        ∙ sym (get_or-set_other (maps_of old before) k i flat None ne ∙ map_at-maps_of old before i)
+
+-- the maps stay right where one of them changes
+pub AreMaps-changed : (old new : List (Option Shape)) (before after : List (List ℕ)) (k : ℕ) → length new ≡ length old → length after ≡ length before
+    → ((j : ℕ) → j ≢ k → slice_index_or new j None ≡ slice_index_or old j None)
+    → ((j : ℕ) → j ≢ k → part_of after (j * 256) 256 ≡ part_of before (j * 256) 256)
+    → ArePages (slice_index_or new k None) (part_of after (k * 256) 256)
+    → AreMaps old before → AreMaps new after
+AreMaps-changed old new before after k long wide shapes pages here are =
+    record {
+      places = wide ∙ are.places ∙ ap (λ (n : ℕ). n * 256) (sym long);
+      each = λ i less. ⊎_elim (λ e. at_place i e.1) (λ ne. else_where i (omega (arith, less, long)) ne.1) (eqb_tells i k);
+    }
+  where
+    at_place : (i : ℕ) → i ≡ k → ArePages (slice_index_or new i None) (part_of after (i * 256) 256)
+    at_place i e = subst (λ (n : ℕ). ArePages (slice_index_or new n None) (part_of after (n * 256) 256)) (sym e) here
+
+    else_where : (i : ℕ) → i < length old → i ≢ k → ArePages (slice_index_or new i None) (part_of after (i * 256) 256)
+    else_where i less ne =
+        subst (λ shape. ArePages shape (part_of after (i * 256) 256)) (sym (shapes i ne))
+        (subst (λ p. ArePages (slice_index_or old i None) p) (sym (pages i ne)) (are.each i less))
+
+-- the bytes of pages one after another
+
+-- bytes written into a page
+pub concat-written : (pages : List (List ℕ)) (n at : ℕ) (bytes : List ℕ) → ((m : ℕ) → m ≤ n → length (slice_index_or pages m []) ≡ 4096) → at + length bytes ≤ 4096
+    → concat (slice_set pages n (with_part (slice_index_or pages n []) at bytes)) ≡ with_part (concat pages) (n * 4096 + at) bytes
+concat-written [] n at bytes there fits = absurd (let e = there 0 (omega arith) in omega (arith, e))
+concat-written (page ∷ pages) zero at bytes there fits =
+    let e = there 0 (omega arith) in
+    let place : at ≡ 0 * 4096 + at = omega arith in
+    sym (with_part-front page (concat pages) bytes at (omega (arith, e, fits))) ∙ ap (λ (m : ℕ). with_part (page ++ concat pages) m bytes) place
+concat-written (page ∷ pages) (suc n) at bytes there fits =
+    let e = there 0 (omega arith) in
+    let rest = concat-written pages n at bytes (λ m le. there (suc m) (omega arith)) fits in
+    let place : 4096 + (n * 4096 + at) ≡ suc n * 4096 + at = omega arith in
+    ap (λ l. page ++ l) rest ∙ sym (with_part-behind page (concat pages) bytes 4096 (n * 4096 + at) e) ∙ ap (λ (m : ℕ). with_part (page ++ concat pages) m bytes) place
+
+-- a part of a page
+pub part_of-concat : (pages : List (List ℕ)) (n at size : ℕ) → ((m : ℕ) → m ≤ n → length (slice_index_or pages m []) ≡ 4096) → at + size ≤ 4096
+    → part_of (concat pages) (n * 4096 + at) size ≡ part_of (slice_index_or pages n []) at size
+unfolding part_of
+part_of-concat [] n at size there fits = absurd (let e = there 0 (omega arith) in omega (arith, e))
+part_of-concat (page ∷ pages) zero at size there fits =
+    let e = there 0 (omega arith) in
+    let left = length-drop at page in
+    let place : 0 * 4096 + at ≡ at = omega arith in
+    ap (λ (m : ℕ). take size (drop m (page ++ concat pages))) place
+    ∙ ap (take size) (drop-append-le at page (concat pages) (omega (arith, e, fits))) ∙ take-append-le size (drop at page) (concat pages) (omega (arith, e, fits, left))
+part_of-concat (page ∷ pages) (suc n) at size there fits =
+    let e = there 0 (omega arith) in
+    let rest = part_of-concat pages n at size (λ m le. there (suc m) (omega arith)) fits in
+    let place : suc n * 4096 + at ≡ 4096 + (n * 4096 + at) = omega arith in
+    ap (λ (m : ℕ). take size (drop m (page ++ concat pages))) place
+    ∙ ap (take size) (sym (drop-drop (n * 4096 + at) 4096 (page ++ concat pages)) ∙ ap (drop (n * 4096 + at)) (drop_at page (concat pages) 4096 e))
+    ∙ rest
+
+-- pages that are there up to a number, and not from it on
+pub length-concat : (pages : List (List ℕ)) (count : ℕ) → ((n : ℕ) → n < count → length (slice_index_or pages n []) ≡ 4096) → ((n : ℕ) → count ≤ n → slice_index_or pages n [] ≡ [])
+    → length (concat pages) ≡ count * 4096
+length-concat [] zero there none = refl
+length-concat [] (suc count) there none = absurd (let e = there 0 (omega arith) in omega (arith, e))
+length-concat (page ∷ pages) zero there none =
+    let first = ap length (none 0 (omega arith)) in
+    let rest = length-concat pages 0 (λ n less. absurd (omega arith)) (λ n le. none (suc n) (omega arith)) in
+    length-append page (concat pages) ∙ omega (arith, first, rest)
+length-concat (page ∷ pages) (suc count) there none =
+    let first = there 0 (omega arith) in
+    let rest = length-concat pages count (λ n less. there (suc n) (omega arith)) (λ n le. none (suc n) (omega arith)) in
+    length-append page (concat pages) ∙ omega (arith, first, rest)
+
+-- zeros behind a list, as many as are asked for
+take-zeros : (xs : List ℕ) (n z w : ℕ) → n ≤ length xs + z → n ≤ length xs + w → take n (xs ++ replicate z 0) ≡ take n (xs ++ replicate w 0)
+take-zeros [] n z w h k = take-replicate n z 0 (omega arith) ∙ sym (take-replicate n w 0 (omega arith))
+take-zeros (x ∷ xs) zero z w h k = refl
+take-zeros (x ∷ xs) (suc n) z w h k = ap (λ l. x ∷ l) (take-zeros xs n z w (omega arith) (omega arith))
+
+take_whole : (xs : List ℕ) (n : ℕ) → length xs ≡ n → take n xs ≡ xs
+take_whole xs n e = ap (take n) (sym (append-nil xs)) ∙ take_at xs [] n e
+
+-- the content of a map's page is that of the page
+pub page_bytes-page : (shape : Shape) (pages : List (List ℕ)) (n : ℕ) → ArePagesOf shape pages → n < page_count shape
+    → page_bytes (take (byte_len_of shape) (concat pages)) n ≡ slice_index_or pages n []
+unfolding page_bytes part_of
+page_bytes-page shape pages n are small =
+    let whole = length-concat pages (page_count shape) are.there are.none in
+    let size : ℕ = byte_len_of shape in
+    let fits : size ≤ page_count shape * 4096 = omega arith in
+    let some : n * 4096 < size = omega (arith, small) in
+    let front = length-take-le size (concat pages) (omega (arith, whole, fits)) in
+    let rest = length-drop (n * 4096) (take size (concat pages)) in
+    let first = length-drop (n * 4096) (concat pages) in
+    let page = length-take-le 4096 (drop (n * 4096) (concat pages)) in
+    let lengths : (m : ℕ) → m ≤ n → length (slice_index_or pages m []) ≡ 4096 = λ m le. are.there m (omega (arith, le, small)) in
+    let place : n * 4096 + 0 ≡ n * 4096 = omega arith in
+    let split : concat pages ≡ take size (concat pages) ++ replicate (page_count shape * 4096 - size) 0 =
+    sym (take-append-drop size (concat pages)) ∙ ap (λ l. take size (concat pages) ++ l) are.padded in
+    take-zeros (drop (n * 4096) (take size (concat pages))) 4096 4096 (page_count shape * 4096 - size) (omega arith) (omega (arith, rest, front, fits, small, some))
+    ∙ ap (take 4096) (sym (drop-append-le (n * 4096) (take size (concat pages)) (replicate (page_count shape * 4096 - size) 0) (omega (arith, front, some))))
+    ∙ ap (λ l. take 4096 (drop (n * 4096) l)) (sym split)
+    ∙ ap (λ (m : ℕ). take 4096 (drop m (concat pages))) (sym place)
+    ∙ part_of-concat pages n 0 4096 lengths (omega arith)
+    ∙ take_whole (slice_index_or pages n []) 4096 (are.there n small)

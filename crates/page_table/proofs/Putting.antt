@@ -1,0 +1,157 @@
+-- A page table stays sound where bytes of a page are written, and a new one is sound.
+use Rattle.std.proofs.Common.{◌≡◌, ◌∙◌, inl, inr, ⊎_elim, ℕ, zero, suc, ◌+◌, ◌<◌, ◌≤◌, true, false, List, [], ◌∷◌, length, map, replicate, slice_index_or, slice_set, Option, Some, None, IfSome, refl, sym, ap, subst, arith}
+use Rattle.std.proofs.lemmas.List.{get_or-set_same, get_or-set_other, length-set, set-get_or, get_or-map, get_or-replicate, length-replicate}
+use Rattle.std.proofs.lemmas.List.Folds.{sum_by-replicate}
+use Rattle.host_types.specs.Sharing.{is_shared}
+use Rattle.host_types.specs.declared.status.Status.{Status}
+use Rattle.host_types.specs.declared.status.Status.TheVariants.{New, Volatile, Waiting, Grouped, Zero}
+use Rattle.frame_arena.specs.Pages.{page_at, zero_page}
+use Rattle.frame_arena.proofs.Pages.{length-zero_page}
+use Rattle.page_table.specs.declared.entry.Entry.{Entry}
+use Rattle.page_table.specs.Table.{TableState, CountsState, IsPageAt, IsTable, IsEntry, IsAlone, IsGroup, IsSound, AreCountsOf, LiesRight, one_if_zero, entry_at, content, contents_of, is_on, pages_on, own_pages}
+use Rattle.page_table.proofs.Entries.{on_one, equal, alone, content-kept, contents-set, inside, pages-set}
+use Rattle.page_table.proofs.Adding.{own_one, IsEntry-kept}
+
+-- a page that isn't shared is alone on its frame
+pub is_alone : (table : TableState) (entry : Entry) → IsEntry table entry → is_shared entry.status ≡ false → IsAlone table entry.frame
+is_alone table entry is own = by_status entry.status own is.right
+  where
+    by_status : (status : Status) → is_shared status ≡ false → LiesRight table entry.frame status → IsAlone table entry.frame
+    by_status New e a = a
+    by_status Volatile e a = a
+    by_status Waiting e a = a
+    by_status Grouped e a = absurd (cc)
+    by_status Zero e a = absurd (cc)
+
+-- the entry at a place fits
+pub entry_fits : (table : TableState) (i : ℕ) (entry : Entry) → IsTable table → entry_at table.entries i ≡ Some entry → IsEntry table entry
+entry_fits table i entry is e = subst (λ (x : Option Entry). IfSome x (IsEntry table)) e (is.entries i)
+
+-- a table with another page in a frame
+abbrev pub with_page : TableState → ℕ → List ℕ → TableState
+with_page table f page = record table { arena = slice_set table.arena f page }
+
+-- a page that is there has an entry
+pub page_inside : (table : TableState) (i : ℕ) → IsPageAt table i → i < length table.entries
+unfolding contents_of
+page_inside table i h = by_list table.entries i h
+  where
+    by_list : (xs : List (Option Entry)) (i : ℕ) → length (slice_index_or (map (content table.arena) xs) i []) ≡ 4096 → i < length xs
+    by_list [] i h = absurd (omega (arith, h))
+    by_list (x ∷ xs) zero h = omega arith
+    by_list (x ∷ xs) (suc i) h = let rest = by_list xs i h in omega arith
+
+pub page_there : (table : TableState) (i : ℕ) → IsPageAt table i → entry_at table.entries i ≡ None → ⊥
+unfolding contents_of
+page_there table i h e =
+    let there = page_inside table i h in
+    let none : slice_index_or (map (content table.arena) table.entries) i [] ≡ [] = get_or-map (content table.arena) table.entries i None [] there ∙ ap (content table.arena) e in
+    let zero : length (slice_index_or (map (content table.arena) table.entries) i []) ≡ 0 = ap length none in
+    omega (arith, zero, h)
+
+-- the content of a page that is there
+pub content_at : (table : TableState) (i : ℕ) (entry : Entry) → entry_at table.entries i ≡ Some entry → slice_index_or (contents_of table) i [] ≡ page_at table.arena entry.frame
+unfolding contents_of
+content_at table i entry e =
+    get_or-map (content table.arena) table.entries i None [] (inside table.entries i entry e) ∙ ap (content table.arena) e
+
+-- where no bytes are, there is no page
+pub no_entry_of_content : (table : TableState) (i : ℕ) → IsTable table → slice_index_or (contents_of table) i [] ≡ [] → entry_at table.entries i ≡ None
+no_entry_of_content table i is none = by_entry (entry_at table.entries i) refl
+  where
+    by_entry : (x : Option Entry) → entry_at table.entries i ≡ x → entry_at table.entries i ≡ None
+    by_entry None e = e
+    by_entry (Some entry) e =
+        let fits = entry_fits table i entry is e in
+        let known : page_at table.arena entry.frame ≡ [] = sym (content_at table i entry e) ∙ none in
+        absurd (let long = is.pages entry.frame fits.frame in let short = ap length known in omega (arith, long, short))
+
+module _ (table : TableState) (i : ℕ) (entry : Entry) (page : List ℕ) (is : IsTable table) (here : entry_at table.entries i ≡ Some entry) (lone : IsAlone table entry.frame) (sized : length page ≡ 4096) where
+  there : i < length table.entries
+  there = inside table.entries i entry here
+
+  lies : is_on entry.frame (entry_at table.entries i) ≡ true
+  lies = ap (is_on entry.frame) here ∙ equal entry.frame
+
+  pub contents-put : contents_of (with_page table entry.frame page) ≡ slice_set (contents_of table) i page
+  unfolding contents_of
+  contents-put =
+      let fits = entry_fits table i entry is here in
+      let changed : map (content (slice_set table.arena entry.frame page)) (slice_set table.entries i (entry_at table.entries i)) ≡ slice_set (map (content table.arena) table.entries) i page =
+      contents-set table.arena (slice_set table.arena entry.frame page) table.entries i (entry_at table.entries i) page
+      (ap (content (slice_set table.arena entry.frame page)) here ∙ get_or-set_same table.arena entry.frame page [] fits.frame)
+      (λ j ne. content-kept table.arena entry.frame page (entry_at table.entries j) (alone entry.frame table.entries i j there lone.one lies ne)) in
+      ap (map (content (slice_set table.arena entry.frame page))) (sym (set-get_or table.entries i None)) ∙ changed
+
+  IsTable-put : IsTable (with_page table entry.frame page)
+  IsTable-put =
+      let long : length (slice_set table.arena entry.frame page) ≡ length table.arena = length-set table.arena entry.frame page in
+      record {
+        some = omega (arith, long, is.some);
+        small = omega (arith, long, is.small);
+        pages = pages-set table.arena entry.frame page is.pages sized;
+        zero = get_or-set_other table.arena entry.frame 0 page [] (λ e. omega (arith, lone.above)) ∙ is.zero;
+        entries = λ j. kept (entry_at table.entries j) (is.entries j);
+        groups = λ g. ⊎_elim (λ e. inl e) (λ group. inr (record { above = IsGroup.above group; once = IsGroup.once group; some = IsGroup.some group })) (is.groups g);
+        few = is.few;
+      }
+    where
+      kept : (x : Option Entry) → IfSome x (IsEntry table) → IfSome x (IsEntry (with_page table entry.frame page))
+      kept None h = tt
+      kept (Some other) h = IsEntry-kept table (with_page table entry.frame page) other (length-set table.arena entry.frame page) (λ one lone. one) refl h
+
+  pub sound-put : (counts : CountsState) → AreCountsOf table counts → IsSound (with_page table entry.frame page) counts
+  sound-put counts counted =
+      let long : length (slice_set table.arena entry.frame page) ≡ length table.arena = length-set table.arena entry.frame page in
+      record {
+        fits = IsTable-put;
+        counted = record {
+          sized = counted.sized ∙ sym long;
+          counted = λ g h. counted.counted g (omega (arith, h, long));
+          used = counted.used ∙ sym long;
+        };
+      }
+
+-- a table without pages
+abbrev pub empty_table : ℕ → ℕ → TableState
+empty_table frames places = record { arena = replicate frames zero_page; entries = replicate places None; groups = [] }
+
+no_entry : (places i : ℕ) → entry_at (replicate places None) i ≡ None
+no_entry zero i = refl
+no_entry (suc n) zero = refl
+no_entry (suc n) (suc i) = no_entry n i
+
+no_pages : (f places : ℕ) → pages_on f (replicate places None) ≡ 0
+unfolding pages_on
+no_pages f places = sum_by-replicate (on_one f) places None ∙ omega arith
+
+no_own : (places : ℕ) → own_pages (replicate places None) ≡ 0
+unfolding own_pages
+no_own places = sum_by-replicate own_one places None ∙ omega arith
+
+first_count : (frames f : ℕ) → 0 < frames → f < frames → slice_index_or (slice_set (replicate frames 0) 0 1) f 0 ≡ one_if_zero f
+first_count zero f h k = absurd (omega arith)
+first_count (suc n) zero h k = refl
+first_count (suc n) (suc f) h k = get_or-replicate n f 0 0 (omega arith)
+
+pub sound-new : (frames places : ℕ) (counts : CountsState) → 1 ≤ frames → frames ≤ 4096 → places ≤ 32768
+    → counts.counts ≡ slice_set (replicate frames 0) 0 1 → length counts.unused + 1 ≡ frames → IsSound (empty_table frames places) counts
+sound-new frames places counts some small few are fewer =
+    let long : length (replicate frames zero_page) ≡ frames = length-replicate frames zero_page in
+    let none : own_pages (replicate places None) ≡ 0 = no_own places in
+    record {
+      fits = record {
+        some = omega (arith, long, some);
+        small = omega (arith, long, small);
+        pages = λ f h. ap length (get_or-replicate frames f zero_page [] (omega (arith, h, long))) ∙ length-zero_page;
+        zero = get_or-replicate frames 0 zero_page [] (omega arith);
+        entries = λ i. subst (λ (x : Option Entry). IfSome x (IsEntry (empty_table frames places))) (sym (no_entry places i)) tt;
+        groups = λ f. inl refl;
+        few = let e = length-replicate {A = Option Entry} places None in omega (arith, e, few);
+      };
+      counted = record {
+        sized = ap length are ∙ length-set (replicate frames 0) 0 1 ∙ length-replicate frames 0 ∙ sym long;
+        counted = λ f h. ap (λ (l : List ℕ). slice_index_or l f 0) are ∙ first_count frames f (omega arith) (omega (arith, h, long)) ∙ let e = no_pages f places in omega (arith, e);
+        used = omega (arith, none, fewer, long);
+      };
+    }

@@ -1,0 +1,127 @@
+-- What a memory tells of a page that is there.
+use Rattle.std.proofs.Common.{◌≡◌, ◌∙◌, ◌⊎◌, ⊎_elim, ℕ, zero, suc, ◌+◌, ◌*◌, ◌<◌, ◌≤◌, List, [], ◌∷◌, length, take, drop, slice_index_or, Option, Some, None, option_map, unwrap_or, refl, sym, ap, subst, arith, length-take}
+use Rattle.std.specs.List.{concat}
+use Rattle.std.proofs.lemmas.List.{get_or_past, get_or-take, get_or-drop}
+use Rattle.host_types.specs.declared.options.Options.{Options}
+use Rattle.host_types.specs.declared.shape.Shape.{Shape}
+use Rattle.host_types.specs.declared.shape.Page.{Page}
+use Rattle.host_types.specs.Bytes.{part_of}
+use Rattle.host_types.specs.Memory.{FlatMap, FlatMaps, map_at}
+use Rattle.host_types.specs.Pages.{map_place, page_place, page_bytes}
+use Rattle.host_types.specs.Shapes.{IsShape, byte_len_of}
+use Rattle.host_types.specs.Sharing.{state_at}
+use Rattle.page_table.specs.declared.entry.Entry.{Entry}
+use Rattle.page_table.specs.declared.tenant.Tenant.{Tenant}
+use Rattle.page_table.specs.Limits.{page_count}
+use Rattle.page_table.specs.State.{part, bytes_of_map, frame_at}
+use Rattle.page_table.specs.Changes.{IsPageOf}
+use Rattle.page_table.specs.Table.{TableState, IsPageAt, maps_of, flat_of, ArePages, ArePagesOf, AreMaps, contents_of, entry_at, state_of, states_of, frames_of}
+use Rattle.page_table.specs.View.{view_of, IsMemory}
+use Rattle.page_table.proofs.Maps.{map_at-maps_of, page_bytes-page}
+
+-- a tenant's map by its number, among the maps of all tenants
+pub map_at-part : (maps : FlatMaps) (t m : ℕ) → m < 8 → map_at (part_of maps (t * 8) 8) m ≡ map_at maps (map_place t m)
+unfolding part_of
+map_at-part maps t m small = get_or-take 8 (drop (t * 8) maps) m None small ∙ get_or-drop (t * 8) maps m None
+
+-- a tenant has no map of another number
+pub map_at-past : (maps : FlatMaps) (t m : ℕ) → 8 ≤ m → map_at (part_of maps (t * 8) 8) m ≡ None
+unfolding part_of
+map_at-past maps t m past =
+    let few = length-take 8 (drop (t * 8) maps) in
+    get_or_past (take 8 (drop (t * 8) maps)) m None (omega arith)
+
+-- the bytes of what may be a map
+abbrev pub bytes_in : Option FlatMap → List ℕ
+bytes_in flat = unwrap_or (option_map (λ (flat : FlatMap). flat.bytes) flat) []
+
+-- a byte of a tenant's map is in a map of the memory
+pub record IsLocated (shapes : List (Option Shape)) (contents : List (List ℕ)) (t m at : ℕ) : Type 0 where
+  pub small : m < 8
+  pub inside : map_place t m < length shapes
+  pub shape : Shape
+  pub here : slice_index_or shapes (map_place t m) None ≡ Some shape
+  pub pages : ArePagesOf shape (part_of contents (map_place t m * 256) 256)
+  pub within : at < byte_len_of shape
+  pub flat : map_at (part_of (maps_of shapes contents) (t * 8) 8) m ≡ Some (flat_of (part_of contents (map_place t m * 256) 256) shape)
+
+pub located : (shapes : List (Option Shape)) (contents : List (List ℕ)) (t m at : ℕ) → AreMaps shapes contents
+    → at < length (bytes_in (map_at (part_of (maps_of shapes contents) (t * 8) 8) m)) → IsLocated shapes contents t m at
+located shapes contents t m at are there = ⊎_elim (λ small. by_shape small (slice_index_or shapes (map_place t m) None) refl) (λ past. absurd (omega (arith, ap (λ flat. length (bytes_in flat)) (map_at-past (maps_of shapes contents) t m past), there))) (order m)
+  where
+    order : (m : ℕ) → (m < 8) ⊎ (8 ≤ m)
+    order m = grind arith
+
+    by_shape : m < 8 → (shape : Option Shape) → slice_index_or shapes (map_place t m) None ≡ shape → IsLocated shapes contents t m at
+    by_shape small None e =
+        let known : map_at (part_of (maps_of shapes contents) (t * 8) 8) m ≡ None =
+        map_at-part (maps_of shapes contents) t m small ∙ map_at-maps_of shapes contents (map_place t m) ∙ ap (option_map (flat_of (part_of contents (map_place t m * 256) 256))) e in
+        absurd (omega (arith, ap (λ flat. length (bytes_in flat)) known, there))
+    by_shape small (Some shape) e =
+        let known : map_at (part_of (maps_of shapes contents) (t * 8) 8) m ≡ Some (flat_of (part_of contents (map_place t m * 256) 256) shape) =
+        map_at-part (maps_of shapes contents) t m small ∙ map_at-maps_of shapes contents (map_place t m) ∙ ap (option_map (flat_of (part_of contents (map_place t m * 256) 256))) e in
+        let bytes : length (bytes_in (map_at (part_of (maps_of shapes contents) (t * 8) 8) m)) ≡ length (take (byte_len_of shape) (concat (part_of contents (map_place t m * 256) 256))) =
+        ap (λ flat. length (bytes_in flat)) known in
+        let few = length-take (byte_len_of shape) (concat (part_of contents (map_place t m * 256) 256)) in
+        let inside : map_place t m < length shapes = there_is shapes (map_place t m) e in
+        record {
+          small = small;
+          inside = inside;
+          shape = shape;
+          here = e;
+          pages = subst (λ s. ArePages s (part_of contents (map_place t m * 256) 256)) e (are.each (map_place t m) inside);
+          within = omega (arith, bytes, few, there);
+          flat = known;
+        }
+      where
+        there_is : (xs : List (Option Shape)) (i : ℕ) → slice_index_or xs i None ≡ Some shape → i < length xs
+        there_is [] i e = absurd (cc)
+        there_is (x ∷ xs) zero e = omega arith
+        there_is (x ∷ xs) (suc i) e = let rest = there_is xs i e in omega arith
+
+-- the pages of a shape within the limits are at most 256
+pub few_pages : (shape : Shape) → IsShape shape → page_count shape ≤ 256
+few_pages shape is = let h = is.paged in omega arith
+
+-- the content of a page by its number in its map
+pub content_in : (contents : List (List ℕ)) (k n : ℕ) → n < 256 → slice_index_or contents (k * 256 + n) [] ≡ slice_index_or (part_of contents (k * 256) 256) n []
+unfolding part_of
+content_in contents k n small = sym (get_or-take 256 (drop (k * 256) contents) n [] small ∙ get_or-drop (k * 256) contents n [])
+
+module _ (table : TableState) (shapes : List (Option Shape)) (tenants : List Tenant) (options : Options) (reserved : ℕ) (page : Page) (is : IsMemory table shapes tenants reserved) (there : IsPageOf (view_of table shapes tenants options) page) where
+  pub page_located : IsLocated shapes (contents_of table) page.tenant page.map (page.number * 4096)
+  unfolding view_of part
+  page_located = located shapes (contents_of table) page.tenant page.map (page.number * 4096) is.maps there
+
+  pub page_number : page.number < page_count page_located.shape
+  page_number = let h = page_located.within in omega arith
+
+  page_small : page.number < 256
+  page_small = let few = few_pages page_located.shape page_located.pages.shaped in let h = page_number in omega arith
+
+  pub is_page_at : IsPageAt table (page_place page)
+  is_page_at = ap length (content_in (contents_of table) (map_place page.tenant page.map) page.number page_small) ∙ page_located.pages.there page.number page_number
+
+  pub content_is : slice_index_or (contents_of table) (page_place page) [] ≡ page_bytes (bytes_of_map (view_of table shapes tenants options) page) page.number
+  unfolding view_of part
+  content_is =
+      content_in (contents_of table) (map_place page.tenant page.map) page.number page_small
+      ∙ sym (ap (λ flat. page_bytes (bytes_in flat) page.number) page_located.flat ∙ page_bytes-page page_located.shape (part_of (contents_of table) (map_place page.tenant page.map * 256) 256) page.number page_located.pages page_number)
+
+  pub state_is : (entry : Entry) → entry_at table.entries (page_place page) ≡ Some entry → state_at (view_of table shapes tenants options).sharing (page_place page) ≡ Some (state_of entry)
+  unfolding view_of
+  state_is entry e = by_list table.entries (page_place page) e
+    where
+      by_list : (xs : List (Option Entry)) (i : ℕ) → entry_at xs i ≡ Some entry → slice_index_or (states_of xs) i None ≡ Some (state_of entry)
+      by_list [] i e = absurd (cc)
+      by_list (x ∷ xs) zero e = ap (option_map state_of) e
+      by_list (x ∷ xs) (suc i) e = by_list xs i e
+
+  pub frame_is : (entry : Entry) → entry_at table.entries (page_place page) ≡ Some entry → frame_at (view_of table shapes tenants options) (page_place page) ≡ Some entry.frame
+  unfolding view_of
+  frame_is entry e = by_list table.entries (page_place page) e
+    where
+      by_list : (xs : List (Option Entry)) (i : ℕ) → entry_at xs i ≡ Some entry → slice_index_or (frames_of xs) i None ≡ Some entry.frame
+      by_list [] i e = absurd (cc)
+      by_list (x ∷ xs) zero e = ap (option_map (λ (entry : Entry). entry.frame)) e
+      by_list (x ∷ xs) (suc i) e = by_list xs i e

@@ -1,0 +1,148 @@
+-- What a memory tells of a tenant's maps by their numbers.
+use Rattle.std.proofs.Common.{◌≡◌, ◌∙◌, ◌⊎◌, ⊎_elim, ℕ, zero, suc, ◌+◌, ◌*◌, ◌<◌, ◌≤◌, List, [], ◌∷◌, length, map, take, drop, slice_index_or, Option, Some, None, IfSome, option_map, is_none, position, refl, sym, ap, subst, arith, All, min, ◌-◌}
+use Rattle.std.specs.List.{position_or_len}
+use Rattle.std.proofs.lemmas.List.{get_or_past, get_or-take, get_or-drop, length-take, length-drop}
+use Rattle.host_types.specs.declared.options.Options.{Options}
+use Rattle.host_types.specs.declared.shape.Shape.{Shape}
+use Rattle.host_types.specs.Bytes.{part_of}
+use Rattle.host_types.specs.Memory.{FlatMap, FlatMaps, map_at}
+use Rattle.host_types.specs.Pages.{map_place}
+use Rattle.std.specs.List.{concat}
+use Rattle.std.proofs.lemmas.List.{length-take-le}
+use Rattle.std.proofs.lemmas.List.Elements.{All-nil, All-cons, All-head, All-tail, All-append, All-take, All-drop}
+use Rattle.host_types.specs.Shapes.{byte_len_of}
+use Rattle.host_types.specs.Tenant.{IsFlatMap}
+use Rattle.frame_arena.specs.Pages.{IsPage, page_at}
+use Rattle.page_table.specs.Limits.{page_count}
+use Rattle.page_table.specs.declared.entry.Entry.{Entry}
+use Rattle.page_table.specs.declared.tenant.Tenant.{Tenant}
+use Rattle.page_table.specs.State.{MemoryState, part, free_number}
+use Rattle.page_table.specs.Table.{TableState, maps_of, flat_of, content, contents_of, ArePages, ArePagesOf, AreMaps}
+use Rattle.page_table.specs.View.{view_of}
+use Rattle.page_table.proofs.Maps.{map_at-maps_of, length-maps_of, length-concat}
+use Rattle.page_table.proofs.Reading.{map_at-part, map_at-past}
+
+shape_of_flat : (pages : List (List ℕ)) (shape : Option Shape) → option_map (λ (flat : FlatMap). flat.shape) (option_map (flat_of pages) shape) ≡ shape
+shape_of_flat pages None = refl
+shape_of_flat pages (Some shape) = refl
+
+-- two lists that are free at the same places have the same first free place
+same_prefix : (maps : FlatMaps) (shapes : List (Option Shape)) → length maps ≡ length shapes → ((i : ℕ) → is_none (slice_index_or maps i None) ≡ is_none (slice_index_or shapes i None))
+    → position_or_len (λ (slot : Option FlatMap). is_none slot) maps ≡ position_or_len (λ (slot : Option Shape). is_none slot) shapes
+same_prefix [] [] e h = refl
+same_prefix [] (s ∷ shapes) e h = absurd (omega arith)
+same_prefix (m ∷ maps) [] e h = absurd (omega arith)
+same_prefix (m ∷ maps) (s ∷ shapes) e h =
+    let first = h 0 in
+    let rest = same_prefix maps shapes (omega arith) (λ i. h (suc i)) in
+    rw (first, rest) refl
+
+same_position : (maps : FlatMaps) (shapes : List (Option Shape)) → length maps ≡ length shapes → ((i : ℕ) → is_none (slice_index_or maps i None) ≡ is_none (slice_index_or shapes i None))
+    → position (λ (slot : Option FlatMap). is_none slot) maps ≡ position (λ (slot : Option Shape). is_none slot) shapes
+same_position maps shapes e h = rw (same_prefix maps shapes e h, e) refl
+
+length-part : {X : Type 0} (xs : List X) (at w : ℕ) → length (part_of xs at w) ≡ min w (length xs - at)
+unfolding part_of
+length-part xs at w = length-take w (drop at xs) ∙ ap (min w) (length-drop at xs)
+
+is_none-map : {X Y : Type 0} (f : X → Y) (x : Option X) → is_none (option_map f x) ≡ is_none x
+is_none-map f None = refl
+is_none-map f (Some x) = refl
+
+-- the maps' places are free where no shape is
+free_of_maps : (shapes : List (Option Shape)) (contents : List (List ℕ)) (from width : ℕ)
+    → position (λ (slot : Option FlatMap). is_none slot) (part_of (maps_of shapes contents) from width) ≡ position (λ (slot : Option Shape). is_none slot) (part_of shapes from width)
+unfolding part_of
+free_of_maps shapes contents from width =
+    same_position (take width (drop from (maps_of shapes contents))) (take width (drop from shapes))
+    (length-part (maps_of shapes contents) from width ∙ ap (λ (n : ℕ). min width (n - from)) (length-maps_of shapes contents) ∙ sym (length-part shapes from width))
+    (λ i. ⊎_elim (λ less. within i less) (λ more. past i more) (order i width))
+  where
+    order : (a b : ℕ) → (a < b) ⊎ (b ≤ a)
+    order a b = grind arith
+
+    within : (i : ℕ) → i < width → is_none (slice_index_or (take width (drop from (maps_of shapes contents))) i None) ≡ is_none (slice_index_or (take width (drop from shapes)) i None)
+    within i less =
+        ap (λ (x : Option FlatMap). is_none x) (get_or-take width (drop from (maps_of shapes contents)) i None less ∙ get_or-drop from (maps_of shapes contents) i None ∙ map_at-maps_of shapes contents (from + i))
+        ∙ is_none-map (flat_of (take 256 (drop ((from + i) * 256) contents))) (slice_index_or shapes (from + i) None)
+        ∙ ap (λ (x : Option Shape). is_none x) (sym (get_or-take width (drop from shapes) i None less ∙ get_or-drop from shapes i None))
+
+    past : (i : ℕ) → width ≤ i → is_none (slice_index_or (take width (drop from (maps_of shapes contents))) i None) ≡ is_none (slice_index_or (take width (drop from shapes)) i None)
+    past i more =
+        let few = length-take width (drop from (maps_of shapes contents)) in
+        let short = length-take width (drop from shapes) in
+        ap (λ (x : Option FlatMap). is_none x) (get_or_past (take width (drop from (maps_of shapes contents))) i None (omega arith))
+        ∙ sym (ap (λ (x : Option Shape). is_none x) (get_or_past (take width (drop from shapes)) i None (omega arith)))
+
+-- the first free number of a tenant is the first place of its shapes without one
+pub free_number_told : (table : TableState) (shapes : List (Option Shape)) (tenants : List Tenant) (options : Options) (t : ℕ)
+    → free_number (part (view_of table shapes tenants options) t) ≡ position (λ (slot : Option Shape). is_none slot) (part_of shapes (t * 8) 8)
+unfolding view_of part
+free_number_told table shapes tenants options t = free_of_maps shapes (contents_of table) (t * 8) 8
+
+module _ (table : TableState) (shapes : List (Option Shape)) (tenants : List Tenant) (options : Options) (t : ℕ) where
+  pub shape_told : (m : ℕ) → m < 8 → option_map (λ (flat : FlatMap). flat.shape) (map_at (part (view_of table shapes tenants options) t).maps m) ≡ slice_index_or shapes (map_place t m) None
+  unfolding view_of part
+  shape_told m small =
+      ap (option_map (λ (flat : FlatMap). flat.shape)) (map_at-part (maps_of shapes (contents_of table)) t m small ∙ map_at-maps_of shapes (contents_of table) (map_place t m))
+      ∙ shape_of_flat (part_of (contents_of table) (map_place t m * 256) 256) (slice_index_or shapes (map_place t m) None)
+
+  pub map_told : (m : ℕ) → m < 8 → map_at (part (view_of table shapes tenants options) t).maps m ≡ option_map (flat_of (part_of (contents_of table) (map_place t m * 256) 256)) (slice_index_or shapes (map_place t m) None)
+  unfolding view_of part
+  map_told m small = map_at-part (maps_of shapes (contents_of table)) t m small ∙ map_at-maps_of shapes (contents_of table) (map_place t m)
+
+-- a tenant has no map of another number
+pub map_past : (memory : MemoryState) (t m : ℕ) → 8 ≤ m → map_at (part memory t).maps m ≡ None
+unfolding part
+map_past memory t m past = map_at-past memory.maps t m past
+
+-- the bytes of pages
+
+abbrev IsByte : ℕ → Type 0
+IsByte byte = byte < 256
+
+pages_small : (arena : List (List ℕ)) (f : ℕ) → All IsPage arena → All IsByte (page_at arena f)
+pages_small [] f all = All-nil IsByte
+pages_small (page ∷ arena) zero all = IsPage.bytes (All-head IsPage page arena all)
+pages_small (page ∷ arena) (suc f) all = pages_small arena f (All-tail IsPage page arena all)
+
+contents_small : (arena : List (List ℕ)) (entries : List (Option Entry)) → All IsPage arena → All (λ page. All IsByte page) (map (content arena) entries)
+contents_small arena [] all = All-nil (λ page. All IsByte page)
+contents_small arena (None ∷ xs) all = All-cons (λ page. All IsByte page) [] (map (content arena) xs) (All-nil IsByte) (contents_small arena xs all)
+contents_small arena (Some x ∷ xs) all = All-cons (λ page. All IsByte page) (page_at arena x.frame) (map (content arena) xs) (pages_small arena x.frame all) (contents_small arena xs all)
+
+concat_small : (pages : List (List ℕ)) → All (λ page. All IsByte page) pages → All IsByte (concat pages)
+concat_small [] all = All-nil IsByte
+concat_small (page ∷ pages) all = All-append IsByte page (concat pages) (All-head (λ p. All IsByte p) page pages all) (concat_small pages (All-tail (λ p. All IsByte p) page pages all))
+
+flat_is : (shape : Shape) (pages : List (List ℕ)) → ArePagesOf shape pages → All (λ page. All IsByte page) pages → IsFlatMap (flat_of pages shape)
+flat_is shape pages are all =
+    let whole = length-concat pages (page_count shape) are.there are.none in
+    record {
+      shape = are.shaped;
+      sized = length-take-le (byte_len_of shape) (concat pages) (omega arith);
+      bytes = All-take IsByte (byte_len_of shape) (concat pages) (concat_small pages all);
+    }
+
+-- a map that is there is within the limits
+map_is : (table : TableState) (shapes : List (Option Shape)) (k : ℕ) → AreMaps shapes (contents_of table) → k < length shapes → All IsPage table.arena
+    → IfSome (option_map (flat_of (part_of (contents_of table) (k * 256) 256)) (slice_index_or shapes k None)) IsFlatMap
+unfolding contents_of part_of
+map_is table shapes k are inside all = by_shape (slice_index_or shapes k None) (are.each k inside)
+  where
+    by_shape : (shape : Option Shape) → ArePages shape (part_of (contents_of table) (k * 256) 256) → IfSome (option_map (flat_of (part_of (contents_of table) (k * 256) 256)) shape) IsFlatMap
+    by_shape None h = tt
+    by_shape (Some shape) h =
+        flat_is shape (part_of (contents_of table) (k * 256) 256) h
+        (All-take (λ page. All IsByte page) 256 (drop (k * 256) (contents_of table)) (All-drop (λ page. All IsByte page) (k * 256) (contents_of table) (contents_small table.arena table.entries all)))
+
+pub map_ok : (table : TableState) (shapes : List (Option Shape)) (tenants : List Tenant) (options : Options) (t m : ℕ) → AreMaps shapes (contents_of table) → m < 8 → All IsPage table.arena
+    → IfSome (map_at (part (view_of table shapes tenants options) t).maps m) IsFlatMap
+map_ok table shapes tenants options t m are small all =
+    subst (λ (x : Option FlatMap). IfSome x IsFlatMap) (sym (map_told table shapes tenants options t m small))
+    (⊎_elim (λ less. map_is table shapes (map_place t m) are less all)
+    (λ past. subst (λ (x : Option Shape). IfSome (option_map (flat_of (part_of (contents_of table) (map_place t m * 256) 256)) x) IsFlatMap) (sym (get_or_past shapes (map_place t m) None past)) tt)
+    (order (map_place t m) (length shapes)))
+  where
+    order : (a b : ℕ) → (a < b) ⊎ (b ≤ a)
+    order a b = grind arith

@@ -1,0 +1,28 @@
+-- Counts of frames, and the list of the unused ones.
+use Rattle.std.proofs.Common.{◌≡◌, ◌∙◌, ℕ, zero, suc, ◌+◌, ◌<◌, ◌≤◌, ◌==◌, ◌&&◌, nat_lt, Bool, List, [], ◌∷◌, ◌++◌, length, slice_index_or, refl, ap, arith}
+use Rattle.std.proofs.lemmas.List.Sums.{sum_by_push}
+use Rattle.page_table.specs.Table.{AreCounts, times, one_if_zero}
+use Rattle.page_table.proofs.Entries.{one_when, equal}
+
+-- a number occurs once more after it is pushed
+pub times-push : (g f : ℕ) (xs : List ℕ) → times g (xs ++ f ∷ []) ≡ times g xs + one_when (f == g)
+times-push g f xs = sum_by_push (λ (x : ℕ). one_when (x == g)) xs f
+
+pub unused_default : (counts : List ℕ) (f : ℕ) → 1 ≤ one_if_zero (slice_index_or counts f 1) → (f < length counts) × (slice_index_or counts f 1 ≡ 0)
+unused_default [] f h = absurd (omega arith)
+unused_default (zero ∷ counts) zero h = (omega arith, refl)
+unused_default (suc c ∷ counts) zero h = absurd (omega arith)
+unused_default (c ∷ counts) (suc f) h = let rest = unused_default counts f h in (omega arith, rest.1)
+
+-- the frame at the end of the unused ones is there, and nobody holds it
+pub popped : (counts unused rest : List ℕ) (f : ℕ) → AreCounts (record { counts = counts; unused = unused }) → unused ≡ rest ++ f ∷ []
+    → (f < length counts) × (slice_index_or counts f 1 ≡ 0)
+popped counts unused rest f are e =
+    let listed : times f unused ≡ one_if_zero (slice_index_or counts f 1) = are.listed f in
+    let counted : times f unused ≡ times f rest + one_when (f == f) = ap (times f) e ∙ times-push f f rest in
+    let one : one_when (f == f) ≡ 1 = ap one_when (equal f) in
+    unused_default counts f (omega (arith, listed, counted, one))
+
+-- a number of a range that begins with 1
+abbrev pub is_between : ℕ → ℕ → Bool
+is_between end f = nat_lt 0 f && nat_lt f end

@@ -1,0 +1,226 @@
+-- What a memory tells after bytes of a page were written.
+use Rattle.std.proofs.Common.{◌≡◌, ◌≢◌, ◌∙◌, ◌⊎◌, ⊎_elim, ℕ, zero, suc, ◌+◌, ◌*◌, ◌<◌, ◌≤◌, List, [], ◌∷◌, length, take, drop, slice_index_or, slice_set, Option, Some, None, IfSome, false, option_map, refl, sym, ap, subst, arith, length-set}
+use Rattle.std.specs.List.{concat}
+use Rattle.std.proofs.lemmas.List.{get_or-set_same, get_or-set_other, get_or_past, length-take-le}
+use Rattle.host_types.specs.declared.options.Options.{Options}
+use Rattle.host_types.specs.declared.shape.Shape.{Shape}
+use Rattle.host_types.specs.declared.shape.Page.{Page}
+use Rattle.host_types.specs.Bytes.{part_of, with_part}
+use Rattle.host_types.specs.Memory.{FlatMap, FlatMaps, map_at}
+use Rattle.host_types.specs.Pages.{map_place, page_place}
+use Rattle.host_types.specs.Shapes.{byte_len_of}
+use Rattle.host_types.specs.Sharing.{PageState, is_shared}
+use Rattle.host_types.specs.Tenant.{TenantPart}
+use Rattle.host_types.proofs.Lists.{length-with_part}
+use Rattle.page_table.specs.declared.entry.Entry.{Entry}
+use Rattle.page_table.specs.declared.tenant.Tenant.{Tenant}
+use Rattle.page_table.specs.Limits.{page_count}
+use Rattle.page_table.specs.State.{MemoryState, part, bytes_of_map}
+use Rattle.page_table.specs.Changes.{IsPageOf, IsOwn, map_written, part_written, IsKeptBut, AreMapsKeptBut, KeepsSettings}
+use Rattle.page_table.specs.Table.{TableState, entry_at, state_of, maps_of, flat_of, ArePages, ArePagesOf, contents_of, groups_of, states_of, frames_of}
+use Rattle.page_table.specs.View.{view_of, IsMemory}
+use Rattle.page_table.proofs.Maps.{maps_of-changed, AreMaps-changed, length-maps_of, part_of-set_same, part_of-set_other, concat-written, length-concat, take-with_part, drop-with_part}
+use Rattle.page_table.proofs.Reading.{IsLocated, page_located, page_number, few_pages, content_in, bytes_in, map_at-part}
+
+-- a memory with one map of a tenant replaced
+pub part-set_same : (old new : MemoryState) (t m : ℕ) (flat : Option FlatMap) → m < 8 → new.tenants ≡ old.tenants → new.maps ≡ slice_set old.maps (map_place t m) flat
+    → part new t ≡ record (part old t) { maps = slice_set (part old t).maps m flat }
+unfolding part
+part-set_same old new t m flat small tenants maps = rw (tenants, maps, part_of-set_same old.maps (t * 8) m 8 flat small) refl
+
+pub part-set_other : (old new : MemoryState) (t m : ℕ) (flat : Option FlatMap) → m < 8 → new.tenants ≡ old.tenants → new.maps ≡ slice_set old.maps (map_place t m) flat
+    → IsKeptBut t old new
+unfolding part
+part-set_other old new t m flat small tenants maps u ne = rw (tenants, maps, part_of-set_other old.maps t m u 8 flat small ne) refl
+
+pub maps-set_other : (old new : MemoryState) (t m : ℕ) (flat : Option FlatMap) → m < 8 → new.tenants ≡ old.tenants → new.maps ≡ slice_set old.maps (map_place t m) flat
+    → AreMapsKeptBut m (part old t) (part new t)
+maps-set_other old new t m flat small tenants maps j ne =
+    ap (λ (owned : TenantPart). map_at owned.maps j) (part-set_same old new t m flat small tenants maps)
+    ∙ get_or-set_other (part old t).maps m j flat None ne
+
+-- bytes of a page were written, and nothing else has changed
+pub record Writes (old new : MemoryState) (page : Page) (at : ℕ) (bytes : List ℕ) : Type 0 where
+  pub written : part new page.tenant ≡ part_written (part old page.tenant) page.map (page.number * 4096 + at) bytes
+  pub bytes_new : bytes_of_map new page ≡ with_part (bytes_of_map old page) (page.number * 4096 + at) bytes
+  pub other_maps : AreMapsKeptBut page.map (part old page.tenant) (part new page.tenant)
+  pub others : IsKeptBut page.tenant old new
+  pub sharing : new.sharing ≡ old.sharing
+  pub frames : new.frames ≡ old.frames
+  pub settings : KeepsSettings old new
+
+-- bytes written into one page, among the pages of a map
+module _ (shape : Shape) (pages : List (List ℕ)) (n at : ℕ) (bytes : List ℕ) (are : ArePagesOf shape pages) (there : n < page_count shape) (in_page : at + length bytes ≤ 4096) (in_map : n * 4096 + at + length bytes ≤ byte_len_of shape) where
+  abbrev written : List ℕ
+  written = with_part (slice_index_or pages n []) at bytes
+
+  whole : length (concat pages) ≡ page_count shape * 4096
+  whole = length-concat pages (page_count shape) are.there are.none
+
+  joined : concat (slice_set pages n written) ≡ with_part (concat pages) (n * 4096 + at) bytes
+  joined = concat-written pages n at bytes (λ m le. are.there m (omega (arith, le, there))) in_page
+
+  pub flat_written : flat_of (slice_set pages n written) shape ≡ map_written (n * 4096 + at) bytes (flat_of pages shape)
+  flat_written =
+      ap (λ l. record { shape = shape; bytes = take (byte_len_of shape) l }) joined
+      ∙ ap (λ l. record { shape = shape; bytes = l }) (take-with_part (concat pages) bytes (byte_len_of shape) (n * 4096 + at) (let h = whole in omega arith) in_map)
+
+  pub pages_written : ArePagesOf shape (slice_set pages n written)
+  pages_written =
+      record {
+        shaped = are.shaped;
+        there = λ m less. at_page m less;
+        none = λ m le. get_or-set_other pages n m written [] (λ e. omega (arith, e, le, there)) ∙ are.none m le;
+        padded = ap (drop (byte_len_of shape)) joined ∙ drop-with_part (concat pages) bytes (byte_len_of shape) (n * 4096 + at) (let h = whole in omega arith) in_map ∙ are.padded;
+      }
+    where
+      inside_page : n < length pages
+      inside_page = by_length (are.there n there)
+        where
+          by_length : length (slice_index_or pages n []) ≡ 4096 → n < length pages
+          by_length e = ⊎_elim (λ less. less) (λ past. absurd (omega (arith, e, ap length (get_or_past pages n [] past)))) (order n (length pages))
+            where
+              order : (a b : ℕ) → (a < b) ⊎ (b ≤ a)
+              order a b = grind arith
+
+      at_page : (m : ℕ) → m < page_count shape → length (slice_index_or (slice_set pages n written) m []) ≡ 4096
+      at_page m less = ⊎_elim (λ e. here m e) (λ ne. ap length (get_or-set_other pages n m written [] ne) ∙ are.there m less) (order m n)
+        where
+          order : (a b : ℕ) → (a ≡ b) ⊎ (a ≢ b)
+          order a b = grind arith
+
+          here : (m : ℕ) → m ≡ n → length (slice_index_or (slice_set pages n written) m []) ≡ 4096
+          here m e =
+              let long = are.there n there in
+              ap (λ (k : ℕ). length (slice_index_or (slice_set pages n written) k [])) e
+              ∙ ap length (get_or-set_same pages n written [] inside_page)
+              ∙ length-with_part (slice_index_or pages n []) at bytes (omega (arith, long, in_page)) ∙ long
+
+module _ (table new : TableState) (shapes : List (Option Shape)) (tenants : List Tenant) (options : Options) (reserved : ℕ) (page : Page) (at : ℕ) (bytes : List ℕ) (is : IsMemory table shapes tenants reserved) (there : IsPageOf (view_of table shapes tenants options) page) (in_page : at + length bytes ≤ 4096) (in_map : page.number * 4096 + at + length bytes ≤ length (bytes_of_map (view_of table shapes tenants options) page))
+    (contents : contents_of new ≡ slice_set (contents_of table) (page_place page) (with_part (slice_index_or (contents_of table) (page_place page) []) at bytes))
+    (entries : new.entries ≡ table.entries) (groups : new.groups ≡ table.groups) (arena : length new.arena ≡ length table.arena) where
+  abbrev k : ℕ
+  k = map_place page.tenant page.map
+
+  abbrev old_pages : List (List ℕ)
+  old_pages = part_of (contents_of table) (k * 256) 256
+
+  abbrev loc : IsLocated shapes (contents_of table) page.tenant page.map (page.number * 4096)
+  loc = page_located table shapes tenants options reserved page is there
+
+  number : page.number < page_count loc.shape
+  number = page_number table shapes tenants options reserved page is there
+
+  small : page.number < 256
+  small = let few = few_pages loc.shape loc.pages.shaped in let h = number in omega arith
+
+  in_bytes : page.number * 4096 + at + length bytes ≤ byte_len_of loc.shape
+  unfolding view_of part
+  in_bytes =
+      let long : length (bytes_of_map (view_of table shapes tenants options) page) ≡ length (take (byte_len_of loc.shape) (concat old_pages)) = ap (λ flat. length (bytes_in flat)) loc.flat in
+      let whole_is = length-concat old_pages (page_count loc.shape) loc.pages.there loc.pages.none in
+      let front = length-take-le (byte_len_of loc.shape) (concat old_pages) (omega arith) in
+      omega (arith, in_map, long, front)
+
+  contents_new : contents_of new ≡ slice_set (contents_of table) (k * 256 + page.number) (with_part (slice_index_or old_pages page.number []) at bytes)
+  contents_new = contents ∙ ap (λ l. slice_set (contents_of table) (k * 256 + page.number) (with_part l at bytes)) (content_in (contents_of table) k page.number small)
+
+  pages_new : part_of (contents_of new) (k * 256) 256 ≡ slice_set old_pages page.number (with_part (slice_index_or old_pages page.number []) at bytes)
+  pages_new = ap (λ l. part_of l (k * 256) 256) contents_new ∙ part_of-set_same (contents_of table) (k * 256) page.number 256 (with_part (slice_index_or old_pages page.number []) at bytes) small
+
+  others_new : (j : ℕ) → j ≢ k → part_of (contents_of new) (j * 256) 256 ≡ part_of (contents_of table) (j * 256) 256
+  others_new j ne = ap (λ l. part_of l (j * 256) 256) contents_new ∙ part_of-set_other (contents_of table) k page.number j 256 (with_part (slice_index_or old_pages page.number []) at bytes) small ne
+
+  abbrev flat_new : FlatMap
+  flat_new = map_written (page.number * 4096 + at) bytes (flat_of old_pages loc.shape)
+
+  maps_new : maps_of shapes (contents_of new) ≡ slice_set (maps_of shapes (contents_of table)) k (Some flat_new)
+  maps_new =
+      maps_of-changed shapes shapes (contents_of table) (contents_of new) k (Some flat_new) refl loc.inside (λ j ne. refl) others_new
+      (ap (option_map (flat_of (part_of (contents_of new) (k * 256) 256))) loc.here
+      ∙ ap (λ p. Some (flat_of p loc.shape)) pages_new
+      ∙ ap (λ f. Some f) (flat_written loc.shape old_pages page.number at bytes loc.pages number in_page in_bytes))
+
+  pub memory_written : IsMemory new shapes tenants reserved
+  memory_written =
+      record {
+        maps = AreMaps-changed shapes shapes (contents_of table) (contents_of new) k refl
+            (ap length contents ∙ length-set (contents_of table) (page_place page) (with_part (slice_index_or (contents_of table) (page_place page) []) at bytes))
+            (λ j ne. refl) others_new
+            (subst (λ s. ArePages s (part_of (contents_of new) (k * 256) 256)) (sym loc.here)
+            (subst (λ p. ArePagesOf loc.shape p) (sym pages_new) (pages_written loc.shape old_pages page.number at bytes loc.pages number in_page in_bytes)))
+            is.maps;
+        numbers = is.numbers;
+        few = is.few;
+        frames = omega (arith, arena, is.frames);
+        sum = is.sum;
+        room = rw (groups, entries, arena) is.room;
+        own = rw entries is.own;
+      }
+
+  abbrev before : MemoryState
+  before = view_of table shapes tenants options
+
+  abbrev after : MemoryState
+  after = view_of new shapes tenants options
+
+  maps_after : after.maps ≡ slice_set before.maps k (Some flat_new)
+  unfolding view_of
+  maps_after = maps_new
+
+  flat_before : map_at (part before page.tenant).maps page.map ≡ Some (flat_of old_pages loc.shape)
+  unfolding view_of part
+  flat_before = loc.flat
+
+  tenants_after : after.tenants ≡ before.tenants
+  unfolding view_of
+  tenants_after = refl
+
+  map_after : map_at (part after page.tenant).maps page.map ≡ Some flat_new
+  unfolding view_of part
+  map_after =
+      map_at-part (maps_of shapes (contents_of new)) page.tenant page.map loc.small
+      ∙ ap (λ (maps : FlatMaps). map_at maps k) maps_new
+      ∙ get_or-set_same (maps_of shapes (contents_of table)) k (Some flat_new) None (let long = length-maps_of shapes (contents_of table) in let h = loc.inside in omega (arith, long, h))
+
+  part_after : part after page.tenant ≡ part_written (part before page.tenant) page.map (page.number * 4096 + at) bytes
+  part_after =
+      part-set_same before after page.tenant page.map (Some flat_new) loc.small tenants_after maps_after
+      ∙ ap (λ (flat : Option FlatMap). record (part before page.tenant) { maps = slice_set (part before page.tenant).maps page.map flat })
+      (sym (ap (option_map (map_written (page.number * 4096 + at) bytes)) flat_before))
+
+  sharing_after : after.sharing ≡ before.sharing
+  unfolding view_of groups_of
+  sharing_after = rw (entries, groups) refl
+
+  frames_after : after.frames ≡ before.frames
+  unfolding view_of
+  frames_after = ap frames_of entries
+
+  settings_after : KeepsSettings before after
+  unfolding view_of
+  settings_after = record { tenants = refl; frames = arena }
+
+  pub writes : Writes before after page at bytes
+  writes =
+      record {
+        written = part_after;
+        bytes_new = ap bytes_in map_after ∙ ap (λ flat. with_part (bytes_in flat) (page.number * 4096 + at) bytes) (sym flat_before);
+        other_maps = maps-set_other before after page.tenant page.map (Some flat_new) loc.small tenants_after maps_after;
+        others = part-set_other before after page.tenant page.map (Some flat_new) loc.small tenants_after maps_after;
+        sharing = sharing_after;
+        frames = frames_after;
+        settings = settings_after;
+      }
+
+-- what holds of the state at a place holds of its entry
+pub entry_of_state : (P : PageState → Type 0) (entries : List (Option Entry)) (i : ℕ) → IfSome (slice_index_or (states_of entries) i None) P → IfSome (entry_at entries i) (λ entry. P (state_of entry))
+entry_of_state P [] i h = tt
+entry_of_state P (None ∷ xs) zero h = tt
+entry_of_state P (Some x ∷ xs) zero h = h
+entry_of_state P (x ∷ xs) (suc i) h = entry_of_state P xs i h
+
+pub own_entry : (table : TableState) (shapes : List (Option Shape)) (tenants : List Tenant) (options : Options) (page : Page) → IsOwn (view_of table shapes tenants options) page
+    → IfSome (entry_at table.entries (page_place page)) (λ entry. is_shared entry.status ≡ false)
+unfolding view_of
+own_entry table shapes tenants options page own = entry_of_state (λ state. is_shared state.status ≡ false) table.entries (page_place page) own

@@ -1,0 +1,12 @@
+use Rattle.std.proofs.Common.{◌≡◌, ◌≤◌, ◌+◌, ℕ, length, vec_capacity}
+use Rattle.page_table.specs.Table.{times}
+use Rattle.page_table.proofs.Entries.{one_when}
+use Rattle.page_table.proofs.Unused.{is_between}
+use Rattle.page_table.proofs.counts.unused_frames.Given as goal
+
+abbrev pub invariant-loop-frame : goal.invariant-loop-frame
+invariant-loop-frame l = record {
+  listed : (f : ℕ) → times f l.unused.items ≡ one_when (is_between l.frame f);
+  count : length l.unused.items + 1 ≡ l.frame;
+  room : l.frames ≤ vec_capacity l.unused;
+}

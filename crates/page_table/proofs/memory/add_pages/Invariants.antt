@@ -1,0 +1,16 @@
+use Rattle.std.proofs.Common.{◌≡◌, ◌+◌, length, replicate, Some}
+use Rattle.host_types.specs.Bytes.{with_part}
+use Rattle.host_types.specs.Sharing.{new_page}
+use Rattle.frame_arena.specs.Pages.{zero_page}
+use Rattle.page_table.specs.Table.{contents_of, states_of, groups_of, used_by}
+use Rattle.page_table.proofs.memory.add_pages.Given as goal
+
+abbrev pub invariant-loop-number : goal.invariant-loop-number
+invariant-loop-number l = record {
+  contents : contents_of l.table ≡ with_part (contents_of l.fn.table) l.first (replicate l.number zero_page);
+  states : states_of l.table.entries ≡ with_part (states_of l.fn.table.entries) l.first (replicate l.number (Some (new_page l.mergeable)));
+  groups : groups_of l.table ≡ groups_of l.fn.table;
+  used : used_by l.table ≡ used_by l.fn.table + l.number;
+  arena : length l.table.arena ≡ length l.fn.table.arena;
+  entries : length l.table.entries ≡ length l.fn.table.entries;
+}

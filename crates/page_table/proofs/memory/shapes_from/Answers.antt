@@ -1,0 +1,5 @@
+use Rattle.frame_arena.proofs.Parts.{part-range}
+use Rattle.page_table.proofs.memory.shapes_from.Goals as goal
+
+pub returns-clause-shapes : goal.returns-clause-shapes
+returns-clause-shapes c = part-range c.args.shapes.now c.args.first 8

@@ -1,0 +1,168 @@
+-- What a page table reads as: the page and status at each place, and which places lie on one frame.
+use Rattle.std.specs.Prelude.{◌≡◌, ◌⊎◌, ℕ, zero, suc, ◌+◌, ◌-◌, ◌*◌, ◌<◌, ◌≤◌, ◌==◌, Bool, false, if◌then◌else◌, List, [], ◌∷◌, length, map, take, drop, replicate, sum_by, slice_index_or, Option, None, Some, option_map, IfSome}
+use Rattle.std.specs.List.{concat}
+use Rattle.host_types.specs.declared.shape.Shape.{Shape}
+use Rattle.host_types.specs.declared.options.Options.{Options}
+use Rattle.host_types.specs.declared.status.Status.{Status}
+use Rattle.host_types.specs.declared.status.Status.TheVariants.{New, Volatile, Waiting, Grouped, Zero}
+use Rattle.host_types.specs.Bytes.{part_of}
+use Rattle.host_types.specs.Memory.{FlatMap, FlatMaps}
+use Rattle.host_types.specs.Shapes.{IsShape, byte_len_of}
+use Rattle.host_types.specs.Sharing.{Sharing, PageState, own_frame, is_shared}
+use Rattle.frame_arena.specs.Pages.{page_at, zero_page}
+use Rattle.page_table.specs.declared.entry.Entry.{Entry}
+use Rattle.page_table.specs.Limits.{page_count}
+
+-- how often a number occurs in a list
+abbrev pub times : ℕ → List ℕ → ℕ
+times n xs = sum_by (λ x. if x == n then 1 else 0) xs
+
+-- The frames in use: for each frame how many hold it, and the frames that nobody holds. The zero frame is always held.
+pub record CountsState : Type 0 where
+  pub counts : List ℕ
+  pub unused : List ℕ
+
+abbrev pub one_if_zero : ℕ → ℕ
+one_if_zero zero = 1
+one_if_zero (suc n) = 0
+
+-- the unused frames are those whose count is 0, each listed once
+pub record AreCounts (state : CountsState) : Type 0 where
+  pub listed : (f : ℕ) → times f state.unused ≡ one_if_zero (slice_index_or state.counts f 1)
+
+-- The frames' pages, the entries by place, and the frames of the groups in order of creation.
+pub record TableState : Type 0 where
+  pub arena : List (List ℕ)
+  pub entries : List (Option Entry)
+  pub groups : List ℕ
+
+abbrev pub entry_at : List (Option Entry) → ℕ → Option Entry
+entry_at entries i = slice_index_or entries i None
+
+-- what the memory's callers know of a page
+abbrev pub state_of : Entry → PageState
+state_of entry = record { mergeable = entry.mergeable; status = entry.status; last = entry.last }
+
+abbrev pub states_of : List (Option Entry) → List (Option PageState)
+states_of entries = map (option_map state_of) entries
+
+abbrev pub frames_of : List (Option Entry) → List (Option ℕ)
+frames_of entries = map (option_map (λ (entry : Entry). entry.frame)) entries
+
+-- the bytes of a page that is there, else none
+abbrev pub content : List (List ℕ) → Option Entry → List ℕ
+content arena None = []
+content arena (Some entry) = page_at arena entry.frame
+
+-- the bytes of the page at each place
+unfoldable pub contents_of : TableState → List (List ℕ)
+contents_of table = map (content table.arena) table.entries
+
+-- a page is there
+abbrev pub IsPageAt : TableState → ℕ → Type 0
+IsPageAt table i = length (slice_index_or (contents_of table) i []) ≡ 4096
+
+-- the page lies on the frame
+abbrev pub is_on : ℕ → Option Entry → Bool
+is_on f None = false
+is_on f (Some entry) = entry.frame == f
+
+-- the places, from n on, of the pages on a frame
+unfoldable pub places_on : ℕ → ℕ → List (Option Entry) → List ℕ
+places_on n f [] = []
+places_on n f (entry ∷ entries) = if is_on f entry then n ∷ places_on (n + 1) f entries else places_on (n + 1) f entries
+
+-- the groups as lists of places
+unfoldable pub groups_of : TableState → List (List ℕ)
+groups_of table = map (λ f. places_on 0 f table.entries) table.groups
+
+-- how many pages lie on a frame
+unfoldable pub pages_on : ℕ → List (Option Entry) → ℕ
+pages_on f entries = sum_by (λ entry. if is_on f entry then 1 else 0) entries
+
+-- how many pages have a frame of their own
+unfoldable pub own_pages : List (Option Entry) → ℕ
+own_pages entries = sum_by (λ entry. own_frame (option_map state_of entry)) entries
+
+-- the frames that are used up: the zero frame, one for each group and one for each page with its own
+abbrev pub used_by : TableState → ℕ
+used_by table = 1 + length table.groups + own_pages table.entries
+
+-- one page lies on the frame, and no group has it
+pub record IsAlone (table : TableState) (f : ℕ) : Type 0 where
+  pub above : 0 < f
+  pub one : pages_on f table.entries ≡ 1
+  pub no_group : times f table.groups ≡ 0
+
+-- one group has the frame, and has pages
+pub record IsGroup (table : TableState) (f : ℕ) : Type 0 where
+  pub above : 0 < f
+  pub once : times f table.groups ≡ 1
+  pub some : 1 ≤ pages_on f table.entries
+
+-- A page with its own frame is alone there. A page of a group lies on the group's frame, and a page
+-- of zeros on the zero frame.
+abbrev pub LiesRight : TableState → ℕ → Status → Type 0
+LiesRight table f New = IsAlone table f
+LiesRight table f Volatile = IsAlone table f
+LiesRight table f Waiting = IsAlone table f
+LiesRight table f Grouped = times f table.groups ≡ 1
+LiesRight table f Zero = f ≡ 0
+
+-- an entry's frame is there, and fits its status, and so does its protection
+pub record IsEntry (table : TableState) (entry : Entry) : Type 0 where
+  pub frame : entry.frame < length table.arena
+  pub protected : entry.protected ≡ is_shared entry.status
+  pub right : LiesRight table entry.frame entry.status
+
+-- each entry fits, each group has pages and a frame of its own, and the zero frame holds zeros
+pub record IsTable (table : TableState) : Type 0 where
+  pub some : 0 < length table.arena
+  pub small : length table.arena ≤ 4096
+  pub pages : (f : ℕ) → f < length table.arena → length (page_at table.arena f) ≡ 4096
+  pub zero : page_at table.arena 0 ≡ zero_page
+  pub entries : (i : ℕ) → IfSome (entry_at table.entries i) (IsEntry table)
+  pub groups : (f : ℕ) → (times f table.groups ≡ 0) ⊎ IsGroup table f
+  pub few : length table.entries ≤ 32768
+
+-- the counts are those of the pages on each frame, and all frames but the used ones are listed as unused
+pub record AreCountsOf (table : TableState) (counts : CountsState) : Type 0 where
+  pub sized : length counts.counts ≡ length table.arena
+  pub counted : (f : ℕ) → f < length table.arena → slice_index_or counts.counts f 0 ≡ one_if_zero f + pages_on f table.entries
+  pub used : length counts.unused + used_by table ≡ length table.arena
+
+-- a sound page table
+pub record IsSound (table : TableState) (counts : CountsState) : Type 0 where
+  pub fits : IsTable table
+  pub counted : AreCountsOf table counts
+
+-- the map's bytes, out of the contents of its 256 page numbers
+abbrev pub flat_of : List (List ℕ) → Shape → FlatMap
+flat_of pages shape = record { shape = shape; bytes = take (byte_len_of shape) (concat pages) }
+
+-- the maps of these shapes by place, out of the contents of all places
+unfoldable pub maps_of : List (Option Shape) → List (List ℕ) → FlatMaps
+maps_of [] contents = []
+maps_of (shape ∷ shapes) contents = option_map (flat_of (take 256 contents)) shape ∷ maps_of shapes (drop 256 contents)
+
+-- a map's pages are there and no others, and behind the map's bytes they are zero
+pub record ArePagesOf (shape : Shape) (pages : List (List ℕ)) : Type 0 where
+  pub shaped : IsShape shape
+  pub there : (n : ℕ) → n < page_count shape → length (slice_index_or pages n []) ≡ 4096
+  pub none : (n : ℕ) → page_count shape ≤ n → slice_index_or pages n [] ≡ []
+  pub padded : drop (byte_len_of shape) (concat pages) ≡ replicate (page_count shape * 4096 - byte_len_of shape) 0
+
+-- where there is no map, there are no pages
+abbrev pub ArePages : Option Shape → List (List ℕ) → Type 0
+ArePages None pages = (n : ℕ) → slice_index_or pages n [] ≡ []
+ArePages (Some shape) pages = ArePagesOf shape pages
+
+-- the pages of each map are right
+pub record AreMaps (shapes : List (Option Shape)) (contents : List (List ℕ)) : Type 0 where
+  pub places : length contents ≡ length shapes * 256
+  pub each : (k : ℕ) → k < length shapes → ArePages (slice_index_or shapes k None) (part_of contents (k * 256) 256)
+
+-- what a table tells of the pages that share frames
+abbrev pub sharing_of : TableState → Options → Sharing
+sharing_of table options =
+    record { pages = states_of table.entries; groups = groups_of table; waiting = []; cursor = None; options = options; full_scans = 0 }
