@@ -4,18 +4,17 @@ ghost use Rattle.std.specs.Prelude.{◌≡◌, ◌≤◌, length, IfErr, IfOk, O
 ghost use Rattle.bpf_host.specs.Faults.{IsOfWords, IsUsage};
 ghost use Rattle.bpf_host.specs.Check.{AnswersWords, AskNothing, IsAccepted, IsCheckRefusal, subject_of};
 
-mod advice;
+mod explanation;
 mod question;
 #[cfg(test)]
 mod tests;
 
 use crate::fault::{FileFault, written};
 use crate::judge::{accepted, is_context_size};
-use advice::rule_in_words;
+use explanation::explain;
 use host_types::Fault;
 use question::{Question, question_of};
 use std::alloc::Global;
-use std::io;
 use std::io::Write;
 use verifier::Verified;
 
@@ -46,7 +45,7 @@ pub fn check<W: Write, E: Write>(
         Err(fault) => {
             write_refused(output, fault)?;
             // The answer is written: what it means may be lost.
-            let _ = explain(words, fault);
+            let _ = explain(words, asked.text.as_slice(), fault);
             Ok(1)
         }
     }
@@ -81,13 +80,4 @@ fn write_refused<W: Write>(output: &mut W, fault: Fault) -> Result<(), FileFault
 {
     written(writeln!(output, "{fault}"))?;
     written(output.flush())
-}
-
-/// Writes what a refusal means, after the slot that it names.
-fn explain<W: Write>(words: &mut W, fault: Fault) -> io::Result<()> {
-    let meaning = rule_in_words(fault.number());
-    match fault {
-        Fault::Program(refused) => writeln!(words, "slot {}: {meaning}", refused.slot),
-        _ => writeln!(words, "{meaning}"),
-    }
 }

@@ -1,15 +1,14 @@
 -- New pages at places one after another, and what a memory tells of a new map.
-use Rattle.std.proofs.Common.{◌≡◌, ◌≢◌, ◌∙◌, ◌⊎◌, ⊎_elim, ℕ, zero, suc, ◌+◌, ◌-◌, ◌*◌, ◌<◌, ◌≤◌, List, [], ◌∷◌, ◌++◌, length, take, drop, replicate, slice_index_or, slice_set, Option, Some, None, All, Bool, option_map, refl, sym, ap, subst, arith, length-set, append_assoc}
+use Rattle.std.proofs.Common.{◌≡◌, ◌≢◌, ◌∙◌, ◌⊎◌, ⊎_elim, ℕ, zero, suc, ◌+◌, ◌-◌, ◌*◌, ◌<◌, ◌≤◌, List, [], ◌∷◌, ◌++◌, length, take, drop, replicate, slice_index_or, slice_set, Option, Some, None, Bool, option_map, refl, sym, ap, subst, arith, length-set, append_assoc}
 use Rattle.std.specs.List.{concat}
 use Rattle.std.proofs.lemmas.List.{get_or-set_same, get_or-set_other, get_or_past, length-take-le, length-take, length-append, length-replicate, set-append_right, append-nil, take-append-drop, replicate-append-replicate, get_or-drop, get_or-replicate, take-replicate, drop-replicate, get_or-append_right, length-map}
-use Rattle.std.proofs.lemmas.List.Elements.{All-append, All-take, All-drop, All-replicate}
 use Rattle.host_types.specs.declared.options.Options.{Options}
 use Rattle.host_types.specs.declared.shape.Shape.{Shape}
 use Rattle.host_types.specs.Bytes.{part_of, with_part}
 use Rattle.host_types.specs.Memory.{FlatMaps, map_at}
 use Rattle.host_types.specs.Pages.{map_place}
 use Rattle.host_types.specs.Shapes.{IsShape, byte_len_of}
-use Rattle.host_types.specs.Sharing.{PageState, new_page}
+use Rattle.host_types.specs.Sharing.{new_page}
 use Rattle.host_types.proofs.Lists.{length-with_part, part-with_part_before, part-with_part_behind}
 use Rattle.frame_arena.specs.Pages.{zero_page}
 use Rattle.frame_arena.proofs.Pages.{length-zero_page, replicate-zero_page}
@@ -18,7 +17,7 @@ use Rattle.page_table.specs.declared.tenant.Tenant.{Tenant}
 use Rattle.page_table.specs.Limits.{page_count}
 use Rattle.page_table.specs.State.{MemoryState, part, free_of, have_of}
 use Rattle.page_table.specs.Changes.{zero_map, part_created, IsKeptBut, AreMapsKeptBut, KeepsSettings, with_new_pages}
-use Rattle.page_table.specs.View.{view_of, IsMemory, IsOwnPage}
+use Rattle.page_table.specs.View.{view_of, IsMemory}
 use Rattle.page_table.proofs.Maps.{maps_of-changed, AreMaps-changed, length-maps_of, map_at-maps_of}
 use Rattle.page_table.proofs.Reading.{content_in, few_pages, map_at-part}
 use Rattle.page_table.proofs.Writing.{part-set_same, part-set_other, maps-set_other}
@@ -106,14 +105,6 @@ length-contents table = length-map table.entries (content table.arena)
 
 pub length-states : (entries : List (Option Entry)) → length (states_of entries) ≡ length entries
 length-states entries = length-map entries (option_map state_of)
-
--- pages with frames of their own, where more of them are added
-own_filled : (xs : List (Option PageState)) (at n : ℕ) (x : Option PageState) → All IsOwnPage xs → IsOwnPage x → All IsOwnPage (with_part xs at (replicate n x))
-unfolding with_part
-own_filled xs at n x old new =
-    All-append IsOwnPage (take at xs ++ replicate n x) (drop (at + length (replicate n x)) xs)
-    (All-append IsOwnPage (take at xs) (replicate n x) (All-take IsOwnPage at xs old) (All-replicate IsOwnPage n x new))
-    (All-drop IsOwnPage (at + length (replicate n x)) xs old)
 
 -- pages of zeros one after another
 zeros_joined : (n m : ℕ) → n ≡ 4096 → zero_page ++ replicate m 0 ≡ replicate (n + m) 0
@@ -301,7 +292,6 @@ module _ (table new : TableState) (shapes : List (Option Shape)) (tenants : List
         frames = omega (arith, arena, is.frames);
         sum = is.sum;
         room = omega (arith, arena, used, room);
-        own = rw states (own_filled (states_of table.entries) (map_place tenant m * 256) (page_count shape) (Some (new_page mergeable)) is.own refl);
       }
 
   abbrev before : MemoryState

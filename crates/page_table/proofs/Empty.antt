@@ -1,8 +1,7 @@
 -- A memory without maps.
-use Rattle.std.proofs.Common.{◌≡◌, ◌∙◌, ℕ, zero, suc, ◌+◌, ◌*◌, ◌<◌, ◌≤◌, List, [], ◌∷◌, length, map, take, drop, replicate, slice_index_or, sum_by, Option, None, option_map, All, subst, refl, sym, ap, arith, ⊎_elim, ◌⊎◌}
+use Rattle.std.proofs.Common.{◌≡◌, ◌∙◌, ℕ, zero, suc, ◌+◌, ◌*◌, ◌<◌, ◌≤◌, List, [], ◌∷◌, length, map, take, drop, replicate, slice_index_or, sum_by, Option, None, option_map, refl, sym, ap, arith, ⊎_elim, ◌⊎◌}
 use Rattle.std.proofs.lemmas.List.{length-replicate, length-take, get_or-take, get_or-drop, get_or_past}
 use Rattle.std.proofs.lemmas.List.Folds.{sum_by-replicate}
-use Rattle.std.proofs.lemmas.List.Elements.{All-replicate}
 use Rattle.host_types.specs.declared.options.Options.{Options}
 use Rattle.host_types.specs.declared.shape.Shape.{Shape}
 use Rattle.host_types.specs.Bytes.{part_of}
@@ -12,7 +11,7 @@ use Rattle.page_table.specs.declared.tenant.Tenant.{Tenant}
 use Rattle.page_table.specs.Limits.{AreLimits}
 use Rattle.page_table.specs.State.{new_memory, new_tenant}
 use Rattle.page_table.specs.Table.{TableState, ArePages, content, contents_of, groups_of, own_pages, state_of, maps_of, used_by}
-use Rattle.page_table.specs.View.{view_of, IsMemory, IsOwnPage}
+use Rattle.page_table.specs.View.{view_of, IsMemory}
 use Rattle.page_table.proofs.Adding.{own_one}
 use Rattle.page_table.proofs.Putting.{empty_table}
 
@@ -74,7 +73,6 @@ module _ (frames tenants : ℕ) (options : Options) (limits : AreLimits frames t
         frames = omega (arith, arena, limits.few_frames);
         sum = sym no_reserves;
         room = omega (arith, used, arena, limits.two_frames);
-        own = subst (λ l. All IsOwnPage l) (sym (map-replicate {X = Option Entry} (option_map state_of) (tenants * 2048) None)) (All-replicate IsOwnPage (tenants * 2048) None refl);
       }
     where
       pages : (k : ℕ) (shape : Option Shape) → shape ≡ None → ArePages shape (part_of (contents_of table) (k * 256) 256)

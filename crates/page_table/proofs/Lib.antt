@@ -1,4 +1,3 @@
-pub mod Numbers
 pub mod Entries
 pub mod Adding
 pub mod Unused
@@ -10,4 +9,14 @@ pub mod Writing
 pub mod Creating
 pub mod Empty
 pub mod Shapes
-pub mod Owning
+pub mod Groups
+pub mod Costs
+pub mod Leaving
+pub mod Ending
+pub mod Moving
+pub mod Pairing
+pub mod Zeroing
+pub mod Merging
+pub mod Breaks
+pub mod Counting
+pub mod Facts

@@ -155,7 +155,6 @@ module _ (table new : TableState) (shapes : List (Option Shape)) (tenants : List
         frames = omega (arith, arena, is.frames);
         sum = is.sum;
         room = rw (groups, entries, arena) is.room;
-        own = rw entries is.own;
       }
 
   abbrev before : MemoryState

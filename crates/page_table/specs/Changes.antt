@@ -5,7 +5,7 @@ use Rattle.host_types.specs.declared.fault.Fault.TheVariants.{NoFrames, TooManyM
 use Rattle.host_types.specs.declared.options.Options.{Options}
 use Rattle.host_types.specs.declared.shape.Page.{Page}
 use Rattle.host_types.specs.declared.shape.Shape.{Shape}
-use Rattle.host_types.specs.Bytes.{bytes_of, with_part}
+use Rattle.host_types.specs.Bytes.{with_part}
 use Rattle.host_types.specs.Memory.{FlatMap, map_at}
 use Rattle.host_types.specs.OptionTable.{AreOptions}
 use Rattle.host_types.specs.Pages.{page_place}
@@ -26,10 +26,6 @@ map_written at bytes flat = record flat { bytes = with_part flat.bytes at bytes 
 -- a tenant's part with bytes written into its map m
 abbrev pub part_written : TenantPart → ℕ → ℕ → List ℕ → TenantPart
 part_written owned m at bytes = record owned { maps = slice_set owned.maps m (option_map (map_written at bytes) (map_at owned.maps m)) }
-
--- a tenant's part with a number written as `size` bytes of its map m
-abbrev pub part_stored : TenantPart → ℕ → ℕ → ℕ → ℕ → TenantPart
-part_stored owned m at size number = part_written owned m at (bytes_of size number)
 
 -- a tenant's part with a new map m of zeros
 abbrev pub part_created : TenantPart → ℕ → Shape → TenantPart

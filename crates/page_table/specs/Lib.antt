@@ -3,3 +3,4 @@ pub mod State
 pub mod Changes
 pub mod Table
 pub mod View
+pub mod Reads

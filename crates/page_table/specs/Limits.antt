@@ -1,5 +1,5 @@
--- How large a memory may be, and which bytes one load or store may go to (this project's own limits).
-use Rattle.std.specs.Prelude.{ℕ, ◌+◌, ◌/◌, ◌==◌, ◌||◌, ◌≤◌, IsTrue}
+-- How large a memory may be (this project's own limits).
+use Rattle.std.specs.Prelude.{ℕ, ◌+◌, ◌/◌, ◌≤◌}
 use Rattle.host_types.specs.declared.shape.Shape.{Shape}
 use Rattle.host_types.specs.Shapes.{byte_len_of}
 
@@ -13,10 +13,6 @@ pub record AreLimits (frames tenants : ℕ) : Type 0 where
 -- the pages of 4096 bytes that a map needs
 abbrev pub page_count : Shape → ℕ
 page_count shape = (byte_len_of shape + 4095) / 4096
-
--- one load or store is of 1, 2, 4 or 8 bytes
-abbrev pub IsAccessSize : ℕ → Type 0
-IsAccessSize size = IsTrue (size == 1 || size == 2 || size == 4 || size == 8)
 
 -- the shape of a map by its two numbers
 abbrev pub shape_of : ℕ → ℕ → Shape

@@ -1,5 +1,5 @@
 -- What a page table reads as: the page and status at each place, and which places lie on one frame.
-use Rattle.std.specs.Prelude.{◌≡◌, ◌⊎◌, ℕ, zero, suc, ◌+◌, ◌-◌, ◌*◌, ◌<◌, ◌≤◌, ◌==◌, Bool, false, if◌then◌else◌, List, [], ◌∷◌, length, map, take, drop, replicate, sum_by, slice_index_or, Option, None, Some, option_map, IfSome}
+use Rattle.std.specs.Prelude.{◌≡◌, ◌⊎◌, ℕ, zero, suc, ◌+◌, ◌-◌, ◌*◌, ◌<◌, ◌≤◌, ◌==◌, nat_lt, Bool, false, if◌then◌else◌, List, [], ◌∷◌, length, map, take, drop, replicate, sum_by, slice_index_or, Option, None, Some, option_map, unwrap_or, IfSome}
 use Rattle.std.specs.List.{concat}
 use Rattle.host_types.specs.declared.shape.Shape.{Shape}
 use Rattle.host_types.specs.declared.options.Options.{Options}
@@ -8,7 +8,7 @@ use Rattle.host_types.specs.declared.status.Status.TheVariants.{New, Volatile, W
 use Rattle.host_types.specs.Bytes.{part_of}
 use Rattle.host_types.specs.Memory.{FlatMap, FlatMaps}
 use Rattle.host_types.specs.Shapes.{IsShape, byte_len_of}
-use Rattle.host_types.specs.Sharing.{Sharing, PageState, own_frame, is_shared}
+use Rattle.host_types.specs.Sharing.{Sharing, PageState, own_frame, is_shared, cost_of}
 use Rattle.frame_arena.specs.Pages.{page_at, zero_page}
 use Rattle.page_table.specs.declared.entry.Entry.{Entry}
 use Rattle.page_table.specs.Limits.{page_count}
@@ -166,3 +166,12 @@ pub record AreMaps (shapes : List (Option Shape)) (contents : List (List ℕ)) :
 abbrev pub sharing_of : TableState → Options → Sharing
 sharing_of table options =
     record { pages = states_of table.entries; groups = groups_of table; waiting = []; cursor = None; options = options; full_scans = 0 }
+
+-- how many frames the break of a page takes, told by the pages that lie on its frame
+unfoldable pub cost_at : TableState → ℕ → ℕ
+cost_at table i =
+    unwrap_or (option_map (λ (entry : Entry). cost_of (nat_lt 1 (pages_on entry.frame table.entries)) entry.status) (entry_at table.entries i)) 0
+
+-- the page at a place has a frame of its own
+abbrev pub IsOwnAt : TableState → ℕ → Type 0
+IsOwnAt table i = IfSome (entry_at table.entries i) (λ entry. is_shared entry.status ≡ false)

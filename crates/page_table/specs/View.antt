@@ -1,11 +1,10 @@
 -- How a memory's parts read together, and what holds of them.
-use Rattle.std.specs.Prelude.{◌≡◌, ℕ, ◌+◌, ◌*◌, ◌≤◌, List, length, sum_by, Option, All, false}
+use Rattle.std.specs.Prelude.{◌≡◌, ℕ, ◌+◌, ◌*◌, ◌≤◌, List, length, sum_by, Option}
 use Rattle.host_types.specs.declared.options.Options.{Options}
 use Rattle.host_types.specs.declared.shape.Shape.{Shape}
-use Rattle.host_types.specs.Sharing.{PageState, is_shared_page}
 use Rattle.page_table.specs.declared.tenant.Tenant.{Tenant}
 use Rattle.page_table.specs.State.{MemoryState}
-use Rattle.page_table.specs.Table.{TableState, AreMaps, maps_of, contents_of, states_of, frames_of, sharing_of, used_by}
+use Rattle.page_table.specs.Table.{TableState, AreMaps, maps_of, contents_of, frames_of, sharing_of, used_by}
 
 -- what callers see of a memory
 unfoldable pub view_of : TableState → List (Option Shape) → List Tenant → Options → MemoryState
@@ -18,10 +17,6 @@ view_of table shapes tenants options =
       frames = frames_of table.entries;
     }
 
--- no page shares a frame yet
-abbrev pub IsOwnPage : Option PageState → Type 0
-IsOwnPage state = is_shared_page state ≡ false
-
 -- the parts of a memory fit together
 pub record IsMemory (table : TableState) (shapes : List (Option Shape)) (tenants : List Tenant) (reserved : ℕ) : Type 0 where
   pub maps : AreMaps shapes (contents_of table)
@@ -30,4 +25,3 @@ pub record IsMemory (table : TableState) (shapes : List (Option Shape)) (tenants
   pub frames : length table.arena ≤ 4096
   pub sum : reserved ≡ sum_by (λ (tenant : Tenant). tenant.reserve) tenants
   pub room : reserved + used_by table ≤ length table.arena
-  pub own : All IsOwnPage (states_of table.entries)

@@ -1,5 +1,5 @@
 ghost use Rattle.std.specs.Prelude.{◌≡◌, ◌+◌, ◌-◌, ◌<◌, ◌≤◌, [], ◌∷◌, length, replicate, slice_index_or, slice_set, IfOk, ℕ, vec_capacity};
-ghost use Rattle.page_table.specs.Table.{times, one_if_zero};
+ghost use Rattle.page_table.specs.Table.{AreCounts, times, one_if_zero};
 
 use std::alloc::{AllocError, Global};
 use std::marker::Model;
@@ -59,6 +59,51 @@ impl FrameCounts {
         };
         self.counts[frame as usize] = 1;
         frame
+    }
+
+    /// How many hold a frame.
+    pub(crate) fn count(&self, frame: u32) -> u32
+        requires { frame < length self.now.counts }
+        ensures { result ≡ slice_index_or self.now.counts frame 0 }
+    {
+        self.counts[frame as usize]
+    }
+
+    /// One more holds a frame that is held already.
+    pub(crate) fn share(&mut self, frame: u32)
+        requires frame { frame < length self.old.counts }
+        requires held { 1 ≤ slice_index_or self.old.counts frame 0 }
+        requires few { slice_index_or self.old.counts frame 0 ≤ 32768 }
+        ensures counts { self.new.counts ≡
+            slice_set self.old.counts frame (slice_index_or self.old.counts frame 0 + 1) }
+        ensures unused { self.new.unused ≡ self.old.unused }
+    {
+        self.counts[frame as usize] += 1;
+    }
+
+    /// One less holds a frame, which is unused where nobody holds it then.
+    pub(crate) fn release(&mut self, frame: u32)
+        requires frame { frame < length self.old.counts }
+        requires held { 1 ≤ slice_index_or self.old.counts frame 0 }
+        requires room { length self.old.unused < length self.old.counts }
+        ensures counts { self.new.counts ≡
+            slice_set self.old.counts frame (slice_index_or self.old.counts frame 0 - 1) }
+        ensures unused { length self.new.unused ≡
+            length self.old.unused + one_if_zero (slice_index_or self.old.counts frame 0 - 1) }
+    {
+        let left = self.counts[frame as usize] - 1;
+        self.counts[frame as usize] = left;
+        if left == 0 {
+            let pushed = self.unused.push(frame).is_ok();
+            prove!(pushed);
+        }
+    }
+
+    /// What all counts meet. The function does nothing.
+    pub(crate) fn facts(&self)
+        ensures { AreCounts self.now }
+    {
+        let _opened = &self.unused;
     }
 }
 

@@ -6,7 +6,6 @@
 mod counts;
 mod entry;
 mod memory;
-mod number;
 mod table;
 mod tenant;
 #[cfg(test)]

@@ -1,19 +1,19 @@
 ghost use Rattle.std.specs.Prelude.{◌≡◌, ◌≢◌, ◌+◌, ◌*◌, ◌-◌, ◌/◌, ◌<◌, ◌≤◌, ◌%◌, ◌↔◌, IsTrue, ℕ, [], length, replicate, is_none, position, Option, Some, None, IfOk, OnOk, IfErr, OnErr, IfSome, option_map, slice_index_or};
-ghost use Rattle.host_types.specs.Bytes.{number_of, bytes_of, part_of, with_part};
+ghost use Rattle.host_types.specs.Bytes.{part_of, with_part};
 ghost use Rattle.host_types.specs.Memory.{FlatMap, map_at};
 ghost use Rattle.host_types.specs.OptionTable.{AreOptions};
 ghost use Rattle.host_types.specs.Pages.{map_place, page_place, page_bytes};
 ghost use Rattle.host_types.specs.Shapes.{IsShape};
-ghost use Rattle.host_types.specs.Sharing.{new_page, state_at, is_shared, broken};
+ghost use Rattle.host_types.specs.Sharing.{new_page, state_at, is_shared, broken, break_cost, cost_from, paired, zeroed};
 ghost use Rattle.host_types.specs.Tenant.{IsFlatMap};
 ghost use Rattle.frame_arena.specs.Pages.{page_at, zero_page};
-ghost use Rattle.page_table.specs.Limits.{AreLimits, IsAccessSize, page_count, shape_of};
-ghost use Rattle.page_table.specs.State.{MemoryState, part, map_bytes, bytes_of_map, free_number, new_memory, free_of, have_of, frame_at};
-ghost use Rattle.page_table.specs.Changes.{zero_map, part_written, part_stored, part_created, IsKeptBut, AreMapsKeptBut, KeepsSettings, IsPageOf, IsOwn, with_new_pages, FitsMap, RefusesMap, RefusesMemory};
+ghost use Rattle.page_table.specs.Limits.{AreLimits, page_count, shape_of};
+ghost use Rattle.page_table.specs.State.{MemoryState, part, bytes_of_map, free_number, new_memory, free_of, have_of, frame_at};
+ghost use Rattle.page_table.specs.Reads.{ReadsAs};
+ghost use Rattle.page_table.specs.Changes.{zero_map, part_written, part_created, AreKept, MayMerge, IsKeptBut, AreMapsKeptBut, KeepsSettings, IsPageOf, IsOwn, with_new_pages, FitsMap, RefusesMap, RefusesMemory};
 ghost use Rattle.page_table.specs.Table.{state_of, states_of, contents_of, groups_of, used_by};
 
 use crate::entry::Entry;
-use crate::number::word;
 use crate::table::Table;
 use crate::tenant::Tenant;
 use frame_arena::{FrameArena, PAGE_SIZE};
@@ -88,17 +88,6 @@ fn place_of(page: Page) -> usize
     ensures { result ≡ page_place page }
 {
     map_index(page.tenant, page.map) * MAX_PAGES + page.number as usize
-}
-
-/// The page of a tenant's map that a byte is in.
-fn page_of(tenant: u32, map: MapNo, at: u32) -> Page
-    ensures { result ≡ record { tenant = tenant; map = map; number = at / 4096 } }
-{
-    Page {
-        tenant,
-        map,
-        number: at / PAGE_SIZE,
-    }
 }
 
 impl Memory {
@@ -211,6 +200,14 @@ impl Memory {
         self.table.arena()
     }
 
+    /// What each memory meets: how its frames and its shared pages read together. The function does
+    /// nothing.
+    pub fn facts(&self)
+        ensures { ReadsAs self.now }
+    {
+        self.table.facts();
+    }
+
     /// Makes a map of zeros for a tenant, at its first free number.
     ///
     /// Refusals in their order: 42 where there is no such tenant, 32 where it has eight maps, 33
@@ -261,13 +258,6 @@ impl Memory {
         }
         self.add_map(tenant, number, shape, mergeable);
         Ok(number)
-    }
-
-    /// No page shares a frame yet.
-    fn pages_are_own(&self, page: Page)
-        ensures { IsOwn self.now page }
-    {
-        let _ = &self.table;
     }
 
     /// The first number that none of a tenant's maps has.
@@ -321,38 +311,79 @@ impl Memory {
         self.table.put(place_of(page), at, bytes);
     }
 
-    /// The number in `size` bytes of a tenant's map from the byte `at` on, the lowest byte first. A
-    /// number has 1, 2, 4 or 8 bytes, and stands at a multiple of its size.
-    pub fn load(&self, tenant: u32, map: MapNo, at: u32, size: u32) -> u64
-        requires size { IsAccessSize size }
-        requires within { at + size ≤ length (map_bytes (part self.now tenant) map) }
-        requires aligned { at % size ≡ 0 }
-        ensures { result ≡ number_of (part_of (map_bytes (part self.now tenant) map) at size) }
+    /// How many frames the break of a page takes: one for a page that shares its frame, none for the
+    /// last page of a group and for a page that has its own frame.
+    pub fn break_cost(&self, page: Page) -> u32
+        requires { IsPageOf self.now page }
+        ensures { result ≡ break_cost self.now.sharing (page_place page) }
     {
-        let entry = self.entry(page_of(tenant, map, at));
-        self.arena().read(entry.frame, at % PAGE_SIZE, size)
+        self.table.costs_are_told();
+        self.table.break_cost(place_of(page))
     }
 
-    /// Writes the lowest `size` bytes of a number to a tenant's map, from the byte `at` on, the
-    /// lowest first.
-    pub fn store(&mut self, tenant: u32, map: MapNo, at: u32, size: u32, value: u64)
-        requires size { IsAccessSize size }
-        requires within { at + size ≤ length (map_bytes (part self.old tenant) map) }
-        requires aligned { at % size ≡ 0 }
-        ensures stored { part self.new tenant ≡ part_stored (part self.old tenant) map at size value }
-        ensures bytes { map_bytes (part self.new tenant) map
-            ≡ with_part (map_bytes (part self.old tenant) map) at (bytes_of size value) }
-        ensures length { length (map_bytes (part self.new tenant) map)
-            ≡ length (map_bytes (part self.old tenant) map) }
-        ensures other_maps { AreMapsKeptBut map (part self.old tenant) (part self.new tenant) }
-        ensures others { IsKeptBut tenant self.old self.new }
-        ensures sharing { self.new.sharing ≡ self.old.sharing }
-        ensures frames { self.new.frames ≡ self.old.frames }
+    /// How many frames the breaks of `count` pages of a map take, one after another from the first,
+    /// each counted after the breaks before it: a page whose whole group is broken before it keeps
+    /// the group's frame. Nothing is broken.
+    pub fn break_costs(&self, first: Page, count: u32) -> u32
+        requires there { IsPageOf self.now first }
+        requires pages { (first.number + count) * 4096 < length (bytes_of_map self.now first) + 4096 }
+        ensures { result ≡ cost_from self.now.sharing (page_place first) count }
+    {
+        self.table.break_costs(place_of(first), count)
+    }
+
+    /// Takes a page out of its group, or off the frame of zeros, so that it may be written: the
+    /// page gets a copy on a frame of its own, and the last page of a group keeps the group's frame. A
+    /// page that has its own frame stays as it is.
+    pub fn take_out(&mut self, page: Page)
+        requires there { IsPageOf self.old page }
+        requires room { break_cost self.old.sharing (page_place page) ≤ have_of self.old }
+        ensures maps { self.new.maps ≡ self.old.maps }
+        ensures kept { AreKept self.old self.new }
+        ensures sharing { self.new.sharing ≡ broken self.old.sharing (page_place page) }
+        ensures own { IsOwn self.new page }
+        ensures free { free_of self.new + break_cost self.old.sharing (page_place page) ≡ free_of self.old }
+        ensures have { have_of self.new + break_cost self.old.sharing (page_place page) ≡ have_of self.old }
         ensures settings { KeepsSettings self.old self.new }
     {
-        let page = page_of(tenant, map, at);
-        self.pages_are_own(page);
-        self.put(page, at % PAGE_SIZE, &word(value)[..size as usize]);
+        self.table.costs_are_told();
+        self.table.take_out(place_of(page));
+    }
+
+    /// Makes two pages of the same bytes a new last group, on one write-protected frame; the frame of
+    /// the second one is free then. Both may be merged, and neither shares a frame.
+    pub fn pair(&mut self, first: Page, second: Page)
+        requires first { IsPageOf self.old first }
+        requires second { IsPageOf self.old second }
+        requires apart { first ≢ second }
+        requires may_first { MayMerge self.old first }
+        requires may_second { MayMerge self.old second }
+        requires same { page_bytes (bytes_of_map self.old first) first.number
+            ≡ page_bytes (bytes_of_map self.old second) second.number }
+        ensures maps { self.new.maps ≡ self.old.maps }
+        ensures kept { AreKept self.old self.new }
+        ensures sharing { self.new.sharing ≡ paired self.old.sharing (page_place first) (page_place second) }
+        ensures free { free_of self.new ≡ free_of self.old + 1 }
+        ensures have { have_of self.new ≡ have_of self.old + 1 }
+        ensures settings { KeepsSettings self.old self.new }
+    {
+        self.table.pair(place_of(first), place_of(second));
+    }
+
+    /// Puts a page of zeros on the zero frame; its own frame is free then. It may be merged, and
+    /// shares no frame.
+    pub fn zero(&mut self, page: Page)
+        requires there { IsPageOf self.old page }
+        requires may { MayMerge self.old page }
+        requires zeros { page_bytes (bytes_of_map self.old page) page.number ≡ zero_page }
+        ensures maps { self.new.maps ≡ self.old.maps }
+        ensures kept { AreKept self.old self.new }
+        ensures sharing { self.new.sharing ≡ zeroed self.old.sharing (page_place page) }
+        ensures free { free_of self.new ≡ free_of self.old + 1 }
+        ensures have { have_of self.new ≡ have_of self.old + 1 }
+        ensures settings { KeepsSettings self.old self.new }
+    {
+        self.table.zero(place_of(page));
     }
 }
 

@@ -1,9 +1,10 @@
-ghost use Rattle.std.specs.Prelude.{◌≡◌, ◌≢◌, ◌+◌, ◌<◌, ◌≤◌, false, [], ◌∷◌, ◌++◌, All, length, replicate, slice_index_or, slice_set, Option, Some, None, IfOk, IfSome};
+ghost use Rattle.std.specs.Prelude.{◌≡◌, ◌≢◌, ◌+◌, ◌<◌, ◌≤◌, true, false, [], ◌∷◌, ◌++◌, All, length, replicate, slice_index_or, slice_set, Option, Some, None, IfOk, IfSome, ℕ};
 ghost use Rattle.host_types.specs.Bytes.{with_part};
-ghost use Rattle.host_types.specs.Sharing.{new_page, is_shared};
+ghost use Rattle.host_types.specs.declared.options.Options.{Options};
+ghost use Rattle.host_types.specs.Sharing.{new_page, is_shared, broken, break_cost, broken_from, cost_from, paired, zeroed};
 ghost use Rattle.frame_arena.specs.Pages.{IsPage, zero_page};
 ghost use Rattle.page_table.specs.declared.entry.Entry.{Entry};
-ghost use Rattle.page_table.specs.Table.{TableState, IsEntry, IsPageAt, entry_at, states_of, contents_of, groups_of, used_by};
+ghost use Rattle.page_table.specs.Table.{TableState, CountsState, AreCounts, IsSound, IsEntry, IsPageAt, IsOwnAt, entry_at, states_of, contents_of, groups_of, sharing_of, used_by, cost_at, is_on, pages_on, one_if_zero};
 
 use crate::counts::FrameCounts;
 use crate::entry::Entry;
@@ -11,6 +12,9 @@ use frame_arena::FrameArena;
 use host_types::Status;
 use std::alloc::{AllocError, Global};
 use std::marker::Model;
+
+/// The frame of all pages of zeros that were merged.
+const ZERO_FRAME: u32 = 0;
 
 /// The pages of all maps by place, and the frames that they lie on. Nothing here knows of maps.
 #[derive(Drop)]
@@ -68,6 +72,22 @@ impl Table {
         self.arena.frames();
     }
 
+    /// What the break of a page takes is told by the pages on its frame, as the sharing has it.
+    pub(crate) fn costs_are_told(&self)
+        ensures { (options : Options) (i : ℕ) →
+            break_cost (sharing_of self.now options) i ≡ cost_at self.now i }
+    {
+        // a look at a field tells the invariant
+        let _entries = &self.entries;
+    }
+
+    /// What each table meets, with some counts. The function does nothing.
+    pub(crate) fn facts(&self)
+        ensures { (counts : CountsState) × IsSound self.now counts × AreCounts counts }
+    {
+        self.counts.facts();
+    }
+
     /// How many frames no page has, the zero frame aside.
     pub(crate) fn free(&self) -> u32
         ensures { result + used_by self.now ≡ length self.now.arena }
@@ -82,6 +102,17 @@ impl Table {
         ensures right { IfSome result (IsEntry self.now) }
     {
         self.entries[place]
+    }
+
+    /// What is kept of a page that is there.
+    fn page(&self, place: usize) -> Entry
+        requires { IsPageAt self.now place }
+        ensures { entry_at self.now.entries place ≡ Some result }
+    {
+        let Some(entry) = self.entries[place] else {
+            unreachable!()
+        };
+        entry
     }
 
     /// Puts a page of zeros on a frame of its own, at a place without a page.
@@ -110,7 +141,7 @@ impl Table {
     /// Writes bytes into a page that has a frame of its own.
     pub(crate) fn put(&mut self, place: usize, at: u32, bytes: &[u8])
         requires there { IsPageAt self.old place }
-        requires own { IfSome (entry_at self.old.entries place) (λ entry. is_shared entry.status ≡ false) }
+        requires own { IsOwnAt self.old place }
         requires in_page { at + length bytes.now ≤ 4096 }
         ensures contents { contents_of self.new ≡ slice_set (contents_of self.old) place
             (with_part (slice_index_or (contents_of self.old) place []) at bytes.now) }
@@ -123,4 +154,171 @@ impl Table {
         };
         self.arena.put(entry.frame, at, bytes);
     }
+
+    /// How many frames the break of a page takes. The last page of a group keeps its frame; the zero
+    /// frame has one holder more than its pages, so that each of them takes one.
+    pub(crate) fn break_cost(&self, place: usize) -> u32
+        requires { IsPageAt self.now place }
+        ensures { result ≡ cost_at self.now place }
+    {
+        let Some(entry) = self.entries[place] else {
+            unreachable!()
+        };
+        u32::from(entry.protected && self.counts.count(entry.frame) > 1)
+    }
+
+    /// How many frames the breaks of the pages at `count` places take, one after another from the
+    /// first place on, each counted after the breaks before it.
+    pub(crate) fn break_costs(&self, first: usize, count: u32) -> u32
+        requires { first + count ≤ length self.now.entries }
+        ensures { (options : Options) → result ≡ cost_from (sharing_of self.now options) first count }
+    {
+        let mut cost = 0;
+        for number in 0..count {
+            cost += self.cost_after(first, number as usize);
+        }
+        cost
+    }
+
+    /// How many frames the break of a page takes after the breaks of those at `number` places before
+    /// it: of the pages on its frame, these are gone then.
+    fn cost_after(&self, first: usize, number: usize) -> u32
+        requires { first + number < length self.now.entries }
+        ensures cost { (options : Options) → result ≡
+            break_cost (broken_from (sharing_of self.now options) first number) (first + number) }
+        ensures small { result ≤ 1 }
+    {
+        let (_, run) = self.entries.split_at(first);
+        let (before, from) = run.split_at(number);
+        let Some(entry) = from[0] else {
+            return 0;
+        };
+        if !entry.protected {
+            return 0;
+        }
+        let left = self.counts.count(entry.frame) - count_on(before, entry.frame);
+        u32::from(left > 1)
+    }
+
+    /// Takes a page out of its group or off the zero frame. A page with its own frame stays as it is.
+    pub(crate) fn take_out(&mut self, place: usize)
+        requires there { IsPageAt self.old place }
+        requires room { used_by self.old + cost_at self.old place ≤ length self.old.arena }
+        ensures contents { contents_of self.new ≡ contents_of self.old }
+        ensures sharing { (options : Options) →
+            sharing_of self.new options ≡ broken (sharing_of self.old options) place }
+        ensures own { IsOwnAt self.new place }
+        ensures used { used_by self.new ≡ used_by self.old + cost_at self.old place }
+        ensures arena { length self.new.arena ≡ length self.old.arena }
+    {
+        let Some(entry) = self.entries[place] else {
+            unreachable!()
+        };
+        if !entry.protected {
+            return;
+        }
+        if self.counts.count(entry.frame) > 1 {
+            self.leave(place, entry);
+        } else {
+            self.end_group(place, entry);
+        }
+    }
+
+    /// Moves a page from a frame on which others lie to a frame of its own.
+    fn leave(&mut self, place: usize, entry: Entry)
+        requires there { entry_at self.old.entries place ≡ Some entry }
+        requires shared { is_shared entry.status ≡ true }
+        requires company { 1 < one_if_zero entry.frame + pages_on entry.frame self.old.entries }
+        requires room { used_by self.old < length self.old.arena }
+        ensures contents { contents_of self.new ≡ contents_of self.old }
+        ensures sharing { (options : Options) →
+            sharing_of self.new options ≡ broken (sharing_of self.old options) place }
+        ensures own { IsOwnAt self.new place }
+        ensures used { used_by self.new ≡ used_by self.old + 1 }
+        ensures arena { length self.new.arena ≡ length self.old.arena }
+    {
+        let frame = self.counts.take();
+        self.arena.copy(entry.frame, frame);
+        self.counts.release(entry.frame);
+        self.entries[place] = Some(entry.broken(frame));
+    }
+
+    /// Ends the group of its last page, which keeps the frame.
+    fn end_group(&mut self, place: usize, entry: Entry)
+        requires there { entry_at self.old.entries place ≡ Some entry }
+        requires shared { is_shared entry.status ≡ true }
+        requires last { one_if_zero entry.frame + pages_on entry.frame self.old.entries ≡ 1 }
+        ensures contents { contents_of self.new ≡ contents_of self.old }
+        ensures sharing { (options : Options) →
+            sharing_of self.new options ≡ broken (sharing_of self.old options) place }
+        ensures own { IsOwnAt self.new place }
+        ensures used { used_by self.new ≡ used_by self.old }
+        ensures arena { length self.new.arena ≡ length self.old.arena }
+    {
+        self.entries[place] = Some(entry.broken(entry.frame));
+        self.groups.retain(|frame| *frame != entry.frame);
+    }
+
+    /// Makes two pages of the same bytes, each with its own frame, a new last group.
+    pub(crate) fn pair(&mut self, first: usize, second: usize)
+        requires first { IsPageAt self.old first }
+        requires second { IsPageAt self.old second }
+        requires apart { first ≢ second }
+        requires own_first { IsOwnAt self.old first }
+        requires own_second { IsOwnAt self.old second }
+        requires same { slice_index_or (contents_of self.old) first [] ≡ slice_index_or (contents_of self.old) second [] }
+        ensures contents { contents_of self.new ≡ contents_of self.old }
+        ensures sharing { (options : Options) →
+            sharing_of self.new options ≡ paired (sharing_of self.old options) first second }
+        ensures used { used_by self.new + 1 ≡ used_by self.old }
+        ensures arena { length self.new.arena ≡ length self.old.arena }
+    {
+        let one = self.page(first);
+        let other = self.page(second);
+        self.entries[first] = Some(one.merged(one.frame, Status::Grouped));
+        self.entries[second] = Some(other.merged(one.frame, Status::Grouped));
+        self.counts.share(one.frame);
+        self.counts.release(other.frame);
+        let pushed = self.groups.push(one.frame).is_ok();
+        prove!(pushed);
+    }
+
+    /// Puts a page of zeros, which has its own frame, on the zero frame.
+    pub(crate) fn zero(&mut self, place: usize)
+        requires there { IsPageAt self.old place }
+        requires own { IsOwnAt self.old place }
+        requires zeros { slice_index_or (contents_of self.old) place [] ≡ zero_page }
+        ensures contents { contents_of self.new ≡ contents_of self.old }
+        ensures sharing { (options : Options) →
+            sharing_of self.new options ≡ zeroed (sharing_of self.old options) place }
+        ensures used { used_by self.new + 1 ≡ used_by self.old }
+        ensures arena { length self.new.arena ≡ length self.old.arena }
+    {
+        let entry = self.page(place);
+        self.entries[place] = Some(entry.merged(ZERO_FRAME, Status::Zero));
+        self.counts.share(ZERO_FRAME);
+        self.counts.release(entry.frame);
+    }
+}
+
+/// Whether a page is there and lies on a frame.
+fn lies_on(entry: &Option<Entry>, frame: u32) -> bool
+    ensures { result ≡ is_on frame entry.now }
+{
+    match entry {
+        Some(entry) => entry.frame == frame,
+        None => false,
+    }
+}
+
+/// How many of some pages lie on a frame.
+fn count_on(entries: &[Option<Entry>], frame: u32) -> u32
+    requires { length entries.now ≤ 32768 }
+    ensures { result ≡ pages_on frame entries.now }
+{
+    let mut count = 0;
+    for entry in entries {
+        count += u32::from(lies_on(entry, frame));
+    }
+    count
 }

@@ -9,6 +9,7 @@ use std::alloc::Global;
 use std::sync::Wait;
 use std::test::Fail;
 use std::thread;
+use write_break::{load, needs, store};
 
 /// Two tenants, four frames, and a map of one number for each tenant.
 struct Two {
@@ -72,9 +73,10 @@ fn add_one(rt: &impl Wait, turn: &Turn, seat: &mut Seat, map: MapNo)
 {
     let tenant = seat.tenant();
     let mut held = turn.take(rt, seat);
-    let number = held.memory().load(tenant, map, 0, 8);
-    held.memory_mut()
-        .store(tenant, map, 0, 8, number.wrapping_add(1));
+    let number = load(held.memory(), tenant, map, 0, 8);
+    if needs(held.memory(), tenant, map, 0, 8) <= held.memory().have() {
+        store(held.memory_mut(), tenant, map, 0, 8, number.wrapping_add(1));
+    }
     turn.give(seat, held);
 }
 
@@ -87,7 +89,7 @@ fn number(rt: &impl Wait, turn: &Turn, seat: &mut Seat, map: MapNo) -> u64
 {
     let tenant = seat.tenant();
     let held = turn.take(rt, seat);
-    let number = held.memory().load(tenant, map, 0, 8);
+    let number = load(held.memory(), tenant, map, 0, 8);
     turn.give(seat, held);
     number
 }
@@ -126,7 +128,7 @@ fn two_threads_count_to_a_thousand(rt: HostRuntime) -> Result<(), Fail> {
     let Some(memory) = turn.close(first) else {
         panic!(rt; "the memory is out")
     };
-    assert_eq!(rt; memory.load(tenant, first_map, 0, 8), 1000);
+    assert_eq!(rt; load(&memory, tenant, first_map, 0, 8), 1000);
     Ok(())
 }
 

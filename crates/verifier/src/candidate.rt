@@ -4,9 +4,10 @@ use std::alloc::{AllocError, Global};
 use std::marker::Model;
 
 /// A program that is to be verified, with the shapes of the maps that it may use and the size of
-/// its context. Contracts see what is verified.
+/// its context. Contracts see what is verified. `verify` makes one of its own; a second verifier,
+/// which tests set beside it, asks one where each instruction leads.
 #[derive(Drop)]
-pub(crate) struct Candidate {
+pub struct Candidate {
     program: Program,
     shapes: Vec<Shape>,
     ctx_size: u32,
@@ -31,7 +32,7 @@ impl Candidate {
     ghost use Rattle.verifier.specs.Verified.{IsSubject, AreShapes};
 
     /// The candidate with a copy of the shapes; it fails where there is no memory for it.
-    pub(crate) fn new(
+    pub fn new(
         alloc: Global,
         program: Program,
         shapes: &[Shape],
@@ -51,7 +52,7 @@ impl Candidate {
     }
 
     /// How many slots the text has, 1 to 4096.
-    pub(crate) fn slots(&self) -> u32
+    pub fn slots(&self) -> u32
         ensures number { result ≡ slots_of self.now.text }
         ensures subject { IsSubject self.now }
     {

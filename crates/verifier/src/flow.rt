@@ -18,14 +18,14 @@ use verifier_kinds::{Description, Kind, arith};
 
 /// A slot to which an instruction leads, and what is known there.
 #[derive(Drop)]
-pub(crate) struct Target {
+pub struct Target {
     pub slot: u32,
     pub description: Description,
 }
 
 /// Where an instruction leads: the slot to which it falls through, and the one to which it jumps.
 #[derive(Drop)]
-pub(crate) struct Onward {
+pub struct Onward {
     pub next: Option<Target>,
     pub jump: Option<Target>,
 }
@@ -121,10 +121,10 @@ impl Candidate {
         })
     }
 
-    /// Where the instruction at a slot leads from a description, or the smallest number of the rules
-    /// that it breaks.
+    /// Where the instruction at a slot leads from a description. The error is the smallest number of
+    /// the rules that it breaks, 11 to 25.
     #[tactic(auto, unfolding(crate::specs::Flow::flow_by))]
-    pub(crate) fn flow(&self, slot: u32, d: &Description) -> Result<Onward, u32>
+    pub fn flow(&self, slot: u32, d: &Description) -> Result<Onward, u32>
         requires instruction { IsInstruction self.now.text slot }
         requires description { IsDescription d.now }
         ensures flow { flow_in result ≡ flow self.now slot d.now }

@@ -16,5 +16,7 @@ mod targets;
 mod tests;
 mod verified;
 
+pub use candidate::Candidate;
+pub use flow::{Onward, Target};
 pub use laws::answer_is_one;
 pub use verified::{Verified, verify};

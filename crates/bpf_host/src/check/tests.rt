@@ -127,18 +127,70 @@ fn refuses_programs(rt: HostRuntime) -> Result<(), Fail> {
 }
 
 #[test]
+fn judges_jumps(rt: HostRuntime) -> Result<(), Fail> {
+    let rows = [
+        // R1 = the context's number; goto +1 if R1 == 0; R0 = 1; EXIT, at which R0 may be unset
+        (
+            "79110000000000001501010000000000b7000000010000009500000000000000",
+            1,
+            "refused 14 UnsetRegister at 3\n",
+        ),
+        // the same behind R0 = 0
+        (
+            "b70000000000000079110000000000001501010000000000b7000000010000009500000000000000",
+            0,
+            "accepted slots 5 instructions 5 reserve 0\n",
+        ),
+        // goto into a wide instruction
+        (
+            "05000100000000001800000000000000\
+            00000000000000009500000000000000",
+            1,
+            "refused 12 JumpOut at 0\n",
+        ),
+        // goto itself
+        (
+            "0500ffff000000009500000000000000",
+            1,
+            "refused 11 BackJump at 0\n",
+        ),
+        // half of a wide instruction
+        ("1800000000000000", 1, "refused 5 CutWide at 0\n"),
+    ];
+    for (hex, want_status, want) in rows {
+        let (status, output, _) = checked(rt.alloc(), hex, "8")?;
+        assert_eq!(rt; status, want_status, "{hex}");
+        assert_eq!(rt; output.as_str(), want);
+    }
+    Ok(())
+}
+
+#[test]
 fn says_what_a_refusal_means(rt: HostRuntime) -> Result<(), Fail> {
     let rows = [
         (
-            "b70000002a000000bf600000000000009500000000000000",
+            "b70000002a0000000500ffff000000009500000000000000",
             "0",
-            "slot 1: a register is read before it is written; set it first; at the start only R1 \
-            and R10 are set\n",
+            "slot 1: goto -1: a jump leads to its own slot or back; jump forward alone: there are no \
+            loops\n",
+        ),
+        (
+            "b700000000000000b70b000000000000",
+            "0",
+            "slot 1: b70b000000000000: a register above R10 is named; use R0 to R10\n",
+        ),
+        (
+            "",
+            "0",
+            "slot 0: the text is empty, longer than 4096 slots, or ends inside a slot; give 1 to \
+            4096 whole slots of eight bytes\n",
         ),
         (
             ANSWER,
             "9",
-            "a context size above 256 or no multiple of 8; give a multiple of 8 up to 256\n",
+            "a context size above 256 or no multiple of 8, or a context of another length than the \
+            size that its program was loaded with; give a size that is a multiple of 8 up to 256, \
+            and a run as many bytes as its program's load says\n",
         ),
     ];
     for (hex, context, want) in rows {

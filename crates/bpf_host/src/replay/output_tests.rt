@@ -108,6 +108,22 @@ fn steps_go_to_the_end_or_a_refusal(rt: HostRuntime) -> Result<(), Fail> {
     Ok(())
 }
 
+// R0 = 0; R1 = the context's number; goto +1 if R1 == 0; R0 = 1; EXIT
+#[test]
+fn a_jump_goes_by_the_context(rt: HostRuntime) -> Result<(), Fail> {
+    let text = "tenants = 1\nframes = 2\nevent = [{ do = \"load\", tenant = 0, context = 8, hex = \
+        \"b70000000000000079110000000000001501010000000000b7000000010000009500000000000000\" }, \
+        { do = \"run\", tenant = 0, program = 0, context = \"0000000000000000\" }, \
+        { do = \"run\", tenant = 0, program = 0, context = \"0700000000000000\" }]\n";
+    let (status, output) = replayed(rt.alloc(), text)?;
+    assert_eq!(rt; status, 0);
+    assert_eq!(rt;
+        output.as_str(),
+        "tenant 0 run 0 ret 0 steps 4\ntenant 0 run 1 ret 1 steps 5\n"
+    );
+    Ok(())
+}
+
 #[test]
 fn a_host_that_is_refused_ends_it(rt: HostRuntime) -> Result<(), Fail> {
     let rows = [

@@ -1,0 +1,53 @@
+//! The refusals of a host. Each function has those of one kind, and answers `None` for others.
+
+ghost use Rattle.std.specs.Prelude.{◌↔◌, IsSome, IsTrue};
+ghost use Rattle.advice.specs.Answered.{is_of_limits, is_of_tenants};
+
+use crate::Advice;
+
+/// What a host's shape, options, sizes and memory may be.
+pub fn on_limits(number: u32) -> Option<Advice>
+    ensures { IsSome result ↔ IsTrue (is_of_limits number) }
+{
+    let (wrong, mend) = match number {
+        33 => (
+            "`frames` isn't from 2 to 4096, or `tenants` not from 1 to 16",
+            "mend the top of the host file",
+        ),
+        39 => (
+            "a context size above 256 or no multiple of 8, or a context of another length than the \
+            size that its program was loaded with",
+            "give a size that is a multiple of 8 up to 256, and a run as many bytes as its \
+            program's load says",
+        ),
+        40 => (
+            "an option can't have this value",
+            "give `pages_to_scan` 1 to 100000, `run` and `use_zero_pages` 0 or 1, and \
+            `max_page_sharing` 2 to 65535",
+        ),
+        41 => ("memory ran out", "give the process more"),
+        _ => return None,
+    };
+    Some(Advice { wrong, mend })
+}
+
+/// Which tenants, programs and runs there are.
+pub fn on_tenants(number: u32) -> Option<Advice>
+    ensures { IsSome result ↔ IsTrue (is_of_tenants number) }
+{
+    let (wrong, mend) = match number {
+        36 => ("the tenant has an open run", "finish it first"),
+        37 => ("there is no open run to step", "begin one"),
+        38 => (
+            "the tenant has no program of this number",
+            "count programs from 0, in the order of their loads, without the refused ones",
+        ),
+        42 => (
+            "there is no such tenant",
+            "count tenants from 0; the last is one less than `tenants`",
+        ),
+        45 => ("the tenant has eight programs", "load fewer"),
+        _ => return None,
+    };
+    Some(Advice { wrong, mend })
+}

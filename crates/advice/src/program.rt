@@ -1,0 +1,135 @@
+//! The refusals of a program. Each function has the rules of one kind, and answers `None` for others.
+
+ghost use Rattle.std.specs.Prelude.{◌↔◌, IsSome, IsTrue};
+ghost use Rattle.advice.specs.Answered.{is_of_text, is_of_way, is_of_value, is_of_access, is_of_call};
+
+use crate::Advice;
+
+/// What is wrong with an instruction alone, or with the text's length.
+pub fn on_text(number: u32) -> Option<Advice>
+    ensures { IsSome result ↔ IsTrue (is_of_text number) }
+{
+    let (wrong, mend) = match number {
+        1 => (
+            "the text is empty, longer than 4096 slots, or ends inside a slot",
+            "give 1 to 4096 whole slots of eight bytes",
+        ),
+        2 => (
+            "the opcode isn't one that the host knows",
+            "use the opcodes of docs/INSTRUCTIONS.md",
+        ),
+        3 => (
+            "a field has a number that means nothing there: one that isn't used isn't zero, or an \
+            offset of DIV, MOD or MOV or a width of END isn't in the table of docs/INSTRUCTIONS.md",
+            "write zeros in unused fields; offset 1 makes a division signed, 8, 16 and, with 64 \
+            bits, 32 a move of a register with its sign; widths are 16, 32 and 64",
+        ),
+        4 => ("a register above R10 is named", "use R0 to R10"),
+        5 => (
+            "a wide instruction, opcode 18, stands in the last slot",
+            "give both of its slots",
+        ),
+        _ => return None,
+    };
+    Some(Advice { wrong, mend })
+}
+
+/// Where an instruction may lead.
+pub fn on_way(number: u32) -> Option<Advice>
+    ensures { IsSome result ↔ IsTrue (is_of_way number) }
+{
+    let (wrong, mend) = match number {
+        11 => (
+            "a jump leads to its own slot or back",
+            "jump forward alone: there are no loops",
+        ),
+        12 => (
+            "a jump leads past the end, or into a wide instruction",
+            "count slots from the next instruction; a wide one has two",
+        ),
+        13 => (
+            "the program may go on behind its last instruction",
+            "end it with EXIT",
+        ),
+        _ => return None,
+    };
+    Some(Advice { wrong, mend })
+}
+
+/// Which registers and kinds of values an instruction may take.
+pub fn on_value(number: u32) -> Option<Advice>
+    ensures { IsSome result ↔ IsTrue (is_of_value number) }
+{
+    let (wrong, mend) = match number {
+        14 => (
+            "a register is read that isn't set on every way to the slot, or holds an address on one \
+            and another value on another",
+            "set it first on every way, to numbers or to the same address; at the start only R1 and \
+            R10 are set; EXIT reads R0",
+        ),
+        15 => (
+            "an access through a number, a store to the context, a comparison with an address, \
+            arithmetic on one other than a copy of 64 bits and adding or subtracting a constant \
+            with 64 bits, or a call, which wants the name of a map",
+            "keep the base in a copy of R1 or R10, add constants alone, store to the stack alone, \
+            compare numbers, and leave calls out",
+        ),
+        22 => (
+            "R10 is written",
+            "copy R10 to another register and change that",
+        ),
+        25 => (
+            "the program returns an address, stores one in fewer than eight bytes, or loads a part \
+            of one from the stack",
+            "return a number; store and load addresses as double words",
+        ),
+        _ => return None,
+    };
+    Some(Advice { wrong, mend })
+}
+
+/// Which bytes an instruction may read and write.
+pub fn on_access(number: u32) -> Option<Advice>
+    ensures { IsSome result ↔ IsTrue (is_of_access number) }
+{
+    let (wrong, mend) = match number {
+        16 => (
+            "a load that isn't whole in the context, or an address more than 65536 bytes from its \
+            beginning",
+            "lower the offset, or load the program with a larger context size",
+        ),
+        17 => (
+            "an access that isn't whole in the 512 bytes below R10, or an address more than 65536 \
+            bytes from R10",
+            "use offsets from -512 to less than 0, the whole access below 0",
+        ),
+        18 => (
+            "bytes of the stack are read that weren't all stored",
+            "store them first, on every way that leads here",
+        ),
+        20 => (
+            "the place of an access is no multiple of its size",
+            "use multiples of the access's size",
+        ),
+        _ => return None,
+    };
+    Some(Advice { wrong, mend })
+}
+
+/// Which helpers and maps there are.
+pub fn on_call(number: u32) -> Option<Advice>
+    ensures { IsSome result ↔ IsTrue (is_of_call number) }
+{
+    let (wrong, mend) = match number {
+        23 => (
+            "a helper other than 1, 2 and 3 is called",
+            "leave the call out: these three want maps, and programs have none yet",
+        ),
+        24 => (
+            "a map is named that isn't there",
+            "leave it out: programs have no maps yet",
+        ),
+        _ => return None,
+    };
+    Some(Advice { wrong, mend })
+}

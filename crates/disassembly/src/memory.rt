@@ -1,0 +1,82 @@
+use crate::operand::Operand;
+use bpf_decode::{Extension, Insn, Size, Source, Width};
+use std::fmt;
+
+/// A place in memory and the number that lies there: `*(u32 *)(r10 - 4)`.
+#[derive(Clone, Copy)]
+struct Place {
+    number: &'static str,
+    base: u8,
+    offset: i16,
+}
+
+impl fmt::Display for Place {
+    fn fmt<W: fmt::Write>(&self, f: &mut fmt::Formatter<W>) -> fmt::Result {
+        let sign = if self.offset < 0 { '-' } else { '+' };
+        let bytes = self.offset.unsigned_abs();
+        write!(f, "*({} *)(r{} {sign} {bytes})", self.number, self.base)
+    }
+}
+
+/// Writes a load into a register.
+pub fn write_load<W: fmt::Write>(
+    f: &mut fmt::Formatter<W>,
+    insn: &Insn,
+    size: Size,
+    extension: Extension,
+) -> fmt::Result {
+    let number = match extension {
+        Extension::Zero => unsigned(size),
+        Extension::Sign => signed(size),
+    };
+    let place = Place {
+        number,
+        base: insn.src,
+        offset: insn.offset,
+    };
+    write!(f, "r{} = {place}", insn.dst)
+}
+
+/// Writes a store to memory.
+pub fn write_store<W: fmt::Write>(
+    f: &mut fmt::Formatter<W>,
+    insn: &Insn,
+    size: Size,
+    source: Source,
+) -> fmt::Result {
+    let place = Place {
+        number: unsigned(size),
+        base: insn.dst,
+        offset: insn.offset,
+    };
+    let operand = Operand::of(insn, Width::Bits64, source);
+    write!(f, "{place} = {operand}")
+}
+
+/// Writes a wide instruction. The assembler has no word for the name of a map: `map 0` is this host's
+/// own.
+pub fn write_load_immediate<W: fmt::Write>(f: &mut fmt::Formatter<W>, insn: &Insn) -> fmt::Result {
+    if insn.src == 0 {
+        write!(f, "r{} = {} ll", insn.dst, insn.wide_immediate())
+    } else {
+        write!(f, "r{} = map {}", insn.dst, insn.imm)
+    }
+}
+
+fn unsigned(size: Size) -> &'static str {
+    match size {
+        Size::Byte => "u8",
+        Size::HalfWord => "u16",
+        Size::Word => "u32",
+        Size::DoubleWord => "u64",
+    }
+}
+
+fn signed(size: Size) -> &'static str {
+    match size {
+        Size::Byte => "s8",
+        Size::HalfWord => "s16",
+        Size::Word => "s32",
+        Size::DoubleWord => "s64",
+    }
+}

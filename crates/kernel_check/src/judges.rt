@@ -1,0 +1,47 @@
+use bpf_decode::decode;
+use host_types::Refused;
+use plain_verifier::{Judged, Table, judge_backward, judge_forward};
+use std::alloc::Global;
+use verifier::Verified;
+
+/// Whether both passes of the plain verifier answer of a text what `verify` answered: the same number
+/// and slot of a refusal, or the same kinds.
+pub(crate) fn judge_alike(
+    alloc: Global,
+    text: &[u8],
+    verified: &Result<Verified, Refused>,
+) -> bool {
+    forward(alloc, text).is_some_and(|judged| is_as(&judged, verified))
+        && backward(alloc, text).is_some_and(|judged| is_as(&judged, verified))
+}
+
+// What the pass answers that joins in order; `None` where the decoder refuses, or for want of memory.
+fn forward(alloc: Global, text: &[u8]) -> Option<Judged> {
+    judge_forward(alloc, decode(alloc, text).ok()?, 0).ok()
+}
+
+// What the pass answers that joins in the opposite order.
+fn backward(alloc: Global, text: &[u8]) -> Option<Judged> {
+    judge_backward(alloc, decode(alloc, text).ok()?, 0).ok()
+}
+
+// Whether a text was judged as `verify` judged it.
+fn is_as(judged: &Judged, verified: &Result<Verified, Refused>) -> bool {
+    match (judged, verified) {
+        (Judged::Accepted(table), Ok(program)) => has_kinds(table, program),
+        (Judged::Refused(refused), Err(named)) => refused == named,
+        _ => false,
+    }
+}
+
+// Whether a table knows what `verify` knows of each register at each slot.
+fn has_kinds(table: &Table, program: &Verified) -> bool {
+    for slot in 0..program.slots() {
+        for register in 0..11 {
+            if table.kind(slot, register) != program.kind(slot, register) {
+                return false;
+            }
+        }
+    }
+    true
+}

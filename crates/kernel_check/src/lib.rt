@@ -1,0 +1,77 @@
+//! Compares the host with results that the Linux kernel computed, for the programs `kernel_rows`,
+//! `kernel_jumps` and those of random rows. A row is four texts between tabs: a name, a program in hex, what it returns, and in how
+//! many steps (`-` for any number). Its program is decoded, judged by `verify` and by both passes of the
+//! plain verifier, and run, and it is run on the plain machine too. So is each text that it becomes, cut at
+//! any byte or with any bit flipped: it is refused, or it goes as on the plain machine.
+#![tactic(auto)]
+
+mod changes;
+mod judges;
+mod row;
+mod runs;
+
+use changes::all_agree;
+use row::Row;
+use runs::{Outcome, on_the_host, on_the_plain_machine};
+use std::alloc::{AllocError, Global};
+use std::io;
+use std::io::Input;
+
+// What is found of a row.
+enum Finding {
+    /// Its program does what the row says, and all changed texts go alike.
+    Agrees,
+    /// It is no row, or its program does something else.
+    Differs,
+    /// Of the texts that its program becomes by a change one doesn't go alike.
+    DiffersChanged,
+}
+
+/// Compares the host with each row of the standard input, behind its line of names. Each row that differs
+/// is a line of the output, and the last line counts the rows that agree.
+pub fn compare_input(rt: &(impl AllocGlobal + Input + Print)) -> io::Result<()> {
+    let alloc = rt.alloc();
+    let mut rows: u64 = 0;
+    let mut agreed: u64 = 0;
+    for line in rt.lines(alloc).skip(1) {
+        let line = line?;
+        rows = rows.saturating_add(1);
+        match compare(alloc, line.as_str())? {
+            Finding::Agrees => agreed = agreed.saturating_add(1),
+            Finding::Differs => println!(rt; "differs: {line}")?,
+            Finding::DiffersChanged => println!(rt; "differs when it is changed: {line}")?,
+        }
+    }
+    println!(rt; "{agreed} of {rows} rows agree")
+}
+
+// Compares the host with the row that a line says.
+fn compare(alloc: Global, line: &str) -> Result<Finding, AllocError> {
+    match Row::parse(alloc, line) {
+        Some(row) if agrees(alloc, &row) => {
+            if all_agree(alloc, row.text.as_slice())? {
+                Ok(Finding::Agrees)
+            } else {
+                Ok(Finding::DiffersChanged)
+            }
+        }
+        _ => Ok(Finding::Differs),
+    }
+}
+
+// Whether a row's program does what the row says, on the host and on the plain machine alike.
+fn agrees(alloc: Global, row: &Row) -> bool {
+    let text = row.text.as_slice();
+    let outcome = on_the_host(alloc, text, true);
+    outcome == on_the_plain_machine(alloc, text) && is_as(row, outcome)
+}
+
+// Whether a program went as a row says.
+fn is_as(row: &Row, outcome: Outcome) -> bool {
+    match outcome {
+        Outcome::Returned { number, steps } => {
+            number == row.number && row.steps.is_none_or(|wanted| wanted == steps)
+        }
+        _ => false,
+    }
+}

@@ -1,0 +1,63 @@
+-- What the break of a page takes: one frame at most, and none where it was broken before.
+use Rattle.std.proofs.Common.{◌≡◌, ◌∙◌, ℕ, zero, suc, ◌<◌, ◌≤◌, Bool, true, false, if◌then◌else◌, List, [], ◌∷◌, length, slice_index_or, slice_set, Option, Some, None, option_map, unwrap_or, refl, sym, ap, arith}
+use Rattle.std.proofs.lemmas.List.{get_or-set_same}
+use Rattle.host_types.specs.declared.status.Status.{Status}
+use Rattle.host_types.specs.declared.status.Status.TheVariants.{New, Volatile, Waiting, Grouped, Zero}
+use Rattle.host_types.specs.Sharing.{Sharing, PageState, state_at, is_shared, is_shared_page, is_in_company, left_by, broken, broken_page, break_cost, cost_of}
+
+-- what the break of a page takes, told by its state
+abbrev cost_in : Bool → Option PageState → ℕ
+cost_in company x = unwrap_or (option_map (λ (state : PageState). cost_of company state.status) x) 0
+
+pub cost-small : (s : Sharing) (i : ℕ) → break_cost s i ≤ 1
+unfolding break_cost
+cost-small s i = by_page (is_in_company s i) (state_at s i)
+  where
+    by_status : (company : Bool) (status : Status) → cost_of company status ≤ 1
+    by_status company New = omega arith
+    by_status company Volatile = omega arith
+    by_status company Waiting = omega arith
+    by_status true Grouped = omega arith
+    by_status false Grouped = omega arith
+    by_status company Zero = omega arith
+
+    by_page : (company : Bool) (x : Option PageState) → cost_in company x ≤ 1
+    by_page company None = omega arith
+    by_page company (Some state) = by_status company state.status
+
+-- a page with its own frame takes none
+own-cost : (company : Bool) (x : Option PageState) → is_shared_page x ≡ false → cost_in company x ≡ 0
+own-cost company None own = refl
+own-cost company (Some state) own = by_status state.status own
+  where
+    by_status : (status : Status) → is_shared status ≡ false → cost_of company status ≡ 0
+    by_status New e = refl
+    by_status Volatile e = refl
+    by_status Waiting e = refl
+    by_status Grouped e = absurd (cc)
+    by_status Zero e = absurd (cc)
+
+-- a page that is there has a place
+inside : (xs : List (Option PageState)) (i : ℕ) (state : PageState) → slice_index_or xs i None ≡ Some state → i < length xs
+inside [] i state e = absurd (cc)
+inside (x ∷ xs) zero state e = omega arith
+inside (x ∷ xs) (suc i) state e = let rest = inside xs i state e in omega arith
+
+-- a broken page has its own frame
+pub own-broken : (s : Sharing) (i : ℕ) → is_shared_page (state_at (broken s i) i) ≡ false
+unfolding broken
+own-broken s i = by_shared (is_shared_page (state_at s i)) refl
+  where
+    by_shared : (b : Bool) → is_shared_page (state_at s i) ≡ b
+        → is_shared_page (state_at (if b then record s { pages = slice_set s.pages i (option_map broken_page (state_at s i)); groups = left_by i s.groups } else s) i) ≡ false
+    by_shared false e = e
+    by_shared true e = by_page (state_at s i) refl e
+      where
+        by_page : (x : Option PageState) → state_at s i ≡ x → is_shared_page (state_at s i) ≡ true → is_shared_page (slice_index_or (slice_set s.pages i (option_map broken_page (state_at s i))) i None) ≡ false
+        by_page None here e = absurd (let no = sym (ap is_shared_page here) ∙ e in cc)
+        by_page (Some state) here e =
+            ap is_shared_page (get_or-set_same s.pages i (option_map broken_page (state_at s i)) None (inside s.pages i state here)) ∙ ap (λ (x : Option PageState). is_shared_page (option_map broken_page x)) here
+
+pub cost-again : (s : Sharing) (i : ℕ) → break_cost (broken s i) i ≡ 0
+unfolding break_cost
+cost-again s i = own-cost (is_in_company (broken s i) i) (state_at (broken s i) i) (own-broken s i)

@@ -1,0 +1,32 @@
+use Rattle.std.proofs.Common.{◌≡◌, ◌∙◌, ◌*◌, ◌%◌, ap, arith}
+use Rattle.host_types.specs.Sharing.{broken, break_cost}
+use Rattle.write_break.specs.Stores.{place_of_byte}
+use Rattle.write_break.proofs.Stores.{sharing-one, cost-one}
+use Rattle.memory_bench.proofs.Breaks.{cost-again}
+use Rattle.memory_bench.proofs.runs.stores.Goals as goal
+
+pub loop-turn-init : goal.loop-turn-init
+loop-turn-init c =
+    let sharing = c.store.ensures.sharing ∙ sharing-one c.args.memory.now.sharing 0 0 0 8 (omega arith) (omega arith) in
+    record {
+      there = omega (arith, c.store.ensures.length, c.byte_len.ensures, c.if-byte_len-lt-PAGE_SIZE.false);
+      own = ap (λ s. break_cost s 0) sharing ∙ cost-again c.args.memory.now.sharing 0;
+    }
+
+pub store-requires-in-loop-turn-clause-room : goal.store-requires-in-loop-turn-clause-room
+store-requires-in-loop-turn-clause-room c =
+    let first : place_of_byte 0 0 (c.loop-turn.turn % 512 * 8) ≡ 0 = omega arith in
+    let cost = cost-one c.loop-turn.memory.sharing 0 0 (c.loop-turn.turn % 512 * 8) 8 (omega arith) (omega arith) in
+    let none = ap (break_cost c.loop-turn.memory.sharing) first in
+    omega (arith, cost, none, c.loop-turn.invariant.own)
+
+pub loop-turn-preserved : goal.loop-turn-preserved
+loop-turn-preserved c =
+    let first : place_of_byte 0 0 (c.loop-turn.turn % 512 * 8) ≡ 0 = omega arith in
+    let sharing = c.store-in-loop-turn.ensures.sharing
+    ∙ sharing-one c.loop-turn.memory.sharing 0 0 (c.loop-turn.turn % 512 * 8) 8 (omega arith) (omega arith)
+    ∙ ap (broken c.loop-turn.memory.sharing) first in
+    record {
+      there = omega (arith, c.store-in-loop-turn.ensures.length, c.loop-turn.invariant.there);
+      own = ap (λ s. break_cost s 0) sharing ∙ cost-again c.loop-turn.memory.sharing 0;
+    }

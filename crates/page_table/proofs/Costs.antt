@@ -1,0 +1,147 @@
+-- What the break of a page costs, told by its group and by its frame.
+use Rattle.std.proofs.Common.{◌≡◌, ◌∙◌, ◌⊎◌, inl, inr, ⊎_elim, ℕ, zero, suc, ◌+◌, ◌<◌, ◌≤◌, nat_lt, Bool, true, false, List, [], ◌∷◌, slice_index_or, Option, Some, None, option_map, unwrap_or, refl, sym, ap, arith}
+use Rattle.std.proofs.lemmas.Bool.Decides.{nat_tests, leb_tells}
+use Rattle.host_types.specs.declared.options.Options.{Options}
+use Rattle.host_types.specs.declared.status.Status.{Status}
+use Rattle.host_types.specs.declared.status.Status.TheVariants.{New, Volatile, Waiting, Grouped, Zero}
+use Rattle.host_types.specs.Sharing.{PageState, state_at, is_in_company, cost_of, break_cost, is_shared}
+use Rattle.page_table.specs.declared.entry.Entry.{Entry}
+use Rattle.page_table.specs.Table.{TableState, CountsState, IsTable, IsSound, IsEntry, IsGroup, LiesRight, times, one_if_zero, entry_at, is_on, state_of, states_of, groups_of, sharing_of, pages_on, cost_at}
+use Rattle.page_table.proofs.Entries.{one_when, equal, some_on}
+use Rattle.page_table.proofs.Groups.{company-places}
+use Rattle.page_table.proofs.Putting.{entry_fits}
+
+-- the state of a page is that of its entry
+pub state-at : (table : TableState) (options : Options) (i : ℕ) → state_at (sharing_of table options) i ≡ option_map state_of (entry_at table.entries i)
+state-at table options i = by_list table.entries i
+  where
+    by_list : (xs : List (Option Entry)) (i : ℕ) → slice_index_or (states_of xs) i None ≡ option_map state_of (entry_at xs i)
+    by_list [] i = refl
+    by_list (x ∷ xs) zero = refl
+    by_list (x ∷ xs) (suc i) = by_list xs i
+
+-- what the break of the page of an entry takes
+cost-entry : (table : TableState) (i : ℕ) (entry : Entry) → entry_at table.entries i ≡ Some entry
+    → cost_at table i ≡ cost_of (nat_lt 1 (pages_on entry.frame table.entries)) entry.status
+unfolding cost_at
+cost-entry table i entry here = ap taken here
+  where
+    taken : Option Entry → ℕ
+    taken x = unwrap_or (option_map (λ (entry : Entry). cost_of (nat_lt 1 (pages_on entry.frame table.entries)) entry.status) x) 0
+
+cost-none : (table : TableState) (i : ℕ) → entry_at table.entries i ≡ None → cost_at table i ≡ 0
+unfolding cost_at
+cost-none table i none = ap taken none
+  where
+    taken : Option Entry → ℕ
+    taken x = unwrap_or (option_map (λ (entry : Entry). cost_of (nat_lt 1 (pages_on entry.frame table.entries)) entry.status) x) 0
+
+more_than_one : (n : ℕ) → 1 < n → nat_lt 1 n ≡ true
+more_than_one n h = grind (arith, nat_tests)
+
+one_at_most : (n : ℕ) → n ≤ 1 → nat_lt 1 n ≡ false
+one_at_most n h = grind (arith, nat_tests)
+
+-- a page of a group is in company where more than one page lies on its frame
+company : (table : TableState) (options : Options) (i : ℕ) (entry : Entry) → entry_at table.entries i ≡ Some entry → IsEntry table entry
+    → cost_of (is_in_company (sharing_of table options) i) entry.status ≡ cost_of (nat_lt 1 (pages_on entry.frame table.entries)) entry.status
+unfolding groups_of
+company table options i entry here is = by_status entry.status is.right
+  where
+    by_status : (status : Status) → LiesRight table entry.frame status
+        → cost_of (is_in_company (sharing_of table options) i) status ≡ cost_of (nat_lt 1 (pages_on entry.frame table.entries)) status
+    by_status New a = refl
+    by_status Volatile a = refl
+    by_status Waiting a = refl
+    by_status Grouped a = ap (λ (b : Bool). cost_of b Grouped) (company-places table.entries table.groups i entry here a)
+    by_status Zero a = refl
+
+-- what the break of a page takes
+pub cost-is : (table : TableState) (options : Options) (i : ℕ) → IsTable table → break_cost (sharing_of table options) i ≡ cost_at table i
+unfolding break_cost
+cost-is table options i is = by_entry (entry_at table.entries i) refl
+  where
+    taken : Option PageState → ℕ
+    taken x = unwrap_or (option_map (λ (state : PageState). cost_of (is_in_company (sharing_of table options) i) state.status) x) 0
+
+    by_entry : (x : Option Entry) → entry_at table.entries i ≡ x → break_cost (sharing_of table options) i ≡ cost_at table i
+    by_entry None e = ap taken (state-at table options i ∙ ap (option_map state_of) e) ∙ sym (cost-none table i e)
+    by_entry (Some entry) e =
+        ap taken (state-at table options i ∙ ap (option_map state_of) e)
+        ∙ company table options i entry e (entry_fits table i entry is e)
+        ∙ sym (cost-entry table i entry e)
+
+-- a page with a frame of its own costs nothing
+pub cost-own : (table : TableState) (i : ℕ) (entry : Entry) → IsTable table → entry_at table.entries i ≡ Some entry → entry.protected ≡ false → cost_at table i ≡ 0
+cost-own table i entry is here own =
+    let fits = entry_fits table i entry is here in
+    cost-entry table i entry here ∙ by_status entry.status (sym fits.protected ∙ own)
+  where
+    by_status : (status : Status) → is_shared status ≡ false → cost_of (nat_lt 1 (pages_on entry.frame table.entries)) status ≡ 0
+    by_status New e = refl
+    by_status Volatile e = refl
+    by_status Waiting e = refl
+    by_status Grouped e = absurd (cc)
+    by_status Zero e = absurd (cc)
+
+above : (f : ℕ) → 0 < f → one_if_zero f ≡ 0
+above zero h = absurd (omega arith)
+above (suc f) h = refl
+
+-- where a group has the frame, the frame isn't the zero frame
+pub group-frame : (table : TableState) (f : ℕ) → IsTable table → times f table.groups ≡ 1 → one_if_zero f ≡ 0
+group-frame table f is one =
+    above f (⊎_elim (λ none. absurd (omega (arith, one, none))) (λ group. IsGroup.above group) (is.groups f))
+
+-- a page on a frame that more hold takes a frame
+pub cost-one : (table : TableState) (i : ℕ) (entry : Entry) → IsTable table → entry_at table.entries i ≡ Some entry → is_shared entry.status ≡ true
+    → 1 < one_if_zero entry.frame + pages_on entry.frame table.entries → cost_at table i ≡ 1
+cost-one table i entry is here shared more =
+    let fits = entry_fits table i entry is here in
+    cost-entry table i entry here ∙ by_status entry.status shared fits.right
+  where
+    by_status : (status : Status) → is_shared status ≡ true → LiesRight table entry.frame status → cost_of (nat_lt 1 (pages_on entry.frame table.entries)) status ≡ 1
+    by_status New e a = absurd (cc)
+    by_status Volatile e a = absurd (cc)
+    by_status Waiting e a = absurd (cc)
+    by_status Grouped e a = let none = group-frame table entry.frame is a in ap one_when (more_than_one (pages_on entry.frame table.entries) (omega (arith, more, none)))
+    by_status Zero e a = refl
+
+-- the last page of a group takes none
+pub cost-last : (table : TableState) (i : ℕ) (entry : Entry) → IsTable table → entry_at table.entries i ≡ Some entry → is_shared entry.status ≡ true
+    → one_if_zero entry.frame + pages_on entry.frame table.entries ≤ 1 → cost_at table i ≡ 0
+cost-last table i entry is here shared last =
+    let fits = entry_fits table i entry is here in
+    cost-entry table i entry here ∙ by_status entry.status shared fits.right
+  where
+    on_zero : (f : ℕ) → f ≡ 0 → one_if_zero f ≡ 1
+    on_zero f e = ap one_if_zero e
+
+    by_status : (status : Status) → is_shared status ≡ true → LiesRight table entry.frame status → cost_of (nat_lt 1 (pages_on entry.frame table.entries)) status ≡ 0
+    by_status New e a = absurd (cc)
+    by_status Volatile e a = absurd (cc)
+    by_status Waiting e a = absurd (cc)
+    by_status Grouped e a = ap one_when (one_at_most (pages_on entry.frame table.entries) (omega (arith, last)))
+    by_status Zero e a =
+        let lies = some_on entry.frame table.entries i (ap (is_on entry.frame) here ∙ equal entry.frame) in
+        absurd (omega (arith, last, lies, on_zero entry.frame a))
+
+-- the same, told by the count of the page's frame
+pub cost-counted : (table : TableState) (counts : CountsState) (i : ℕ) (entry : Entry) → IsSound table counts → entry_at table.entries i ≡ Some entry → entry.protected ≡ true
+    → ((nat_lt 1 (slice_index_or counts.counts entry.frame 0) ≡ true) × (cost_at table i ≡ 1)) ⊎ ((nat_lt 1 (slice_index_or counts.counts entry.frame 0) ≡ false) × (cost_at table i ≡ 0))
+cost-counted table counts i entry sound here protected =
+    let fits = entry_fits table i entry sound.fits here in
+    let counted = sound.counted.counted entry.frame fits.frame in
+    ⊎_elim
+    (λ more. inl (more.0, cost-one table i entry sound.fits here (sym fits.protected ∙ protected) (omega (arith, counted, more.1))))
+    (λ last. inr (last.0, cost-last table i entry sound.fits here (sym fits.protected ∙ protected) (omega (arith, counted, last.1))))
+    (leb_tells 2 (slice_index_or counts.counts entry.frame 0))
+
+-- the count of a page's frame is not 0
+pub count-some : (table : TableState) (counts : CountsState) (i : ℕ) (entry : Entry) → IsSound table counts → entry_at table.entries i ≡ Some entry
+    → (slice_index_or counts.counts entry.frame 0 ≡ one_if_zero entry.frame + pages_on entry.frame table.entries) × (1 ≤ slice_index_or counts.counts entry.frame 0)
+count-some table counts i entry sound here =
+    let fits = entry_fits table i entry sound.fits here in
+    let counted = sound.counted.counted entry.frame fits.frame in
+    let lies = some_on entry.frame table.entries i (ap (is_on entry.frame) here ∙ equal entry.frame) in
+    (counted, omega (arith, counted, lies))

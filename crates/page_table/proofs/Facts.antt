@@ -1,0 +1,315 @@
+-- The law of every memory, from what holds of its table.
+use Rattle.std.proofs.Common.{◌≡◌, ◌≢◌, ◌∙◌, ◌⊎◌, ◌↔◌, inl, inr, ⊎_elim, ℕ, zero, suc, ◌+◌, ◌-◌, ◌<◌, ◌≤◌, ◌==◌, ◌&&◌, ◌||◌, Bool, true, false, not, if◌then◌else◌, List, [], ◌∷◌, length, map, sum_by, filter, All, AllPairs, slice_index_or, Option, Some, None, IsSome, IfSome, option_map, refl, sym, ap, subst, arith}
+use Rattle.std.specs.List.{list_any, range_with_len}
+use Rattle.std.proofs.lemmas.List.{get_or_default}
+use Rattle.std.proofs.lemmas.List.Sums.{sum_by-cons, length-filter}
+use Rattle.std.proofs.lemmas.List.Kept.{AllPairs-cons}
+use Rattle.std.proofs.lemmas.Bool.Decides.{eqb_tells, nat_tests}
+use Rattle.host_types.specs.declared.options.Options.{Options}
+use Rattle.host_types.specs.declared.shape.Shape.{Shape}
+use Rattle.host_types.specs.declared.status.Status.{Status}
+use Rattle.host_types.specs.declared.status.Status.TheVariants.{New, Volatile, Waiting, Grouped, Zero}
+use Rattle.host_types.specs.Sharing.{PageState, is_among}
+use Rattle.page_table.specs.declared.entry.Entry.{Entry}
+use Rattle.page_table.specs.declared.tenant.Tenant.{Tenant}
+use Rattle.page_table.specs.State.{free_of}
+use Rattle.page_table.specs.Table.{TableState, CountsState, IsTable, IsEntry, IsAlone, IsGroup, IsSound, AreCounts, LiesRight, times, one_if_zero, entry_at, state_of, states_of, frames_of, groups_of, sharing_of, is_on, pages_on, places_on}
+use Rattle.page_table.specs.View.{view_of}
+use Rattle.page_table.specs.Reads.{ReadsAs, AreGroups, AreMerged, status_at, has_both, is_frame, free_frames}
+use Rattle.page_table.proofs.Entries.{one_when, alone, inside, equal, times-head, times-tail}
+use Rattle.page_table.proofs.Putting.{entry_fits}
+use Rattle.page_table.proofs.Free.{free_is}
+use Rattle.page_table.proofs.Groups.{among-places, length-places}
+use Rattle.page_table.proofs.Counting.{same_either_way, one_if_zero-above, length-unused, empty-frame}
+
+-- what is told of the entry at a place
+told_at : {X : Type 0} (tell : Entry → X) (xs : List (Option Entry)) (i : ℕ) → slice_index_or (map (option_map tell) xs) i None ≡ option_map tell (entry_at xs i)
+told_at tell [] i = refl
+told_at tell (x ∷ xs) zero = refl
+told_at tell (x ∷ xs) (suc i) = told_at tell xs i
+
+status_is : (table : TableState) (options : Options) (i : ℕ) → status_at (sharing_of table options) i ≡ option_map (λ (entry : Entry). entry.status) (entry_at table.entries i)
+status_is table options i = ap (option_map (λ (state : PageState). state.status)) (told_at state_of table.entries i) ∙ of_entry (entry_at table.entries i)
+  where
+    of_entry : (x : Option Entry) → option_map (λ (state : PageState). state.status) (option_map state_of x) ≡ option_map (λ (entry : Entry). entry.status) x
+    of_entry None = refl
+    of_entry (Some entry) = refl
+
+-- a page that is there, with its frame and status
+record Lies (table : TableState) (i x : ℕ) : Type 0 where
+  pub entry : Entry
+  pub here : entry_at table.entries i ≡ Some entry
+  pub on : entry.frame ≡ x
+  pub fits : IsEntry table entry
+
+lies : (table : TableState) (i x : ℕ) → IsTable table → slice_index_or (frames_of table.entries) i None ≡ Some x → Lies table i x
+lies table i x is h = by_entry (entry_at table.entries i) refl
+  where
+    by_entry : (y : Option Entry) → entry_at table.entries i ≡ y → Lies table i x
+    by_entry None e =
+        let told : slice_index_or (frames_of table.entries) i None ≡ None = told_at (λ (entry : Entry). entry.frame) table.entries i ∙ ap (option_map (λ (entry : Entry). entry.frame)) e in
+        absurd (cc)
+    by_entry (Some entry) e =
+        let told : slice_index_or (frames_of table.entries) i None ≡ Some entry.frame = told_at (λ (entry : Entry). entry.frame) table.entries i ∙ ap (option_map (λ (entry : Entry). entry.frame)) e in
+        record { entry = entry; here = e; on = same entry.frame x (sym told ∙ h); fits = entry_fits table i entry is e }
+      where
+        same : (a b : ℕ) → Some a ≡ Some b → a ≡ b
+        same a b e = cc
+
+told : (table : TableState) (options : Options) (i : ℕ) (status : Status) → IsTable table → status_at (sharing_of table options) i ≡ Some status → (entry : Entry) × (entry_at table.entries i ≡ Some entry) × (entry.status ≡ status) × IsEntry table entry
+told table options i status is h = by_entry (entry_at table.entries i) refl
+  where
+    by_entry : (y : Option Entry) → entry_at table.entries i ≡ y → (entry : Entry) × (entry_at table.entries i ≡ Some entry) × (entry.status ≡ status) × IsEntry table entry
+    by_entry None e =
+        let told : status_at (sharing_of table options) i ≡ None = status_is table options i ∙ ap (option_map (λ (entry : Entry). entry.status)) e in
+        absurd (cc)
+    by_entry (Some entry) e =
+        let told : status_at (sharing_of table options) i ≡ Some entry.status = status_is table options i ∙ ap (option_map (λ (entry : Entry). entry.status)) e in
+        (entry, e, same entry.status status (sym told ∙ h), entry_fits table i entry is e)
+      where
+        same : (a b : Status) → Some a ≡ Some b → a ≡ b
+        same a b e = cc
+
+status_there : (table : TableState) (options : Options) (i : ℕ) (entry : Entry) (status : Status) → entry_at table.entries i ≡ Some entry → entry.status ≡ status → status_at (sharing_of table options) i ≡ Some status
+status_there table options i entry status e same = status_is table options i ∙ ap (option_map (λ (entry : Entry). entry.status)) e ∙ ap Some same
+
+-- a page is alone, or grouped on a group's frame, or on the zero frame
+Kind : TableState → Entry → Type 0
+Kind table entry = IsAlone table entry.frame ⊎ (((entry.status ≡ Grouped) × (times entry.frame table.groups ≡ 1)) ⊎ ((entry.status ≡ Zero) × (entry.frame ≡ 0)))
+
+kind : (table : TableState) (entry : Entry) → IsEntry table entry → Kind table entry
+unfolding Kind
+kind table entry fits = by_status entry.status refl fits.right
+  where
+    by_status : (status : Status) → entry.status ≡ status → LiesRight table entry.frame status → Kind table entry
+    by_status New e right = inl right
+    by_status Volatile e right = inl right
+    by_status Waiting e right = inl right
+    by_status Grouped e right = inr (inl (e, right))
+    by_status Zero e right = inr (inr (e, right))
+
+group : (table : TableState) (f : ℕ) → IsTable table → 1 ≤ times f table.groups → IsGroup table f
+group table f is some = ⊎_elim (λ none. absurd (omega (arith, none, some))) (λ group. group) (is.groups f)
+
+-- a page on the zero frame is told to be there
+zero_status : (table : TableState) (entry : Entry) → IsTable table → IsEntry table entry → entry.frame ≡ 0 → entry.status ≡ Zero
+unfolding Kind
+zero_status table entry is fits e =
+    ⊎_elim (λ lone. absurd (let above = IsAlone.above lone in omega (arith, above, e)))
+    (λ other. ⊎_elim (λ in_group. absurd (let above = IsGroup.above (group table entry.frame is (omega (arith, in_group.1))) in omega (arith, above, e))) (λ zeros. zeros.0) other)
+    (kind table entry fits)
+
+-- a page on a group's frame is told to be in a group
+grouped_status : (table : TableState) (entry : Entry) → IsTable table → IsEntry table entry → 1 ≤ times entry.frame table.groups → entry.status ≡ Grouped
+unfolding Kind
+grouped_status table entry is fits some =
+    ⊎_elim (λ lone. absurd (let none = IsAlone.no_group lone in omega (arith, none, some)))
+    (λ other. ⊎_elim (λ in_group. in_group.0) (λ zeros. absurd (let above = IsGroup.above (group table entry.frame is some) in omega (arith, above, zeros.1))) other)
+    (kind table entry fits)
+
+among : (f : ℕ) (xs : List (Option Entry)) (i : ℕ) → is_among i (places_on 0 f xs) ≡ is_on f (entry_at xs i)
+among f xs i = let same : 0 + i ≡ i = omega arith in ap (λ n. is_among n (places_on 0 f xs)) (sym same) ∙ among-places 0 f xs i
+
+among-entry : (f : ℕ) (xs : List (Option Entry)) (i : ℕ) (entry : Entry) → entry_at xs i ≡ Some entry → is_among i (places_on 0 f xs) ≡ (entry.frame == f)
+among-entry f xs i entry e = among f xs i ∙ ap (is_on f) e
+
+equal_frame : (f g : ℕ) → f ≡ g → (f == g) ≡ true
+equal_frame f g e = grind (arith, nat_tests)
+
+frame_equal : (f g : ℕ) → (f == g) ≡ true → f ≡ g
+frame_equal f g e = grind (arith, nat_tests)
+
+-- two pages of one entry's frame, a group's, are in that group
+both_there : (xs : List (Option Entry)) (groups : List ℕ) (i j f : ℕ) → is_on f (entry_at xs i) ≡ true → is_on f (entry_at xs j) ≡ true → 1 ≤ times f groups
+    → has_both (map (λ g. places_on 0 g xs) groups) i j ≡ true
+both_there xs [] i j f one other some = absurd (omega (arith, some))
+both_there xs (g ∷ gs) i j f one other some =
+    ⊎_elim
+    (λ here. first (subst (λ n. is_among i (places_on 0 n xs) ≡ true) (sym here.1) (among f xs i ∙ one)) (subst (λ n. is_among j (places_on 0 n xs) ≡ true) (sym here.1) (among f xs j ∙ other)))
+    (λ there. let split = sum_by-cons (λ (x : ℕ). if x == f then 1 else 0) g gs in
+    let none = ap one_when there.0 in
+    later (both_there xs gs i j f one other (omega (arith, some, split, none))))
+    (eqb_tells g f)
+  where
+    first : is_among i (places_on 0 g xs) ≡ true → is_among j (places_on 0 g xs) ≡ true → has_both (map (λ g. places_on 0 g xs) (g ∷ gs)) i j ≡ true
+    first one other = rw (one, other) refl
+
+    later : has_both (map (λ g. places_on 0 g xs) gs) i j ≡ true → has_both (map (λ g. places_on 0 g xs) (g ∷ gs)) i j ≡ true
+    later rest = by_test (is_among i (places_on 0 g xs) && is_among j (places_on 0 g xs)) rest
+      where
+        by_test : (b : Bool) → has_both (map (λ g. places_on 0 g xs) gs) i j ≡ true → (b || has_both (map (λ g. places_on 0 g xs) gs) i j) ≡ true
+        by_test true rest = refl
+        by_test false rest = rest
+
+-- two pages of a group lie on one frame
+both_lie : (xs : List (Option Entry)) (groups : List ℕ) (i j : ℕ) (one other : Entry) → entry_at xs i ≡ Some one → entry_at xs j ≡ Some other
+    → has_both (map (λ g. places_on 0 g xs) groups) i j ≡ true → one.frame ≡ other.frame
+both_lie xs [] i j one other e k h = absurd (cc)
+both_lie xs (g ∷ gs) i j one other e k h = by_test (one.frame == g) (other.frame == g) refl refl (both_lie xs gs i j one other e k) now
+  where
+    now : ((one.frame == g) && (other.frame == g) || has_both (map (λ g. places_on 0 g xs) gs) i j) ≡ true
+    now = rw (among-entry g xs i one e, among-entry g xs j other k) at h
+
+    by_test : (b c : Bool) → (one.frame == g) ≡ b → (other.frame == g) ≡ c → (has_both (map (λ g. places_on 0 g xs) gs) i j ≡ true → one.frame ≡ other.frame)
+        → (b && c || has_both (map (λ g. places_on 0 g xs) gs) i j) ≡ true → one.frame ≡ other.frame
+    by_test true true p q rest h = frame_equal one.frame g p ∙ sym (frame_equal other.frame g q)
+    by_test true false p q rest h = rest h
+    by_test false c p q rest h = rest h
+
+-- what holds of each group's places holds of all groups
+all_groups : (P : List ℕ → Type 0) (xs : List (Option Entry)) (groups : List ℕ) → ((g : ℕ) → 1 ≤ times g groups → P (places_on 0 g xs)) → All P (map (λ g. places_on 0 g xs) groups)
+all_groups P xs [] h k d lt = absurd (omega arith)
+all_groups P xs (g ∷ gs) h zero d lt = h g (times-head g gs)
+all_groups P xs (g ∷ gs) h (suc k) d lt = all_groups P xs gs (λ f some. let more = times-tail f g gs in h f (omega arith)) k d (omega arith)
+
+-- a page is in as many groups as its frame is a group's
+in_groups : (xs : List (Option Entry)) (groups : List ℕ) (i : ℕ) (entry : Entry) → entry_at xs i ≡ Some entry → length (filter (is_among i) (map (λ g. places_on 0 g xs) groups)) ≡ times entry.frame groups
+in_groups xs groups i entry e = length-filter (is_among i) (map (λ g. places_on 0 g xs) groups) ∙ counted groups
+  where
+    counted : (groups : List ℕ) → sum_by (λ group. if is_among i group then 1 else 0) (map (λ g. places_on 0 g xs) groups) ≡ times entry.frame groups
+    counted [] = refl
+    counted (g ∷ gs) =
+        let split = sum_by-cons (λ group. if is_among i group then 1 else 0) (places_on 0 g xs) (map (λ g. places_on 0 g xs) gs) in
+        let part = sum_by-cons (λ (x : ℕ). if x == entry.frame then 1 else 0) g gs in
+        let first : one_when (is_among i (places_on 0 g xs)) ≡ one_when (g == entry.frame) = ap one_when (among-entry g xs i entry e ∙ same_either_way entry.frame g) in
+        let rest = counted gs in
+        omega (arith, split, part, first, rest)
+
+-- the places on a frame are in order
+places_above : (n f : ℕ) (xs : List (Option Entry)) → All (λ i. n ≤ i) (places_on n f xs)
+unfolding places_on
+places_above n f [] = λ k d lt. absurd (omega arith)
+places_above n f (x ∷ xs) = by_head (is_on f x) (places_above (n + 1) f xs)
+  where
+    by_head : (b : Bool) → All (λ i. n + 1 ≤ i) (places_on (n + 1) f xs) → All (λ i. n ≤ i) (if b then n ∷ places_on (n + 1) f xs else places_on (n + 1) f xs)
+    by_head true rest zero d lt = omega arith
+    by_head true rest (suc k) d lt = let above = rest k d (omega arith) in omega arith
+    by_head false rest k d lt = let above = rest k d lt in omega arith
+
+places_ordered : (n f : ℕ) (xs : List (Option Entry)) → AllPairs (λ i j. i < j) (places_on n f xs)
+unfolding places_on
+places_ordered n f [] = λ i j d before lt. absurd (omega arith)
+places_ordered n f (x ∷ xs) = by_head (is_on f x) (places_above (n + 1) f xs) (places_ordered (n + 1) f xs)
+  where
+    by_head : (b : Bool) → All (λ i. n + 1 ≤ i) (places_on (n + 1) f xs) → AllPairs (λ i j. i < j) (places_on (n + 1) f xs)
+        → AllPairs (λ i j. i < j) (if b then n ∷ places_on (n + 1) f xs else places_on (n + 1) f xs)
+    by_head true above rest = AllPairs-cons (λ i j. i < j) n (places_on (n + 1) f xs) (λ k d lt. let more = above k d lt in omega arith) rest
+    by_head false above rest = rest
+
+module _ (table : TableState) (options : Options) (is : IsTable table) where
+  pub are_groups : AreGroups (sharing_of table options)
+  unfolding groups_of
+  are_groups =
+      record {
+        some = all_groups (λ group. 0 < length group) table.entries table.groups (λ g some. let long = length-places 0 g table.entries in let pages = IsGroup.some (group table g is some) in omega (arith, long, pages));
+        ordered = all_groups (AllPairs (λ i j. i < j)) table.entries table.groups (λ g some. places_ordered 0 g table.entries);
+        grouped = all_groups (λ group. (i : ℕ) → is_among i group ≡ true → status_at (sharing_of table options) i ≡ Some Grouped) table.entries table.groups (λ g some i h. member g i some (entry_at table.entries i) refl (sym (among g table.entries i) ∙ h));
+        once = λ i h. let entry = told table options i Grouped is h in one entry.0 i entry.1 entry.2 entry.3;
+      }
+    where
+      member : (g i : ℕ) → 1 ≤ times g table.groups → (x : Option Entry) → entry_at table.entries i ≡ x → is_on g (entry_at table.entries i) ≡ true → status_at (sharing_of table options) i ≡ Some Grouped
+      member g i some None e h = absurd (let none = ap (is_on g) e in cc)
+      member g i some (Some entry) e h =
+          let on : entry.frame ≡ g = frame_equal entry.frame g (sym (ap (is_on g) e) ∙ h) in
+          status_there table options i entry Grouped e (grouped_status table entry is (entry_fits table i entry is e) (subst (λ n. 1 ≤ times n table.groups) (sym on) some))
+
+      one : (entry : Entry) (i : ℕ) → entry_at table.entries i ≡ Some entry → entry.status ≡ Grouped → IsEntry table entry → length (filter (is_among i) (map (λ g. places_on 0 g table.entries) table.groups)) ≡ 1
+      one entry i e same fits = in_groups table.entries table.groups i entry e ∙ subst (LiesRight table entry.frame) same fits.right
+
+  pub one_frame : (i j x y : ℕ) → i ≢ j → slice_index_or (frames_of table.entries) i None ≡ Some x → slice_index_or (frames_of table.entries) j None ≡ Some y → (x ≡ y ↔ AreMerged (sharing_of table options) i j)
+  unfolding Kind groups_of
+  one_frame i j x y ne h k = (λ e. merged (lies table i x is h) (lies table j y is k) e, λ both. ⊎_elim (λ grouped. together (lies table i x is h) (lies table j y is k) grouped) (λ zeros. on_zero i x (lies table i x is h) zeros.0 ∙ sym (on_zero j y (lies table j y is k) zeros.1)) both)
+    where
+      merged : Lies table i x → Lies table j y → x ≡ y → AreMerged (sharing_of table options) i j
+      merged a b e =
+          ⊎_elim (λ lone. absurd (two lone))
+          (λ other. ⊎_elim (λ in_group. inl (both_there table.entries table.groups i j a.entry.frame on_one on_other (omega (arith, in_group.1))))
+          (λ zeros. inr (status_there table options i a.entry Zero a.here zeros.0, status_there table options j b.entry Zero b.here (zero_status table b.entry is b.fits (sym same ∙ zeros.1)))) other)
+          (kind table a.entry a.fits)
+        where
+          same : a.entry.frame ≡ b.entry.frame
+          same = a.on ∙ e ∙ sym b.on
+
+          on_one : is_on a.entry.frame (entry_at table.entries i) ≡ true
+          on_one = ap (is_on a.entry.frame) a.here ∙ equal a.entry.frame
+
+          on_other : is_on a.entry.frame (entry_at table.entries j) ≡ true
+          on_other = ap (is_on a.entry.frame) b.here ∙ equal_frame b.entry.frame a.entry.frame (sym same)
+
+          two : IsAlone table a.entry.frame → ⊥
+          two lone =
+              let none = alone a.entry.frame table.entries i j (inside table.entries i a.entry a.here) lone.one on_one (λ e. ne (sym e)) in
+              absurd (let other = on_other in cc)
+
+      together : Lies table i x → Lies table j y → has_both (groups_of table) i j ≡ true → x ≡ y
+      together a b grouped = sym a.on ∙ both_lie table.entries table.groups i j a.entry b.entry a.here b.here grouped ∙ b.on
+
+      on_zero : (i x : ℕ) → Lies table i x → status_at (sharing_of table options) i ≡ Some Zero → x ≡ 0
+      on_zero i x a h =
+          let entry = told table options i Zero is h in
+          let same : a.entry ≡ entry.0 = one a.entry entry.0 (sym a.here ∙ entry.1) in
+          sym a.on ∙ ap (λ (e : Entry). e.frame) same ∙ subst (LiesRight table entry.0.frame) entry.2 entry.3.right
+        where
+          one : (a b : Entry) → Some a ≡ Some b → a ≡ b
+          one a b e = cc
+
+module _ (table : TableState) (shapes : List (Option Shape)) (tenants : List Tenant) (options : Options) (counts : CountsState) (sound : IsSound table counts) (listed : AreCounts counts) where
+  free_is_counted : free_of (view_of table shapes tenants options) ≡ length (free_frames (view_of table shapes tenants options))
+  unfolding view_of
+  free_is_counted =
+      let used = sound.counted.used in
+      let free = free_is table shapes tenants options (omega (arith, used)) in
+      let unused = length-unused counts.counts counts.unused (λ f. not (list_any (is_frame f) (frames_of table.entries))) listed held tells in
+      let as_many : free_of (view_of table shapes tenants options) ≡ length counts.unused = omega (arith, used, free) in
+      as_many ∙ unused ∙ ap (λ n. length (filter (λ f. not (list_any (is_frame f) (frames_of table.entries))) (range_with_len 1 (n - 1)))) sound.counted.sized
+    where
+      read : (f : ℕ) → f < length table.arena → slice_index_or counts.counts f 1 ≡ one_if_zero f + pages_on f table.entries
+      read f h = get_or_default counts.counts f 1 0 (omega (arith, h, sound.counted.sized)) ∙ sound.counted.counted f h
+
+      held : one_if_zero (slice_index_or counts.counts 0 1) ≡ 0
+      held =
+          let count = read 0 sound.fits.some in
+          one_if_zero-above (slice_index_or counts.counts 0 1) (omega (arith, count))
+
+      tells : (f : ℕ) → 0 < f → f < length counts.counts → one_if_zero (slice_index_or counts.counts f 1) ≡ one_when (not (list_any (is_frame f) (frames_of table.entries)))
+      tells f above h =
+          let count = read f (omega (arith, h, sound.counted.sized)) in
+          let none = one_if_zero-above f above in
+          let same : slice_index_or counts.counts f 1 ≡ pages_on f table.entries = omega (arith, count, none) in
+          ap one_if_zero same ∙ empty-frame f table.entries
+
+  pub reads_as : ReadsAs (view_of table shapes tenants options)
+  unfolding view_of
+  reads_as =
+      record {
+        one_frame = one_frame table options sound.fits;
+        zero_frame = λ i. (λ h. to_zero i (lies table i 0 sound.fits h), λ h. from_zero i (told table options i Zero sound.fits h));
+        zeros = sound.fits.zero;
+        placed = λ i. placed i (entry_at table.entries i) refl;
+        there = λ i. there i (entry_at table.entries i) refl;
+        free = free_is_counted;
+        groups = are_groups table options sound.fits;
+      }
+    where
+      to_zero : (i : ℕ) → Lies table i 0 → status_at (sharing_of table options) i ≡ Some Zero
+      to_zero i a = status_there table options i a.entry Zero a.here (zero_status table a.entry sound.fits a.fits a.on)
+
+      frame_of : (i : ℕ) → slice_index_or (frames_of table.entries) i None ≡ option_map (λ (entry : Entry). entry.frame) (entry_at table.entries i)
+      frame_of i = told_at (λ (entry : Entry). entry.frame) table.entries i
+
+      from_zero : (i : ℕ) → ((entry : Entry) × (entry_at table.entries i ≡ Some entry) × (entry.status ≡ Zero) × IsEntry table entry) → slice_index_or (frames_of table.entries) i None ≡ Some 0
+      from_zero i entry = frame_of i ∙ ap (option_map (λ (entry : Entry). entry.frame)) entry.1 ∙ ap Some (subst (LiesRight table entry.0.frame) entry.2 entry.3.right)
+
+      placed : (i : ℕ) (x : Option Entry) → entry_at table.entries i ≡ x → (IsSome (slice_index_or (frames_of table.entries) i None) ↔ IsSome (slice_index_or (states_of table.entries) i None))
+      placed i x e = rw (frame_of i, told_at state_of table.entries i, e) (of_entry x)
+        where
+          of_entry : (x : Option Entry) → (IsSome (option_map (λ (entry : Entry). entry.frame) x) ↔ IsSome (option_map state_of x))
+          of_entry None = (λ h. h, λ h. h)
+          of_entry (Some entry) = (λ h. refl, λ h. refl)
+
+      there : (i : ℕ) (x : Option Entry) → entry_at table.entries i ≡ x → IfSome (slice_index_or (frames_of table.entries) i None) (λ frame. frame < length table.arena)
+      there i x e = rw (frame_of i, e) (of_entry x (subst (λ (y : Option Entry). IfSome y (IsEntry table)) e (sound.fits.entries i)))
+        where
+          of_entry : (x : Option Entry) → IfSome x (IsEntry table) → IfSome (option_map (λ (entry : Entry). entry.frame) x) (λ frame. frame < length table.arena)
+          of_entry None h = tt
+          of_entry (Some entry) h = h.frame

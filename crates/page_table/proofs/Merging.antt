@@ -1,0 +1,152 @@
+-- What a memory tells after pages came to share frames, or left shared ones: the bytes of each page stay.
+use Rattle.std.proofs.Common.{◌≡◌, ◌≢◌, ◌∙◌, ℕ, zero, suc, ◌+◌, ◌*◌, ◌<◌, ◌≤◌, List, [], ◌∷◌, length, slice_index_or, Option, Some, None, IfSome, true, false, refl, sym, ap, subst, arith}
+use Rattle.host_types.specs.declared.options.Options.{Options}
+use Rattle.host_types.specs.declared.shape.Shape.{Shape}
+use Rattle.host_types.specs.declared.shape.Page.{Page}
+use Rattle.host_types.specs.Pages.{map_place, page_place, page_bytes}
+use Rattle.host_types.specs.Sharing.{PageState, state_at, is_shared, break_cost}
+use Rattle.page_table.specs.declared.entry.Entry.{Entry}
+use Rattle.page_table.specs.declared.tenant.Tenant.{Tenant}
+use Rattle.page_table.specs.State.{MemoryState, part, bytes_of_map, free_of, have_of}
+use Rattle.page_table.specs.Changes.{IsPageOf, IsOwn, MayMerge, AreKept, KeepsSettings}
+use Rattle.page_table.specs.Table.{TableState, IsOwnAt, AreMaps, entry_at, state_of, states_of, contents_of, maps_of, sharing_of, used_by, cost_at}
+use Rattle.page_table.specs.View.{view_of, IsMemory}
+use Rattle.page_table.proofs.Reading.{page_located, page_number, few_pages, content_is}
+use Rattle.page_table.proofs.Free.{free_is}
+
+-- another table with the same pages, on as many frames
+module _ (table new : TableState) (shapes : List (Option Shape)) (tenants : List Tenant) (options : Options) (contents : contents_of new ≡ contents_of table) (arena : length new.arena ≡ length table.arena) where
+  abbrev before : MemoryState
+  before = view_of table shapes tenants options
+
+  abbrev after : MemoryState
+  after = view_of new shapes tenants options
+
+  pub maps_kept : after.maps ≡ before.maps
+  unfolding view_of
+  maps_kept = ap (maps_of shapes) contents
+
+  pub parts_kept : AreKept before after
+  unfolding view_of part
+  parts_kept t = rw contents refl
+
+  pub settings_kept : KeepsSettings before after
+  unfolding view_of
+  settings_kept = record { tenants = refl; frames = arena }
+
+  pub memory_kept : (reserved : ℕ) → IsMemory table shapes tenants reserved → reserved + used_by new ≤ length table.arena → IsMemory new shapes tenants reserved
+  memory_kept reserved is room =
+      record {
+        maps = subst (λ (pages : List (List ℕ)). AreMaps shapes pages) (sym contents) is.maps;
+        numbers = is.numbers;
+        few = is.few;
+        frames = omega (arith, arena, is.frames);
+        sum = is.sum;
+        room = omega (arith, arena, room);
+      }
+
+  -- more frames are used, as far as there is room
+  pub free_less : (count : ℕ) → used_by new ≡ used_by table + count → used_by table + count ≤ length table.arena → free_of after + count ≡ free_of before
+  free_less count used room =
+      let old = free_is table shapes tenants options (omega (arith, room)) in
+      let newer = free_is new shapes tenants options (omega (arith, room, used, arena)) in
+      omega (arith, old, newer, used, arena)
+
+  pub have_less : (count : ℕ) → used_by new ≡ used_by table + count → used_by table + count ≤ length table.arena → count ≤ have_of before → have_of after + count ≡ have_of before
+  unfolding view_of
+  have_less count used room enough =
+      let free = free_less count used room in
+      omega (arith, free, enough)
+
+  -- one frame less is used
+  pub free_more : used_by new + 1 ≡ used_by table → used_by table ≤ length table.arena → free_of after ≡ free_of before + 1
+  free_more used room =
+      let old = free_is table shapes tenants options room in
+      let newer = free_is new shapes tenants options (omega (arith, room, used, arena)) in
+      omega (arith, old, newer, used, arena)
+
+  pub have_more : (reserved : ℕ) → IsMemory table shapes tenants reserved → used_by new + 1 ≡ used_by table → have_of after ≡ have_of before + 1
+  unfolding view_of
+  have_more reserved is used =
+      let room : used_by table ≤ length table.arena = omega (arith, is.room) in
+      let free = free_more used room in
+      let old = free_is table shapes tenants options room in
+      omega (arith, free, old, is.room, is.sum)
+
+-- how many frames the break of a page takes, as callers see it
+module _ (table : TableState) (shapes : List (Option Shape)) (tenants : List Tenant) (options : Options) (costs : (options : Options) (i : ℕ) → break_cost (sharing_of table options) i ≡ cost_at table i) where
+  pub cost_told : (i : ℕ) → break_cost (view_of table shapes tenants options).sharing i ≡ cost_at table i
+  unfolding view_of
+  cost_told i = costs options i
+
+  -- where the frames that a break takes may be had, there is room for it
+  pub cost_fits : (reserved i : ℕ) → IsMemory table shapes tenants reserved → break_cost (view_of table shapes tenants options).sharing i ≤ have_of (view_of table shapes tenants options)
+      → used_by table + cost_at table i ≤ length table.arena
+  unfolding view_of
+  cost_fits reserved i is enough =
+      let told = costs options i in
+      let free = free_is table shapes tenants options (omega (arith, is.room)) in
+      omega (arith, told, enough, free, is.room, is.sum)
+
+  pub cost_reserved : (reserved i : ℕ) → IsMemory table shapes tenants reserved → break_cost (view_of table shapes tenants options).sharing i ≤ have_of (view_of table shapes tenants options)
+      → reserved + (used_by table + cost_at table i) ≤ length table.arena
+  unfolding view_of
+  cost_reserved reserved i is enough =
+      let told = costs options i in
+      let free = free_is table shapes tenants options (omega (arith, is.room)) in
+      omega (arith, told, enough, free, is.room, is.sum)
+
+-- what holds of an entry holds of the state at its place
+pub state_of_entry : (P : PageState → Type 0) (entries : List (Option Entry)) (i : ℕ) → IfSome (entry_at entries i) (λ entry. P (state_of entry)) → IfSome (slice_index_or (states_of entries) i None) P
+state_of_entry P [] i h = tt
+state_of_entry P (None ∷ xs) zero h = tt
+state_of_entry P (Some x ∷ xs) zero h = h
+state_of_entry P (x ∷ xs) (suc i) h = state_of_entry P xs i h
+
+-- a page with a frame of its own, as callers see it
+pub own_told : (table : TableState) (shapes : List (Option Shape)) (tenants : List Tenant) (options : Options) (page : Page) → IsOwnAt table (page_place page)
+    → IsOwn (view_of table shapes tenants options) page
+unfolding view_of
+own_told table shapes tenants options page own = state_of_entry (λ state. is_shared state.status ≡ false) table.entries (page_place page) own
+
+-- what may be merged has a frame of its own
+may_own : (x : Option PageState) → IfSome x (λ state. (state.mergeable ≡ true) × (is_shared state.status ≡ false)) → IfSome x (λ state. is_shared state.status ≡ false)
+may_own None h = tt
+may_own (Some state) h = h.1
+
+pub may_is_own : (memory : MemoryState) (page : Page) → MayMerge memory page → IsOwn memory page
+may_is_own memory page may = may_own (state_at memory.sharing (page_place page)) may
+
+-- different pages that are there have different places
+same_place : (t m n u k l : ℕ) → m < 8 → n < 256 → k < 8 → l < 256 → map_place t m * 256 + n ≡ map_place u k * 256 + l → (t ≡ u) × (m ≡ k) × (n ≡ l)
+same_place t m n u k l h i p q e = (omega arith, omega arith, omega arith)
+
+abbrev page_of : ℕ → ℕ → ℕ → Page
+page_of t m n = record { tenant = t; map = m; number = n }
+
+same_page : (t m n u k l : ℕ) → t ≡ u → m ≡ k → n ≡ l → page_of t m n ≡ page_of u k l
+same_page t m n u k l a b c = rw (a, b, c) refl
+
+module _ (table : TableState) (shapes : List (Option Shape)) (tenants : List Tenant) (options : Options) (reserved : ℕ) (is : IsMemory table shapes tenants reserved) where
+  number_small : (page : Page) → IsPageOf (view_of table shapes tenants options) page → page.number < 256
+  number_small page there =
+      let loc = page_located table shapes tenants options reserved page is there in
+      let few = few_pages loc.shape loc.pages.shaped in
+      let h = page_number table shapes tenants options reserved page is there in
+      omega arith
+
+  map_small : (page : Page) → IsPageOf (view_of table shapes tenants options) page → page.map < 8
+  map_small page there = (page_located table shapes tenants options reserved page is there).small
+
+  pub places_apart : (first second : Page) → IsPageOf (view_of table shapes tenants options) first → IsPageOf (view_of table shapes tenants options) second → first ≢ second
+      → page_place first ≢ page_place second
+  places_apart first second one other apart same =
+      let told = same_place first.tenant first.map first.number second.tenant second.map second.number (map_small first one) (number_small first one) (map_small second other) (number_small second other) same in
+      apart (same_page first.tenant first.map first.number second.tenant second.map second.number told.0 told.1 told.2)
+
+  -- two pages of the same bytes, in the table
+  pub contents_equal : (first second : Page) → IsPageOf (view_of table shapes tenants options) first → IsPageOf (view_of table shapes tenants options) second
+      → page_bytes (bytes_of_map (view_of table shapes tenants options) first) first.number ≡ page_bytes (bytes_of_map (view_of table shapes tenants options) second) second.number
+      → slice_index_or (contents_of table) (page_place first) [] ≡ slice_index_or (contents_of table) (page_place second) []
+  contents_equal first second one other same =
+      content_is table shapes tenants options reserved first is one ∙ same ∙ sym (content_is table shapes tenants options reserved second is other)

@@ -1,0 +1,71 @@
+-- A page of zeros moves to the zero frame.
+use Rattle.std.proofs.Common.{◌≡◌, ◌∙◌, ⊎_elim, ℕ, ◌<◌, ◌≤◌, ◌==◌, true, false, [], slice_index_or, slice_set, Option, Some, IfSome, option_map, sym, ap, subst, arith}
+use Rattle.std.proofs.lemmas.List.{map-set}
+use Rattle.host_types.specs.declared.options.Options.{Options}
+use Rattle.host_types.specs.declared.status.Status.TheVariants.{Zero}
+use Rattle.host_types.specs.Sharing.{is_shared, with_status, state_at, zeroed}
+use Rattle.frame_arena.specs.Pages.{page_at, zero_page}
+use Rattle.page_table.specs.declared.entry.Entry.{Entry}
+use Rattle.page_table.specs.Table.{TableState, IsOwnAt, IsTable, IsGroup, LiesRight, times, entry_at, contents_of, groups_of, state_of, states_of, sharing_of, is_on}
+use Rattle.page_table.proofs.Entries.{not_equal, places_on-set, groups-kept}
+use Rattle.page_table.proofs.Putting.{content_at}
+use Rattle.page_table.proofs.Moving.{IsMove, with_entry, state_here, lone}
+
+-- an entry of a page on the zero frame
+pub record IsZeroEntry (old new : Entry) : Type 0 where
+  pub state : state_of new ≡ with_status Zero (state_of old)
+  pub frame : new.frame ≡ 0
+  pub status : new.status ≡ Zero
+  pub protected : new.protected ≡ true
+
+-- a page of zeros may move to the zero frame
+pub move-zeroed : (table now : TableState) (i : ℕ) (entry x : Entry) → table ≡ now → IsTable table → entry_at now.entries i ≡ Some entry → IsOwnAt now i
+    → slice_index_or (contents_of now) i [] ≡ zero_page → IsZeroEntry entry x → IsMove table i entry x
+move-zeroed table now i entry x e is there own zeros to =
+    record {
+      is = is;
+      here = here;
+      own = subst (λ (y : Option Entry). IfSome y (λ (e : Entry). is_shared e.status ≡ false)) there own;
+      shared = ap is_shared to.status;
+      fits = record {
+        frame = let some = is.some in let zero = to.frame in omega (arith, some, zero);
+        protected = to.protected ∙ ap is_shared (sym to.status);
+        right = subst (LiesRight table x.frame) (sym to.status) to.frame;
+      };
+      same = ap (page_at table.arena) to.frame ∙ is.zero ∙ sym zeros ∙ ap (λ t. slice_index_or (contents_of t) i []) (sym e) ∙ content_at table i entry here;
+    }
+  where
+    here : entry_at table.entries i ≡ Some entry
+    here = ap (λ (t : TableState). entry_at t.entries i) e ∙ there
+
+module _ (table : TableState) (i : ℕ) (entry x : Entry) (move : IsMove table i entry x) (to : IsZeroEntry entry x) where
+  open move use {is, here}
+
+  no_group : times entry.frame table.groups ≡ 0
+  no_group = (lone table i entry x move).no_group
+
+  groups-zeroed : groups_of (with_entry table i x) ≡ groups_of table
+  unfolding groups_of
+  groups-zeroed =
+      groups-kept table.entries (with_entry table i x).entries table.groups
+      (λ g le. places_on-set 0 g table.entries i (Some x) (stays g le))
+    where
+      above : (g : ℕ) → 1 ≤ times g table.groups → 0 < g
+      above g le = ⊎_elim (λ e. absurd (omega arith)) (λ group. IsGroup.above group) (is.groups g)
+
+      stays : (g : ℕ) → 1 ≤ times g table.groups → is_on g (Some x) ≡ is_on g (entry_at table.entries i)
+      stays g le =
+          let up = above g le in
+          let zero = to.frame in
+          let off : (entry.frame == g) ≡ false = not_equal g entry.frame (λ e. let none : times g table.groups ≡ 0 = ap (λ n. times n table.groups) (sym e) ∙ no_group in omega (arith, none, le)) in
+          not_equal g x.frame (λ e. omega (arith, up, zero, e)) ∙ sym (ap (is_on g) here ∙ off)
+
+  pub sharing-zeroed : (options : Options) → sharing_of (with_entry table i x) options ≡ zeroed (sharing_of table options) i
+  unfolding zeroed
+  sharing-zeroed options =
+      let page : Some (state_of x) ≡ option_map (with_status Zero) (state_at (sharing_of table options) i) =
+      ap Some to.state ∙ sym (ap (option_map (with_status Zero)) (state_here table i entry options here)) in
+      let pages : states_of (with_entry table i x).entries ≡ slice_set (states_of table.entries) i (option_map (with_status Zero) (state_at (sharing_of table options) i)) =
+      map-set (option_map state_of) table.entries i (Some x) ∙ ap (slice_set (states_of table.entries) i) page in
+      let groups = groups-zeroed in
+      cc

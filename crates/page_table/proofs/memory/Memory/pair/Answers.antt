@@ -1,0 +1,78 @@
+use Rattle.std.proofs.Common.{◌≡◌, arith}
+use Rattle.host_types.specs.Pages.{page_bytes}
+use Rattle.page_table.specs.State.{MemoryState, bytes_of_map}
+use Rattle.page_table.specs.Changes.{IsPageOf, MayMerge}
+use Rattle.page_table.specs.View.{view_of}
+use Rattle.page_table.proofs.Reading.{is_page_at}
+use Rattle.page_table.proofs.Writing.{own_entry}
+use Rattle.page_table.proofs.Merging.{maps_kept, parts_kept, settings_kept, memory_kept, free_more, have_more, may_is_own, places_apart, contents_equal}
+use Rattle.page_table.proofs.memory.Memory.pair.Goals as goal
+
+abbrev before : goal.After-place_of-2 → MemoryState
+before c = view_of c.self.inside.table c.self.inside.shapes.items c.self.inside.tenants.items c.self.inside.options
+
+one : (c : goal.After-place_of-2) → IsPageOf (before c) c.args.first
+one c = rw (← c.self.view_is) at c.requires.first
+
+other : (c : goal.After-place_of-2) → IsPageOf (before c) c.args.second
+other c = rw (← c.self.view_is) at c.requires.second
+
+pub pair-requires-clause-first : goal.pair-requires-clause-first
+pair-requires-clause-first c =
+    rw c.place_of.ensures (is_page_at c.self.inside.table c.self.inside.shapes.items c.self.inside.tenants.items c.self.inside.options c.self.inside.reserved c.args.first c.self.invariant (one c))
+
+pub pair-requires-clause-second : goal.pair-requires-clause-second
+pair-requires-clause-second c =
+    rw c.place_of-2.ensures (is_page_at c.self.inside.table c.self.inside.shapes.items c.self.inside.tenants.items c.self.inside.options c.self.inside.reserved c.args.second c.self.invariant (other c))
+
+pub pair-requires-clause-apart : goal.pair-requires-clause-apart
+pair-requires-clause-apart c =
+    rw (c.place_of.ensures, c.place_of-2.ensures)
+    (places_apart c.self.inside.table c.self.inside.shapes.items c.self.inside.tenants.items c.self.inside.options c.self.inside.reserved c.self.invariant c.args.first c.args.second (one c) (other c) c.requires.apart)
+
+pub pair-requires-clause-own_first : goal.pair-requires-clause-own_first
+pair-requires-clause-own_first c =
+    let may : MayMerge (before c) c.args.first = rw (← c.self.view_is) at c.requires.may_first in
+    rw c.place_of.ensures (own_entry c.self.inside.table c.self.inside.shapes.items c.self.inside.tenants.items c.self.inside.options c.args.first (may_is_own (before c) c.args.first may))
+
+pub pair-requires-clause-own_second : goal.pair-requires-clause-own_second
+pair-requires-clause-own_second c =
+    let may : MayMerge (before c) c.args.second = rw (← c.self.view_is) at c.requires.may_second in
+    rw c.place_of-2.ensures (own_entry c.self.inside.table c.self.inside.shapes.items c.self.inside.tenants.items c.self.inside.options c.args.second (may_is_own (before c) c.args.second may))
+
+pub pair-requires-clause-same : goal.pair-requires-clause-same
+pair-requires-clause-same c =
+    let same : page_bytes (bytes_of_map (before c) c.args.first) c.args.first.number ≡ page_bytes (bytes_of_map (before c) c.args.second) c.args.second.number = rw (← c.self.view_is) at c.requires.same in
+    rw (c.place_of.ensures, c.place_of-2.ensures)
+    (contents_equal c.self.inside.table c.self.inside.shapes.items c.self.inside.tenants.items c.self.inside.options c.self.inside.reserved c.self.invariant c.args.first c.args.second (one c) (other c) same)
+
+pub invariant_of-self : goal.invariant_of-self
+invariant_of-self c =
+    memory_kept c.self.inside.table c.pair.new.self c.self.inside.shapes.items c.self.inside.tenants.items c.self.inside.options c.pair.ensures.contents c.pair.ensures.arena
+    c.self.inside.reserved c.self.invariant (omega (arith, c.pair.ensures.used, c.self.invariant.room))
+
+pub returns-clause-maps : goal.returns-clause-maps
+returns-clause-maps c =
+    rw (← c.self.view_is) (maps_kept c.self.inside.table c.pair.new.self c.self.inside.shapes.items c.self.inside.tenants.items c.self.inside.options c.pair.ensures.contents c.pair.ensures.arena)
+
+pub returns-clause-kept : goal.returns-clause-kept
+returns-clause-kept c =
+    rw (← c.self.view_is) (parts_kept c.self.inside.table c.pair.new.self c.self.inside.shapes.items c.self.inside.tenants.items c.self.inside.options c.pair.ensures.contents c.pair.ensures.arena)
+
+pub returns-clause-sharing : goal.returns-clause-sharing
+unfolding view_of
+returns-clause-sharing c = rw (← c.self.view_is) (rw (c.place_of.ensures, c.place_of-2.ensures) at c.pair.ensures.sharing c.self.inside.options)
+
+pub returns-clause-free : goal.returns-clause-free
+returns-clause-free c =
+    rw (← c.self.view_is) (free_more c.self.inside.table c.pair.new.self c.self.inside.shapes.items c.self.inside.tenants.items c.self.inside.options c.pair.ensures.contents c.pair.ensures.arena
+    c.pair.ensures.used (omega (arith, c.self.invariant.room)))
+
+pub returns-clause-have : goal.returns-clause-have
+returns-clause-have c =
+    rw (← c.self.view_is) (have_more c.self.inside.table c.pair.new.self c.self.inside.shapes.items c.self.inside.tenants.items c.self.inside.options c.pair.ensures.contents c.pair.ensures.arena
+    c.self.inside.reserved c.self.invariant c.pair.ensures.used)
+
+pub returns-clause-settings : goal.returns-clause-settings
+returns-clause-settings c =
+    rw (← c.self.view_is) (settings_kept c.self.inside.table c.pair.new.self c.self.inside.shapes.items c.self.inside.tenants.items c.self.inside.options c.pair.ensures.contents c.pair.ensures.arena)

@@ -1,6 +1,0 @@
-use Rattle.std.proofs.Common.{◌∙◌}
-use Rattle.page_table.proofs.Numbers.{bytes_low_first-bytes_of}
-use Rattle.page_table.proofs.number.word.Goals as goal
-
-pub returns : goal.returns
-returns c = c.write_u64.ensures ∙ bytes_low_first-bytes_of 8 c.args.value

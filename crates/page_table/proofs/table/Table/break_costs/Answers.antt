@@ -1,0 +1,17 @@
+use Rattle.std.proofs.Common.{arith}
+use Rattle.page_table.specs.Table.{sharing_of}
+use Rattle.page_table.proofs.Breaks.{cost_from-none, cost_from-more}
+use Rattle.page_table.proofs.table.Table.break_costs.Goals as goal
+
+pub loop-number-init : goal.loop-number-init
+loop-number-init c = record {
+  cost = λ options. cost_from-none (sharing_of c.args.self.now options) c.args.first;
+  few = omega arith;
+}
+
+pub loop-number-preserved : goal.loop-number-preserved
+loop-number-preserved c = record {
+  cost = λ options.
+      cost_from-more (sharing_of c.args.self.now options) c.args.first c.loop-number.number c.loop-number.cost c.cost_after-cost.result (c.loop-number.invariant.cost options) (c.cost_after-cost.ensures.cost options);
+  few = omega (arith, c.loop-number.invariant.few, c.cost_after-cost.ensures.small);
+}

@@ -1,0 +1,46 @@
+use Rattle.std.proofs.Common.{rules, ◌≡◌, ◌∙◌, ◌∷◌, ◌++◌, [], Bool, true, if◌then◌else◌, is_ok, ℕ, sym, ap}
+use Rattle.page_table.specs.Table.{TableState}
+use Rattle.page_table.proofs.Pairing.{IsPairing, IsGroupEntry, pairing-from, contents-pair, used-pair, sound-pair, sharing-pair}
+use Rattle.page_table.proofs.table.Table.pair.Goals as goal
+
+abbrev table : goal.Else-prove → TableState
+table c = record { arena = c.self.inside.arena; entries = c.self.inside.entries.items; groups = c.self.inside.groups.items }
+
+pairs : (c : goal.Else-prove) → IsPairing (table c) c.args.first c.args.second c.page-one.result c.page-other.result c.merged.result c.merged-2.result
+pairs c =
+    let first : IsGroupEntry c.page-one.result c.merged.result c.page-one.result.frame =
+    record { state = c.merged.ensures.state; frame = c.merged.ensures.frame; status = c.merged.ensures.status; protected = c.merged.ensures.protected } in
+    let second : IsGroupEntry c.page-other.result c.merged-2.result c.page-one.result.frame =
+    record { state = c.merged-2.ensures.state; frame = c.merged-2.ensures.frame; status = c.merged-2.ensures.status; protected = c.merged-2.ensures.protected } in
+    pairing-from (table c) c.args.self.now c.args.first c.args.second c.page-one.result c.page-other.result c.merged.result c.merged-2.result
+    c.self.view_is c.self.invariant.0.fits c.requires.apart c.page-one.ensures c.page-other.ensures c.requires.own_first c.requires.own_second c.requires.same first second
+
+pushed : (c : goal.Else-prove) → c.push.new.self.items ≡ (table c).groups ++ c.merged.result.frame ∷ []
+pushed c =
+    let is_ok : is_ok c.push.result ≡ true = sym c.is_ok-pushed.ensures.value ∙ c.if-prove.false in
+    c.push.ensures.items
+    ∙ ap (λ (b : Bool). if b then (table c).groups ++ c.page-one.result.frame ∷ [] else (table c).groups) is_ok
+    ∙ ap (λ (f : ℕ). (table c).groups ++ f ∷ []) (sym c.merged.ensures.frame)
+
+pub invariant_of-self : goal.invariant_of-self
+invariant_of-self c = (
+  rw (pushed c)
+      (sound-pair (table c) c.args.first c.args.second c.page-one.result c.page-other.result c.merged.result c.merged-2.result (pairs c)
+      c.self.inside.counts c.share.new.self c.release.new.self c.self.invariant.0.counted c.share.ensures.counts c.share.ensures.unused c.release.ensures.counts c.release.ensures.unused),
+  search rules,
+)
+
+pub returns-clause-contents : goal.returns-clause-contents
+returns-clause-contents c =
+    rw (← c.self.view_is, pushed c)
+    (contents-pair (table c) c.args.first c.args.second c.page-one.result c.page-other.result c.merged.result c.merged-2.result (pairs c))
+
+pub returns-clause-sharing : goal.returns-clause-sharing
+returns-clause-sharing c options =
+    rw (← c.self.view_is, pushed c)
+    (sharing-pair (table c) c.args.first c.args.second c.page-one.result c.page-other.result c.merged.result c.merged-2.result (pairs c) options)
+
+pub returns-clause-used : goal.returns-clause-used
+returns-clause-used c =
+    rw (← c.self.view_is, pushed c)
+    (used-pair (table c) c.args.first c.args.second c.page-one.result c.page-other.result c.merged.result c.merged-2.result (pairs c))

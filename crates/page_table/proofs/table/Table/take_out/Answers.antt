@@ -1,0 +1,109 @@
+use Rattle.std.proofs.Common.{◌≡◌, ◌∙◌, ◌+◌, ◌≤◌, ◌<◌, ℕ, not, slice_index_or, Bool, true, false, Some, None, refl, sym, arith}
+use Rattle.std.proofs.lemmas.List.{get_or_default}
+use Rattle.host_types.specs.Sharing.{is_shared}
+use Rattle.page_table.specs.Table.{TableState, IsEntry, IsPageAt, entry_at, pages_on, one_if_zero, cost_at}
+use Rattle.page_table.proofs.Costs.{cost-own, cost-one, cost-last, count-some}
+use Rattle.page_table.proofs.Ending.{sharing-unbroken}
+use Rattle.page_table.proofs.Putting.{entry_fits, page_inside, page_there}
+use Rattle.page_table.proofs.table.Table.take_out.Goals as goal
+use Rattle.page_table.proofs.table.Table.take_out.Goals.{In-Some}
+
+pub index-requires : goal.index-requires
+index-requires c =
+    let there : IsPageAt (record { arena = c.self.inside.arena; entries = c.self.inside.entries.items; groups = c.self.inside.groups.items }) c.args.place = rw (← c.self.view_is) at c.requires.there in
+    let inside = page_inside _ c.args.place there in omega (arith, inside)
+
+pub unreachable-requires : goal.unreachable-requires
+unreachable-requires c =
+    let there : IsPageAt (record { arena = c.self.inside.arena; entries = c.self.inside.entries.items; groups = c.self.inside.groups.items }) c.args.place = rw (← c.self.view_is) at c.requires.there in
+    page_there _ c.args.place there
+    (get_or_default c.self.inside.entries.items c.args.place None c.index.result.now (page_inside _ c.args.place there) ∙ sym c.index.ensures ∙ c.in_default.is)
+
+abbrev table : In-Some → TableState
+table c = record { arena = c.self.inside.arena; entries = c.self.inside.entries.items; groups = c.self.inside.groups.items }
+
+here : (c : In-Some) → entry_at (table c).entries c.args.place ≡ Some c.in-Some.entry
+here c =
+    let there : IsPageAt (table c) c.args.place = rw (← c.self.view_is) at c.requires.there in
+    get_or_default c.self.inside.entries.items c.args.place None c.index.result.now (page_inside (table c) c.args.place there) ∙ sym c.index.ensures ∙ c.in-Some.is
+
+fits : (c : In-Some) → IsEntry (table c) c.in-Some.entry
+fits c = entry_fits (table c) c.args.place c.in-Some.entry c.self.invariant.0.fits (here c)
+
+own : (protected : Bool) → not protected ≡ true → protected ≡ false
+own true h = absurd (cc)
+own false h = refl
+
+locked : (protected : Bool) → not protected ≡ false → protected ≡ true
+locked true h = refl
+locked false h = absurd (cc)
+
+pub returns-then-not-entry-clause-sharing : goal.returns-then-not-entry-clause-sharing
+returns-then-not-entry-clause-sharing c options =
+    let d = (goal.at.returns-then-not-entry-clause-sharing c).In-Some in
+    rw (← c.self.view_is) (sharing-unbroken (table d) options c.args.place c.in-Some.entry c.self.invariant.0.fits (here d) (own c.in-Some.entry.protected c.if-not-entry.true))
+
+pub returns-then-not-entry-clause-used : goal.returns-then-not-entry-clause-used
+returns-then-not-entry-clause-used c =
+    let d = (goal.at.returns-then-not-entry-clause-used c).In-Some in
+    let none : cost_at c.args.self.now c.args.place ≡ 0 = rw (← c.self.view_is) (cost-own (table d) c.args.place c.in-Some.entry c.self.invariant.0.fits (here d) (own c.in-Some.entry.protected c.if-not-entry.true)) in
+    omega (arith, none)
+
+pub count-requires : goal.count-requires
+count-requires c =
+    let d = (goal.at.count-requires c).In-Some in
+    omega (arith, (fits d).frame, c.self.invariant.0.counted.sized)
+
+shared : (c : In-Some) → not c.in-Some.entry.protected ≡ false → is_shared c.in-Some.entry.status ≡ true
+shared c h = sym (fits c).protected ∙ locked c.in-Some.entry.protected h
+
+-- how many hold the page's frame
+counted : (c : In-Some) (n : ℕ) → n ≡ slice_index_or c.self.inside.counts.counts c.in-Some.entry.frame 0
+    → (n ≡ one_if_zero c.in-Some.entry.frame + pages_on c.in-Some.entry.frame (table c).entries) × (1 ≤ n)
+counted c n e =
+    let known = count-some (table c) c.self.inside.counts c.args.place c.in-Some.entry c.self.invariant.0 (here c) in
+    (e ∙ known.0, omega (arith, e, known.1))
+
+cost_more : (c : In-Some) (n : ℕ) → not c.in-Some.entry.protected ≡ false → n ≡ slice_index_or c.self.inside.counts.counts c.in-Some.entry.frame 0 → 1 < n
+    → cost_at c.args.self.now c.args.place ≡ 1
+cost_more c n h e more =
+    let known = counted c n e in
+    rw (← c.self.view_is) (cost-one (table c) c.args.place c.in-Some.entry c.self.invariant.0.fits (here c) (shared c h) (omega (arith, more, known.0)))
+
+cost_last : (c : In-Some) (n : ℕ) → not c.in-Some.entry.protected ≡ false → n ≡ slice_index_or c.self.inside.counts.counts c.in-Some.entry.frame 0 → n ≤ 1
+    → cost_at c.args.self.now c.args.place ≡ 0
+cost_last c n h e last =
+    let known = counted c n e in
+    rw (← c.self.view_is) (cost-last (table c) c.args.place c.in-Some.entry c.self.invariant.0.fits (here c) (shared c h) (omega (arith, last, known.0)))
+
+pub leave-requires-clause-there : goal.leave-requires-clause-there
+leave-requires-clause-there c = rw (← c.self.view_is) (here (goal.at.leave-requires-clause-there c).In-Some)
+
+pub leave-requires-clause-shared : goal.leave-requires-clause-shared
+leave-requires-clause-shared c = shared (goal.at.leave-requires-clause-shared c).In-Some c.if-not-entry.false
+
+pub leave-requires-clause-room : goal.leave-requires-clause-room
+leave-requires-clause-room c =
+    let one = cost_more (goal.at.leave-requires-clause-room c).In-Some c.count.result c.if-not-entry.false c.count.ensures c.if-count-gt1.true in
+    omega (arith, one, c.requires.room)
+
+pub end_group-requires-clause-there : goal.end_group-requires-clause-there
+end_group-requires-clause-there c = rw (← c.self.view_is) (here (goal.at.end_group-requires-clause-there c).In-Some)
+
+pub end_group-requires-clause-shared : goal.end_group-requires-clause-shared
+end_group-requires-clause-shared c = shared (goal.at.end_group-requires-clause-shared c).In-Some c.if-not-entry.false
+
+pub end_group-requires-clause-last : goal.end_group-requires-clause-last
+end_group-requires-clause-last c =
+    let known = counted (goal.at.end_group-requires-clause-last c).In-Some c.count.result c.count.ensures in
+    rw (← c.self.view_is) (omega (arith, known.0, known.1, c.if-count-gt1.false))
+
+pub returns-then-count-gt1-clause-used : goal.returns-then-count-gt1-clause-used
+returns-then-count-gt1-clause-used c =
+    let one = cost_more (goal.at.returns-then-count-gt1-clause-used c).In-Some c.count.result c.if-not-entry.false c.count.ensures c.if-count-gt1.true in
+    omega (arith, one, c.leave.ensures.used)
+
+pub returns-else-count-gt1-clause-used : goal.returns-else-count-gt1-clause-used
+returns-else-count-gt1-clause-used c =
+    let none = cost_last (goal.at.returns-else-count-gt1-clause-used c).In-Some c.count.result c.if-not-entry.false c.count.ensures c.if-count-gt1.false in
+    omega (arith, none, c.end_group.ensures.used)

@@ -1,0 +1,37 @@
+use Rattle.page_table.specs.Table.{TableState}
+use Rattle.page_table.proofs.Moving.{IsMove, few, contents-moved, used-moved, sound-moved}
+use Rattle.page_table.proofs.Zeroing.{IsZeroEntry, move-zeroed, sharing-zeroed}
+use Rattle.page_table.proofs.table.Table.zero.Goals as goal
+
+pub share-requires-clause-few : goal.share-requires-clause-few
+share-requires-clause-few c =
+    let table : TableState = record { arena = c.self.inside.arena; entries = c.self.inside.entries.items; groups = c.self.inside.groups.items } in
+    let to : IsZeroEntry c.page-entry.result c.merged.result = record { state = c.merged.ensures.state; frame = c.merged.ensures.frame; status = c.merged.ensures.status; protected = c.merged.ensures.protected } in
+    let move = move-zeroed table c.args.self.now c.args.place c.page-entry.result c.merged.result c.self.view_is c.self.invariant.0.fits c.page-entry.ensures c.requires.own c.requires.zeros to in
+    rw c.merged.ensures.frame at (few table c.args.place c.page-entry.result c.merged.result move c.self.inside.counts c.self.invariant.0.counted)
+
+abbrev table : goal.After-release → TableState
+table c = record { arena = c.self.inside.arena; entries = c.self.inside.entries.items; groups = c.self.inside.groups.items }
+
+to : (c : goal.After-release) → IsZeroEntry c.page-entry.result c.merged.result
+to c = record { state = c.merged.ensures.state; frame = c.merged.ensures.frame; status = c.merged.ensures.status; protected = c.merged.ensures.protected }
+
+move : (c : goal.After-release) → IsMove (table c) c.args.place c.page-entry.result c.merged.result
+move c =
+    move-zeroed (table c) c.args.self.now c.args.place c.page-entry.result c.merged.result c.self.view_is c.self.invariant.0.fits c.page-entry.ensures c.requires.own c.requires.zeros (to c)
+
+pub invariant_of-self : goal.invariant_of-self
+invariant_of-self c = (
+  sound-moved (table c) c.args.place c.page-entry.result c.merged.result (move c) c.self.inside.counts c.share.new.self c.release.new.self c.self.invariant.0.counted
+      (rw c.merged.ensures.frame c.share.ensures.counts) c.share.ensures.unused c.release.ensures.counts c.release.ensures.unused,
+  c.self.invariant.1,
+)
+
+pub returns-clause-contents : goal.returns-clause-contents
+returns-clause-contents c = rw (← c.self.view_is) (contents-moved (table c) c.args.place c.page-entry.result c.merged.result (move c))
+
+pub returns-clause-sharing : goal.returns-clause-sharing
+returns-clause-sharing c options = rw (← c.self.view_is) (sharing-zeroed (table c) c.args.place c.page-entry.result c.merged.result (move c) (to c) options)
+
+pub returns-clause-used : goal.returns-clause-used
+returns-clause-used c = rw (← c.self.view_is) (used-moved (table c) c.args.place c.page-entry.result c.merged.result (move c))

@@ -1,0 +1,9 @@
+use Rattle.std.proofs.Common.{◌≡◌, ◌≤◌, take}
+use Rattle.page_table.specs.Table.{pages_on}
+use Rattle.page_table.proofs.table.count_on.Given as goal
+
+abbrev pub invariant-loop-entry : goal.invariant-loop-entry
+invariant-loop-entry l = record {
+  count : l.count ≡ pages_on l.frame (take l.entry-index l.entries);
+  few : l.count ≤ l.entry-index;
+}

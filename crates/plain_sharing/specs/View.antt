@@ -1,0 +1,23 @@
+-- How the plain program's lists read as a state of sharing.
+use Rattle.std.specs.Prelude.{ℕ, List, [], map, Option, None, option_map, Vec}
+use Rattle.std.specs.declared.alloc.Global.{Global}
+use Rattle.host_types.specs.declared.options.Options.{Options}
+use Rattle.host_types.specs.Sharing.{Sharing, PageState}
+use Rattle.plain_sharing.specs.declared.sharing.PlainPage.{PlainPage}
+
+-- a page
+abbrev pub page_of : PlainPage → PageState
+page_of page = record { mergeable = page.mergeable; status = page.status; last = page.last }
+
+-- the pages by place
+abbrev pub pages_of : List (Option PlainPage) → List (Option PageState)
+pages_of pages = map (option_map page_of) pages
+
+-- the groups as lists of places
+abbrev pub places_of : List (Vec ℕ Global) → List (List ℕ)
+places_of groups = map (λ group. group.items) groups
+
+-- a state in which no page waits and none was visited
+abbrev pub sharing_of : List (Option PageState) → List (List ℕ) → Options → Sharing
+sharing_of pages groups options =
+    record { pages = pages; groups = groups; waiting = []; cursor = None; options = options; full_scans = 0 }

@@ -1,0 +1,12 @@
+//! Which pages share frames, as a slow program over plain lists: statuses, groups of places, breaks and
+//! what they take. Its contracts are the definitions themselves, so tests compare the memory with it.
+#![tactic(auto)]
+
+mod groups;
+mod pages;
+mod sharing;
+#[cfg(test)]
+mod tests;
+
+pub use pages::page_content;
+pub use sharing::{PlainPage, PlainSharing};

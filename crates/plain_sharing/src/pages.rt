@@ -1,0 +1,73 @@
+// Pages by place.
+ghost use Rattle.std.specs.Prelude.{◌≡◌, ◌<◌, ◌≤◌, length, slice_index_or, slice_set, sum_by, option_map, None};
+ghost use Rattle.host_types.specs.Sharing.{own_frame, with_status};
+ghost use Rattle.host_types.specs.Pages.{page_bytes};
+ghost use Rattle.plain_sharing.specs.View.{page_of, pages_of};
+
+use crate::sharing::PlainPage;
+use host_types::Status;
+
+// The page at a place, if there is one.
+pub(crate) fn at(pages: &[Option<PlainPage>], place: usize) -> Option<PlainPage>
+    ensures { result ≡ slice_index_or pages.now place None }
+{
+    match pages.get(place) {
+        Some(page) => *page,
+        None => None,
+    }
+}
+
+// Puts a page at a place, if the place is there.
+pub(crate) fn put(pages: &mut [Option<PlainPage>], place: usize, page: Option<PlainPage>)
+    ensures { pages_of pages.new ≡ slice_set (pages_of pages.old) place (option_map page_of page) }
+{
+    if place < pages.len() {
+        pages[place] = page;
+    }
+}
+
+// Gives the page at a place, if there is one, another status.
+pub(crate) fn set_status(pages: &mut [Option<PlainPage>], place: usize, status: Status)
+    ensures { pages_of pages.new ≡ slice_set (pages_of pages.old) place (option_map (with_status status) (slice_index_or (pages_of pages.old) place None)) }
+{
+    let page = match at(pages, place) {
+        Some(page) => Some(PlainPage { status, ..page }),
+        None => None,
+    };
+    put(pages, place, page);
+}
+
+// How many pages have a frame of their own.
+pub(crate) fn own_frames(pages: &[Option<PlainPage>]) -> usize
+    ensures { result ≡ sum_by own_frame (pages_of pages.now) }
+{
+    let mut own = 0;
+    for page in pages {
+        own += own_frame(*page);
+    }
+    own
+}
+
+// One for a page with a frame of its own.
+fn own_frame(page: Option<PlainPage>) -> usize
+    ensures value { result ≡ own_frame (option_map page_of page) }
+    ensures small { result ≤ 1 }
+{
+    match page {
+        Some(page) if !page.status.is_shared() => 1,
+        _ => 0,
+    }
+}
+
+/// Reads the content of a map's page: 4096 bytes of the map from the page's first one on, zeros after
+/// the map's last one.
+pub fn page_content(bytes: &[u8], number: usize, into: &mut [u8])
+    requires number { number < 256 }
+    requires size { length into.old ≡ 4096 }
+    ensures { into.new ≡ page_bytes bytes.now number }
+{
+    into.fill(0);
+    let rest = &bytes[usize::min(number * 4096, bytes.len())..];
+    let size = usize::min(4096, rest.len());
+    into[..size].copy_from_slice(&rest[..size]);
+}

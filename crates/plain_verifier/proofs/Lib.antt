@@ -1,0 +1,4 @@
+pub mod Lists
+pub mod Joins
+pub mod Agreement
+pub mod Passes

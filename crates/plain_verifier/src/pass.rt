@@ -1,0 +1,113 @@
+//! One pass over the slots of a text, in either order of joins.
+
+ghost use Rattle.std.specs.Prelude.{◌≡◌, ◌+◌, ◌<◌, ◌++◌, [], IfOk};
+ghost use Rattle.bpf_decode.specs.Text.{slots_of, IsWellFormed};
+ghost use Rattle.verifier.specs.Pass.{target_in};
+ghost use Rattle.verifier.specs.Subject.{IsContextSize, all_there};
+ghost use Rattle.plain_verifier.specs.Orders.{pairs_of};
+ghost use Rattle.plain_verifier.specs.Pass.{IsJudged, IsPulled, IsSlotJudged};
+
+use crate::orders::{Order, joined};
+use crate::table::{Judged, Table};
+use bpf_decode::Program;
+use host_types::Refused;
+use std::alloc::{AllocError, Global};
+use verifier::{Candidate, Target};
+use verifier_kinds::Description;
+
+/// What a pass has found before a slot: all that has flowed, the start's description first, and what is
+/// known at each slot.
+#[derive(Drop)]
+struct Pass {
+    flowed: Vec<Target>,
+    table: Vec<Option<Description>>,
+}
+
+/// Puts a target behind those that have flowed, if there is one.
+fn flow_on(flowed: &mut Vec<Target>, target: Option<Target>) -> Result<(), AllocError>
+    ensures { IfOk result (λ done. pairs_of flowed.new.items ≡ pairs_of flowed.old.items ++ target_in target) }
+{
+    if let Some(target) = target {
+        flowed.push(target)?;
+    }
+    Ok(())
+}
+
+impl Pass {
+    /// Before the first slot the start's description has flowed to it, and nothing else.
+    fn begin(alloc: Global, candidate: &Candidate) -> Result<Pass, AllocError>
+        ensures { IfOk result (λ pass. IsPulled candidate.now pass.table.items pass.flowed.items 0) }
+    {
+        let slots = candidate.slots() as usize;
+        let mut flowed = Vec::with_capacity(alloc, 2 * slots + 1)?;
+        flowed.push(Target {
+            slot: 0,
+            description: Description::start(),
+        })?;
+        Ok(Pass {
+            flowed,
+            table: Vec::with_capacity(alloc, slots)?,
+        })
+    }
+
+    /// Finds what is known at a slot, and lets it flow. The answer is the number of the rule that the
+    /// slot breaks, if it breaks one.
+    fn judge_slot(
+        &mut self,
+        candidate: &Candidate,
+        slot: u32,
+        order: Order,
+    ) -> Result<Option<u32>, AllocError>
+        requires text { IsWellFormed candidate.now.text }
+        requires slot { slot < slots_of candidate.now.text }
+        requires pulled { IsPulled candidate.now self.old.table.items self.old.flowed.items slot }
+        ensures { IfOk result (IsSlotJudged candidate.now slot self.new.table.items self.new.flowed.items) }
+    {
+        self.table.push(joined(order, slot, &self.flowed))?;
+        let Some(known) = &self.table[slot as usize] else {
+            return Ok(None);
+        };
+        match candidate.flow(slot, known) {
+            Ok(onward) => {
+                flow_on(&mut self.flowed, onward.next)?;
+                flow_on(&mut self.flowed, onward.jump)?;
+                Ok(None)
+            }
+            Err(number) => Ok(Some(number)),
+        }
+    }
+}
+
+/// Judges the text of a candidate, with joins in this order.
+fn judge(alloc: Global, candidate: &Candidate, order: Order) -> Result<Judged, AllocError>
+    ensures { IfOk result (IsJudged candidate.now) }
+{
+    let mut pass = Pass::begin(alloc, candidate)?;
+    for slot in 0..candidate.slots() {
+        if let Some(number) = pass.judge_slot(candidate, slot, order)? {
+            return Ok(Judged::Refused(Refused { number, slot }));
+        }
+    }
+    Ok(Judged::Accepted(Table { slots: pass.table }))
+}
+
+/// Judges a program that uses no map, and whose context has `ctx_size` bytes. At each slot it joins what
+/// flows there in the order of the slots that it comes from, the start's description first at slot 0. The
+/// error is want of memory.
+pub fn judge_forward(alloc: Global, program: Program, ctx_size: u32) -> Result<Judged, AllocError>
+    requires { IsContextSize ctx_size }
+    ensures { IfOk result (IsJudged (record { text = program; shapes = all_there []; context_size = ctx_size })) }
+{
+    let candidate = Candidate::new(alloc, program, &[], ctx_size)?;
+    judge(alloc, &candidate, Order::Forward)
+}
+
+/// Judges it with joins in the opposite order: from the slot before back to slot 0, of each instruction
+/// first the slot to which it jumps, and the start's description last.
+pub fn judge_backward(alloc: Global, program: Program, ctx_size: u32) -> Result<Judged, AllocError>
+    requires { IsContextSize ctx_size }
+    ensures { IfOk result (IsJudged (record { text = program; shapes = all_there []; context_size = ctx_size })) }
+{
+    let candidate = Candidate::new(alloc, program, &[], ctx_size)?;
+    judge(alloc, &candidate, Order::Backward)
+}

@@ -1,0 +1,42 @@
+ghost use Rattle.std.specs.Prelude.{◌≡◌, ◌≤◌, length};
+ghost use Rattle.verifier.specs.Verified.{kind_at};
+
+use host_types::Refused;
+use std::marker::Model;
+use verifier_kinds::{Description, Kind};
+
+/// What is known at each slot of a text, in order: a description, or nothing where the slot isn't
+/// reached. Contracts see the descriptions.
+#[derive(Drop)]
+pub struct Table {
+    pub(crate) slots: Vec<Option<Description>>,
+}
+
+impl Model for Table {
+    ghost use Rattle.verifier.specs.Table.{Table};
+
+    ghost Value = { Table };
+
+    ghost view = { λ t. t.slots.items };
+}
+
+impl Table {
+    /// What is known of a register at a slot: `None` where nothing is known of it, or where the
+    /// slot isn't reached.
+    pub fn kind(&self, slot: u32, register: u8) -> Option<Kind>
+        requires { register ≤ 10 }
+        ensures { result ≡ kind_at self.now slot register }
+    {
+        let known = self.slots.get(slot as usize)?.as_ref()?;
+        known.register(register)
+    }
+}
+
+/// How a text was judged.
+#[derive(Drop)]
+pub enum Judged {
+    /// No slot that is reached breaks a rule.
+    Accepted(Table),
+    /// This slot is the first that breaks a rule, and this number the smallest there.
+    Refused(Refused),
+}

@@ -1,0 +1,48 @@
+-- Numbers as bytes, and where loads and stores lie in pages.
+use Rattle.std.proofs.Common.{◌≡◌, ◌⊎◌, ℕ, zero, suc, ◌+◌, ◌/◌, ◌%◌, ◌^◌, ◌≤◌, ◌∷◌, take, refl, sym, ap, subst, ⊎_elim, ◌∙◌, arith}
+use Rattle.std.proofs.Math.Nat.{div-div-eq-div-mul, div-one, pow-suc}
+use Rattle.std.proofs.lemmas.Bool.Decides.{nat_tests}
+use Rattle.std.specs.Int.{byte_at, bytes_low_first}
+use Rattle.host_types.specs.Bytes.{bytes_of}
+use Rattle.frame_arena.specs.Pages.{IsAccessSize}
+
+-- the byte at a place is the lowest byte of what is above it
+byte_at-shifted : (i number : ℕ) → byte_at i number ≡ number / 256 ^ i % 256
+byte_at-shifted zero number = ap (λ (n : ℕ). n % 256) (sym (div-one number))
+byte_at-shifted (suc i) number = refl
+
+-- bytes cut out by places are those of the number shifted down
+bytes_low_first-shifted : (i n number : ℕ) → bytes_low_first i n number ≡ bytes_of n (number / 256 ^ i)
+unfolding bytes_of
+bytes_low_first-shifted i zero number = refl
+bytes_low_first-shifted i (suc n) number =
+    let next : number / 256 ^ suc i ≡ number / 256 ^ i / 256 =
+    ap (λ (d : ℕ). number / d) (pow-suc 256 i) ∙ sym (div-div-eq-div-mul number (256 ^ i) 256) in
+    let rest : bytes_low_first (suc i) n number ≡ bytes_of n (number / 256 ^ i / 256) =
+    bytes_low_first-shifted (suc i) n number ∙ ap (bytes_of n) next in
+    rw (byte_at-shifted i number, rest) refl
+
+-- the bytes of a number by their places
+pub bytes_low_first-bytes_of : (n number : ℕ) → bytes_low_first 0 n number ≡ bytes_of n number
+bytes_low_first-bytes_of n number = bytes_low_first-shifted 0 n number ∙ ap (bytes_of n) (div-one number)
+
+-- the first bytes of a number are its lowest
+pub take-bytes_of : (size n number : ℕ) → size ≤ n → take size (bytes_of n number) ≡ bytes_of size number
+unfolding bytes_of
+take-bytes_of zero n number h = refl
+take-bytes_of (suc size) zero number h = absurd (omega arith)
+take-bytes_of (suc size) (suc n) number h = ap (λ l. number % 256 ∷ l) (take-bytes_of size n (number / 256) (omega arith))
+
+pub access_size : (size : ℕ) → IsAccessSize size → (size ≡ 1) ⊎ (size ≡ 2) ⊎ (size ≡ 4) ⊎ (size ≡ 8)
+access_size size is = grind (arith, nat_tests)
+
+pub small_size : (size : ℕ) → IsAccessSize size → size ≤ 8
+small_size size is = grind (arith, nat_tests)
+
+-- an aligned load or store lies in one page
+pub access_in_page : (at size : ℕ) → IsAccessSize size → at % size ≡ 0 → at % 4096 + size ≤ 4096
+access_in_page at size is aligned =
+    let P : ℕ → Type 0 = λ n. at % n ≡ 0 → at % 4096 + n ≤ 4096 in
+    ⊎_elim (λ e. subst P (sym e) (λ h. omega arith)) (λ more.
+    ⊎_elim (λ e. subst P (sym e) (λ h. omega arith)) (λ more.
+    ⊎_elim (λ e. subst P (sym e) (λ h. omega arith)) (λ e. subst P (sym e) (λ h. omega arith)) more) more) (access_size size is) aligned

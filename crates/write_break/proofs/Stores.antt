@@ -1,0 +1,196 @@
+-- A store page by page does what the whole store does.
+use Rattle.std.proofs.Common.{◌≡◌, ◌∙◌, ◌⊎◌, ⊎_elim, ℕ, zero, suc, ◌+◌, ◌-◌, ◌/◌, ◌%◌, ◌<◌, ◌≤◌, List, [], ◌∷◌, ◌++◌, length, take, drop, slice_set, Option, Some, None, option_map, unwrap_or, refl, sym, ap, arith}
+use Rattle.std.proofs.lemmas.List.{get_or-set_same, set-get_or, set-set, append_assoc, append-nil, length-append, length-take, take_at, drop_at, drop-drop, take-append-drop}
+use Rattle.host_types.specs.Bytes.{with_part}
+use Rattle.host_types.specs.Memory.{FlatMap, FlatMaps, map_at}
+use Rattle.host_types.specs.Sharing.{Sharing, broken, break_cost, broken_from, cost_from}
+use Rattle.host_types.specs.Tenant.{TenantPart}
+use Rattle.page_table.specs.State.{MemoryState, part, map_bytes, have_of}
+use Rattle.page_table.specs.Changes.{map_written, part_written, KeepsSettings}
+use Rattle.write_break.specs.Stores.{touched, place_of_byte, stored_sharing, store_cost, IsStored}
+
+-- some bytes lie on the pages from their first one to their last one
+pub touched-some : (at n : ℕ) → 0 < n → touched at n ≡ (at + n - 1) / 4096 - at / 4096 + 1
+unfolding touched
+touched-some at zero some = absurd (omega arith)
+touched-some at (suc n) some =
+    let last : at + suc n - 1 ≡ at + n = omega arith in
+    ap (λ (end : ℕ). end / 4096 - at / 4096 + 1) (sym last)
+
+-- where bytes lie on a page, there are some
+pub touched-none : (at n : ℕ) → 0 < touched at n → 0 < n
+unfolding touched
+touched-none at zero h = absurd (omega (arith, h))
+touched-none at (suc n) h = omega arith
+
+-- bytes in one page lie on one
+pub touched-one : (at size : ℕ) → 0 < size → at % 4096 + size ≤ 4096 → touched at size ≡ 1
+unfolding touched
+touched-one at zero some in_page = absurd (omega arith)
+touched-one at (suc n) some in_page = omega arith
+
+-- bytes up to the end of a page, and more behind it
+pub touched-more : (at size rest : ℕ) → 0 < size → at % 4096 + size ≡ 4096 → touched at (size + rest) ≡ suc (touched (at + size) rest)
+unfolding touched
+touched-more at zero rest some ends = absurd (omega arith)
+touched-more at (suc n) zero some ends =
+    let whole : suc n + 0 ≡ suc n = omega arith in
+    let one : touched at (suc n) ≡ 1 = omega arith in
+    ap (touched at) whole ∙ one
+touched-more at (suc n) (suc rest) some ends =
+    let whole : suc n + suc rest ≡ suc (suc n + rest) = omega arith in
+    let more : touched at (suc (suc n + rest)) ≡ suc (touched (at + suc n) (suc rest)) = omega arith in
+    ap (touched at) whole ∙ more
+
+module _ (s : Sharing) (tenant m at size : ℕ) (some : 0 < size) (in_page : at % 4096 + size ≤ 4096) where
+  -- the bytes of one page break that page
+  pub sharing-one : stored_sharing s tenant m at size ≡ broken s (place_of_byte tenant m at)
+  unfolding broken_from
+  sharing-one = ap (broken_from s (place_of_byte tenant m at)) (touched-one at size some in_page)
+
+  pub cost-one : store_cost s tenant m at size ≡ break_cost s (place_of_byte tenant m at)
+  unfolding cost_from
+  cost-one = ap (cost_from s (place_of_byte tenant m at)) (touched-one at size some in_page) ∙ omega arith
+
+  behind : at % 4096 + size ≡ 4096 → place_of_byte tenant m (at + size) ≡ place_of_byte tenant m at + 1
+  behind ends = omega arith
+
+  -- the first page is broken, and then the others
+  pub sharing-more : (rest : ℕ) → (rest ≡ 0) ⊎ (at % 4096 + size ≡ 4096)
+      → stored_sharing s tenant m at (size + rest) ≡ stored_sharing (broken s (place_of_byte tenant m at)) tenant m (at + size) rest
+  unfolding broken_from touched
+  sharing-more rest whole =
+      ⊎_elim
+      (λ none.
+      let same : size + rest ≡ size = omega arith in
+      ap (stored_sharing s tenant m at) same ∙ sharing-one ∙ sym (ap (stored_sharing (broken s (place_of_byte tenant m at)) tenant m (at + size)) none))
+      (λ ends.
+      ap (broken_from s (place_of_byte tenant m at)) (touched-more at size rest some ends)
+      ∙ ap (λ (place : ℕ). broken_from (broken s (place_of_byte tenant m at)) place (touched (at + size) rest)) (sym (behind ends)))
+      whole
+
+  pub cost-more : (rest : ℕ) → (rest ≡ 0) ⊎ (at % 4096 + size ≡ 4096)
+      → store_cost s tenant m at (size + rest) ≡ break_cost s (place_of_byte tenant m at) + store_cost (broken s (place_of_byte tenant m at)) tenant m (at + size) rest
+  unfolding cost_from touched
+  cost-more rest whole =
+      ⊎_elim
+      (λ none.
+      let same : size + rest ≡ size = omega arith in
+      let nothing : store_cost (broken s (place_of_byte tenant m at)) tenant m (at + size) rest ≡ 0 = ap (store_cost (broken s (place_of_byte tenant m at)) tenant m (at + size)) none in
+      let all = ap (store_cost s tenant m at) same ∙ cost-one in
+      omega (arith, all, nothing))
+      (λ ends.
+      ap (cost_from s (place_of_byte tenant m at)) (touched-more at size rest some ends)
+      ∙ ap (λ (place : ℕ). break_cost s (place_of_byte tenant m at) + cost_from (broken s (place_of_byte tenant m at)) place (touched (at + size) rest)) (sym (behind ends)))
+      whole
+
+-- the bytes of what may be a map
+abbrev bytes_in : Option FlatMap → List ℕ
+bytes_in flat = unwrap_or (option_map (λ (flat : FlatMap). flat.bytes) flat) []
+
+-- a map that is there has a place
+map_inside : (maps : FlatMaps) (m : ℕ) (flat : FlatMap) → map_at maps m ≡ Some flat → m < length maps
+map_inside [] m flat e = absurd (cc)
+map_inside (x ∷ maps) zero flat e = omega arith
+map_inside (x ∷ maps) (suc m) flat e = let rest = map_inside maps m flat e in omega arith
+
+-- no bytes written
+pub with_part-none : {X : Type 0} (xs : List X) (at : ℕ) → xs ≡ with_part xs at []
+unfolding with_part
+with_part-none xs at =
+    let place : at + 0 ≡ at = omega arith in
+    sym (ap (λ l. l ++ drop (at + 0) xs) (append-nil (take at xs)) ∙ ap (λ (n : ℕ). take at xs ++ drop n xs) place ∙ take-append-drop at xs)
+
+-- bytes written one after another
+pub with_part-twice : {X : Type 0} (xs : List X) (at : ℕ) (first later : List X) → at + length first ≤ length xs
+    → with_part (with_part xs at first) (at + length first) later ≡ with_part xs at (first ++ later)
+unfolding with_part
+with_part-twice xs at first later h =
+    let front : List _ = take at xs ++ first in
+    let rest : List _ = drop (at + length first) xs in
+    let long : length front ≡ at + length first = simp (length-append, length-take) (omega arith) in
+    let both : at + length first + length later ≡ at + length (first ++ later) = simp length-append (omega arith) in
+    ap (λ l. l ++ later ++ drop (at + length first + length later) (front ++ rest)) (take_at front rest (at + length first) long)
+    ∙ ap (λ l. front ++ later ++ l) (
+    sym (drop-drop (length later) (at + length first) (front ++ rest))
+    ∙ ap (drop (length later)) (drop_at front rest (at + length first) long)
+    ∙ drop-drop (length later) (at + length first) xs)
+    ∙ ap (λ l. l ++ drop (at + length first + length later) xs) (append_assoc (take at xs) first later)
+    ∙ ap (λ (n : ℕ). take at xs ++ (first ++ later) ++ drop n xs) both
+
+-- a part into which no bytes are written
+pub part_written-none : (owned : TenantPart) (m at : ℕ) → owned ≡ part_written owned m at []
+part_written-none owned m at =
+    ap (λ (maps : FlatMaps). record owned { maps = maps }) (sym (set-get_or owned.maps m None) ∙ ap (slice_set owned.maps m) (kept (map_at owned.maps m)))
+  where
+    kept : (flat : Option FlatMap) → flat ≡ option_map (map_written at []) flat
+    kept None = refl
+    kept (Some flat) = ap (λ (bytes : List ℕ). Some (record flat { bytes = bytes })) (with_part-none flat.bytes at)
+
+-- a part into which bytes are written one after another
+pub part_written-twice : (owned : TenantPart) (m at : ℕ) (first later : List ℕ) → 0 < length first → at + length first ≤ length (map_bytes owned m)
+    → part_written (part_written owned m at first) m (at + length first) later ≡ part_written owned m at (first ++ later)
+part_written-twice owned m at first later some within = by_map (map_at owned.maps m) refl
+  where
+    by_map : (flat : Option FlatMap) → map_at owned.maps m ≡ flat → part_written (part_written owned m at first) m (at + length first) later ≡ part_written owned m at (first ++ later)
+    by_map None e = let none = ap (λ (flat : Option FlatMap). length (bytes_in flat)) e in absurd (omega (arith, none, some, within))
+    by_map (Some flat) e =
+        let inside = map_inside owned.maps m flat e in
+        let long = ap (λ (flat : Option FlatMap). length (bytes_in flat)) e in
+        let once : slice_set owned.maps m (option_map (map_written at first) (map_at owned.maps m)) ≡ slice_set owned.maps m (Some (map_written at first flat)) =
+        ap (λ (x : Option FlatMap). slice_set owned.maps m (option_map (map_written at first) x)) e in
+        let here : map_at (slice_set owned.maps m (Some (map_written at first flat))) m ≡ Some (map_written at first flat) =
+        get_or-set_same owned.maps m (Some (map_written at first flat)) None inside in
+        let twice = with_part-twice flat.bytes at first later (omega (arith, long, within)) in
+        ap (λ (maps : FlatMaps). record owned { maps = slice_set maps m (option_map (map_written (at + length first) later) (map_at maps m)) }) once
+        ∙ ap (λ (x : Option FlatMap). record owned { maps = slice_set (slice_set owned.maps m (Some (map_written at first flat))) m (option_map (map_written (at + length first) later) x) }) here
+        ∙ ap (λ (maps : FlatMaps). record owned { maps = maps }) (set-set owned.maps m (Some (map_written at first flat)) (Some (map_written (at + length first) later (map_written at first flat))))
+        ∙ ap (λ (bytes : List ℕ). record owned { maps = slice_set owned.maps m (Some (record flat { bytes = bytes })) }) twice
+        ∙ sym (ap (λ (x : Option FlatMap). record owned { maps = slice_set owned.maps m (option_map (map_written at (first ++ later)) x) }) e)
+
+-- what new frames may be had of hangs on the sharing, the frames and the reserves
+pub have-kept : (old new : MemoryState) → new.sharing ≡ old.sharing → KeepsSettings old new → have_of new ≡ have_of old
+have-kept old new same kept = rw (same, kept.frames, kept.tenants) refl
+
+-- no bytes stored
+pub stored-none : (memory : MemoryState) (tenant m at : ℕ) → IsStored memory memory tenant m at []
+unfolding broken_from cost_from touched
+stored-none memory tenant m at = record {
+  written = part_written-none (part memory tenant) m at;
+  bytes = with_part-none (map_bytes (part memory tenant) m) at;
+  sized = refl;
+  other_maps = λ k ne. refl;
+  others = λ t ne. refl;
+  sharing = refl;
+  have = omega arith;
+  settings = record { tenants = refl; frames = refl };
+}
+
+-- bytes of one page stored, and then those behind them
+pub stored-more : (old middle new : MemoryState) (tenant m at : ℕ) (first later : List ℕ) → 0 < length first → at % 4096 + length first ≤ 4096 → (length later ≡ 0) ⊎ (at % 4096 + length first ≡ 4096)
+    → at + length first ≤ length (map_bytes (part old tenant) m)
+    → IsStored old middle tenant m at first → IsStored middle new tenant m (at + length first) later → IsStored old new tenant m at (first ++ later)
+stored-more old middle new tenant m at first later some in_page whole within one rest =
+    let long : length (first ++ later) ≡ length first + length later = length-append first later in
+    let broken_one = one.sharing ∙ sharing-one old.sharing tenant m at (length first) some in_page in
+    let cost_one = cost-one old.sharing tenant m at (length first) some in_page in
+    let cost : store_cost old.sharing tenant m at (length first + length later) ≡ break_cost old.sharing (place_of_byte tenant m at) + store_cost middle.sharing tenant m (at + length first) (length later) =
+    cost-more old.sharing tenant m at (length first) some in_page (length later) whole
+    ∙ ap (λ (s : Sharing). break_cost old.sharing (place_of_byte tenant m at) + store_cost s tenant m (at + length first) (length later)) (sym broken_one) in
+    record {
+      written = rest.written
+          ∙ ap (λ (owned : TenantPart). part_written owned m (at + length first) later) one.written
+          ∙ part_written-twice (part old tenant) m at first later some within;
+      bytes = rest.bytes
+          ∙ ap (λ (bytes : List ℕ). with_part bytes (at + length first) later) one.bytes
+          ∙ with_part-twice (map_bytes (part old tenant) m) at first later within;
+      sized = rest.sized ∙ one.sized;
+      other_maps = λ k ne. rest.other_maps k ne ∙ one.other_maps k ne;
+      others = λ t ne. rest.others t ne ∙ one.others t ne;
+      sharing = rest.sharing
+          ∙ ap (λ (s : Sharing). stored_sharing s tenant m (at + length first) (length later)) broken_one
+          ∙ sym (sharing-more old.sharing tenant m at (length first) some in_page (length later) whole)
+          ∙ sym (ap (stored_sharing old.sharing tenant m at) long);
+      have = rw long (omega (arith, rest.have, one.have, cost, cost_one));
+      settings = record { tenants = rest.settings.tenants ∙ one.settings.tenants; frames = rest.settings.frames ∙ one.settings.frames };
+    }

@@ -1,0 +1,32 @@
+use Rattle.std.proofs.Common.{◌≡◌, ◌∙◌, ◌+◌, ◌*◌, ◌/◌, ◌%◌, length, sym, arith}
+use Rattle.write_break.proofs.Stores.{sharing-one, cost-one, have-kept}
+use Rattle.write_break.proofs.access.store_in_page.Goals as goal
+
+pub take_out-requires-clause-room : goal.take_out-requires-clause-room
+take_out-requires-clause-room c =
+    let cost = cost-one c.args.memory.now.sharing c.args.tenant c.args.map c.args.at (length c.args.bytes.now) c.requires.some c.requires.in_page in
+    rw (c.page_of-page.ensures) (omega (arith, c.requires.room, cost))
+
+place : (c : goal.After-put) → c.args.at / 4096 * 4096 + c.args.at % 4096 ≡ c.args.at
+place c = omega arith
+
+pub returns : goal.returns
+returns c =
+    let kept = c.take_out.ensures.kept c.args.tenant in
+    let sharing = sharing-one c.args.memory.now.sharing c.args.tenant c.args.map c.args.at (length c.args.bytes.now) c.requires.some c.requires.in_page in
+    let cost = cost-one c.args.memory.now.sharing c.args.tenant c.args.map c.args.at (length c.args.bytes.now) c.requires.some c.requires.in_page in
+    let have = have-kept c.take_out.new.self c.put.new.self c.put.ensures.sharing c.put.ensures.settings in
+    let before = rw (c.page_of-page.ensures) at c.take_out.ensures.have in
+    record {
+      written = rw (c.page_of-page.ensures, place c, kept) at c.put.ensures.written;
+      bytes = rw (c.page_of-page.ensures, place c, kept) at c.put.ensures.bytes;
+      sized = rw (c.page_of-page.ensures, kept) at c.put.ensures.length;
+      other_maps = rw (c.page_of-page.ensures, kept) at c.put.ensures.other_maps;
+      others = λ t ne. (rw (c.page_of-page.ensures) at c.put.ensures.others) t ne ∙ c.take_out.ensures.kept t;
+      sharing = c.put.ensures.sharing ∙ (rw (c.page_of-page.ensures) at c.take_out.ensures.sharing) ∙ sym sharing;
+      have = omega (arith, have, before, cost);
+      settings = record {
+        tenants = c.put.ensures.settings.tenants ∙ c.take_out.ensures.settings.tenants;
+        frames = c.put.ensures.settings.frames ∙ c.take_out.ensures.settings.frames;
+      };
+    }

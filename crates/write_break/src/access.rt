@@ -1,0 +1,145 @@
+ghost use Rattle.std.specs.Prelude.{◌≡◌, ◌⊎◌, ◌+◌, ◌/◌, ◌<◌, ◌≤◌, ◌%◌, length};
+ghost use Rattle.host_types.specs.Bytes.{number_of, bytes_of, part_of, with_part};
+ghost use Rattle.frame_arena.specs.Pages.{IsAccessSize};
+ghost use Rattle.page_table.specs.State.{part, map_bytes, have_of};
+ghost use Rattle.page_table.specs.Changes.{part_written, IsKeptBut, AreMapsKeptBut, KeepsSettings};
+ghost use Rattle.write_break.specs.Stores.{touched, part_stored, stored_sharing, store_cost, IsStored};
+
+use crate::number::word;
+use frame_arena::PAGE_SIZE;
+use host_types::{MapNo, Page};
+use page_table::Memory;
+
+/// The page of a tenant's map that a byte is in.
+fn page_of(tenant: u32, map: MapNo, at: u32) -> Page
+    ensures { result ≡ record { tenant = tenant; map = map; number = at / 4096 } }
+{
+    Page {
+        tenant,
+        map,
+        number: at / PAGE_SIZE,
+    }
+}
+
+/// The number in `size` bytes of a tenant's map from the byte `at` on, the lowest byte first. A
+/// number has 1, 2, 4 or 8 bytes, and stands at a multiple of its size.
+pub fn load(memory: &Memory, tenant: u32, map: MapNo, at: u32, size: u32) -> u64
+    requires size { IsAccessSize size }
+    requires within { at + size ≤ length (map_bytes (part memory.now tenant) map) }
+    requires aligned { at % size ≡ 0 }
+    ensures { result ≡ number_of (part_of (map_bytes (part memory.now tenant) map) at size) }
+{
+    let entry = memory.entry(page_of(tenant, map, at));
+    memory.arena().read(entry.frame, at % PAGE_SIZE, size)
+}
+
+/// How many pages some bytes of a map lie on.
+fn touched_pages(at: u32, len: u32) -> u32
+    ensures { result ≡ touched at len }
+{
+    if len == 0 {
+        return 0;
+    }
+    let end = u64::from(at) + u64::from(len);
+    let last = (end - 1) / u64::from(PAGE_SIZE);
+    last as u32 - at / PAGE_SIZE + 1
+}
+
+/// How many frames a store of `len` bytes would take now: one for each of their pages that shares its
+/// frame with another, each counted after the breaks before it. Nothing is changed.
+pub fn needs(memory: &Memory, tenant: u32, map: MapNo, at: u32, len: u32) -> u32
+    requires within { at + len ≤ length (map_bytes (part memory.now tenant) map) }
+    ensures { result ≡ store_cost memory.now.sharing tenant map at len }
+{
+    let count = touched_pages(at, len);
+    if count == 0 {
+        return 0;
+    }
+    memory.break_costs(page_of(tenant, map, at), count)
+}
+
+/// Writes the lowest `size` bytes of a number to a tenant's map from the byte `at` on, the lowest
+/// first. A page that shares its frame is taken out before.
+pub fn store(memory: &mut Memory, tenant: u32, map: MapNo, at: u32, size: u32, value: u64)
+    requires size { IsAccessSize size }
+    requires within { at + size ≤ length (map_bytes (part memory.old tenant) map) }
+    requires aligned { at % size ≡ 0 }
+    requires room { store_cost memory.old.sharing tenant map at size ≤ have_of memory.old }
+    ensures stored { part memory.new tenant ≡ part_stored (part memory.old tenant) map at size value }
+    ensures bytes { map_bytes (part memory.new tenant) map
+        ≡ with_part (map_bytes (part memory.old tenant) map) at (bytes_of size value) }
+    ensures length { length (map_bytes (part memory.new tenant) map)
+        ≡ length (map_bytes (part memory.old tenant) map) }
+    ensures other_maps { AreMapsKeptBut map (part memory.old tenant) (part memory.new tenant) }
+    ensures others { IsKeptBut tenant memory.old memory.new }
+    ensures sharing { memory.new.sharing ≡ stored_sharing memory.old.sharing tenant map at size }
+    ensures have { have_of memory.new + store_cost memory.old.sharing tenant map at size ≡ have_of memory.old }
+    ensures settings { KeepsSettings memory.old memory.new }
+{
+    store_in_page(memory, tenant, map, at, &word(value)[..size as usize]);
+}
+
+/// Writes bytes to a tenant's map from the byte `at` on. Each of their pages that shares its frame is
+/// taken out before it is written. No bytes write nothing.
+pub fn store_bytes(memory: &mut Memory, tenant: u32, map: MapNo, at: u32, bytes: &[u8])
+    requires within { at + length bytes.now ≤ length (map_bytes (part memory.old tenant) map) }
+    requires room { store_cost memory.old.sharing tenant map at (length bytes.now) ≤ have_of memory.old }
+    ensures written { part memory.new tenant ≡ part_written (part memory.old tenant) map at bytes.now }
+    ensures bytes { map_bytes (part memory.new tenant) map
+        ≡ with_part (map_bytes (part memory.old tenant) map) at bytes.now }
+    ensures length { length (map_bytes (part memory.new tenant) map)
+        ≡ length (map_bytes (part memory.old tenant) map) }
+    ensures other_maps { AreMapsKeptBut map (part memory.old tenant) (part memory.new tenant) }
+    ensures others { IsKeptBut tenant memory.old memory.new }
+    ensures sharing { memory.new.sharing ≡ stored_sharing memory.old.sharing tenant map at (length bytes.now) }
+    ensures have { have_of memory.new + store_cost memory.old.sharing tenant map at (length bytes.now)
+        ≡ have_of memory.old }
+    ensures settings { KeepsSettings memory.old memory.new }
+{
+    map_is_small(memory, tenant, map);
+    let mut place = at;
+    let mut rest = bytes;
+    while !rest.is_empty() {
+        let size = size_in_page(place, rest);
+        let (first, later) = rest.split_at(size);
+        store_in_page(memory, tenant, map, place, first);
+        place += size as u32;
+        rest = later;
+    }
+}
+
+/// A map has few bytes: at most 256 pages, which its shape says.
+fn map_is_small(memory: &Memory, tenant: u32, map: MapNo)
+    ensures { length (map_bytes (part memory.now tenant) map) ≤ 1048576 }
+{
+    memory.shape(tenant, map);
+}
+
+/// How many of some bytes, which are to lie from the byte `at` on, are in the first one's page.
+fn size_in_page(at: u32, bytes: &[u8]) -> usize
+    requires { 0 < length bytes.now }
+    ensures some { 0 < result }
+    ensures within { result ≤ length bytes.now }
+    ensures in_page { at % 4096 + result ≤ 4096 }
+    ensures all { (result ≡ length bytes.now) ⊎ (at % 4096 + result ≡ 4096) }
+{
+    let room = (PAGE_SIZE - at % PAGE_SIZE) as usize;
+    if bytes.len() < room {
+        bytes.len()
+    } else {
+        room
+    }
+}
+
+/// Writes bytes that lie in one page, which is taken out before; one with its own frame stays as it is.
+fn store_in_page(memory: &mut Memory, tenant: u32, map: MapNo, at: u32, bytes: &[u8])
+    requires some { 0 < length bytes.now }
+    requires in_page { at % 4096 + length bytes.now ≤ 4096 }
+    requires within { at + length bytes.now ≤ length (map_bytes (part memory.old tenant) map) }
+    requires room { store_cost memory.old.sharing tenant map at (length bytes.now) ≤ have_of memory.old }
+    ensures { IsStored memory.old memory.new tenant map at bytes.now }
+{
+    let page = page_of(tenant, map, at);
+    memory.take_out(page);
+    memory.put(page, at % PAGE_SIZE, bytes);
+}

@@ -1,0 +1,12 @@
+//! Loads and stores of maps. A store to a page that shares its frame takes the page out first, so
+//! that no other page changes: it is written on a frame of its own.
+#![tactic(auto)]
+
+mod access;
+#[cfg(test)]
+mod agreement;
+mod number;
+#[cfg(test)]
+mod tests;
+
+pub use access::{load, needs, store, store_bytes};
