@@ -2,6 +2,8 @@
 //! A seat knows its tenant's part of the memory, and what it knows outlives the turns of all others.
 #![tactic(auto)]
 
+#[cfg(test)]
+mod close_tests;
 mod held;
 mod rule;
 mod seat;
