@@ -1,10 +1,10 @@
 use crate::runs::{Outcome, on_the_host, on_the_plain_machine};
 use std::alloc::{AllocError, Global};
 
-/// Whether each text that a program becomes, cut at any byte or with any bit flipped, is refused or
-/// goes as it does on the plain machine.
-pub(crate) fn all_agree(alloc: Global, text: &[u8]) -> Result<bool, AllocError> {
-    Ok(cuts_agree(alloc, text) && flips_agree(alloc, text)?)
+/// Whether the texts that a row's program becomes by a change are refused or go as they do on the plain
+/// machine: cut at any byte, or with one bit of any byte flipped.
+pub(crate) fn all_agree(alloc: Global, text: &[u8], row: usize) -> Result<bool, AllocError> {
+    Ok(cuts_agree(alloc, text) && flips_agree(alloc, text, row)?)
 }
 
 // Whether each beginning of a program is refused or goes as on the plain machine.
@@ -15,19 +15,18 @@ fn cuts_agree(alloc: Global, text: &[u8]) -> bool {
 // The bits of a byte.
 const BITS: [u8; 8] = [1, 2, 4, 8, 16, 32, 64, 128];
 
-// Whether a program is refused or goes as on the plain machine with any of its bits flipped. With one bit
-// of each byte, of the next byte the next one, it is judged by the plain verifier too.
-fn flips_agree(alloc: Global, text: &[u8]) -> Result<bool, AllocError> {
+// Whether a program is refused or goes as on the plain machine with one bit of any byte flipped: from byte
+// to byte, from slot to slot and from row to row the next bit, so that eight rows flip all bits of a place.
+// With one byte of each slot, from row to row the next one, the text is judged by the plain verifier too.
+fn flips_agree(alloc: Global, text: &[u8], row: usize) -> Result<bool, AllocError> {
     let mut changed = text.to_vec(alloc)?;
     for at in 0..text.len() {
-        for bit in BITS {
-            flip(changed.as_mut_slice(), at, bit);
-            let judged_twice = bit == BITS[at % BITS.len()];
-            if !is_refused_or_agrees(alloc, changed.as_slice(), judged_twice) {
-                return Ok(false);
-            }
-            flip(changed.as_mut_slice(), at, bit);
+        let bit = BITS[(at % 8 + at / 8 + row % 8) % BITS.len()];
+        flip(changed.as_mut_slice(), at, bit);
+        if !is_refused_or_agrees(alloc, changed.as_slice(), at % 8 == row % 8) {
+            return Ok(false);
         }
+        flip(changed.as_mut_slice(), at, bit);
     }
     Ok(true)
 }

@@ -1,8 +1,10 @@
-//! Compares the host with results that the Linux kernel computed, for the programs `kernel_rows`,
-//! `kernel_jumps` and those of random rows. A row is four texts between tabs: a name, a program in hex, what it returns, and in how
-//! many steps (`-` for any number). Its program is decoded, judged by `verify` and by both passes of the
-//! plain verifier, and run, and it is run on the plain machine too. So is each text that it becomes, cut at
-//! any byte or with any bit flipped: it is refused, or it goes as on the plain machine.
+//! Compares the host with results that the Linux kernel computed, for the program `kernel_rows`, and with
+//! worked examples, for `worked_rows`. A row is four texts between tabs: a name, a program in hex, what it
+//! returns, and in how many steps (`-` for any number). Its program is decoded, judged by `verify` and by
+//! both passes of the plain verifier, and run, and it is run on the plain machine too. So are texts that it
+//! becomes by a change: each is refused, or it goes as on the plain machine. They are all its beginnings,
+//! and, of the texts with one bit flipped, one for each byte; `changes.rt` says which bit, and which of them
+//! the plain verifier judges too. Trying all bits would take eight times as long and more.
 #![tactic(auto)]
 
 mod changes;
@@ -19,7 +21,7 @@ use std::io::Input;
 
 // What is found of a row.
 enum Finding {
-    /// Its program does what the row says, and all changed texts go alike.
+    /// Its program does what the row says, and the changed texts go alike.
     Agrees,
     /// It is no row, or its program does something else.
     Differs,
@@ -31,12 +33,12 @@ enum Finding {
 /// is a line of the output, and the last line counts the rows that agree.
 pub fn compare_input(rt: &(impl AllocGlobal + Input + Print)) -> io::Result<()> {
     let alloc = rt.alloc();
-    let mut rows: u64 = 0;
-    let mut agreed: u64 = 0;
+    let mut rows: usize = 0;
+    let mut agreed: usize = 0;
     for line in rt.lines(alloc).skip(1) {
         let line = line?;
         rows = rows.saturating_add(1);
-        match compare(alloc, line.as_str())? {
+        match compare(alloc, line.as_str(), rows)? {
             Finding::Agrees => agreed = agreed.saturating_add(1),
             Finding::Differs => println!(rt; "differs: {line}")?,
             Finding::DiffersChanged => println!(rt; "differs when it is changed: {line}")?,
@@ -45,11 +47,11 @@ pub fn compare_input(rt: &(impl AllocGlobal + Input + Print)) -> io::Result<()> 
     println!(rt; "{agreed} of {rows} rows agree")
 }
 
-// Compares the host with the row that a line says.
-fn compare(alloc: Global, line: &str) -> Result<Finding, AllocError> {
+// Compares the host with the row that a line says; which row it is says how its program is changed.
+fn compare(alloc: Global, line: &str, number: usize) -> Result<Finding, AllocError> {
     match Row::parse(alloc, line) {
         Some(row) if agrees(alloc, &row) => {
-            if all_agree(alloc, row.text.as_slice())? {
+            if all_agree(alloc, row.text.as_slice(), number)? {
                 Ok(Finding::Agrees)
             } else {
                 Ok(Finding::DiffersChanged)

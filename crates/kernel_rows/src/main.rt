@@ -1,5 +1,5 @@
-//! Compares the host with results that the Linux kernel computed of programs without jumps. Standard
-//! input has a line of names and then the rows.
+//! Compares the host with results that the Linux kernel computed. Standard input has a line of names and
+//! then the rows: programs without jumps, with jumps, and random ones.
 #![tactic(auto)]
 
 use kernel_check::compare_input;
