@@ -1,21 +1,11 @@
 //! The program `bpf_host`.
 #![tactic(auto)]
 
-mod bytes;
-mod check;
-mod event;
-mod fault;
-mod file;
-mod host;
-mod judge;
-#[cfg(test)]
-mod memory_tests;
-mod replay;
 mod words;
 
-use check::check;
-use fault::FileFault;
-use replay::replay;
+use engines::check::check;
+use engines::replay::replay;
+use host_file::FileFault;
 use std::alloc::AllocError;
 use std::io::{self, BufWriter, Write};
 use std::process::ExitCode;

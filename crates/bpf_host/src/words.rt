@@ -1,13 +1,14 @@
 //! The words of the command line.
 
 ghost use Rattle.std.specs.Prelude.{IfErr};
-ghost use Rattle.bpf_host.specs.Faults.{IsOfWords};
+ghost use Rattle.host_file.specs.Faults.{IsOfWords};
 
 #[cfg(test)]
 mod tests;
 
-use crate::fault::{FileFault, usage};
 use clap::{Arg, ArgAction, ArgMatches, Command};
+use engines::usage;
+use host_file::FileFault;
 use std::alloc::{AllocError, Global};
 
 /// What the words of the command line ask for.

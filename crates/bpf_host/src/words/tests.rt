@@ -1,5 +1,5 @@
 use super::{Request, request_of};
-use crate::fault::FileFault;
+use host_file::FileFault;
 use std::alloc::{AllocError, Global};
 use std::test::Fail;
 

@@ -1,8 +1,0 @@
-use Rattle.toml.specs.View.{members_view}
-use Rattle.bpf_host.specs.HostFile.{HasOnly}
-use Rattle.bpf_host.specs.Section.{members_of}
-use Rattle.bpf_host.proofs.file.section.Section.other_key.Given as goal
-
--- if the keys of the entries that are left are among these, then all are
-abbrev pub invariant-loop-name : goal.invariant-loop-name
-invariant-loop-name l = HasOnly (members_view l.name-iterator) l.keys → HasOnly (members_of l.self) l.keys

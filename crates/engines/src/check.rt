@@ -1,0 +1,84 @@
+//! The engine of `check`: one program, judged and not run.
+
+ghost use Rattle.std.specs.Prelude.{◌≡◌, ◌≤◌, length, IfErr, IfOk, OnErr};
+ghost use Rattle.host_file.specs.Faults.{IsOfWords, IsUsage};
+ghost use Rattle.engines.specs.Check.{AnswersWords, AskNothing, IsAccepted, IsCheckRefusal, subject_of};
+
+mod explanation;
+mod question;
+#[cfg(test)]
+mod tests;
+
+use crate::fault::written;
+use explanation::explain;
+use host_core::{accepted, is_context_size};
+use host_file::FileFault;
+use host_types::Fault;
+use question::{Question, question_of};
+use std::alloc::Global;
+use std::io::Write;
+use verifier::Verified;
+
+/// Judges the program that the words of a command line ask for: hex text, the shapes of its maps,
+/// and the size of its context. The output gets one line: that it is accepted, with its slots and
+/// instructions, or the refusal; and what the refusal means goes to `words`. Answers the status: 0,
+/// or 1 for a refusal. Words that can't be read write nothing.
+pub fn check<W: Write, E: Write>(
+    alloc: Global,
+    hex: &str,
+    shapes: &[&str],
+    context: &str,
+    output: &mut W,
+    words: &mut E,
+) -> Result<u8, FileFault>
+    ensures status { IfOk result (λ status. status ≤ 1) }
+    ensures judged { IfOk result (AnswersWords hex.now (length shapes.now) context.now) }
+    ensures usage { IfErr result (λ fault. IsUsage fault → AskNothing hex.now (length shapes.now) context.now) }
+    ensures unwritten { IfErr result (λ fault. IsOfWords fault → output.new ≡ output.old) }
+    ensures silent { OnErr result (words.new ≡ words.old) }
+{
+    let asked = question_of(alloc, hex, shapes, context)?;
+    match judgement(alloc, &asked) {
+        Ok(program) => {
+            write_accepted(output, &program)?;
+            Ok(0)
+        }
+        Err(fault) => {
+            write_refused(output, fault)?;
+            // The answer is written: what it means may be lost.
+            let _ = explain(words, asked.text.as_slice(), fault);
+            Ok(1)
+        }
+    }
+}
+
+/// Judges a program. The size of its context is looked at first.
+fn judgement(alloc: Global, asked: &Question) -> Result<Verified, Fault>
+    ensures accepted { IfOk result (IsAccepted (subject_of asked.now)) }
+    ensures refused { IfErr result (IsCheckRefusal (subject_of asked.now)) }
+{
+    if !is_context_size(asked.context_size) {
+        return Err(Fault::BadContext);
+    }
+    accepted(alloc, asked.text.as_slice(), asked.context_size)
+}
+
+/// Writes that a program is accepted. It has no maps to store to, so that it reserves nothing.
+fn write_accepted<W: Write>(output: &mut W, program: &Verified) -> Result<(), FileFault>
+    ensures { IfErr result (λ fault. ¬ IsOfWords fault) }
+{
+    let slots = program.slots();
+    let instructions = program.instructions();
+    written(writeln!(
+        output,
+        "accepted slots {slots} instructions {instructions} reserve 0"
+    ))?;
+    written(output.flush())
+}
+
+fn write_refused<W: Write>(output: &mut W, fault: Fault) -> Result<(), FileFault>
+    ensures { IfErr result (λ fault. ¬ IsOfWords fault) }
+{
+    written(writeln!(output, "{fault}"))?;
+    written(output.flush())
+}

@@ -1,0 +1,78 @@
+use crate::key::Key;
+use hex::FromHexError;
+use std::alloc::AllocError;
+use std::{fmt, io};
+use thiserror::Error;
+
+/// Why a program of the host ended with status 2.
+#[derive(Debug, Drop, Error)]
+pub enum FileFault {
+    /// The input is no host file; nothing was applied.
+    #[error("bad host file: {0}")]
+    Bad(BadFile),
+    #[error("out of memory")]
+    OutOfMemory(#[from(alloc)] AllocError),
+    /// The input can't be read; nothing was applied.
+    #[error("cannot read the host file: {0}")]
+    Read(io::Error),
+    /// The output can't be written; no further event was applied.
+    #[error("cannot write the output: {0}")]
+    Write(io::Error),
+    /// The words of the command line are none that the program takes.
+    #[error("{0}")]
+    Usage(String),
+}
+
+/// What is wrong with a host file, and where.
+#[derive(Debug, Drop, Error)]
+#[error("{place}{cause}")]
+pub struct BadFile {
+    pub place: Place,
+    pub cause: Cause,
+}
+
+/// A place in a host file.
+#[derive(Clone, Copy, Debug, PartialEq, Eq)]
+pub enum Place {
+    /// The document itself.
+    Document,
+    /// The table of the options.
+    Options,
+    /// The table of an event, counted from 0.
+    Event(usize),
+}
+
+/// What is wrong at a place of a host file.
+#[derive(Debug, Drop, Error)]
+pub enum Cause {
+    #[error("it is no UTF-8 text")]
+    NotText,
+    #[error("{0}")]
+    NotToml(toml::de::Error),
+    #[error("the key `{0}` is missing")]
+    Missing(Key),
+    #[error("the key `{0}` is unknown")]
+    Unknown(String),
+    #[error("`{0}` is no number from 0 to 4294967295")]
+    NotNumber(Key),
+    #[error("`{0}` is no string")]
+    NotString(Key),
+    #[error("`{0}` is no hex text: {1}")]
+    NotHex(Key, FromHexError),
+    #[error("`{0}` is no table")]
+    NotTable(Key),
+    #[error("`{0}` is no array of tables")]
+    NotTables(Key),
+    #[error("no event does `{0}`")]
+    UnknownEvent(String),
+}
+
+impl fmt::Display for Place {
+    fn fmt<W: fmt::Write>(&self, f: &mut fmt::Formatter<W>) -> fmt::Result {
+        match self {
+            Place::Document => Ok(()),
+            Place::Options => write!(f, "options: "),
+            Place::Event(number) => write!(f, "event {number}: "),
+        }
+    }
+}

@@ -1,0 +1,19 @@
+//! Host files: TOML documents that say how large a host is and what happens to it (this project's own
+//! format, docs/HOST.md).
+#![tactic(auto)]
+
+mod command;
+mod event;
+mod fault;
+mod file;
+mod key;
+#[cfg(test)]
+mod memory_tests;
+mod section;
+#[cfg(test)]
+mod tests;
+
+pub use command::{Command, Commands};
+pub use fault::{BadFile, Cause, FileFault, Place};
+pub use file::{HostFile, read_file};
+pub use key::Key;
