@@ -1,7 +1,8 @@
 // Bytes of a block by their place, and pages of a block by the place of their first byte.
 ghost use Rattle.std.specs.Prelude.{◌≡◌, ◌+◌, ◌<◌, ◌≤◌, ◌↔◌, ◌⊎◌, IsTrue, All, length, replicate};
 ghost use Rattle.host_types.specs.Bytes.{bytes_of, part_of, with_part};
-ghost use Rattle.frame_arena.specs.Pages.{IsAccessSize, zero_page, fingerprint_of};
+ghost use Rattle.host_types.specs.Pages.{zero_page, fingerprint_of};
+ghost use Rattle.frame_arena.specs.Pages.{IsAccessSize};
 
 use crate::arena::PAGE_SIZE;
 use crate::number::write_number;
@@ -75,7 +76,7 @@ pub(crate) fn is_zero(page: &[u8]) -> bool
 }
 
 // The fingerprint of a page's bytes.
-#[tactic(auto, unfolding(crate::specs::Pages::fingerprint_of))]
+#[tactic(auto, unfolding(host_types::specs::Pages::fingerprint_of))]
 pub(crate) fn fingerprint(page: &[u8]) -> u64
     ensures { result ≡ fingerprint_of page.now }
 {

@@ -1,5 +1,5 @@
 use Rattle.std.proofs.Common.{◌≡◌, take}
-use Rattle.frame_arena.specs.Pages.{fingerprint_of}
+use Rattle.host_types.specs.Pages.{fingerprint_of}
 use Rattle.frame_arena.proofs.block.fingerprint.Given as goal
 
 abbrev pub invariant-loop-byte : goal.invariant-loop-byte

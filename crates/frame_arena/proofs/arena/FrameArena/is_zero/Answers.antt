@@ -1,5 +1,5 @@
 use Rattle.std.proofs.Common.{◌≡◌, length, replicate}
-use Rattle.frame_arena.specs.Pages.{zero_page}
+use Rattle.host_types.specs.Pages.{zero_page}
 use Rattle.frame_arena.proofs.Pages.{replicate-zero_page}
 use Rattle.frame_arena.proofs.arena.FrameArena.is_zero.Goals as goal
 
