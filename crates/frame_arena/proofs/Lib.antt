@@ -1,3 +1,4 @@
 pub mod Numbers
 pub mod Parts
 pub mod Pages
+pub mod Fingerprints

@@ -1,8 +1,9 @@
 -- What a block of bytes reads as, and how writing into it writes into one page.
 use Rattle.std.proofs.Common.{◌≡◌, ℕ, ◌+◌, ◌*◌, ◌<◌, ◌≤◌, List, length, replicate, slice_set, All, refl, sym, ap, ◌∙◌, arith}
 use Rattle.host_types.specs.Bytes.{part_of, with_part}
+use Rattle.host_types.specs.Pages.{zero_page}
 use Rattle.host_types.proofs.Lists.{length-part_of}
-use Rattle.frame_arena.specs.Pages.{IsPage, page_at, zero_page}
+use Rattle.frame_arena.specs.Pages.{IsPage, page_at}
 use Rattle.frame_arena.specs.Block.{pages_of}
 use Rattle.frame_arena.proofs.Parts.{length-parts_of, part-parts_of, part_of-part_of, parts_of-with_part, parts_of-replicate, with_part-whole, All-parts_of}
 

@@ -1,5 +1,5 @@
 -- The pages of an arena: page n is the content of frame n.
-use Rattle.std.specs.Prelude.{◌≡◌, ℕ, ◌+◌, ◌*◌, ◌%◌, ◌^◌, ◌<◌, ◌==◌, ◌||◌, IsTrue, List, [], length, replicate, fold, slice_index_or, All}
+use Rattle.std.specs.Prelude.{◌≡◌, ℕ, ◌<◌, ◌==◌, ◌||◌, IsTrue, List, [], length, slice_index_or, All}
 
 -- the content of a page: 4096 bytes
 pub record IsPage (page : List ℕ) : Type 0 where
@@ -10,18 +10,6 @@ pub record IsPage (page : List ℕ) : Type 0 where
 abbrev pub page_at : List (List ℕ) → ℕ → List ℕ
 page_at pages frame = slice_index_or pages frame []
 
--- a page of zeros
-unfoldable pub zero_page : List ℕ
-zero_page = replicate 4096 0
-
 -- one number is read or written as 1, 2, 4 or 8 bytes
 abbrev pub IsAccessSize : ℕ → Type 0
 IsAccessSize size = IsTrue (size == 1 || size == 2 || size == 4 || size == 8)
-
--- a fingerprint with the next byte folded in
-abbrev pub folded : ℕ → ℕ → ℕ
-folded fingerprint byte = (31 * fingerprint + byte) % 2 ^ 64
-
--- the fingerprint of a page: its bytes folded in from the first on, beginning with 0
-unfoldable pub fingerprint_of : List ℕ → ℕ
-fingerprint_of page = fold folded 0 page

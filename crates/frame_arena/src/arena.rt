@@ -2,7 +2,8 @@ ghost use Rattle.std.specs.Prelude.{◌≡◌, ◌+◌, ◌*◌, ◌<◌, ◌≤
 ghost use Rattle.std.specs.Cmp.Lexicographic.{slice_cmp};
 ghost use Rattle.std.specs.Ordering.{nat_cmp};
 ghost use Rattle.host_types.specs.Bytes.{number_of, bytes_of, part_of, with_part};
-ghost use Rattle.frame_arena.specs.Pages.{IsPage, IsAccessSize, page_at, zero_page, fingerprint_of};
+ghost use Rattle.host_types.specs.Pages.{zero_page, fingerprint_of};
+ghost use Rattle.frame_arena.specs.Pages.{IsPage, IsAccessSize, page_at};
 
 use crate::block;
 use crate::number::read_number;

@@ -1,7 +1,8 @@
 // Bytes of a block by their place, and pages of a block by the place of their first byte.
-ghost use Rattle.std.specs.Prelude.{◌≡◌, ◌+◌, ◌<◌, ◌≤◌, ◌↔◌, ◌⊎◌, IsTrue, All, length, replicate};
+ghost use Rattle.std.specs.Prelude.{◌≡◌, ◌+◌, ◌<◌, ◌≤◌, ◌↔◌, ◌⊎◌, IsTrue, All, fold, length, replicate};
 ghost use Rattle.host_types.specs.Bytes.{bytes_of, part_of, with_part};
-ghost use Rattle.frame_arena.specs.Pages.{IsAccessSize, zero_page, fingerprint_of};
+ghost use Rattle.host_types.specs.Pages.{zero_page, folded, fingerprint_of};
+ghost use Rattle.frame_arena.specs.Pages.{IsAccessSize};
 
 use crate::arena::PAGE_SIZE;
 use crate::number::write_number;
@@ -62,25 +63,53 @@ pub(crate) fn copy(block: &mut [u8], from: usize, to: usize)
     }
 }
 
-// Whether all bytes are zero.
+// Whether all bytes of a page are zero.
 pub(crate) fn is_zero(page: &[u8]) -> bool
-    ensures { IsTrue result ↔ (page.now ≡ replicate (length page.now) 0) }
+    ensures { IsTrue result ↔ (page.now ≡ zero_page) }
 {
-    for byte in page {
-        if *byte != 0 {
-            return false;
-        }
-    }
-    true
+    page == [0; PAGE_SIZE as usize].as_slice()
 }
 
-// The fingerprint of a page's bytes.
-#[tactic(auto, unfolding(crate::specs::Pages::fingerprint_of))]
+// The fingerprint of a page's bytes. Eight bytes are folded in at once.
+#[tactic(auto, unfolding(host_types::specs::Pages::fingerprint_of))]
 pub(crate) fn fingerprint(page: &[u8]) -> u64
     ensures { result ≡ fingerprint_of page.now }
 {
     let mut fingerprint = 0u64;
-    for byte in page {
+    let mut rest = page;
+    while rest.len() >= 8 {
+        let (eight, later) = rest.split_at(8);
+        fingerprint = with_eight(fingerprint, eight);
+        rest = later;
+    }
+    with_each(fingerprint, rest)
+}
+
+// A fingerprint with eight bytes folded in: each is multiplied by a power of 31, and only the first
+// product and the last sum can pass 64 bits.
+fn with_eight(fingerprint: u64, bytes: &[u8]) -> u64
+    requires { length bytes.now ≡ 8 }
+    ensures { result ≡ fold folded fingerprint bytes.now }
+{
+    let high = u64::from(bytes[0]) * 27512614111
+        + u64::from(bytes[1]) * 887503681
+        + u64::from(bytes[2]) * 28629151
+        + u64::from(bytes[3]) * 923521;
+    let low = u64::from(bytes[4]) * 29791
+        + u64::from(bytes[5]) * 961
+        + u64::from(bytes[6]) * 31
+        + u64::from(bytes[7]);
+    fingerprint
+        .wrapping_mul(852891037441)
+        .wrapping_add(high + low)
+}
+
+// A fingerprint with bytes folded in one by one.
+fn with_each(fingerprint: u64, bytes: &[u8]) -> u64
+    ensures { result ≡ fold folded fingerprint bytes.now }
+{
+    let mut fingerprint = fingerprint;
+    for byte in bytes {
         fingerprint = fingerprint.wrapping_mul(31).wrapping_add(u64::from(*byte));
     }
     fingerprint

@@ -1,6 +1,5 @@
 ghost use Rattle.std.specs.Prelude.{◌≡◌, ◌≤◌, IsTrue, length};
-ghost use Rattle.host_types.specs.Pages.{page_bytes};
-ghost use Rattle.frame_arena.specs.Pages.{zero_page};
+ghost use Rattle.host_types.specs.Pages.{page_bytes, zero_page};
 ghost use Rattle.page_table.specs.State.{part, map_bytes, bytes_of_map};
 ghost use Rattle.page_table.specs.Changes.{IsPageOf, MayMerge};
 

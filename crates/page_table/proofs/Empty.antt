@@ -5,7 +5,7 @@ use Rattle.std.proofs.lemmas.List.Folds.{sum_by-replicate}
 use Rattle.host_types.specs.declared.options.Options.{Options}
 use Rattle.host_types.specs.declared.shape.Shape.{Shape}
 use Rattle.host_types.specs.Bytes.{part_of}
-use Rattle.frame_arena.specs.Pages.{zero_page}
+use Rattle.host_types.specs.Pages.{zero_page}
 use Rattle.page_table.specs.declared.entry.Entry.{Entry}
 use Rattle.page_table.specs.declared.tenant.Tenant.{Tenant}
 use Rattle.page_table.specs.Limits.{AreLimits}

@@ -5,7 +5,8 @@ use Rattle.std.proofs.lemmas.List.Folds.{sum_by-replicate}
 use Rattle.host_types.specs.Sharing.{is_shared}
 use Rattle.host_types.specs.declared.status.Status.{Status}
 use Rattle.host_types.specs.declared.status.Status.TheVariants.{New, Volatile, Waiting, Grouped, Zero}
-use Rattle.frame_arena.specs.Pages.{page_at, zero_page}
+use Rattle.host_types.specs.Pages.{zero_page}
+use Rattle.frame_arena.specs.Pages.{page_at}
 use Rattle.frame_arena.proofs.Pages.{length-zero_page}
 use Rattle.page_table.specs.declared.entry.Entry.{Entry}
 use Rattle.page_table.specs.Table.{TableState, CountsState, IsPageAt, IsTable, IsEntry, IsAlone, IsGroup, IsSound, AreCountsOf, LiesRight, one_if_zero, entry_at, content, contents_of, is_on, pages_on, own_pages}

@@ -4,7 +4,8 @@ use Rattle.std.proofs.lemmas.List.{map-set}
 use Rattle.host_types.specs.declared.options.Options.{Options}
 use Rattle.host_types.specs.declared.status.Status.TheVariants.{Zero}
 use Rattle.host_types.specs.Sharing.{is_shared, with_status, state_at, zeroed}
-use Rattle.frame_arena.specs.Pages.{page_at, zero_page}
+use Rattle.host_types.specs.Pages.{zero_page}
+use Rattle.frame_arena.specs.Pages.{page_at}
 use Rattle.page_table.specs.declared.entry.Entry.{Entry}
 use Rattle.page_table.specs.Table.{TableState, IsOwnAt, IsTable, IsGroup, LiesRight, times, entry_at, contents_of, groups_of, state_of, states_of, sharing_of, is_on}
 use Rattle.page_table.proofs.Entries.{not_equal, places_on-set, groups-kept}

@@ -5,7 +5,8 @@ use Rattle.std.specs.List.{list_any, range_with_len}
 use Rattle.host_types.specs.declared.status.Status.{Status}
 use Rattle.host_types.specs.declared.status.Status.TheVariants.{Grouped, Zero}
 use Rattle.host_types.specs.Sharing.{Sharing, PageState, state_at, is_among}
-use Rattle.frame_arena.specs.Pages.{page_at, zero_page}
+use Rattle.host_types.specs.Pages.{zero_page}
+use Rattle.frame_arena.specs.Pages.{page_at}
 use Rattle.page_table.specs.State.{MemoryState, frame_at, free_of}
 
 -- the status of the page at a place

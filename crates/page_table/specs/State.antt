@@ -6,7 +6,7 @@ use Rattle.host_types.specs.Bytes.{part_of}
 use Rattle.host_types.specs.Memory.{FlatMap, FlatMaps, map_at}
 use Rattle.host_types.specs.Sharing.{Sharing, frames_free}
 use Rattle.host_types.specs.Tenant.{TenantPart}
-use Rattle.frame_arena.specs.Pages.{zero_page}
+use Rattle.host_types.specs.Pages.{zero_page}
 use Rattle.page_table.specs.declared.tenant.Tenant.{Tenant}
 
 -- What is recorded of each tenant beside its maps; the maps of all tenants by place; which pages

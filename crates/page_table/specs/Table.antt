@@ -9,7 +9,8 @@ use Rattle.host_types.specs.Bytes.{part_of}
 use Rattle.host_types.specs.Memory.{FlatMap, FlatMaps}
 use Rattle.host_types.specs.Shapes.{IsShape, byte_len_of}
 use Rattle.host_types.specs.Sharing.{Sharing, PageState, own_frame, is_shared, cost_of}
-use Rattle.frame_arena.specs.Pages.{page_at, zero_page}
+use Rattle.host_types.specs.Pages.{zero_page}
+use Rattle.frame_arena.specs.Pages.{page_at}
 use Rattle.page_table.specs.declared.entry.Entry.{Entry}
 use Rattle.page_table.specs.Limits.{page_count}
 

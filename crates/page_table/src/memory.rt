@@ -2,11 +2,11 @@ ghost use Rattle.std.specs.Prelude.{◌≡◌, ◌≢◌, ◌+◌, ◌*◌, ◌-
 ghost use Rattle.host_types.specs.Bytes.{part_of, with_part};
 ghost use Rattle.host_types.specs.Memory.{FlatMap, map_at};
 ghost use Rattle.host_types.specs.OptionTable.{AreOptions};
-ghost use Rattle.host_types.specs.Pages.{map_place, page_place, page_bytes};
+ghost use Rattle.host_types.specs.Pages.{map_place, page_place, page_bytes, zero_page};
 ghost use Rattle.host_types.specs.Shapes.{IsShape};
 ghost use Rattle.host_types.specs.Sharing.{new_page, state_at, is_shared, broken, break_cost, cost_from, paired, zeroed};
 ghost use Rattle.host_types.specs.Tenant.{IsFlatMap};
-ghost use Rattle.frame_arena.specs.Pages.{page_at, zero_page};
+ghost use Rattle.frame_arena.specs.Pages.{page_at};
 ghost use Rattle.page_table.specs.Limits.{AreLimits, page_count, shape_of};
 ghost use Rattle.page_table.specs.State.{MemoryState, part, bytes_of_map, free_number, new_memory, free_of, have_of, frame_at};
 ghost use Rattle.page_table.specs.Reads.{ReadsAs};

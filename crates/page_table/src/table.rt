@@ -2,7 +2,8 @@ ghost use Rattle.std.specs.Prelude.{◌≡◌, ◌≢◌, ◌+◌, ◌<◌, ◌�
 ghost use Rattle.host_types.specs.Bytes.{with_part};
 ghost use Rattle.host_types.specs.declared.options.Options.{Options};
 ghost use Rattle.host_types.specs.Sharing.{new_page, is_shared, broken, break_cost, broken_from, cost_from, paired, zeroed};
-ghost use Rattle.frame_arena.specs.Pages.{IsPage, zero_page};
+ghost use Rattle.host_types.specs.Pages.{zero_page};
+ghost use Rattle.frame_arena.specs.Pages.{IsPage};
 ghost use Rattle.page_table.specs.declared.entry.Entry.{Entry};
 ghost use Rattle.page_table.specs.Table.{TableState, CountsState, AreCounts, IsSound, IsEntry, IsPageAt, IsOwnAt, entry_at, states_of, contents_of, groups_of, sharing_of, used_by, cost_at, is_on, pages_on, one_if_zero};
 

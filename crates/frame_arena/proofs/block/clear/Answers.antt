@@ -1,7 +1,7 @@
 use Rattle.std.proofs.Common.{◌≡◌, ◌+◌, ◌-◌, ◌∙◌, ap, length, take, drop, replicate}
 use Rattle.host_types.specs.Bytes.{with_part}
+use Rattle.host_types.specs.Pages.{zero_page}
 use Rattle.host_types.proofs.Lists.{length-part_of}
-use Rattle.frame_arena.specs.Pages.{zero_page}
 use Rattle.frame_arena.proofs.Pages.{length-zero_page}
 use Rattle.frame_arena.proofs.Parts.{put_mid-with_part, part-range}
 use Rattle.frame_arena.proofs.block.clear.Goals as goal

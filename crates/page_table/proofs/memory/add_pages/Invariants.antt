@@ -1,7 +1,7 @@
 use Rattle.std.proofs.Common.{◌≡◌, ◌+◌, length, replicate, Some}
 use Rattle.host_types.specs.Bytes.{with_part}
 use Rattle.host_types.specs.Sharing.{new_page}
-use Rattle.frame_arena.specs.Pages.{zero_page}
+use Rattle.host_types.specs.Pages.{zero_page}
 use Rattle.page_table.specs.Table.{contents_of, states_of, groups_of, used_by}
 use Rattle.page_table.proofs.memory.add_pages.Given as goal
 

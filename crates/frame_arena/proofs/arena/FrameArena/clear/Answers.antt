@@ -1,5 +1,5 @@
 use Rattle.std.proofs.Common.{◌≡◌, ◌∙◌, length, arith, ap}
-use Rattle.frame_arena.specs.Pages.{zero_page}
+use Rattle.host_types.specs.Pages.{zero_page}
 use Rattle.std.proofs.lemmas.List.{with_items_is}
 use Rattle.frame_arena.specs.Block.{pages_of}
 use Rattle.frame_arena.proofs.Pages.{within-block, written-page, length-zero_page}

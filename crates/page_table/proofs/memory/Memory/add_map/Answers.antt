@@ -1,8 +1,7 @@
 use Rattle.std.proofs.Common.{◌≡◌, ◌∙◌, ◌+◌, ◌*◌, ℕ, replicate, slice_set, Some, ap, arith}
 use Rattle.host_types.specs.Bytes.{with_part}
-use Rattle.host_types.specs.Pages.{map_place}
+use Rattle.host_types.specs.Pages.{map_place, zero_page}
 use Rattle.host_types.specs.Sharing.{new_page}
-use Rattle.frame_arena.specs.Pages.{zero_page}
 use Rattle.page_table.specs.Limits.{page_count}
 use Rattle.page_table.specs.Table.{contents_of, states_of, used_by}
 use Rattle.page_table.specs.View.{view_of}

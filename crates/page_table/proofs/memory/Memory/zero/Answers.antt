@@ -1,6 +1,5 @@
 use Rattle.std.proofs.Common.{◌≡◌, ◌∙◌, arith}
-use Rattle.host_types.specs.Pages.{page_bytes}
-use Rattle.frame_arena.specs.Pages.{zero_page}
+use Rattle.host_types.specs.Pages.{page_bytes, zero_page}
 use Rattle.page_table.specs.State.{MemoryState, bytes_of_map}
 use Rattle.page_table.specs.Changes.{IsPageOf, MayMerge}
 use Rattle.page_table.specs.View.{view_of}

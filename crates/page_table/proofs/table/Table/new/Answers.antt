@@ -1,5 +1,5 @@
 use Rattle.std.proofs.Common.{◌≡◌, replicate, None, arith, rules}
-use Rattle.frame_arena.specs.Pages.{zero_page}
+use Rattle.host_types.specs.Pages.{zero_page}
 use Rattle.std.proofs.lemmas.List.{length-replicate}
 use Rattle.page_table.proofs.Putting.{sound-new}
 use Rattle.page_table.proofs.table.Table.new.Goals as goal
