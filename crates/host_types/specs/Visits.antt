@@ -44,6 +44,10 @@ page_to_visit sharing = next_from sharing (look_from sharing.cursor)
 abbrev pub one_more : ℕ → ℕ
 one_more n = if n == 18446744073709551615 then n else n + 1
 
+-- a page waits
+abbrev pub is_waiting : Sharing → ℕ → Bool
+is_waiting sharing i = list_any (λ entry. entry.0 == i) sharing.waiting
+
 -- the page at a place is the one visited last; behind the last page that may be merged the pass ends
 unfoldable pub moved_on : Sharing → ℕ → Sharing
 moved_on sharing i =
