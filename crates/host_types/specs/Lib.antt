@@ -7,3 +7,5 @@ pub mod Refusals
 pub mod Tenant
 pub mod Pages
 pub mod Sharing
+pub mod Visits
+pub mod Unmerging

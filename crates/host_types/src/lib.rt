@@ -7,8 +7,10 @@ mod fault;
 mod options;
 mod shape;
 mod status;
+mod visited;
 
 pub use fault::{Fault, Refused};
 pub use options::{Opt, Options};
 pub use shape::{MapNo, Page, Shape};
 pub use status::Status;
+pub use visited::Visited;

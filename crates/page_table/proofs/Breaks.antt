@@ -5,7 +5,7 @@ use Rattle.std.proofs.lemmas.List.{get_or-set_other, length-set, get_or-drop, le
 use Rattle.std.proofs.lemmas.List.Sums.{sum_by_more}
 use Rattle.std.proofs.lemmas.Bool.Decides.{nat_tests}
 use Rattle.std.proofs.lemmas.Map.Views.{any-filter_same}
-use Rattle.host_types.specs.declared.options.Options.{Options}
+use Rattle.page_table.specs.declared.pass.Pass.{Pass}
 use Rattle.host_types.specs.declared.status.Status.{Status}
 use Rattle.host_types.specs.declared.status.Status.TheVariants.{New, Volatile, Waiting, Grouped, Zero}
 use Rattle.host_types.specs.Bytes.{part_of}
@@ -198,26 +198,26 @@ module _ (table : TableState) (is : IsTable table) (i n : ℕ) where
           let more : nat_lt 1 (one_if_zero entry.frame + pages_on entry.frame left) ≡ true = grind (arith, nat_tests) in
           sym (ap one_when more)
 
-are_broken : (table : TableState) (options : Options) (is : IsTable table) (i n : ℕ) → AreBroken table (broken_from (sharing_of table options) i n) i n
+are_broken : (table : TableState) (pass : Pass) (is : IsTable table) (i n : ℕ) → AreBroken table (broken_from (sharing_of table pass) i n) i n
 unfolding broken_from gone groups_of
-are_broken table options is i zero = record {
+are_broken table pass is i zero = record {
   groups = refl;
-  states = λ j h. state-at table options j;
+  states = λ j h. state-at table pass j;
 }
-are_broken table options is i (suc n) =
-    subst (λ s. AreBroken table s i (suc n)) (sym (broken_from-last (sharing_of table options) i n))
-    (break-one table is i n (broken_from (sharing_of table options) i n) (are_broken table options is i n))
+are_broken table pass is i (suc n) =
+    subst (λ s. AreBroken table s i (suc n)) (sym (broken_from-last (sharing_of table pass) i n))
+    (break-one table is i n (broken_from (sharing_of table pass) i n) (are_broken table pass is i n))
 
 -- what the break of a page takes after n breaks, told by the count of its frame and by the pages before it that lie there
-pub cost-after : (table : TableState) (counts : CountsState) (options : Options) (i n : ℕ) (entry : Entry) → IsSound table counts → i + n < length table.entries
+pub cost-after : (table : TableState) (counts : CountsState) (pass : Pass) (i n : ℕ) (entry : Entry) → IsSound table counts → i + n < length table.entries
     → entry_at table.entries (i + n) ≡ Some entry → entry.protected ≡ true
-    → break_cost (broken_from (sharing_of table options) i n) (i + n)
+    → break_cost (broken_from (sharing_of table pass) i n) (i + n)
     ≡ one_when (nat_lt 1 (slice_index_or counts.counts entry.frame 0 - pages_on entry.frame (part_of table.entries i n)))
-cost-after table counts options i n entry sound h e protected =
+cost-after table counts pass i n entry sound h e protected =
     let fits = entry_fits table (i + n) entry sound.fits e in
     let counted = sound.counted.counted entry.frame fits.frame in
     let split = pages_on-gone entry.frame table.entries i n (omega arith) in
-    cost-one table sound.fits i n (broken_from (sharing_of table options) i n) entry (are_broken table options sound.fits i n) e
+    cost-one table sound.fits i n (broken_from (sharing_of table pass) i n) entry (are_broken table pass sound.fits i n) e
     ∙ taken (is_shared entry.status) (one_if_zero entry.frame + pages_on entry.frame (gone table.entries i n))
     (slice_index_or counts.counts entry.frame 0 - pages_on entry.frame (part_of table.entries i n)) (sym fits.protected ∙ protected) (omega (arith, counted, split))
   where
@@ -225,20 +225,20 @@ cost-after table counts options i n entry sound h e protected =
     taken b m k e same = rw (e, same) refl
 
 -- a page with a frame of its own takes none
-pub cost-after-own : (table : TableState) (options : Options) (i n : ℕ) (entry : Entry) → IsTable table → entry_at table.entries (i + n) ≡ Some entry → entry.protected ≡ false
-    → break_cost (broken_from (sharing_of table options) i n) (i + n) ≡ 0
-cost-after-own table options i n entry is e own =
+pub cost-after-own : (table : TableState) (pass : Pass) (i n : ℕ) (entry : Entry) → IsTable table → entry_at table.entries (i + n) ≡ Some entry → entry.protected ≡ false
+    → break_cost (broken_from (sharing_of table pass) i n) (i + n) ≡ 0
+cost-after-own table pass i n entry is e own =
     let fits = entry_fits table (i + n) entry is e in
-    cost-one table is i n (broken_from (sharing_of table options) i n) entry (are_broken table options is i n) e
+    cost-one table is i n (broken_from (sharing_of table pass) i n) entry (are_broken table pass is i n) e
     ∙ ap (λ (b : Bool). one_when (b && nat_lt 1 (one_if_zero entry.frame + pages_on entry.frame (gone table.entries i n)))) (sym fits.protected ∙ own)
 
 -- where no page is, nothing is broken
-pub cost-after-none : (table : TableState) (options : Options) (i n : ℕ) → IsTable table → entry_at table.entries (i + n) ≡ None
-    → break_cost (broken_from (sharing_of table options) i n) (i + n) ≡ 0
+pub cost-after-none : (table : TableState) (pass : Pass) (i n : ℕ) → IsTable table → entry_at table.entries (i + n) ≡ None
+    → break_cost (broken_from (sharing_of table pass) i n) (i + n) ≡ 0
 unfolding break_cost
-cost-after-none table options i n is e =
-    ap (λ (x : Option PageState). unwrap_or (option_map (λ (state : PageState). cost_of (is_in_company (broken_from (sharing_of table options) i n) (i + n)) state.status) x) 0)
-    ((are_broken table options is i n).states (i + n) (omega arith) ∙ ap (option_map state_of) e)
+cost-after-none table pass i n is e =
+    ap (λ (x : Option PageState). unwrap_or (option_map (λ (state : PageState). cost_of (is_in_company (broken_from (sharing_of table pass) i n) (i + n)) state.status) x) 0)
+    ((are_broken table pass is i n).states (i + n) (omega arith) ∙ ap (option_map state_of) e)
 
 -- there are at least as many on a frame as among some of the pages
 pub count-part : (table : TableState) (counts : CountsState) (i n : ℕ) (entry : Entry) → IsSound table counts → i + n < length table.entries

@@ -1,7 +1,7 @@
 -- What the break of a page costs, told by its group and by its frame.
 use Rattle.std.proofs.Common.{◌≡◌, ◌∙◌, ◌⊎◌, inl, inr, ⊎_elim, ℕ, zero, suc, ◌+◌, ◌<◌, ◌≤◌, nat_lt, Bool, true, false, List, [], ◌∷◌, slice_index_or, Option, Some, None, option_map, unwrap_or, refl, sym, ap, arith}
 use Rattle.std.proofs.lemmas.Bool.Decides.{nat_tests, leb_tells}
-use Rattle.host_types.specs.declared.options.Options.{Options}
+use Rattle.page_table.specs.declared.pass.Pass.{Pass}
 use Rattle.host_types.specs.declared.status.Status.{Status}
 use Rattle.host_types.specs.declared.status.Status.TheVariants.{New, Volatile, Waiting, Grouped, Zero}
 use Rattle.host_types.specs.Sharing.{PageState, state_at, is_in_company, cost_of, break_cost, is_shared}
@@ -12,8 +12,8 @@ use Rattle.page_table.proofs.Groups.{company-places}
 use Rattle.page_table.proofs.Putting.{entry_fits}
 
 -- the state of a page is that of its entry
-pub state-at : (table : TableState) (options : Options) (i : ℕ) → state_at (sharing_of table options) i ≡ option_map state_of (entry_at table.entries i)
-state-at table options i = by_list table.entries i
+pub state-at : (table : TableState) (pass : Pass) (i : ℕ) → state_at (sharing_of table pass) i ≡ option_map state_of (entry_at table.entries i)
+state-at table pass i = by_list table.entries i
   where
     by_list : (xs : List (Option Entry)) (i : ℕ) → slice_index_or (states_of xs) i None ≡ option_map state_of (entry_at xs i)
     by_list [] i = refl
@@ -43,13 +43,13 @@ one_at_most : (n : ℕ) → n ≤ 1 → nat_lt 1 n ≡ false
 one_at_most n h = grind (arith, nat_tests)
 
 -- a page of a group is in company where more than one page lies on its frame
-company : (table : TableState) (options : Options) (i : ℕ) (entry : Entry) → entry_at table.entries i ≡ Some entry → IsEntry table entry
-    → cost_of (is_in_company (sharing_of table options) i) entry.status ≡ cost_of (nat_lt 1 (pages_on entry.frame table.entries)) entry.status
+company : (table : TableState) (pass : Pass) (i : ℕ) (entry : Entry) → entry_at table.entries i ≡ Some entry → IsEntry table entry
+    → cost_of (is_in_company (sharing_of table pass) i) entry.status ≡ cost_of (nat_lt 1 (pages_on entry.frame table.entries)) entry.status
 unfolding groups_of
-company table options i entry here is = by_status entry.status is.right
+company table pass i entry here is = by_status entry.status is.right
   where
     by_status : (status : Status) → LiesRight table entry.frame status
-        → cost_of (is_in_company (sharing_of table options) i) status ≡ cost_of (nat_lt 1 (pages_on entry.frame table.entries)) status
+        → cost_of (is_in_company (sharing_of table pass) i) status ≡ cost_of (nat_lt 1 (pages_on entry.frame table.entries)) status
     by_status New a = refl
     by_status Volatile a = refl
     by_status Waiting a = refl
@@ -57,18 +57,18 @@ company table options i entry here is = by_status entry.status is.right
     by_status Zero a = refl
 
 -- what the break of a page takes
-pub cost-is : (table : TableState) (options : Options) (i : ℕ) → IsTable table → break_cost (sharing_of table options) i ≡ cost_at table i
+pub cost-is : (table : TableState) (pass : Pass) (i : ℕ) → IsTable table → break_cost (sharing_of table pass) i ≡ cost_at table i
 unfolding break_cost
-cost-is table options i is = by_entry (entry_at table.entries i) refl
+cost-is table pass i is = by_entry (entry_at table.entries i) refl
   where
     taken : Option PageState → ℕ
-    taken x = unwrap_or (option_map (λ (state : PageState). cost_of (is_in_company (sharing_of table options) i) state.status) x) 0
+    taken x = unwrap_or (option_map (λ (state : PageState). cost_of (is_in_company (sharing_of table pass) i) state.status) x) 0
 
-    by_entry : (x : Option Entry) → entry_at table.entries i ≡ x → break_cost (sharing_of table options) i ≡ cost_at table i
-    by_entry None e = ap taken (state-at table options i ∙ ap (option_map state_of) e) ∙ sym (cost-none table i e)
+    by_entry : (x : Option Entry) → entry_at table.entries i ≡ x → break_cost (sharing_of table pass) i ≡ cost_at table i
+    by_entry None e = ap taken (state-at table pass i ∙ ap (option_map state_of) e) ∙ sym (cost-none table i e)
     by_entry (Some entry) e =
-        ap taken (state-at table options i ∙ ap (option_map state_of) e)
-        ∙ company table options i entry e (entry_fits table i entry is e)
+        ap taken (state-at table pass i ∙ ap (option_map state_of) e)
+        ∙ company table pass i entry e (entry_fits table i entry is e)
         ∙ sym (cost-entry table i entry e)
 
 -- a page with a frame of its own costs nothing

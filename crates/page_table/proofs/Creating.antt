@@ -2,7 +2,7 @@
 use Rattle.std.proofs.Common.{◌≡◌, ◌≢◌, ◌∙◌, ◌⊎◌, ⊎_elim, ℕ, zero, suc, ◌+◌, ◌-◌, ◌*◌, ◌<◌, ◌≤◌, List, [], ◌∷◌, ◌++◌, length, take, drop, replicate, slice_index_or, slice_set, Option, Some, None, Bool, option_map, refl, sym, ap, subst, arith, length-set, append_assoc}
 use Rattle.std.specs.List.{concat}
 use Rattle.std.proofs.lemmas.List.{get_or-set_same, get_or-set_other, get_or_past, length-take-le, length-take, length-append, length-replicate, set-append_right, append-nil, take-append-drop, replicate-append-replicate, get_or-drop, get_or-replicate, take-replicate, drop-replicate, get_or-append_right, length-map}
-use Rattle.host_types.specs.declared.options.Options.{Options}
+use Rattle.page_table.specs.declared.pass.Pass.{Pass}
 use Rattle.host_types.specs.declared.shape.Shape.{Shape}
 use Rattle.host_types.specs.Bytes.{part_of, with_part}
 use Rattle.host_types.specs.Memory.{FlatMaps, map_at}
@@ -147,7 +147,7 @@ module _ (shape : Shape) (pages : List (List ℕ)) (is : IsShape shape) (there :
       ∙ ap (λ l. record { shape = shape; bytes = l }) (take-replicate (byte_len_of shape) (page_count shape * 4096) 0 fits)
 
 -- what a new map at a place without one needs is there
-module _ (table : TableState) (shapes : List (Option Shape)) (tenants : List Tenant) (options : Options) (reserved tenant m : ℕ) (shape : Shape)
+module _ (table : TableState) (shapes : List (Option Shape)) (tenants : List Tenant) (pass : Pass) (reserved tenant m : ℕ) (shape : Shape)
     (is : IsMemory table shapes tenants reserved) (small : m < 8) (inside : tenant < length tenants) (empty : slice_index_or shapes (map_place tenant m) None ≡ None) (shaped : IsShape shape) where
   pub index_inside : map_place tenant m < length shapes
   index_inside = omega (arith, is.numbers, inside, small)
@@ -190,7 +190,7 @@ pub record Creates (old new : MemoryState) (tenant m : ℕ) (shape : Shape) (mer
   pub free : free_of new + page_count shape ≡ free_of old
   pub settings : KeepsSettings old new
 
-module _ (table new : TableState) (shapes : List (Option Shape)) (tenants : List Tenant) (options : Options) (reserved tenant m : ℕ) (shape : Shape) (mergeable : Bool)
+module _ (table new : TableState) (shapes : List (Option Shape)) (tenants : List Tenant) (pass : Pass) (reserved tenant m : ℕ) (shape : Shape) (mergeable : Bool)
     (is : IsMemory table shapes tenants reserved) (small : m < 8) (inside : tenant < length tenants) (empty : slice_index_or shapes (map_place tenant m) None ≡ None) (shaped : IsShape shape)
     (contents : contents_of new ≡ with_part (contents_of table) (map_place tenant m * 256) (replicate (page_count shape) zero_page))
     (states : states_of new.entries ≡ with_part (states_of table.entries) (map_place tenant m * 256) (replicate (page_count shape) (Some (new_page mergeable))))
@@ -294,10 +294,10 @@ module _ (table new : TableState) (shapes : List (Option Shape)) (tenants : List
       }
 
   abbrev before : MemoryState
-  before = view_of table shapes tenants options
+  before = view_of table shapes tenants pass
 
   abbrev after : MemoryState
-  after = view_of new shapes_new tenants options
+  after = view_of new shapes_new tenants pass
 
   maps_after : after.maps ≡ slice_set before.maps k (Some (zero_map shape))
   unfolding view_of
@@ -322,8 +322,8 @@ module _ (table new : TableState) (shapes : List (Option Shape)) (tenants : List
 
   free_after : free_of after + page_count shape ≡ free_of before
   free_after =
-      let old = free_is table shapes tenants options (omega (arith, room)) in
-      let newer = free_is new shapes_new tenants options (omega (arith, room, used, arena)) in
+      let old = free_is table shapes tenants pass (omega (arith, room)) in
+      let newer = free_is new shapes_new tenants pass (omega (arith, room, used, arena)) in
       omega (arith, old, newer, used, arena)
 
   settings_after : KeepsSettings before after
@@ -343,7 +343,7 @@ module _ (table new : TableState) (shapes : List (Option Shape)) (tenants : List
       }
 
 -- the conditions of a new map, over what callers see
-module _ (table : TableState) (shapes : List (Option Shape)) (tenants : List Tenant) (options : Options) (now : MemoryState) (same : view_of table shapes tenants options ≡ now) where
+module _ (table : TableState) (shapes : List (Option Shape)) (tenants : List Tenant) (pass : Pass) (now : MemoryState) (same : view_of table shapes tenants pass ≡ now) where
   pub tenant_inside : (t : ℕ) → t < length now.tenants → t < length tenants
   unfolding view_of
   tenant_inside t h = rw (← same) at h
@@ -355,6 +355,6 @@ module _ (table : TableState) (shapes : List (Option Shape)) (tenants : List Ten
   pub room_inside : (reserved count : ℕ) → IsMemory table shapes tenants reserved → count ≤ have_of now → reserved + used_by table + count ≤ length table.arena
   unfolding view_of
   room_inside reserved count is h =
-      let told = free_is table shapes tenants options (omega (arith, is.room)) in
+      let told = free_is table shapes tenants pass (omega (arith, is.room)) in
       let enough = rw (← same) at h in
       omega (arith, told, enough, is.sum, is.room)

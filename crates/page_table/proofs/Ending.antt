@@ -3,7 +3,7 @@ use Rattle.std.proofs.Common.{◌≡◌, ◌≢◌, ◌∙◌, inl, inr, ◌⊎�
 use Rattle.std.proofs.lemmas.List.{length-set, map-set, set-get_or, nil_from_length, get_or-set_same}
 use Rattle.std.proofs.lemmas.List.Sums.{sum_by-cons}
 use Rattle.std.proofs.lemmas.Bool.Decides.{nat_tests, eqb_tells}
-use Rattle.host_types.specs.declared.options.Options.{Options}
+use Rattle.page_table.specs.declared.pass.Pass.{Pass}
 use Rattle.host_types.specs.declared.status.Status.{Status}
 use Rattle.host_types.specs.declared.status.Status.TheVariants.{New, Volatile, Waiting, Grouped, Zero}
 use Rattle.host_types.specs.Sharing.{PageState, state_at, is_shared, broken, broken_page, without, left_by}
@@ -90,20 +90,20 @@ left-groups old new f i (g ∷ gs) gone stay =
         ∙ sym (ap (λ (b : Bool). map (λ g. places_on 0 g new) (if not b then g ∷ but f gs else but f gs)) test)
 
 -- a state after the break of a page that is shared
-pub sharing-broken : (old new : TableState) (options : Options) (i : ℕ) (entry : Entry) (state : PageState) → entry_at old.entries i ≡ Some entry → is_shared entry.status ≡ true
+pub sharing-broken : (old new : TableState) (pass : Pass) (i : ℕ) (entry : Entry) (state : PageState) → entry_at old.entries i ≡ Some entry → is_shared entry.status ≡ true
     → state ≡ broken_page (state_of entry) → states_of new.entries ≡ slice_set (states_of old.entries) i (Some state) → groups_of new ≡ left_by i (groups_of old)
-    → sharing_of new options ≡ broken (sharing_of old options) i
+    → sharing_of new pass ≡ broken (sharing_of old pass) i
 unfolding broken
-sharing-broken old new options i entry state here shared made states groups =
-    let at : state_at (sharing_of old options) i ≡ Some (state_of entry) = state-at old options i ∙ ap (option_map state_of) here in
+sharing-broken old new pass i entry state here shared made states groups =
+    let at : state_at (sharing_of old pass) i ≡ Some (state_of entry) = state-at old pass i ∙ ap (option_map state_of) here in
     rw (at, shared, states, groups, made) refl
 
 -- a page with a frame of its own stays
-pub sharing-unbroken : (table : TableState) (options : Options) (i : ℕ) (entry : Entry) → IsTable table → entry_at table.entries i ≡ Some entry → entry.protected ≡ false
-    → sharing_of table options ≡ broken (sharing_of table options) i
+pub sharing-unbroken : (table : TableState) (pass : Pass) (i : ℕ) (entry : Entry) → IsTable table → entry_at table.entries i ≡ Some entry → entry.protected ≡ false
+    → sharing_of table pass ≡ broken (sharing_of table pass) i
 unfolding broken
-sharing-unbroken table options i entry is here own =
-    let at : state_at (sharing_of table options) i ≡ Some (state_of entry) = state-at table options i ∙ ap (option_map state_of) here in
+sharing-unbroken table pass i entry is here own =
+    let at : state_at (sharing_of table pass) i ≡ Some (state_of entry) = state-at table pass i ∙ ap (option_map state_of) here in
     let unshared : is_shared entry.status ≡ false = sym (IsEntry.protected (entry_fits table i entry is here)) ∙ own in
     rw (at, unshared) refl
 
@@ -174,9 +174,9 @@ module _ (table : TableState) (i : ℕ) (entry new : Entry) (is : IsTable table)
             ⊎_elim (λ none. absurd (omega (arith, none, le))) (λ group. omega (arith, IsGroup.some group, long, pages)) (is.groups g),
       )
 
-  pub sharing-ended : (options : Options) → sharing_of (ended table i new entry.frame) options ≡ broken (sharing_of table options) i
-  sharing-ended options =
-      sharing-broken table (ended table i new entry.frame) options i entry (state_of new) here shared state (map-set (option_map state_of) table.entries i (Some new)) groups-ended
+  pub sharing-ended : (pass : Pass) → sharing_of (ended table i new entry.frame) pass ≡ broken (sharing_of table pass) i
+  sharing-ended pass =
+      sharing-broken table (ended table i new entry.frame) pass i entry (state_of new) here shared state (map-set (option_map state_of) table.entries i (Some new)) groups-ended
 
   status-ended : new.status ≡ Volatile
   status-ended = ap (λ (s : PageState). s.status) state

@@ -3,6 +3,7 @@ use Rattle.std.proofs.Common.{◌≡◌, ◌≢◌, ◌∙◌, ⊎_elim, ℕ, ze
 use Rattle.std.proofs.lemmas.List.{get_or-set_same, get_or-set_other, length-set}
 use Rattle.std.proofs.lemmas.List.Sums.{sum_by-set, sum_by-cons}
 use Rattle.std.proofs.lemmas.Bool.Decides.{nat_tests, eqb_tells}
+use Rattle.host_types.specs.Sharing.{is_shared}
 use Rattle.frame_arena.specs.Pages.{page_at}
 use Rattle.page_table.specs.declared.entry.Entry.{Entry}
 use Rattle.page_table.specs.Table.{times, entry_at, content, is_on, places_on, pages_on}
@@ -138,3 +139,20 @@ pages-set arena f page pages sized g h = ⊎_elim (λ e. here e.1) (λ ne. ap le
     here e =
         let inside : f < length arena = omega (arith, h, e, length-set arena f page) in
         ap (λ (n : ℕ). length (page_at (slice_set arena f page) n)) e ∙ ap length (get_or-set_same arena f page [] inside) ∙ sized
+
+-- an entry put where none was leaves all that are there
+pub kept-empty : (xs : List (Option Entry)) (i : ℕ) (x : Option Entry) → entry_at xs i ≡ None → (j : ℕ) (entry : Entry) → entry_at xs j ≡ Some entry → entry_at (slice_set xs i x) j ≡ Some entry
+kept-empty xs i x none j entry e = ⊎_elim (λ same. absurd (let both : entry_at xs i ≡ Some entry = ap (entry_at xs) (sym same.1) ∙ e in cc)) (λ other. get_or-set_other xs i j x None other.1 ∙ e) (eqb_tells j i)
+
+-- an entry put where a page shared a frame leaves all that share none
+pub kept-shared : (xs : List (Option Entry)) (i : ℕ) (old : Entry) (x : Option Entry) → entry_at xs i ≡ Some old → is_shared old.status ≡ true
+    → (j : ℕ) (entry : Entry) → entry_at xs j ≡ Some entry → is_shared entry.status ≡ false → entry_at (slice_set xs i x) j ≡ Some entry
+kept-shared xs i old x here shared j entry e own =
+    ⊎_elim (λ same. absurd (let both : Some old ≡ Some entry = sym here ∙ ap (entry_at xs) (sym same.1) ∙ e in let one = unwrapped both in cc)) (λ other. get_or-set_other xs i j x None other.1 ∙ e) (eqb_tells j i)
+  where
+    unwrapped : Some old ≡ Some entry → is_shared old.status ≡ is_shared entry.status
+    unwrapped e = ap (λ (y : Option Entry). shared_in y) e
+      where
+        shared_in : Option Entry → Bool
+        shared_in None = false
+        shared_in (Some y) = is_shared y.status

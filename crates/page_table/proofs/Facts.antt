@@ -5,7 +5,7 @@ use Rattle.std.proofs.lemmas.List.{get_or_default}
 use Rattle.std.proofs.lemmas.List.Sums.{sum_by-cons, length-filter}
 use Rattle.std.proofs.lemmas.List.Kept.{AllPairs-cons}
 use Rattle.std.proofs.lemmas.Bool.Decides.{eqb_tells, nat_tests}
-use Rattle.host_types.specs.declared.options.Options.{Options}
+use Rattle.page_table.specs.declared.pass.Pass.{Pass}
 use Rattle.host_types.specs.declared.shape.Shape.{Shape}
 use Rattle.host_types.specs.declared.status.Status.{Status}
 use Rattle.host_types.specs.declared.status.Status.TheVariants.{New, Volatile, Waiting, Grouped, Zero}
@@ -28,8 +28,8 @@ told_at tell [] i = refl
 told_at tell (x ∷ xs) zero = refl
 told_at tell (x ∷ xs) (suc i) = told_at tell xs i
 
-status_is : (table : TableState) (options : Options) (i : ℕ) → status_at (sharing_of table options) i ≡ option_map (λ (entry : Entry). entry.status) (entry_at table.entries i)
-status_is table options i = ap (option_map (λ (state : PageState). state.status)) (told_at state_of table.entries i) ∙ of_entry (entry_at table.entries i)
+status_is : (table : TableState) (pass : Pass) (i : ℕ) → status_at (sharing_of table pass) i ≡ option_map (λ (entry : Entry). entry.status) (entry_at table.entries i)
+status_is table pass i = ap (option_map (λ (state : PageState). state.status)) (told_at state_of table.entries i) ∙ of_entry (entry_at table.entries i)
   where
     of_entry : (x : Option Entry) → option_map (λ (state : PageState). state.status) (option_map state_of x) ≡ option_map (λ (entry : Entry). entry.status) x
     of_entry None = refl
@@ -56,22 +56,22 @@ lies table i x is h = by_entry (entry_at table.entries i) refl
         same : (a b : ℕ) → Some a ≡ Some b → a ≡ b
         same a b e = cc
 
-told : (table : TableState) (options : Options) (i : ℕ) (status : Status) → IsTable table → status_at (sharing_of table options) i ≡ Some status → (entry : Entry) × (entry_at table.entries i ≡ Some entry) × (entry.status ≡ status) × IsEntry table entry
-told table options i status is h = by_entry (entry_at table.entries i) refl
+told : (table : TableState) (pass : Pass) (i : ℕ) (status : Status) → IsTable table → status_at (sharing_of table pass) i ≡ Some status → (entry : Entry) × (entry_at table.entries i ≡ Some entry) × (entry.status ≡ status) × IsEntry table entry
+told table pass i status is h = by_entry (entry_at table.entries i) refl
   where
     by_entry : (y : Option Entry) → entry_at table.entries i ≡ y → (entry : Entry) × (entry_at table.entries i ≡ Some entry) × (entry.status ≡ status) × IsEntry table entry
     by_entry None e =
-        let told : status_at (sharing_of table options) i ≡ None = status_is table options i ∙ ap (option_map (λ (entry : Entry). entry.status)) e in
+        let told : status_at (sharing_of table pass) i ≡ None = status_is table pass i ∙ ap (option_map (λ (entry : Entry). entry.status)) e in
         absurd (cc)
     by_entry (Some entry) e =
-        let told : status_at (sharing_of table options) i ≡ Some entry.status = status_is table options i ∙ ap (option_map (λ (entry : Entry). entry.status)) e in
+        let told : status_at (sharing_of table pass) i ≡ Some entry.status = status_is table pass i ∙ ap (option_map (λ (entry : Entry). entry.status)) e in
         (entry, e, same entry.status status (sym told ∙ h), entry_fits table i entry is e)
       where
         same : (a b : Status) → Some a ≡ Some b → a ≡ b
         same a b e = cc
 
-status_there : (table : TableState) (options : Options) (i : ℕ) (entry : Entry) (status : Status) → entry_at table.entries i ≡ Some entry → entry.status ≡ status → status_at (sharing_of table options) i ≡ Some status
-status_there table options i entry status e same = status_is table options i ∙ ap (option_map (λ (entry : Entry). entry.status)) e ∙ ap Some same
+status_there : (table : TableState) (pass : Pass) (i : ℕ) (entry : Entry) (status : Status) → entry_at table.entries i ≡ Some entry → entry.status ≡ status → status_at (sharing_of table pass) i ≡ Some status
+status_there table pass i entry status e same = status_is table pass i ∙ ap (option_map (λ (entry : Entry). entry.status)) e ∙ ap Some same
 
 -- a page is alone, or grouped on a group's frame, or on the zero frame
 Kind : TableState → Entry → Type 0
@@ -196,35 +196,35 @@ places_ordered n f (x ∷ xs) = by_head (is_on f x) (places_above (n + 1) f xs) 
     by_head true above rest = AllPairs-cons (λ i j. i < j) n (places_on (n + 1) f xs) (λ k d lt. let more = above k d lt in omega arith) rest
     by_head false above rest = rest
 
-module _ (table : TableState) (options : Options) (is : IsTable table) where
-  pub are_groups : AreGroups (sharing_of table options)
+module _ (table : TableState) (pass : Pass) (is : IsTable table) where
+  pub are_groups : AreGroups (sharing_of table pass)
   unfolding groups_of
   are_groups =
       record {
         some = all_groups (λ group. 0 < length group) table.entries table.groups (λ g some. let long = length-places 0 g table.entries in let pages = IsGroup.some (group table g is some) in omega (arith, long, pages));
         ordered = all_groups (AllPairs (λ i j. i < j)) table.entries table.groups (λ g some. places_ordered 0 g table.entries);
-        grouped = all_groups (λ group. (i : ℕ) → is_among i group ≡ true → status_at (sharing_of table options) i ≡ Some Grouped) table.entries table.groups (λ g some i h. member g i some (entry_at table.entries i) refl (sym (among g table.entries i) ∙ h));
-        once = λ i h. let entry = told table options i Grouped is h in one entry.0 i entry.1 entry.2 entry.3;
+        grouped = all_groups (λ group. (i : ℕ) → is_among i group ≡ true → status_at (sharing_of table pass) i ≡ Some Grouped) table.entries table.groups (λ g some i h. member g i some (entry_at table.entries i) refl (sym (among g table.entries i) ∙ h));
+        once = λ i h. let entry = told table pass i Grouped is h in one entry.0 i entry.1 entry.2 entry.3;
       }
     where
-      member : (g i : ℕ) → 1 ≤ times g table.groups → (x : Option Entry) → entry_at table.entries i ≡ x → is_on g (entry_at table.entries i) ≡ true → status_at (sharing_of table options) i ≡ Some Grouped
+      member : (g i : ℕ) → 1 ≤ times g table.groups → (x : Option Entry) → entry_at table.entries i ≡ x → is_on g (entry_at table.entries i) ≡ true → status_at (sharing_of table pass) i ≡ Some Grouped
       member g i some None e h = absurd (let none = ap (is_on g) e in cc)
       member g i some (Some entry) e h =
           let on : entry.frame ≡ g = frame_equal entry.frame g (sym (ap (is_on g) e) ∙ h) in
-          status_there table options i entry Grouped e (grouped_status table entry is (entry_fits table i entry is e) (subst (λ n. 1 ≤ times n table.groups) (sym on) some))
+          status_there table pass i entry Grouped e (grouped_status table entry is (entry_fits table i entry is e) (subst (λ n. 1 ≤ times n table.groups) (sym on) some))
 
       one : (entry : Entry) (i : ℕ) → entry_at table.entries i ≡ Some entry → entry.status ≡ Grouped → IsEntry table entry → length (filter (is_among i) (map (λ g. places_on 0 g table.entries) table.groups)) ≡ 1
       one entry i e same fits = in_groups table.entries table.groups i entry e ∙ subst (LiesRight table entry.frame) same fits.right
 
-  pub one_frame : (i j x y : ℕ) → i ≢ j → slice_index_or (frames_of table.entries) i None ≡ Some x → slice_index_or (frames_of table.entries) j None ≡ Some y → (x ≡ y ↔ AreMerged (sharing_of table options) i j)
+  pub one_frame : (i j x y : ℕ) → i ≢ j → slice_index_or (frames_of table.entries) i None ≡ Some x → slice_index_or (frames_of table.entries) j None ≡ Some y → (x ≡ y ↔ AreMerged (sharing_of table pass) i j)
   unfolding Kind groups_of
   one_frame i j x y ne h k = (λ e. merged (lies table i x is h) (lies table j y is k) e, λ both. ⊎_elim (λ grouped. together (lies table i x is h) (lies table j y is k) grouped) (λ zeros. on_zero i x (lies table i x is h) zeros.0 ∙ sym (on_zero j y (lies table j y is k) zeros.1)) both)
     where
-      merged : Lies table i x → Lies table j y → x ≡ y → AreMerged (sharing_of table options) i j
+      merged : Lies table i x → Lies table j y → x ≡ y → AreMerged (sharing_of table pass) i j
       merged a b e =
           ⊎_elim (λ lone. absurd (two lone))
           (λ other. ⊎_elim (λ in_group. inl (both_there table.entries table.groups i j a.entry.frame on_one on_other (omega (arith, in_group.1))))
-          (λ zeros. inr (status_there table options i a.entry Zero a.here zeros.0, status_there table options j b.entry Zero b.here (zero_status table b.entry is b.fits (sym same ∙ zeros.1)))) other)
+          (λ zeros. inr (status_there table pass i a.entry Zero a.here zeros.0, status_there table pass j b.entry Zero b.here (zero_status table b.entry is b.fits (sym same ∙ zeros.1)))) other)
           (kind table a.entry a.fits)
         where
           same : a.entry.frame ≡ b.entry.frame
@@ -244,23 +244,23 @@ module _ (table : TableState) (options : Options) (is : IsTable table) where
       together : Lies table i x → Lies table j y → has_both (groups_of table) i j ≡ true → x ≡ y
       together a b grouped = sym a.on ∙ both_lie table.entries table.groups i j a.entry b.entry a.here b.here grouped ∙ b.on
 
-      on_zero : (i x : ℕ) → Lies table i x → status_at (sharing_of table options) i ≡ Some Zero → x ≡ 0
+      on_zero : (i x : ℕ) → Lies table i x → status_at (sharing_of table pass) i ≡ Some Zero → x ≡ 0
       on_zero i x a h =
-          let entry = told table options i Zero is h in
+          let entry = told table pass i Zero is h in
           let same : a.entry ≡ entry.0 = one a.entry entry.0 (sym a.here ∙ entry.1) in
           sym a.on ∙ ap (λ (e : Entry). e.frame) same ∙ subst (LiesRight table entry.0.frame) entry.2 entry.3.right
         where
           one : (a b : Entry) → Some a ≡ Some b → a ≡ b
           one a b e = cc
 
-module _ (table : TableState) (shapes : List (Option Shape)) (tenants : List Tenant) (options : Options) (counts : CountsState) (sound : IsSound table counts) (listed : AreCounts counts) where
-  free_is_counted : free_of (view_of table shapes tenants options) ≡ length (free_frames (view_of table shapes tenants options))
+module _ (table : TableState) (shapes : List (Option Shape)) (tenants : List Tenant) (pass : Pass) (counts : CountsState) (sound : IsSound table counts) (listed : AreCounts counts) where
+  free_is_counted : free_of (view_of table shapes tenants pass) ≡ length (free_frames (view_of table shapes tenants pass))
   unfolding view_of
   free_is_counted =
       let used = sound.counted.used in
-      let free = free_is table shapes tenants options (omega (arith, used)) in
+      let free = free_is table shapes tenants pass (omega (arith, used)) in
       let unused = length-unused counts.counts counts.unused (λ f. not (list_any (is_frame f) (frames_of table.entries))) listed held tells in
-      let as_many : free_of (view_of table shapes tenants options) ≡ length counts.unused = omega (arith, used, free) in
+      let as_many : free_of (view_of table shapes tenants pass) ≡ length counts.unused = omega (arith, used, free) in
       as_many ∙ unused ∙ ap (λ n. length (filter (λ f. not (list_any (is_frame f) (frames_of table.entries))) (range_with_len 1 (n - 1)))) sound.counted.sized
     where
       read : (f : ℕ) → f < length table.arena → slice_index_or counts.counts f 1 ≡ one_if_zero f + pages_on f table.entries
@@ -278,21 +278,21 @@ module _ (table : TableState) (shapes : List (Option Shape)) (tenants : List Ten
           let same : slice_index_or counts.counts f 1 ≡ pages_on f table.entries = omega (arith, count, none) in
           ap one_if_zero same ∙ empty-frame f table.entries
 
-  pub reads_as : ReadsAs (view_of table shapes tenants options)
+  pub reads_as : ReadsAs (view_of table shapes tenants pass)
   unfolding view_of
   reads_as =
       record {
-        one_frame = one_frame table options sound.fits;
-        zero_frame = λ i. (λ h. to_zero i (lies table i 0 sound.fits h), λ h. from_zero i (told table options i Zero sound.fits h));
+        one_frame = one_frame table pass sound.fits;
+        zero_frame = λ i. (λ h. to_zero i (lies table i 0 sound.fits h), λ h. from_zero i (told table pass i Zero sound.fits h));
         zeros = sound.fits.zero;
         placed = λ i. placed i (entry_at table.entries i) refl;
         there = λ i. there i (entry_at table.entries i) refl;
         free = free_is_counted;
-        groups = are_groups table options sound.fits;
+        groups = are_groups table pass sound.fits;
       }
     where
-      to_zero : (i : ℕ) → Lies table i 0 → status_at (sharing_of table options) i ≡ Some Zero
-      to_zero i a = status_there table options i a.entry Zero a.here (zero_status table a.entry sound.fits a.fits a.on)
+      to_zero : (i : ℕ) → Lies table i 0 → status_at (sharing_of table pass) i ≡ Some Zero
+      to_zero i a = status_there table pass i a.entry Zero a.here (zero_status table a.entry sound.fits a.fits a.on)
 
       frame_of : (i : ℕ) → slice_index_or (frames_of table.entries) i None ≡ option_map (λ (entry : Entry). entry.frame) (entry_at table.entries i)
       frame_of i = told_at (λ (entry : Entry). entry.frame) table.entries i

@@ -2,7 +2,7 @@
 use Rattle.std.proofs.Common.{◌≡◌, ◌+◌, ◌≤◌, List, [], ◌∷◌, length, sum_by, Option, option_map, refl, arith}
 use Rattle.std.proofs.lemmas.List.{length-map}
 use Rattle.std.proofs.lemmas.List.Sums.{sum_by-cons}
-use Rattle.host_types.specs.declared.options.Options.{Options}
+use Rattle.page_table.specs.declared.pass.Pass.{Pass}
 use Rattle.host_types.specs.declared.shape.Shape.{Shape}
 use Rattle.host_types.specs.Sharing.{own_frame, frames_free}
 use Rattle.page_table.specs.declared.entry.Entry.{Entry}
@@ -20,10 +20,10 @@ own_of_states (x ∷ xs) =
     let rest = own_of_states xs in
     omega (arith, one, other, rest)
 
-pub free_is : (table : TableState) (shapes : List (Option Shape)) (tenants : List Tenant) (options : Options) → used_by table ≤ length table.arena
-    → free_of (view_of table shapes tenants options) + used_by table ≡ length table.arena
+pub free_is : (table : TableState) (shapes : List (Option Shape)) (tenants : List Tenant) (pass : Pass) → used_by table ≤ length table.arena
+    → free_of (view_of table shapes tenants pass) + used_by table ≡ length table.arena
 unfolding view_of frames_free groups_of own_pages
-free_is table shapes tenants options fits =
+free_is table shapes tenants pass fits =
     let long = length-map table.groups (λ f. places_on 0 f table.entries) in
     let own = own_of_states table.entries in
     omega (arith, long, own, fits)

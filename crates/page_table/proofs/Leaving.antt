@@ -3,7 +3,7 @@ use Rattle.std.proofs.Common.{◌≡◌, ◌≢◌, ◌∙◌, inl, inr, ⊎_eli
 use Rattle.std.proofs.lemmas.Bool.{lt-ltb}
 use Rattle.std.proofs.lemmas.List.{get_or-set_same, get_or-set_other, get_or-map, set-get_or, length-set, map-set}
 use Rattle.std.proofs.lemmas.Bool.Decides.{eqb_tells}
-use Rattle.host_types.specs.declared.options.Options.{Options}
+use Rattle.page_table.specs.declared.pass.Pass.{Pass}
 use Rattle.host_types.specs.declared.status.Status.{Status}
 use Rattle.host_types.specs.declared.status.Status.TheVariants.{New, Volatile, Waiting, Grouped, Zero}
 use Rattle.host_types.specs.Sharing.{broken, broken_page, is_shared, left_by, without}
@@ -38,9 +38,9 @@ groups-left old new i (g ∷ gs) same some =
 pub sharing-broken : (old new : TableState) (i : ℕ) (entry : Entry) → entry_at old.entries i ≡ Some entry → is_shared entry.status ≡ true
     → states_of new.entries ≡ slice_set (states_of old.entries) i (Some (broken_page (state_of entry)))
     → groups_of new ≡ left_by i (groups_of old)
-    → (options : Options) → sharing_of new options ≡ broken (sharing_of old options) i
+    → (pass : Pass) → sharing_of new pass ≡ broken (sharing_of old pass) i
 unfolding broken
-sharing-broken old new i entry here shared states groups options =
+sharing-broken old new i entry here shared states groups pass =
     let at : slice_index_or (states_of old.entries) i None ≡ Some (state_of entry) =
     get_or-map (option_map state_of) old.entries i None None (inside old.entries i entry here) ∙ ap (option_map state_of) here in
     rw (at, shared, states, groups) refl
@@ -131,7 +131,7 @@ module _ (table : TableState) (i : ℕ) (entry next : Entry) (is : IsTable table
       (λ g le. ap (λ (n : ℕ). without n (places_on 0 g table.entries)) start ∙ without-places 0 g table.entries i (Some next) (not_equal g next.frame (no_new_group g le)))
       (λ g le. still g (is_group g le) (no_new_group g le))
 
-  pub sharing-left : (options : Options) → sharing_of (left table i entry next) options ≡ broken (sharing_of table options) i
+  pub sharing-left : (pass : Pass) → sharing_of (left table i entry next) pass ≡ broken (sharing_of table pass) i
   sharing-left = sharing-broken table (left table i entry next) i entry here shared states-left groups_of-left
 
   pub used-left : used_by (left table i entry next) ≡ used_by table + 1

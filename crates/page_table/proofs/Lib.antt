@@ -20,3 +20,7 @@ pub mod Merging
 pub mod Breaks
 pub mod Counting
 pub mod Facts
+pub mod Waiters
+pub mod Marking
+pub mod Joining
+pub mod Next

@@ -1,6 +1,6 @@
 -- What a memory tells after pages came to share frames, or left shared ones: the bytes of each page stay.
 use Rattle.std.proofs.Common.{◌≡◌, ◌≢◌, ◌∙◌, ℕ, zero, suc, ◌+◌, ◌*◌, ◌<◌, ◌≤◌, List, [], ◌∷◌, length, slice_index_or, Option, Some, None, IfSome, true, false, refl, sym, ap, subst, arith}
-use Rattle.host_types.specs.declared.options.Options.{Options}
+use Rattle.page_table.specs.declared.pass.Pass.{Pass}
 use Rattle.host_types.specs.declared.shape.Shape.{Shape}
 use Rattle.host_types.specs.declared.shape.Page.{Page}
 use Rattle.host_types.specs.Pages.{map_place, page_place, page_bytes}
@@ -15,12 +15,12 @@ use Rattle.page_table.proofs.Reading.{page_located, page_number, few_pages, cont
 use Rattle.page_table.proofs.Free.{free_is}
 
 -- another table with the same pages, on as many frames
-module _ (table new : TableState) (shapes : List (Option Shape)) (tenants : List Tenant) (options : Options) (contents : contents_of new ≡ contents_of table) (arena : length new.arena ≡ length table.arena) where
+module _ (table new : TableState) (shapes : List (Option Shape)) (tenants : List Tenant) (pass now : Pass) (contents : contents_of new ≡ contents_of table) (arena : length new.arena ≡ length table.arena) where
   abbrev before : MemoryState
-  before = view_of table shapes tenants options
+  before = view_of table shapes tenants pass
 
   abbrev after : MemoryState
-  after = view_of new shapes tenants options
+  after = view_of new shapes tenants now
 
   pub maps_kept : after.maps ≡ before.maps
   unfolding view_of
@@ -48,8 +48,8 @@ module _ (table new : TableState) (shapes : List (Option Shape)) (tenants : List
   -- more frames are used, as far as there is room
   pub free_less : (count : ℕ) → used_by new ≡ used_by table + count → used_by table + count ≤ length table.arena → free_of after + count ≡ free_of before
   free_less count used room =
-      let old = free_is table shapes tenants options (omega (arith, room)) in
-      let newer = free_is new shapes tenants options (omega (arith, room, used, arena)) in
+      let old = free_is table shapes tenants pass (omega (arith, room)) in
+      let newer = free_is new shapes tenants now (omega (arith, room, used, arena)) in
       omega (arith, old, newer, used, arena)
 
   pub have_less : (count : ℕ) → used_by new ≡ used_by table + count → used_by table + count ≤ length table.arena → count ≤ have_of before → have_of after + count ≡ have_of before
@@ -61,8 +61,8 @@ module _ (table new : TableState) (shapes : List (Option Shape)) (tenants : List
   -- one frame less is used
   pub free_more : used_by new + 1 ≡ used_by table → used_by table ≤ length table.arena → free_of after ≡ free_of before + 1
   free_more used room =
-      let old = free_is table shapes tenants options room in
-      let newer = free_is new shapes tenants options (omega (arith, room, used, arena)) in
+      let old = free_is table shapes tenants pass room in
+      let newer = free_is new shapes tenants now (omega (arith, room, used, arena)) in
       omega (arith, old, newer, used, arena)
 
   pub have_more : (reserved : ℕ) → IsMemory table shapes tenants reserved → used_by new + 1 ≡ used_by table → have_of after ≡ have_of before + 1
@@ -70,30 +70,30 @@ module _ (table new : TableState) (shapes : List (Option Shape)) (tenants : List
   have_more reserved is used =
       let room : used_by table ≤ length table.arena = omega (arith, is.room) in
       let free = free_more used room in
-      let old = free_is table shapes tenants options room in
+      let old = free_is table shapes tenants pass room in
       omega (arith, free, old, is.room, is.sum)
 
 -- how many frames the break of a page takes, as callers see it
-module _ (table : TableState) (shapes : List (Option Shape)) (tenants : List Tenant) (options : Options) (costs : (options : Options) (i : ℕ) → break_cost (sharing_of table options) i ≡ cost_at table i) where
-  pub cost_told : (i : ℕ) → break_cost (view_of table shapes tenants options).sharing i ≡ cost_at table i
+module _ (table : TableState) (shapes : List (Option Shape)) (tenants : List Tenant) (pass : Pass) (costs : (pass : Pass) (i : ℕ) → break_cost (sharing_of table pass) i ≡ cost_at table i) where
+  pub cost_told : (i : ℕ) → break_cost (view_of table shapes tenants pass).sharing i ≡ cost_at table i
   unfolding view_of
-  cost_told i = costs options i
+  cost_told i = costs pass i
 
   -- where the frames that a break takes may be had, there is room for it
-  pub cost_fits : (reserved i : ℕ) → IsMemory table shapes tenants reserved → break_cost (view_of table shapes tenants options).sharing i ≤ have_of (view_of table shapes tenants options)
+  pub cost_fits : (reserved i : ℕ) → IsMemory table shapes tenants reserved → break_cost (view_of table shapes tenants pass).sharing i ≤ have_of (view_of table shapes tenants pass)
       → used_by table + cost_at table i ≤ length table.arena
   unfolding view_of
   cost_fits reserved i is enough =
-      let told = costs options i in
-      let free = free_is table shapes tenants options (omega (arith, is.room)) in
+      let told = costs pass i in
+      let free = free_is table shapes tenants pass (omega (arith, is.room)) in
       omega (arith, told, enough, free, is.room, is.sum)
 
-  pub cost_reserved : (reserved i : ℕ) → IsMemory table shapes tenants reserved → break_cost (view_of table shapes tenants options).sharing i ≤ have_of (view_of table shapes tenants options)
+  pub cost_reserved : (reserved i : ℕ) → IsMemory table shapes tenants reserved → break_cost (view_of table shapes tenants pass).sharing i ≤ have_of (view_of table shapes tenants pass)
       → reserved + (used_by table + cost_at table i) ≤ length table.arena
   unfolding view_of
   cost_reserved reserved i is enough =
-      let told = costs options i in
-      let free = free_is table shapes tenants options (omega (arith, is.room)) in
+      let told = costs pass i in
+      let free = free_is table shapes tenants pass (omega (arith, is.room)) in
       omega (arith, told, enough, free, is.room, is.sum)
 
 -- what holds of an entry holds of the state at its place
@@ -104,10 +104,10 @@ state_of_entry P (Some x ∷ xs) zero h = h
 state_of_entry P (x ∷ xs) (suc i) h = state_of_entry P xs i h
 
 -- a page with a frame of its own, as callers see it
-pub own_told : (table : TableState) (shapes : List (Option Shape)) (tenants : List Tenant) (options : Options) (page : Page) → IsOwnAt table (page_place page)
-    → IsOwn (view_of table shapes tenants options) page
+pub own_told : (table : TableState) (shapes : List (Option Shape)) (tenants : List Tenant) (pass : Pass) (page : Page) → IsOwnAt table (page_place page)
+    → IsOwn (view_of table shapes tenants pass) page
 unfolding view_of
-own_told table shapes tenants options page own = state_of_entry (λ state. is_shared state.status ≡ false) table.entries (page_place page) own
+own_told table shapes tenants pass page own = state_of_entry (λ state. is_shared state.status ≡ false) table.entries (page_place page) own
 
 -- what may be merged has a frame of its own
 may_own : (x : Option PageState) → IfSome x (λ state. (state.mergeable ≡ true) × (is_shared state.status ≡ false)) → IfSome x (λ state. is_shared state.status ≡ false)
@@ -127,26 +127,26 @@ page_of t m n = record { tenant = t; map = m; number = n }
 same_page : (t m n u k l : ℕ) → t ≡ u → m ≡ k → n ≡ l → page_of t m n ≡ page_of u k l
 same_page t m n u k l a b c = rw (a, b, c) refl
 
-module _ (table : TableState) (shapes : List (Option Shape)) (tenants : List Tenant) (options : Options) (reserved : ℕ) (is : IsMemory table shapes tenants reserved) where
-  number_small : (page : Page) → IsPageOf (view_of table shapes tenants options) page → page.number < 256
+module _ (table : TableState) (shapes : List (Option Shape)) (tenants : List Tenant) (pass : Pass) (reserved : ℕ) (is : IsMemory table shapes tenants reserved) where
+  number_small : (page : Page) → IsPageOf (view_of table shapes tenants pass) page → page.number < 256
   number_small page there =
-      let loc = page_located table shapes tenants options reserved page is there in
+      let loc = page_located table shapes tenants pass reserved page is there in
       let few = few_pages loc.shape loc.pages.shaped in
-      let h = page_number table shapes tenants options reserved page is there in
+      let h = page_number table shapes tenants pass reserved page is there in
       omega arith
 
-  map_small : (page : Page) → IsPageOf (view_of table shapes tenants options) page → page.map < 8
-  map_small page there = (page_located table shapes tenants options reserved page is there).small
+  map_small : (page : Page) → IsPageOf (view_of table shapes tenants pass) page → page.map < 8
+  map_small page there = (page_located table shapes tenants pass reserved page is there).small
 
-  pub places_apart : (first second : Page) → IsPageOf (view_of table shapes tenants options) first → IsPageOf (view_of table shapes tenants options) second → first ≢ second
+  pub places_apart : (first second : Page) → IsPageOf (view_of table shapes tenants pass) first → IsPageOf (view_of table shapes tenants pass) second → first ≢ second
       → page_place first ≢ page_place second
   places_apart first second one other apart same =
       let told = same_place first.tenant first.map first.number second.tenant second.map second.number (map_small first one) (number_small first one) (map_small second other) (number_small second other) same in
       apart (same_page first.tenant first.map first.number second.tenant second.map second.number told.0 told.1 told.2)
 
   -- two pages of the same bytes, in the table
-  pub contents_equal : (first second : Page) → IsPageOf (view_of table shapes tenants options) first → IsPageOf (view_of table shapes tenants options) second
-      → page_bytes (bytes_of_map (view_of table shapes tenants options) first) first.number ≡ page_bytes (bytes_of_map (view_of table shapes tenants options) second) second.number
+  pub contents_equal : (first second : Page) → IsPageOf (view_of table shapes tenants pass) first → IsPageOf (view_of table shapes tenants pass) second
+      → page_bytes (bytes_of_map (view_of table shapes tenants pass) first) first.number ≡ page_bytes (bytes_of_map (view_of table shapes tenants pass) second) second.number
       → slice_index_or (contents_of table) (page_place first) [] ≡ slice_index_or (contents_of table) (page_place second) []
   contents_equal first second one other same =
-      content_is table shapes tenants options reserved first is one ∙ same ∙ sym (content_is table shapes tenants options reserved second is other)
+      content_is table shapes tenants pass reserved first is one ∙ same ∙ sym (content_is table shapes tenants pass reserved second is other)

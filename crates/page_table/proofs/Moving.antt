@@ -3,7 +3,7 @@ use Rattle.std.proofs.Common.{◌≡◌, ◌≢◌, ◌∙◌, inl, inr, ⊎_eli
 use Rattle.std.proofs.lemmas.List.{get_or-set_same, get_or-set_other, length-set, set-get_or, get_or-map}
 use Rattle.std.proofs.lemmas.List.Sums.{sum_by-cons}
 use Rattle.std.proofs.lemmas.Bool.Decides.{eqb_tells}
-use Rattle.host_types.specs.declared.options.Options.{Options}
+use Rattle.page_table.specs.declared.pass.Pass.{Pass}
 use Rattle.host_types.specs.declared.status.Status.{Status}
 use Rattle.host_types.specs.declared.status.Status.TheVariants.{New, Volatile, Waiting, Grouped, Zero}
 use Rattle.host_types.specs.Sharing.{is_shared, state_at}
@@ -19,9 +19,9 @@ abbrev pub with_entry : TableState → ℕ → Entry → TableState
 with_entry table i x = record table { entries = slice_set table.entries i (Some x) }
 
 -- what callers know of a page that is there
-pub state_here : (table : TableState) (i : ℕ) (entry : Entry) (options : Options) → entry_at table.entries i ≡ Some entry
-    → state_at (sharing_of table options) i ≡ Some (state_of entry)
-state_here table i entry options e =
+pub state_here : (table : TableState) (i : ℕ) (entry : Entry) (pass : Pass) → entry_at table.entries i ≡ Some entry
+    → state_at (sharing_of table pass) i ≡ Some (state_of entry)
+state_here table i entry pass e =
     get_or-map (option_map state_of) table.entries i None None (inside table.entries i entry e) ∙ ap (option_map state_of) e
 
 -- the contents, where a page moves to a frame of the same bytes
@@ -63,7 +63,7 @@ pages_on-le f (x ∷ xs) =
     bit false = omega arith
 
 -- a frame other than the zero frame has no holders but its pages
-no_holder : (f : ℕ) → 0 < f → one_if_zero f ≡ 0
+pub no_holder : (f : ℕ) → 0 < f → one_if_zero f ≡ 0
 no_holder zero h = absurd (omega arith)
 no_holder (suc f) h = refl
 

@@ -3,17 +3,18 @@ use Rattle.std.proofs.Common.{◌≡◌, ◌≢◌, ◌∙◌, ◌⊎◌, inl, i
 use Rattle.std.proofs.lemmas.List.{get_or-set_other, length-set, length-append, map-set, map-append}
 use Rattle.std.proofs.lemmas.List.Sums.{sum_by-cons}
 use Rattle.std.proofs.lemmas.Bool.Decides.{nat_tests, eqb_tells, leb_tells}
-use Rattle.host_types.specs.declared.options.Options.{Options}
+use Rattle.page_table.specs.declared.pass.Pass.{Pass}
 use Rattle.host_types.specs.declared.status.Status.{Status}
 use Rattle.host_types.specs.declared.status.Status.TheVariants.{Grouped}
-use Rattle.host_types.specs.Sharing.{PageState, is_shared, with_status, state_at, joined_by, paired}
+use Rattle.host_types.specs.Sharing.{PageState, is_shared, with_status, state_at, joined_by, paired, waiting_without}
 use Rattle.frame_arena.specs.Pages.{page_at}
 use Rattle.page_table.specs.declared.entry.Entry.{Entry}
-use Rattle.page_table.specs.Table.{TableState, CountsState, IsOwnAt, IsTable, IsEntry, IsAlone, IsGroup, IsSound, AreCountsOf, LiesRight, times, one_if_zero, entry_at, contents_of, groups_of, state_of, states_of, sharing_of, is_on, places_on, pages_on, used_by}
+use Rattle.page_table.specs.Table.{TableState, CountsState, IsOwnAt, IsTable, IsEntry, IsAlone, IsGroup, IsSound, AreCountsOf, LiesRight, times, one_if_zero, entry_at, contents_of, groups_of, state_of, states_of, sharing_of, forgets, is_on, places_on, pages_on, used_by}
 use Rattle.page_table.proofs.Entries.{one_when, on_one, on_one-true, on_one-false, some_on, elsewhere, not_equal, equal, pages_on-set, inside, alone, at_set, places_on-set, groups-kept}
 use Rattle.page_table.proofs.Adding.{own_one, own_pages-set}
 use Rattle.page_table.proofs.Putting.{is_alone, entry_fits, content_at}
 use Rattle.page_table.proofs.Unused.{times-push}
+use Rattle.page_table.proofs.Waiters.{others_of, waiting-forgets}
 use Rattle.page_table.proofs.Moving.{IsMove, with_entry, state_here, contents-entry, fits-after, contents-moved, used-moved, sound-moved}
 
 is_below : (n m : ℕ) → n < m → nat_lt n m ≡ true
@@ -336,15 +337,16 @@ module _ (table : TableState) (i j : ℕ) (one other x y : Entry) (pairing : IsP
       (groups-kept table.entries (with_pair table i j x y).entries table.groups places-kept)
       ∙ ap (λ (l : List ℕ). groups_of table ++ l ∷ []) places-pair
 
-  pub sharing-pair : (options : Options) → sharing_of (with_pair table i j x y) options ≡ paired (sharing_of table options) i j
+  pub sharing-pair : (pass : Pass) → sharing_of (with_pair table i j x y) (forgets i (forgets j pass)) ≡ paired (sharing_of table pass) i j
   unfolding paired
-  sharing-pair options =
+  sharing-pair pass =
       let grouped : Option PageState → Option PageState = option_map (with_status Grouped) in
-      let at_first : Some (state_of x) ≡ grouped (state_at (sharing_of table options) i) = ap Some to_first.state ∙ sym (ap grouped (state_here table i one options first)) in
-      let at_second : Some (state_of y) ≡ grouped (state_at (sharing_of table options) j) = ap Some to_second.state ∙ sym (ap grouped (state_here table j other options second)) in
-      let pages : states_of (with_pair table i j x y).entries ≡ slice_set (slice_set (states_of table.entries) i (grouped (state_at (sharing_of table options) i))) j (grouped (state_at (sharing_of table options) j)) =
+      let at_first : Some (state_of x) ≡ grouped (state_at (sharing_of table pass) i) = ap Some to_first.state ∙ sym (ap grouped (state_here table i one pass first)) in
+      let at_second : Some (state_of y) ≡ grouped (state_at (sharing_of table pass) j) = ap Some to_second.state ∙ sym (ap grouped (state_here table j other pass second)) in
+      let pages : states_of (with_pair table i j x y).entries ≡ slice_set (slice_set (states_of table.entries) i (grouped (state_at (sharing_of table pass) i))) j (grouped (state_at (sharing_of table pass) j)) =
       map-set (option_map state_of) (founded table i x).entries j (Some y)
       ∙ ap (λ (l : List (Option PageState)). slice_set l j (Some (state_of y))) (map-set (option_map state_of) table.entries i (Some x) ∙ ap (slice_set (states_of table.entries) i) at_first)
-      ∙ ap (slice_set (slice_set (states_of table.entries) i (grouped (state_at (sharing_of table options) i))) j) at_second in
+      ∙ ap (slice_set (slice_set (states_of table.entries) i (grouped (state_at (sharing_of table pass) i))) j) at_second in
       let groups = groups-pair in
+      let waiting = waiting-forgets i (others_of j pass.waiting.listed) ∙ ap (waiting_without i) (waiting-forgets j pass.waiting.listed) in
       cc

@@ -2,7 +2,7 @@
 use Rattle.std.proofs.Common.{◌≡◌, ◌∙◌, ◌⊎◌, ⊎_elim, ℕ, zero, suc, ◌+◌, ◌*◌, ◌<◌, ◌≤◌, List, [], ◌∷◌, length, take, drop, slice_index_or, Option, Some, None, option_map, unwrap_or, refl, sym, ap, subst, arith, length-take}
 use Rattle.std.specs.List.{concat}
 use Rattle.std.proofs.lemmas.List.{get_or_past, get_or-take, get_or-drop}
-use Rattle.host_types.specs.declared.options.Options.{Options}
+use Rattle.page_table.specs.declared.pass.Pass.{Pass}
 use Rattle.host_types.specs.declared.shape.Shape.{Shape}
 use Rattle.host_types.specs.declared.shape.Page.{Page}
 use Rattle.host_types.specs.Bytes.{part_of}
@@ -88,7 +88,7 @@ pub content_in : (contents : List (List ℕ)) (k n : ℕ) → n < 256 → slice_
 unfolding part_of
 content_in contents k n small = sym (get_or-take 256 (drop (k * 256) contents) n [] small ∙ get_or-drop (k * 256) contents n [])
 
-module _ (table : TableState) (shapes : List (Option Shape)) (tenants : List Tenant) (options : Options) (reserved : ℕ) (page : Page) (is : IsMemory table shapes tenants reserved) (there : IsPageOf (view_of table shapes tenants options) page) where
+module _ (table : TableState) (shapes : List (Option Shape)) (tenants : List Tenant) (pass : Pass) (reserved : ℕ) (page : Page) (is : IsMemory table shapes tenants reserved) (there : IsPageOf (view_of table shapes tenants pass) page) where
   pub page_located : IsLocated shapes (contents_of table) page.tenant page.map (page.number * 4096)
   unfolding view_of part
   page_located = located shapes (contents_of table) page.tenant page.map (page.number * 4096) is.maps there
@@ -102,13 +102,13 @@ module _ (table : TableState) (shapes : List (Option Shape)) (tenants : List Ten
   pub is_page_at : IsPageAt table (page_place page)
   is_page_at = ap length (content_in (contents_of table) (map_place page.tenant page.map) page.number page_small) ∙ page_located.pages.there page.number page_number
 
-  pub content_is : slice_index_or (contents_of table) (page_place page) [] ≡ page_bytes (bytes_of_map (view_of table shapes tenants options) page) page.number
+  pub content_is : slice_index_or (contents_of table) (page_place page) [] ≡ page_bytes (bytes_of_map (view_of table shapes tenants pass) page) page.number
   unfolding view_of part
   content_is =
       content_in (contents_of table) (map_place page.tenant page.map) page.number page_small
       ∙ sym (ap (λ flat. page_bytes (bytes_in flat) page.number) page_located.flat ∙ page_bytes-page page_located.shape (part_of (contents_of table) (map_place page.tenant page.map * 256) 256) page.number page_located.pages page_number)
 
-  pub state_is : (entry : Entry) → entry_at table.entries (page_place page) ≡ Some entry → state_at (view_of table shapes tenants options).sharing (page_place page) ≡ Some (state_of entry)
+  pub state_is : (entry : Entry) → entry_at table.entries (page_place page) ≡ Some entry → state_at (view_of table shapes tenants pass).sharing (page_place page) ≡ Some (state_of entry)
   unfolding view_of
   state_is entry e = by_list table.entries (page_place page) e
     where
@@ -117,7 +117,7 @@ module _ (table : TableState) (shapes : List (Option Shape)) (tenants : List Ten
       by_list (x ∷ xs) zero e = ap (option_map state_of) e
       by_list (x ∷ xs) (suc i) e = by_list xs i e
 
-  pub frame_is : (entry : Entry) → entry_at table.entries (page_place page) ≡ Some entry → frame_at (view_of table shapes tenants options) (page_place page) ≡ Some entry.frame
+  pub frame_is : (entry : Entry) → entry_at table.entries (page_place page) ≡ Some entry → frame_at (view_of table shapes tenants pass) (page_place page) ≡ Some entry.frame
   unfolding view_of
   frame_is entry e = by_list table.entries (page_place page) e
     where

@@ -2,7 +2,7 @@
 use Rattle.std.proofs.Common.{◌≡◌, ◌∙◌, ◌⊎◌, ⊎_elim, ℕ, zero, suc, ◌+◌, ◌*◌, ◌<◌, ◌≤◌, List, [], ◌∷◌, length, map, take, drop, slice_index_or, Option, Some, None, IfSome, option_map, is_none, position, refl, sym, ap, subst, arith, All, min, ◌-◌}
 use Rattle.std.specs.List.{position_or_len}
 use Rattle.std.proofs.lemmas.List.{get_or_past, get_or-take, get_or-drop, length-take, length-drop}
-use Rattle.host_types.specs.declared.options.Options.{Options}
+use Rattle.page_table.specs.declared.pass.Pass.{Pass}
 use Rattle.host_types.specs.declared.shape.Shape.{Shape}
 use Rattle.host_types.specs.Bytes.{part_of}
 use Rattle.host_types.specs.Memory.{FlatMap, FlatMaps, map_at}
@@ -75,19 +75,19 @@ free_of_maps shapes contents from width =
         ∙ sym (ap (λ (x : Option Shape). is_none x) (get_or_past (take width (drop from shapes)) i None (omega arith)))
 
 -- the first free number of a tenant is the first place of its shapes without one
-pub free_number_told : (table : TableState) (shapes : List (Option Shape)) (tenants : List Tenant) (options : Options) (t : ℕ)
-    → free_number (part (view_of table shapes tenants options) t) ≡ position (λ (slot : Option Shape). is_none slot) (part_of shapes (t * 8) 8)
+pub free_number_told : (table : TableState) (shapes : List (Option Shape)) (tenants : List Tenant) (pass : Pass) (t : ℕ)
+    → free_number (part (view_of table shapes tenants pass) t) ≡ position (λ (slot : Option Shape). is_none slot) (part_of shapes (t * 8) 8)
 unfolding view_of part
-free_number_told table shapes tenants options t = free_of_maps shapes (contents_of table) (t * 8) 8
+free_number_told table shapes tenants pass t = free_of_maps shapes (contents_of table) (t * 8) 8
 
-module _ (table : TableState) (shapes : List (Option Shape)) (tenants : List Tenant) (options : Options) (t : ℕ) where
-  pub shape_told : (m : ℕ) → m < 8 → option_map (λ (flat : FlatMap). flat.shape) (map_at (part (view_of table shapes tenants options) t).maps m) ≡ slice_index_or shapes (map_place t m) None
+module _ (table : TableState) (shapes : List (Option Shape)) (tenants : List Tenant) (pass : Pass) (t : ℕ) where
+  pub shape_told : (m : ℕ) → m < 8 → option_map (λ (flat : FlatMap). flat.shape) (map_at (part (view_of table shapes tenants pass) t).maps m) ≡ slice_index_or shapes (map_place t m) None
   unfolding view_of part
   shape_told m small =
       ap (option_map (λ (flat : FlatMap). flat.shape)) (map_at-part (maps_of shapes (contents_of table)) t m small ∙ map_at-maps_of shapes (contents_of table) (map_place t m))
       ∙ shape_of_flat (part_of (contents_of table) (map_place t m * 256) 256) (slice_index_or shapes (map_place t m) None)
 
-  pub map_told : (m : ℕ) → m < 8 → map_at (part (view_of table shapes tenants options) t).maps m ≡ option_map (flat_of (part_of (contents_of table) (map_place t m * 256) 256)) (slice_index_or shapes (map_place t m) None)
+  pub map_told : (m : ℕ) → m < 8 → map_at (part (view_of table shapes tenants pass) t).maps m ≡ option_map (flat_of (part_of (contents_of table) (map_place t m * 256) 256)) (slice_index_or shapes (map_place t m) None)
   unfolding view_of part
   map_told m small = map_at-part (maps_of shapes (contents_of table)) t m small ∙ map_at-maps_of shapes (contents_of table) (map_place t m)
 
@@ -136,10 +136,10 @@ map_is table shapes k are inside all = by_shape (slice_index_or shapes k None) (
         flat_is shape (part_of (contents_of table) (k * 256) 256) h
         (All-take (λ page. All IsByte page) 256 (drop (k * 256) (contents_of table)) (All-drop (λ page. All IsByte page) (k * 256) (contents_of table) (contents_small table.arena table.entries all)))
 
-pub map_ok : (table : TableState) (shapes : List (Option Shape)) (tenants : List Tenant) (options : Options) (t m : ℕ) → AreMaps shapes (contents_of table) → m < 8 → All IsPage table.arena
-    → IfSome (map_at (part (view_of table shapes tenants options) t).maps m) IsFlatMap
-map_ok table shapes tenants options t m are small all =
-    subst (λ (x : Option FlatMap). IfSome x IsFlatMap) (sym (map_told table shapes tenants options t m small))
+pub map_ok : (table : TableState) (shapes : List (Option Shape)) (tenants : List Tenant) (pass : Pass) (t m : ℕ) → AreMaps shapes (contents_of table) → m < 8 → All IsPage table.arena
+    → IfSome (map_at (part (view_of table shapes tenants pass) t).maps m) IsFlatMap
+map_ok table shapes tenants pass t m are small all =
+    subst (λ (x : Option FlatMap). IfSome x IsFlatMap) (sym (map_told table shapes tenants pass t m small))
     (⊎_elim (λ less. map_is table shapes (map_place t m) are less all)
     (λ past. subst (λ (x : Option Shape). IfSome (option_map (flat_of (part_of (contents_of table) (map_place t m * 256) 256)) x) IsFlatMap) (sym (get_or_past shapes (map_place t m) None past)) tt)
     (order (map_place t m) (length shapes)))

@@ -2,7 +2,7 @@
 use Rattle.std.proofs.Common.{◌≡◌, ◌≢◌, ◌∙◌, ◌⊎◌, ⊎_elim, ℕ, zero, suc, ◌+◌, ◌*◌, ◌<◌, ◌≤◌, List, [], ◌∷◌, length, take, drop, slice_index_or, slice_set, Option, Some, None, IfSome, false, option_map, refl, sym, ap, subst, arith, length-set}
 use Rattle.std.specs.List.{concat}
 use Rattle.std.proofs.lemmas.List.{get_or-set_same, get_or-set_other, get_or_past, length-take-le}
-use Rattle.host_types.specs.declared.options.Options.{Options}
+use Rattle.page_table.specs.declared.pass.Pass.{Pass}
 use Rattle.host_types.specs.declared.shape.Shape.{Shape}
 use Rattle.host_types.specs.declared.shape.Page.{Page}
 use Rattle.host_types.specs.Bytes.{part_of, with_part}
@@ -96,7 +96,7 @@ module _ (shape : Shape) (pages : List (List ℕ)) (n at : ℕ) (bytes : List �
               ∙ ap length (get_or-set_same pages n written [] inside_page)
               ∙ length-with_part (slice_index_or pages n []) at bytes (omega (arith, long, in_page)) ∙ long
 
-module _ (table new : TableState) (shapes : List (Option Shape)) (tenants : List Tenant) (options : Options) (reserved : ℕ) (page : Page) (at : ℕ) (bytes : List ℕ) (is : IsMemory table shapes tenants reserved) (there : IsPageOf (view_of table shapes tenants options) page) (in_page : at + length bytes ≤ 4096) (in_map : page.number * 4096 + at + length bytes ≤ length (bytes_of_map (view_of table shapes tenants options) page))
+module _ (table new : TableState) (shapes : List (Option Shape)) (tenants : List Tenant) (pass : Pass) (reserved : ℕ) (page : Page) (at : ℕ) (bytes : List ℕ) (is : IsMemory table shapes tenants reserved) (there : IsPageOf (view_of table shapes tenants pass) page) (in_page : at + length bytes ≤ 4096) (in_map : page.number * 4096 + at + length bytes ≤ length (bytes_of_map (view_of table shapes tenants pass) page))
     (contents : contents_of new ≡ slice_set (contents_of table) (page_place page) (with_part (slice_index_or (contents_of table) (page_place page) []) at bytes))
     (entries : new.entries ≡ table.entries) (groups : new.groups ≡ table.groups) (arena : length new.arena ≡ length table.arena) where
   abbrev k : ℕ
@@ -106,10 +106,10 @@ module _ (table new : TableState) (shapes : List (Option Shape)) (tenants : List
   old_pages = part_of (contents_of table) (k * 256) 256
 
   abbrev loc : IsLocated shapes (contents_of table) page.tenant page.map (page.number * 4096)
-  loc = page_located table shapes tenants options reserved page is there
+  loc = page_located table shapes tenants pass reserved page is there
 
   number : page.number < page_count loc.shape
-  number = page_number table shapes tenants options reserved page is there
+  number = page_number table shapes tenants pass reserved page is there
 
   small : page.number < 256
   small = let few = few_pages loc.shape loc.pages.shaped in let h = number in omega arith
@@ -117,7 +117,7 @@ module _ (table new : TableState) (shapes : List (Option Shape)) (tenants : List
   in_bytes : page.number * 4096 + at + length bytes ≤ byte_len_of loc.shape
   unfolding view_of part
   in_bytes =
-      let long : length (bytes_of_map (view_of table shapes tenants options) page) ≡ length (take (byte_len_of loc.shape) (concat old_pages)) = ap (λ flat. length (bytes_in flat)) loc.flat in
+      let long : length (bytes_of_map (view_of table shapes tenants pass) page) ≡ length (take (byte_len_of loc.shape) (concat old_pages)) = ap (λ flat. length (bytes_in flat)) loc.flat in
       let whole_is = length-concat old_pages (page_count loc.shape) loc.pages.there loc.pages.none in
       let front = length-take-le (byte_len_of loc.shape) (concat old_pages) (omega arith) in
       omega (arith, in_map, long, front)
@@ -158,10 +158,10 @@ module _ (table new : TableState) (shapes : List (Option Shape)) (tenants : List
       }
 
   abbrev before : MemoryState
-  before = view_of table shapes tenants options
+  before = view_of table shapes tenants pass
 
   abbrev after : MemoryState
-  after = view_of new shapes tenants options
+  after = view_of new shapes tenants pass
 
   maps_after : after.maps ≡ slice_set before.maps k (Some flat_new)
   unfolding view_of
@@ -219,7 +219,7 @@ entry_of_state P (None ∷ xs) zero h = tt
 entry_of_state P (Some x ∷ xs) zero h = h
 entry_of_state P (x ∷ xs) (suc i) h = entry_of_state P xs i h
 
-pub own_entry : (table : TableState) (shapes : List (Option Shape)) (tenants : List Tenant) (options : Options) (page : Page) → IsOwn (view_of table shapes tenants options) page
+pub own_entry : (table : TableState) (shapes : List (Option Shape)) (tenants : List Tenant) (pass : Pass) (page : Page) → IsOwn (view_of table shapes tenants pass) page
     → IfSome (entry_at table.entries (page_place page)) (λ entry. is_shared entry.status ≡ false)
 unfolding view_of
-own_entry table shapes tenants options page own = entry_of_state (λ state. is_shared state.status ≡ false) table.entries (page_place page) own
+own_entry table shapes tenants pass page own = entry_of_state (λ state. is_shared state.status ≡ false) table.entries (page_place page) own

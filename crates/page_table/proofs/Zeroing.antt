@@ -1,15 +1,16 @@
 -- A page of zeros moves to the zero frame.
 use Rattle.std.proofs.Common.{◌≡◌, ◌∙◌, ⊎_elim, ℕ, ◌<◌, ◌≤◌, ◌==◌, true, false, [], slice_index_or, slice_set, Option, Some, IfSome, option_map, sym, ap, subst, arith}
 use Rattle.std.proofs.lemmas.List.{map-set}
-use Rattle.host_types.specs.declared.options.Options.{Options}
+use Rattle.page_table.specs.declared.pass.Pass.{Pass}
 use Rattle.host_types.specs.declared.status.Status.TheVariants.{Zero}
 use Rattle.host_types.specs.Sharing.{is_shared, with_status, state_at, zeroed}
 use Rattle.host_types.specs.Pages.{zero_page}
 use Rattle.frame_arena.specs.Pages.{page_at}
 use Rattle.page_table.specs.declared.entry.Entry.{Entry}
-use Rattle.page_table.specs.Table.{TableState, IsOwnAt, IsTable, IsGroup, LiesRight, times, entry_at, contents_of, groups_of, state_of, states_of, sharing_of, is_on}
+use Rattle.page_table.specs.Table.{TableState, IsOwnAt, IsTable, IsGroup, LiesRight, times, entry_at, contents_of, groups_of, state_of, states_of, sharing_of, forgets, is_on}
 use Rattle.page_table.proofs.Entries.{not_equal, places_on-set, groups-kept}
 use Rattle.page_table.proofs.Putting.{content_at}
+use Rattle.page_table.proofs.Waiters.{waiting-forgets}
 use Rattle.page_table.proofs.Moving.{IsMove, with_entry, state_here, lone}
 
 -- an entry of a page on the zero frame
@@ -61,12 +62,13 @@ module _ (table : TableState) (i : ℕ) (entry x : Entry) (move : IsMove table i
           let off : (entry.frame == g) ≡ false = not_equal g entry.frame (λ e. let none : times g table.groups ≡ 0 = ap (λ n. times n table.groups) (sym e) ∙ no_group in omega (arith, none, le)) in
           not_equal g x.frame (λ e. omega (arith, up, zero, e)) ∙ sym (ap (is_on g) here ∙ off)
 
-  pub sharing-zeroed : (options : Options) → sharing_of (with_entry table i x) options ≡ zeroed (sharing_of table options) i
+  pub sharing-zeroed : (pass : Pass) → sharing_of (with_entry table i x) (forgets i pass) ≡ zeroed (sharing_of table pass) i
   unfolding zeroed
-  sharing-zeroed options =
-      let page : Some (state_of x) ≡ option_map (with_status Zero) (state_at (sharing_of table options) i) =
-      ap Some to.state ∙ sym (ap (option_map (with_status Zero)) (state_here table i entry options here)) in
-      let pages : states_of (with_entry table i x).entries ≡ slice_set (states_of table.entries) i (option_map (with_status Zero) (state_at (sharing_of table options) i)) =
+  sharing-zeroed pass =
+      let page : Some (state_of x) ≡ option_map (with_status Zero) (state_at (sharing_of table pass) i) =
+      ap Some to.state ∙ sym (ap (option_map (with_status Zero)) (state_here table i entry pass here)) in
+      let pages : states_of (with_entry table i x).entries ≡ slice_set (states_of table.entries) i (option_map (with_status Zero) (state_at (sharing_of table pass) i)) =
       map-set (option_map state_of) table.entries i (Some x) ∙ ap (slice_set (states_of table.entries) i) page in
       let groups = groups-zeroed in
+      let waiting = waiting-forgets i pass.waiting.listed in
       cc

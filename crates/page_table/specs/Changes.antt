@@ -1,5 +1,5 @@
 -- What the calls change, and when they refuse.
-use Rattle.std.specs.Prelude.{◌≡◌, ◌≢◌, ℕ, ◌*◌, ◌<◌, ◌≤◌, Bool, true, false, List, length, replicate, slice_set, Some, IsSome, IfSome, IsNone, option_map}
+use Rattle.std.specs.Prelude.{◌≡◌, ◌≢◌, ℕ, ◌*◌, ◌<◌, ◌≤◌, Bool, true, false, List, [], ◌∷◌, find, length, replicate, slice_set, Option, None, Some, IsSome, IfSome, IsNone, option_map}
 use Rattle.host_types.specs.declared.fault.Fault.{Fault}
 use Rattle.host_types.specs.declared.fault.Fault.TheVariants.{NoFrames, TooManyMaps, BadShape, BadOption, OutOfMemory, BadTenant}
 use Rattle.host_types.specs.declared.options.Options.{Options}
@@ -12,8 +12,9 @@ use Rattle.host_types.specs.Pages.{page_place}
 use Rattle.host_types.specs.Shapes.{IsShape, byte_len_of}
 use Rattle.host_types.specs.Sharing.{Sharing, state_at, new_page, is_shared}
 use Rattle.host_types.specs.Tenant.{TenantPart}
+use Rattle.host_types.specs.Visits.{Contents, contents_in, is_open, is_partner, is_waiting}
 use Rattle.page_table.specs.Limits.{AreLimits, page_count}
-use Rattle.page_table.specs.State.{MemoryState, part, bytes_of_map, free_number, have_of}
+use Rattle.page_table.specs.State.{MemoryState, part, bytes_of_map, free_number, frame_at, have_of}
 
 -- a map whose bytes are all zero
 abbrev pub zero_map : Shape → FlatMap
@@ -60,6 +61,30 @@ IsOwn memory page = IfSome (state_at memory.sharing (page_place page)) (λ state
 abbrev pub MayMerge : MemoryState → Page → Type 0
 MayMerge memory page =
     IfSome (state_at memory.sharing (page_place page)) (λ state. (state.mergeable ≡ true) × (is_shared state.status ≡ false))
+
+-- the page is not on the waiting list
+abbrev pub IsNotWaiting : MemoryState → Page → Type 0
+IsNotWaiting memory page = is_waiting memory.sharing (page_place page) ≡ false
+
+-- the bytes of the page at each place
+abbrev pub contents_now : MemoryState → Contents
+contents_now memory = contents_in memory.maps
+
+-- the frame of a group's pages, which is that of its first one
+abbrev pub frame_of_group : MemoryState → Option (List ℕ) → Option ℕ
+frame_of_group memory None = None
+frame_of_group memory (Some []) = None
+frame_of_group memory (Some (i ∷ places)) = frame_at memory i
+
+-- the frame of the earliest group that is open to a page
+abbrev pub open_frame : MemoryState → ℕ → Option ℕ
+open_frame memory i =
+    frame_of_group memory (find (is_open (contents_now memory) memory.sharing (contents_now memory i)) memory.sharing.groups)
+
+-- the earliest page that waits for the page's bytes, by its place
+abbrev pub partner_place : MemoryState → ℕ → ℕ → Option ℕ
+partner_place memory i fingerprint =
+    option_map (λ (entry : ℕ × ℕ). entry.0) (find (is_partner (contents_now memory) fingerprint (contents_now memory i)) memory.sharing.waiting)
 
 -- the pages of a new map, which were never visited
 unfoldable pub with_new_pages : Sharing → ℕ → ℕ → Bool → Sharing

@@ -1,5 +1,5 @@
 -- What a page table reads as: the page and status at each place, and which places lie on one frame.
-use Rattle.std.specs.Prelude.{◌≡◌, ◌⊎◌, ℕ, zero, suc, ◌+◌, ◌-◌, ◌*◌, ◌<◌, ◌≤◌, ◌==◌, nat_lt, Bool, false, if◌then◌else◌, List, [], ◌∷◌, length, map, take, drop, replicate, sum_by, slice_index_or, Option, None, Some, option_map, unwrap_or, IfSome}
+use Rattle.std.specs.Prelude.{◌≡◌, ◌≢◌, ◌⊎◌, ℕ, zero, suc, ◌+◌, ◌-◌, ◌*◌, ◌<◌, ◌≤◌, ◌==◌, ◌&&◌, nat_lt, not, bytes_eq, Bool, false, if◌then◌else◌, List, [], ◌∷◌, length, map, filter, take, drop, replicate, sum_by, slice_index_or, Option, None, Some, option_map, unwrap_or, IfSome}
 use Rattle.std.specs.List.{concat}
 use Rattle.host_types.specs.declared.shape.Shape.{Shape}
 use Rattle.host_types.specs.declared.options.Options.{Options}
@@ -8,10 +8,12 @@ use Rattle.host_types.specs.declared.status.Status.TheVariants.{New, Volatile, W
 use Rattle.host_types.specs.Bytes.{part_of}
 use Rattle.host_types.specs.Memory.{FlatMap, FlatMaps}
 use Rattle.host_types.specs.Shapes.{IsShape, byte_len_of}
-use Rattle.host_types.specs.Sharing.{Sharing, PageState, own_frame, is_shared, cost_of}
+use Rattle.host_types.specs.Sharing.{Sharing, PageState, own_frame, is_shared, cost_of, joined_by}
 use Rattle.host_types.specs.Pages.{zero_page}
 use Rattle.frame_arena.specs.Pages.{page_at}
+use Rattle.unstable_tree.specs.declared.tree.Waiter.{Waiter}
 use Rattle.page_table.specs.declared.entry.Entry.{Entry}
+use Rattle.page_table.specs.declared.pass.Pass.{Pass}
 use Rattle.page_table.specs.Limits.{page_count}
 
 -- how often a number occurs in a list
@@ -163,10 +165,23 @@ pub record AreMaps (shapes : List (Option Shape)) (contents : List (List ℕ)) :
   pub places : length contents ≡ length shapes * 256
   pub each : (k : ℕ) → k < length shapes → ArePages (slice_index_or shapes k None) (part_of contents (k * 256) 256)
 
--- what a table tells of the pages that share frames
-abbrev pub sharing_of : TableState → Options → Sharing
-sharing_of table options =
-    record { pages = states_of table.entries; groups = groups_of table; waiting = []; cursor = None; options = options; full_scans = 0 }
+-- the start of the first pass, with room for so many waiting pages
+abbrev pub new_pass : ℕ → Options → Pass
+new_pass room options =
+    record { options = options; cursor = None; full_scans = 0; waiting = record { listed = []; room = room } }
+
+-- a waiting page, as callers see it
+abbrev pub waiting_of : Waiter → ℕ × ℕ
+waiting_of waiter = (waiter.place, waiter.fingerprint)
+
+-- the pass without a waiting page
+abbrev pub forgets : ℕ → Pass → Pass
+forgets i pass = record pass { waiting = record pass.waiting { listed = filter (λ w. not (w.place == i)) pass.waiting.listed } }
+
+-- what a table and a pass tell of the pages that share frames
+abbrev pub sharing_of : TableState → Pass → Sharing
+sharing_of table pass =
+    record { pages = states_of table.entries; groups = groups_of table; waiting = map waiting_of pass.waiting.listed; cursor = pass.cursor; options = pass.options; full_scans = pass.full_scans }
 
 -- how many frames the break of a page takes, told by the pages that lie on its frame
 unfoldable pub cost_at : TableState → ℕ → ℕ
@@ -176,3 +191,24 @@ cost_at table i =
 -- the page at a place has a frame of its own
 abbrev pub IsOwnAt : TableState → ℕ → Type 0
 IsOwnAt table i = IfSome (entry_at table.entries i) (λ entry. is_shared entry.status ≡ false)
+
+-- every page with a frame of its own stays as it is
+abbrev pub AreOwnKept : TableState → TableState → Type 0
+AreOwnKept old new =
+    (i : ℕ) (entry : Entry) → entry_at old.entries i ≡ Some entry → is_shared entry.status ≡ false → entry_at new.entries i ≡ Some entry
+
+-- every page but the one at a place stays as it is
+abbrev pub AreOthersKept : ℕ → TableState → TableState → Type 0
+AreOthersKept place old new = (i : ℕ) → i ≢ place → entry_at new.entries i ≡ entry_at old.entries i
+
+-- the frame of a group has these bytes, and fewer pages lie on it than the limit
+abbrev pub is_open_frame : TableState → List ℕ → ℕ → ℕ → Bool
+is_open_frame table bytes limit f = bytes_eq (page_at table.arena f) bytes && nat_lt (pages_on f table.entries) limit
+
+-- a page of a group, at whose place another page joins the group of the frame
+abbrev pub joined_on : TableState → ℕ → ℕ → ℕ → List ℕ
+joined_on table i f g = if g == f then joined_by i (places_on 0 g table.entries) else places_on 0 g table.entries
+
+-- a page with another status and fingerprint
+abbrev pub marked : Status → ℕ → PageState → PageState
+marked status last state = record state { status = status; last = Some last }

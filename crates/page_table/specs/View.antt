@@ -1,18 +1,22 @@
 -- How a memory's parts read together, and what holds of them.
-use Rattle.std.specs.Prelude.{◌≡◌, ℕ, ◌+◌, ◌*◌, ◌≤◌, List, length, sum_by, Option}
-use Rattle.host_types.specs.declared.options.Options.{Options}
+use Rattle.std.specs.Prelude.{◌≡◌, ℕ, ◌+◌, ◌*◌, ◌<◌, ◌≤◌, ◌==◌, nat_le, Bool, true, false, List, [], ◌∷◌, length, sum_by, Option, None, Some, IfSome, ⊤}
+use Rattle.std.specs.List.{list_any}
 use Rattle.host_types.specs.declared.shape.Shape.{Shape}
+use Rattle.host_types.specs.declared.status.Status.TheVariants.{Waiting}
+use Rattle.unstable_tree.specs.declared.tree.Waiter.{Waiter}
+use Rattle.page_table.specs.declared.entry.Entry.{Entry}
+use Rattle.page_table.specs.declared.pass.Pass.{Pass}
 use Rattle.page_table.specs.declared.tenant.Tenant.{Tenant}
 use Rattle.page_table.specs.State.{MemoryState}
-use Rattle.page_table.specs.Table.{TableState, AreMaps, maps_of, contents_of, frames_of, sharing_of, used_by}
+use Rattle.page_table.specs.Table.{TableState, entry_at, AreMaps, maps_of, contents_of, frames_of, sharing_of, used_by}
 
 -- what callers see of a memory
-unfoldable pub view_of : TableState → List (Option Shape) → List Tenant → Options → MemoryState
-view_of table shapes tenants options =
+unfoldable pub view_of : TableState → List (Option Shape) → List Tenant → Pass → MemoryState
+view_of table shapes tenants pass =
     record {
       tenants = tenants;
       maps = maps_of shapes (contents_of table);
-      sharing = sharing_of table options;
+      sharing = sharing_of table pass;
       arena = table.arena;
       frames = frames_of table.entries;
     }
@@ -25,3 +29,32 @@ pub record IsMemory (table : TableState) (shapes : List (Option Shape)) (tenants
   pub frames : length table.arena ≤ 4096
   pub sum : reserved ≡ sum_by (λ (tenant : Tenant). tenant.reserve) tenants
   pub room : reserved + used_by table ≤ length table.arena
+
+-- a page waits at the place
+abbrev pub is_listed : ℕ → List Waiter → Bool
+is_listed i waiters = list_any (λ w. w.place == i) waiters
+
+-- the page at a place was visited in this pass
+abbrev pub is_behind : Option ℕ → ℕ → Bool
+is_behind None i = true
+is_behind (Some c) i = nat_le i c
+
+-- a waiting page has a frame of its own, is told to wait, and was visited in this pass
+pub record IsWaiter (entries : List (Option Entry)) (cursor : Option ℕ) (w : Waiter) : Type 0 where
+  pub entry : Entry
+  pub here : entry_at entries w.place ≡ Some entry
+  pub frame : entry.frame ≡ w.frame
+  pub status : entry.status ≡ Waiting
+  pub mergeable : entry.mergeable ≡ true
+  pub behind : is_behind cursor w.place ≡ true
+
+-- pages that wait, each at a place of its own
+abbrev pub AreWaiters : List (Option Entry) → Option ℕ → List Waiter → Type 0
+AreWaiters entries cursor [] = ⊤
+AreWaiters entries cursor (w ∷ ws) = IsWaiter entries cursor w × (is_listed w.place ws ≡ false) × AreWaiters entries cursor ws
+
+-- the pass fits the table
+pub record IsPass (table : TableState) (pass : Pass) : Type 0 where
+  pub waiters : AreWaiters table.entries pass.cursor pass.waiting.listed
+  pub room : length table.arena ≤ pass.waiting.room
+  pub cursor : IfSome pass.cursor (λ c. c < 32768)

@@ -6,6 +6,7 @@
 mod counts;
 mod entry;
 mod memory;
+mod pass;
 mod table;
 mod tenant;
 #[cfg(test)]

@@ -11,9 +11,11 @@ ghost use Rattle.page_table.specs.Limits.{AreLimits, page_count, shape_of};
 ghost use Rattle.page_table.specs.State.{MemoryState, part, bytes_of_map, free_number, new_memory, free_of, have_of, frame_at};
 ghost use Rattle.page_table.specs.Reads.{ReadsAs};
 ghost use Rattle.page_table.specs.Changes.{zero_map, part_written, part_created, AreKept, MayMerge, IsKeptBut, AreMapsKeptBut, KeepsSettings, IsPageOf, IsOwn, with_new_pages, FitsMap, RefusesMap, RefusesMemory};
-ghost use Rattle.page_table.specs.Table.{state_of, states_of, contents_of, groups_of, used_by};
+ghost use Rattle.page_table.specs.declared.entry.Entry.{Entry};
+ghost use Rattle.page_table.specs.Table.{state_of, states_of, contents_of, groups_of, used_by, entry_at};
 
 use crate::entry::Entry;
+use crate::pass::Pass;
 use crate::table::Table;
 use crate::tenant::Tenant;
 use frame_arena::{FrameArena, PAGE_SIZE};
@@ -43,18 +45,19 @@ pub struct Memory {
     tenants: Vec<Tenant>,
     // the sum of the tenants' reserves
     reserved: u32,
-    options: Options,
+    pass: Pass,
 }
 
 impl Model for Memory {
     ghost use Rattle.page_table.specs.State.{MemoryState};
-    ghost use Rattle.page_table.specs.View.{view_of, IsMemory};
+    ghost use Rattle.page_table.specs.View.{view_of, IsMemory, IsPass};
 
     ghost Value = { MemoryState };
 
-    ghost view = { λ m. view_of m.table m.shapes.items m.tenants.items m.options };
+    ghost view = { λ m. view_of m.table m.shapes.items m.tenants.items m.pass };
 
-    ghost invariant = { λ m. IsMemory m.table m.shapes.items m.tenants.items m.reserved };
+    ghost invariant = { λ m.
+        IsMemory m.table m.shapes.items m.tenants.items m.reserved × IsPass m.table m.pass };
 }
 
 /// Whether a memory may have this size.
@@ -124,12 +127,13 @@ impl Memory {
         let table = Table::new(alloc, frames, tenants * 2048)?;
         let shapes = vec![in alloc; None; tenants as usize * MAX_MAPS]?;
         let tenants = vec![in alloc; Tenant { reserve: 0 }; tenants as usize]?;
+        let pass = Pass::new(alloc, frames, options)?;
         Ok(Memory {
             table,
             shapes,
             tenants,
             reserved: 0,
-            options,
+            pass,
         })
     }
 
@@ -146,7 +150,7 @@ impl Memory {
     pub fn options(&self) -> Options
         ensures { result ≡ self.now.sharing.options }
     {
-        self.options
+        self.pass.options
     }
 
     /// How many frames no page has, the zero frame aside.
@@ -367,7 +371,11 @@ impl Memory {
         ensures have { have_of self.new ≡ have_of self.old + 1 }
         ensures settings { KeepsSettings self.old self.new }
     {
-        self.table.pair(place_of(first), place_of(second));
+        let first = place_of(first);
+        let second = place_of(second);
+        self.table.pair(first, second);
+        self.pass.waiting.forget(second);
+        self.pass.waiting.forget(first);
     }
 
     /// Puts a page of zeros on the zero frame; its own frame is free then. It may be merged, and
@@ -383,7 +391,9 @@ impl Memory {
         ensures have { have_of self.new ≡ have_of self.old + 1 }
         ensures settings { KeepsSettings self.old self.new }
     {
-        self.table.zero(place_of(page));
+        let place = place_of(page);
+        self.table.zero(place);
+        self.pass.waiting.forget(place);
     }
 }
 
@@ -427,6 +437,8 @@ fn add_pages(table: &mut Table, first: usize, count: u32, mergeable: bool)
     ensures groups { groups_of table.new ≡ groups_of table.old }
     ensures used { used_by table.new ≡ used_by table.old + count }
     ensures arena { length table.new.arena ≡ length table.old.arena }
+    ensures kept { (i : ℕ) (entry : Entry) →
+        entry_at table.old.entries i ≡ Some entry → entry_at table.new.entries i ≡ Some entry }
 {
     for number in 0..count {
         table.add(first + number as usize, mergeable);

@@ -1,11 +1,13 @@
-ghost use Rattle.std.specs.Prelude.{◌≡◌, ◌≢◌, ◌+◌, ◌<◌, ◌≤◌, true, false, [], ◌∷◌, ◌++◌, All, length, replicate, slice_index_or, slice_set, Option, Some, None, IfOk, IfSome, ℕ};
+ghost use Rattle.std.specs.Prelude.{◌≡◌, ◌≢◌, ◌+◌, ◌<◌, ◌≤◌, true, false, [], ◌∷◌, ◌++◌, All, drop, find, map, option_map, length, replicate, slice_index_or, slice_set, Option, Some, None, IfOk, IfSome, ℕ};
 ghost use Rattle.host_types.specs.Bytes.{with_part};
-ghost use Rattle.host_types.specs.declared.options.Options.{Options};
-ghost use Rattle.host_types.specs.Sharing.{new_page, is_shared, broken, break_cost, broken_from, cost_from, paired, zeroed};
+ghost use Rattle.page_table.specs.declared.pass.Pass.{Pass};
+ghost use Rattle.host_types.specs.declared.status.Status.TheVariants.{Grouped};
+ghost use Rattle.host_types.specs.Sharing.{new_page, is_shared, broken, break_cost, broken_from, cost_from, paired, zeroed, with_status};
+ghost use Rattle.host_types.specs.Visits.{first_mergeable, is_mergeable, with_page};
 ghost use Rattle.host_types.specs.Pages.{zero_page};
-ghost use Rattle.frame_arena.specs.Pages.{IsPage};
+ghost use Rattle.frame_arena.specs.Pages.{IsPage, page_at};
 ghost use Rattle.page_table.specs.declared.entry.Entry.{Entry};
-ghost use Rattle.page_table.specs.Table.{TableState, CountsState, AreCounts, IsSound, IsEntry, IsPageAt, IsOwnAt, entry_at, states_of, contents_of, groups_of, sharing_of, used_by, cost_at, is_on, pages_on, one_if_zero};
+ghost use Rattle.page_table.specs.Table.{TableState, CountsState, AreCounts, IsSound, IsEntry, IsPageAt, IsOwnAt, AreOwnKept, AreOthersKept, entry_at, states_of, contents_of, groups_of, sharing_of, forgets, used_by, cost_at, is_on, pages_on, one_if_zero, times, state_of, is_open_frame, joined_on, marked};
 
 use crate::counts::FrameCounts;
 use crate::entry::Entry;
@@ -75,8 +77,8 @@ impl Table {
 
     /// What the break of a page takes is told by the pages on its frame, as the sharing has it.
     pub(crate) fn costs_are_told(&self)
-        ensures { (options : Options) (i : ℕ) →
-            break_cost (sharing_of self.now options) i ≡ cost_at self.now i }
+        ensures { (pass : Pass) (i : ℕ) →
+            break_cost (sharing_of self.now pass) i ≡ cost_at self.now i }
     {
         // a look at a field tells the invariant
         let _entries = &self.entries;
@@ -127,6 +129,8 @@ impl Table {
         ensures used { used_by self.new ≡ used_by self.old + 1 }
         ensures arena { length self.new.arena ≡ length self.old.arena }
         ensures entries { length self.new.entries ≡ length self.old.entries }
+        ensures kept { (i : ℕ) (entry : Entry) →
+            entry_at self.old.entries i ≡ Some entry → entry_at self.new.entries i ≡ Some entry }
     {
         let frame = self.counts.take();
         self.arena.clear(frame);
@@ -172,7 +176,7 @@ impl Table {
     /// first place on, each counted after the breaks before it.
     pub(crate) fn break_costs(&self, first: usize, count: u32) -> u32
         requires { first + count ≤ length self.now.entries }
-        ensures { (options : Options) → result ≡ cost_from (sharing_of self.now options) first count }
+        ensures { (pass : Pass) → result ≡ cost_from (sharing_of self.now pass) first count }
     {
         let mut cost = 0;
         for number in 0..count {
@@ -185,8 +189,8 @@ impl Table {
     /// it: of the pages on its frame, these are gone then.
     fn cost_after(&self, first: usize, number: usize) -> u32
         requires { first + number < length self.now.entries }
-        ensures cost { (options : Options) → result ≡
-            break_cost (broken_from (sharing_of self.now options) first number) (first + number) }
+        ensures cost { (pass : Pass) → result ≡
+            break_cost (broken_from (sharing_of self.now pass) first number) (first + number) }
         ensures small { result ≤ 1 }
     {
         let (_, run) = self.entries.split_at(first);
@@ -206,9 +210,10 @@ impl Table {
         requires there { IsPageAt self.old place }
         requires room { used_by self.old + cost_at self.old place ≤ length self.old.arena }
         ensures contents { contents_of self.new ≡ contents_of self.old }
-        ensures sharing { (options : Options) →
-            sharing_of self.new options ≡ broken (sharing_of self.old options) place }
+        ensures sharing { (pass : Pass) →
+            sharing_of self.new pass ≡ broken (sharing_of self.old pass) place }
         ensures own { IsOwnAt self.new place }
+        ensures kept { AreOwnKept self.old self.new }
         ensures used { used_by self.new ≡ used_by self.old + cost_at self.old place }
         ensures arena { length self.new.arena ≡ length self.old.arena }
     {
@@ -232,9 +237,10 @@ impl Table {
         requires company { 1 < one_if_zero entry.frame + pages_on entry.frame self.old.entries }
         requires room { used_by self.old < length self.old.arena }
         ensures contents { contents_of self.new ≡ contents_of self.old }
-        ensures sharing { (options : Options) →
-            sharing_of self.new options ≡ broken (sharing_of self.old options) place }
+        ensures sharing { (pass : Pass) →
+            sharing_of self.new pass ≡ broken (sharing_of self.old pass) place }
         ensures own { IsOwnAt self.new place }
+        ensures kept { AreOwnKept self.old self.new }
         ensures used { used_by self.new ≡ used_by self.old + 1 }
         ensures arena { length self.new.arena ≡ length self.old.arena }
     {
@@ -250,9 +256,10 @@ impl Table {
         requires shared { is_shared entry.status ≡ true }
         requires last { one_if_zero entry.frame + pages_on entry.frame self.old.entries ≡ 1 }
         ensures contents { contents_of self.new ≡ contents_of self.old }
-        ensures sharing { (options : Options) →
-            sharing_of self.new options ≡ broken (sharing_of self.old options) place }
+        ensures sharing { (pass : Pass) →
+            sharing_of self.new pass ≡ broken (sharing_of self.old pass) place }
         ensures own { IsOwnAt self.new place }
+        ensures kept { AreOwnKept self.old self.new }
         ensures used { used_by self.new ≡ used_by self.old }
         ensures arena { length self.new.arena ≡ length self.old.arena }
     {
@@ -269,8 +276,10 @@ impl Table {
         requires own_second { IsOwnAt self.old second }
         requires same { slice_index_or (contents_of self.old) first [] ≡ slice_index_or (contents_of self.old) second [] }
         ensures contents { contents_of self.new ≡ contents_of self.old }
-        ensures sharing { (options : Options) →
-            sharing_of self.new options ≡ paired (sharing_of self.old options) first second }
+        ensures others { (i : ℕ) → i ≢ first → i ≢ second →
+            entry_at self.new.entries i ≡ entry_at self.old.entries i }
+        ensures sharing { (pass : Pass) →
+            sharing_of self.new (forgets first (forgets second pass)) ≡ paired (sharing_of self.old pass) first second }
         ensures used { used_by self.new + 1 ≡ used_by self.old }
         ensures arena { length self.new.arena ≡ length self.old.arena }
     {
@@ -290,8 +299,9 @@ impl Table {
         requires own { IsOwnAt self.old place }
         requires zeros { slice_index_or (contents_of self.old) place [] ≡ zero_page }
         ensures contents { contents_of self.new ≡ contents_of self.old }
-        ensures sharing { (options : Options) →
-            sharing_of self.new options ≡ zeroed (sharing_of self.old options) place }
+        ensures others { AreOthersKept place self.old self.new }
+        ensures sharing { (pass : Pass) →
+            sharing_of self.new (forgets place pass) ≡ zeroed (sharing_of self.old pass) place }
         ensures used { used_by self.new + 1 ≡ used_by self.old }
         ensures arena { length self.new.arena ≡ length self.old.arena }
     {
@@ -299,6 +309,94 @@ impl Table {
         self.entries[place] = Some(entry.merged(ZERO_FRAME, Status::Zero));
         self.counts.share(ZERO_FRAME);
         self.counts.release(entry.frame);
+    }
+}
+
+impl Table {
+    /// The first page from a place on that may be merged.
+    pub(crate) fn next_mergeable(&self, from: usize) -> Option<usize>
+        ensures { result ≡ first_mergeable from (drop from (states_of self.now.entries)) }
+    {
+        for place in from..self.entries.len() {
+            if may_merge(&self.entries[place]) {
+                return Some(place);
+            }
+        }
+        None
+    }
+
+    /// The frame of the earliest group of a frame's bytes with fewer pages than the limit.
+    pub(crate) fn open_group(&self, frame: u32, limit: u32) -> Option<u32>
+        requires { frame < length self.now.arena }
+        ensures { result ≡ find (is_open_frame self.now (page_at self.now.arena frame) limit) self.now.groups }
+    {
+        for group in &self.groups {
+            if self.is_open(*group, frame, limit) {
+                return Some(*group);
+            }
+        }
+        None
+    }
+
+    /// Whether a group has a frame's bytes, and fewer pages than the limit.
+    fn is_open(&self, group: u32, frame: u32, limit: u32) -> bool
+        requires frame { frame < length self.now.arena }
+        requires group { 1 ≤ times group self.now.groups }
+        ensures { result ≡ is_open_frame self.now (page_at self.now.arena frame) limit group }
+    {
+        self.counts.count(group) < limit && self.arena.same(group, frame)
+    }
+
+    /// Moves a page, which has its own frame, to the frame of a group of the same bytes.
+    pub(crate) fn join(&mut self, place: usize, frame: u32)
+        requires there { IsPageAt self.old place }
+        requires own { IsOwnAt self.old place }
+        requires group { 1 ≤ times frame self.old.groups }
+        requires same { slice_index_or (contents_of self.old) place [] ≡ page_at self.old.arena frame }
+        ensures contents { contents_of self.new ≡ contents_of self.old }
+        ensures states { states_of self.new.entries ≡ slice_set (states_of self.old.entries) place
+            (option_map (with_status Grouped) (slice_index_or (states_of self.old.entries) place None)) }
+        ensures groups { groups_of self.new ≡ map (joined_on self.old place frame) self.old.groups }
+        ensures used { used_by self.new + 1 ≡ used_by self.old }
+        ensures arena { length self.new.arena ≡ length self.old.arena }
+        ensures others { AreOthersKept place self.old self.new }
+    {
+        let entry = self.page(place);
+        self.entries[place] = Some(entry.merged(frame, Status::Grouped));
+        self.counts.share(frame);
+        self.counts.release(entry.frame);
+    }
+
+    /// Gives a page, which keeps its own frame, another status and fingerprint.
+    pub(crate) fn mark(&mut self, place: usize, status: Status, last: u64)
+        requires there { IsPageAt self.old place }
+        requires own { IsOwnAt self.old place }
+        requires status { is_shared status ≡ false }
+        ensures contents { contents_of self.new ≡ contents_of self.old }
+        ensures sharing { (pass : Pass) →
+            sharing_of self.new pass ≡ with_page (sharing_of self.old pass) place (marked status last) }
+        ensures used { used_by self.new ≡ used_by self.old }
+        ensures arena { self.new.arena ≡ self.old.arena }
+        ensures others { AreOthersKept place self.old self.new }
+        ensures here { (entry : Entry) → entry_at self.old.entries place ≡ Some entry →
+            entry_at self.new.entries place ≡ Some (record entry { status = status; last = Some last }) }
+    {
+        let entry = self.page(place);
+        self.entries[place] = Some(Entry {
+            status,
+            last: Some(last),
+            ..entry
+        });
+    }
+}
+
+/// Whether a page is there and may be merged.
+fn may_merge(entry: &Option<Entry>) -> bool
+    ensures { result ≡ is_mergeable (option_map state_of entry.now) }
+{
+    match entry {
+        Some(entry) => entry.mergeable,
+        None => false,
     }
 }
 

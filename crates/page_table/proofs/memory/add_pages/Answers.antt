@@ -14,6 +14,7 @@ loop-number-init c =
       used = omega arith;
       arena = refl;
       entries = refl;
+      kept = λ i entry e. e;
     }
 
 pub overflow_add-first : goal.overflow_add-first
@@ -42,4 +43,5 @@ loop-number-preserved c =
       used = omega (arith, c.add.ensures.used, c.loop-number.invariant.used);
       arena = c.add.ensures.arena ∙ c.loop-number.invariant.arena;
       entries = c.add.ensures.entries ∙ c.loop-number.invariant.entries;
+      kept = λ i entry e. c.add.ensures.kept i entry (c.loop-number.invariant.kept i entry e);
     }

@@ -1,8 +1,9 @@
-use Rattle.std.proofs.Common.{◌≡◌, ◌+◌, length, replicate, Some}
+use Rattle.std.proofs.Common.{◌≡◌, ℕ, ◌+◌, length, replicate, Some}
 use Rattle.host_types.specs.Bytes.{with_part}
 use Rattle.host_types.specs.Sharing.{new_page}
 use Rattle.host_types.specs.Pages.{zero_page}
-use Rattle.page_table.specs.Table.{contents_of, states_of, groups_of, used_by}
+use Rattle.page_table.specs.declared.entry.Entry.{Entry}
+use Rattle.page_table.specs.Table.{contents_of, states_of, groups_of, used_by, entry_at}
 use Rattle.page_table.proofs.memory.add_pages.Given as goal
 
 abbrev pub invariant-loop-number : goal.invariant-loop-number
@@ -13,4 +14,5 @@ invariant-loop-number l = record {
   used : used_by l.table ≡ used_by l.fn.table + l.number;
   arena : length l.table.arena ≡ length l.fn.table.arena;
   entries : length l.table.entries ≡ length l.fn.table.entries;
+  kept : (i : ℕ) (entry : Entry) → entry_at l.fn.table.entries i ≡ Some entry → entry_at l.table.entries i ≡ Some entry;
 }

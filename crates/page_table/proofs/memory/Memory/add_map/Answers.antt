@@ -6,27 +6,28 @@ use Rattle.page_table.specs.Limits.{page_count}
 use Rattle.page_table.specs.Table.{contents_of, states_of, used_by}
 use Rattle.page_table.specs.View.{view_of}
 use Rattle.page_table.proofs.Creating.{Creates, memory_created, creates, index_inside, places_inside, few_entries, no_contents, tenant_inside, number_empty, room_inside}
+use Rattle.page_table.proofs.Waiters.{pass-kept, kept-own}
 use Rattle.page_table.proofs.memory.Memory.add_map.Goals as goal
 
 pub add_pages-requires-clause-there : goal.add_pages-requires-clause-there
 add_pages-requires-clause-there c =
-    let told = places_inside c.self.inside.table c.self.inside.shapes.items c.self.inside.tenants.items c.self.inside.options c.self.inside.reserved c.args.tenant c.args.number c.args.shape c.self.invariant c.requires.number (tenant_inside c.self.inside.table c.self.inside.shapes.items c.self.inside.tenants.items c.self.inside.options c.args.self.now c.self.view_is c.args.tenant c.requires.tenant) (number_empty c.self.inside.table c.self.inside.shapes.items c.self.inside.tenants.items c.self.inside.options c.args.self.now c.self.view_is c.args.tenant c.args.number c.requires.number c.requires.none) c.requires.shape in
+    let told = places_inside c.self.inside.table c.self.inside.shapes.items c.self.inside.tenants.items c.self.inside.pass c.self.inside.reserved c.args.tenant c.args.number c.args.shape c.self.invariant.0 c.requires.number (tenant_inside c.self.inside.table c.self.inside.shapes.items c.self.inside.tenants.items c.self.inside.pass c.args.self.now c.self.view_is c.args.tenant c.requires.tenant) (number_empty c.self.inside.table c.self.inside.shapes.items c.self.inside.tenants.items c.self.inside.pass c.args.self.now c.self.view_is c.args.tenant c.args.number c.requires.number c.requires.none) c.requires.shape in
     omega (arith, told, c.map_index-index.ensures, c.pages.ensures)
 
 pub add_pages-requires-clause-few : goal.add_pages-requires-clause-few
-add_pages-requires-clause-few c = few_entries c.self.inside.table c.self.inside.shapes.items c.self.inside.tenants.items c.self.inside.options c.self.inside.reserved c.args.tenant c.args.number c.args.shape c.self.invariant c.requires.number (tenant_inside c.self.inside.table c.self.inside.shapes.items c.self.inside.tenants.items c.self.inside.options c.args.self.now c.self.view_is c.args.tenant c.requires.tenant) (number_empty c.self.inside.table c.self.inside.shapes.items c.self.inside.tenants.items c.self.inside.options c.args.self.now c.self.view_is c.args.tenant c.args.number c.requires.number c.requires.none) c.requires.shape
+add_pages-requires-clause-few c = few_entries c.self.inside.table c.self.inside.shapes.items c.self.inside.tenants.items c.self.inside.pass c.self.inside.reserved c.args.tenant c.args.number c.args.shape c.self.invariant.0 c.requires.number (tenant_inside c.self.inside.table c.self.inside.shapes.items c.self.inside.tenants.items c.self.inside.pass c.args.self.now c.self.view_is c.args.tenant c.requires.tenant) (number_empty c.self.inside.table c.self.inside.shapes.items c.self.inside.tenants.items c.self.inside.pass c.args.self.now c.self.view_is c.args.tenant c.args.number c.requires.number c.requires.none) c.requires.shape
 
 pub add_pages-requires-clause-empty : goal.add_pages-requires-clause-empty
-add_pages-requires-clause-empty c = rw (c.map_index-index.ensures, c.pages.ensures) (no_contents c.self.inside.table c.self.inside.shapes.items c.self.inside.tenants.items c.self.inside.options c.self.inside.reserved c.args.tenant c.args.number c.args.shape c.self.invariant c.requires.number (tenant_inside c.self.inside.table c.self.inside.shapes.items c.self.inside.tenants.items c.self.inside.options c.args.self.now c.self.view_is c.args.tenant c.requires.tenant) (number_empty c.self.inside.table c.self.inside.shapes.items c.self.inside.tenants.items c.self.inside.options c.args.self.now c.self.view_is c.args.tenant c.args.number c.requires.number c.requires.none) c.requires.shape)
+add_pages-requires-clause-empty c = rw (c.map_index-index.ensures, c.pages.ensures) (no_contents c.self.inside.table c.self.inside.shapes.items c.self.inside.tenants.items c.self.inside.pass c.self.inside.reserved c.args.tenant c.args.number c.args.shape c.self.invariant.0 c.requires.number (tenant_inside c.self.inside.table c.self.inside.shapes.items c.self.inside.tenants.items c.self.inside.pass c.args.self.now c.self.view_is c.args.tenant c.requires.tenant) (number_empty c.self.inside.table c.self.inside.shapes.items c.self.inside.tenants.items c.self.inside.pass c.args.self.now c.self.view_is c.args.tenant c.args.number c.requires.number c.requires.none) c.requires.shape)
 
 pub add_pages-requires-clause-room : goal.add_pages-requires-clause-room
 add_pages-requires-clause-room c =
-    let told = (room_inside c.self.inside.table c.self.inside.shapes.items c.self.inside.tenants.items c.self.inside.options c.args.self.now c.self.view_is c.self.inside.reserved (page_count c.args.shape) c.self.invariant c.requires.room) in
+    let told = (room_inside c.self.inside.table c.self.inside.shapes.items c.self.inside.tenants.items c.self.inside.pass c.args.self.now c.self.view_is c.self.inside.reserved (page_count c.args.shape) c.self.invariant.0 c.requires.room) in
     omega (arith, told, c.pages.ensures)
 
 pub index_mut-requires : goal.index_mut-requires
 index_mut-requires c =
-    let told = index_inside c.self.inside.table c.self.inside.shapes.items c.self.inside.tenants.items c.self.inside.options c.self.inside.reserved c.args.tenant c.args.number c.args.shape c.self.invariant c.requires.number (tenant_inside c.self.inside.table c.self.inside.shapes.items c.self.inside.tenants.items c.self.inside.options c.args.self.now c.self.view_is c.args.tenant c.requires.tenant) (number_empty c.self.inside.table c.self.inside.shapes.items c.self.inside.tenants.items c.self.inside.options c.args.self.now c.self.view_is c.args.tenant c.args.number c.requires.number c.requires.none) c.requires.shape in
+    let told = index_inside c.self.inside.table c.self.inside.shapes.items c.self.inside.tenants.items c.self.inside.pass c.self.inside.reserved c.args.tenant c.args.number c.args.shape c.self.invariant.0 c.requires.number (tenant_inside c.self.inside.table c.self.inside.shapes.items c.self.inside.tenants.items c.self.inside.pass c.args.self.now c.self.view_is c.args.tenant c.requires.tenant) (number_empty c.self.inside.table c.self.inside.shapes.items c.self.inside.tenants.items c.self.inside.pass c.args.self.now c.self.view_is c.args.tenant c.args.number c.requires.number c.requires.none) c.requires.shape in
     omega (arith, told, c.map_index-index.ensures)
 
 contents : (c : goal.After-self-1) → contents_of c.add_pages.new.table ≡ with_part (contents_of c.self.inside.table) (map_place c.args.tenant c.args.number * 256) (replicate (page_count c.args.shape) zero_page)
@@ -40,13 +41,14 @@ used c = c.add_pages.ensures.used ∙ ap (λ (n : ℕ). used_by c.self.inside.ta
 
 pub invariant_of-self : goal.invariant_of-self
 invariant_of-self c =
-    rw c.map_index-index.ensures (memory_created c.self.inside.table c.add_pages.new.table c.self.inside.shapes.items c.self.inside.tenants.items c.self.inside.options c.self.inside.reserved c.args.tenant c.args.number c.args.shape c.args.mergeable
-    c.self.invariant c.requires.number (tenant_inside c.self.inside.table c.self.inside.shapes.items c.self.inside.tenants.items c.self.inside.options c.args.self.now c.self.view_is c.args.tenant c.requires.tenant) (number_empty c.self.inside.table c.self.inside.shapes.items c.self.inside.tenants.items c.self.inside.options c.args.self.now c.self.view_is c.args.tenant c.args.number c.requires.number c.requires.none) c.requires.shape (contents c) (states c) c.add_pages.ensures.groups (used c) c.add_pages.ensures.arena (room_inside c.self.inside.table c.self.inside.shapes.items c.self.inside.tenants.items c.self.inside.options c.args.self.now c.self.view_is c.self.inside.reserved (page_count c.args.shape) c.self.invariant c.requires.room))
+    (rw c.map_index-index.ensures (memory_created c.self.inside.table c.add_pages.new.table c.self.inside.shapes.items c.self.inside.tenants.items c.self.inside.pass c.self.inside.reserved c.args.tenant c.args.number c.args.shape c.args.mergeable
+    c.self.invariant.0 c.requires.number (tenant_inside c.self.inside.table c.self.inside.shapes.items c.self.inside.tenants.items c.self.inside.pass c.args.self.now c.self.view_is c.args.tenant c.requires.tenant) (number_empty c.self.inside.table c.self.inside.shapes.items c.self.inside.tenants.items c.self.inside.pass c.args.self.now c.self.view_is c.args.tenant c.args.number c.requires.number c.requires.none) c.requires.shape (contents c) (states c) c.add_pages.ensures.groups (used c) c.add_pages.ensures.arena (room_inside c.self.inside.table c.self.inside.shapes.items c.self.inside.tenants.items c.self.inside.pass c.args.self.now c.self.view_is c.self.inside.reserved (page_count c.args.shape) c.self.invariant.0 c.requires.room)),
+    pass-kept c.self.inside.table c.add_pages.new.table c.self.inside.pass c.self.invariant.1 (kept-own c.self.inside.table c.add_pages.new.table c.add_pages.ensures.kept) c.add_pages.ensures.arena)
 
-told : (c : goal.After-self-1) → Creates (view_of c.self.inside.table c.self.inside.shapes.items c.self.inside.tenants.items c.self.inside.options) (view_of c.add_pages.new.table (slice_set c.self.inside.shapes.items (map_place c.args.tenant c.args.number) (Some c.args.shape)) c.self.inside.tenants.items c.self.inside.options) c.args.tenant c.args.number c.args.shape c.args.mergeable
+told : (c : goal.After-self-1) → Creates (view_of c.self.inside.table c.self.inside.shapes.items c.self.inside.tenants.items c.self.inside.pass) (view_of c.add_pages.new.table (slice_set c.self.inside.shapes.items (map_place c.args.tenant c.args.number) (Some c.args.shape)) c.self.inside.tenants.items c.self.inside.pass) c.args.tenant c.args.number c.args.shape c.args.mergeable
 told c =
-    creates c.self.inside.table c.add_pages.new.table c.self.inside.shapes.items c.self.inside.tenants.items c.self.inside.options c.self.inside.reserved c.args.tenant c.args.number c.args.shape c.args.mergeable
-    c.self.invariant c.requires.number (tenant_inside c.self.inside.table c.self.inside.shapes.items c.self.inside.tenants.items c.self.inside.options c.args.self.now c.self.view_is c.args.tenant c.requires.tenant) (number_empty c.self.inside.table c.self.inside.shapes.items c.self.inside.tenants.items c.self.inside.options c.args.self.now c.self.view_is c.args.tenant c.args.number c.requires.number c.requires.none) c.requires.shape (contents c) (states c) c.add_pages.ensures.groups (used c) c.add_pages.ensures.arena (room_inside c.self.inside.table c.self.inside.shapes.items c.self.inside.tenants.items c.self.inside.options c.args.self.now c.self.view_is c.self.inside.reserved (page_count c.args.shape) c.self.invariant c.requires.room)
+    creates c.self.inside.table c.add_pages.new.table c.self.inside.shapes.items c.self.inside.tenants.items c.self.inside.pass c.self.inside.reserved c.args.tenant c.args.number c.args.shape c.args.mergeable
+    c.self.invariant.0 c.requires.number (tenant_inside c.self.inside.table c.self.inside.shapes.items c.self.inside.tenants.items c.self.inside.pass c.args.self.now c.self.view_is c.args.tenant c.requires.tenant) (number_empty c.self.inside.table c.self.inside.shapes.items c.self.inside.tenants.items c.self.inside.pass c.args.self.now c.self.view_is c.args.tenant c.args.number c.requires.number c.requires.none) c.requires.shape (contents c) (states c) c.add_pages.ensures.groups (used c) c.add_pages.ensures.arena (room_inside c.self.inside.table c.self.inside.shapes.items c.self.inside.tenants.items c.self.inside.pass c.args.self.now c.self.view_is c.self.inside.reserved (page_count c.args.shape) c.self.invariant.0 c.requires.room)
 
 pub returns-clause-created : goal.returns-clause-created
 returns-clause-created c = rw (← c.self.view_is, c.map_index-index.ensures) (told c).created

@@ -1,7 +1,7 @@
 use Rattle.std.proofs.Common.{◌∙◌, ◌+◌, ◌*◌, ◌<◌, ◌≤◌, length, ℕ, ap, arith, length-take, List, Option}
 use Rattle.std.specs.List.{concat}
 use Rattle.host_types.specs.Bytes.{part_of}
-use Rattle.host_types.specs.declared.options.Options.{Options}
+use Rattle.page_table.specs.declared.pass.Pass.{Pass}
 use Rattle.host_types.specs.declared.shape.Page.{Page}
 use Rattle.host_types.specs.declared.shape.Shape.{Shape}
 use Rattle.host_types.specs.Pages.{map_place, page_place}
@@ -17,13 +17,13 @@ use Rattle.page_table.proofs.Reading.{bytes_in, page_located}
 use Rattle.page_table.proofs.memory.Memory.break_costs.Goals as goal
 
 -- pages of one map are among the places
-run_inside : (table : TableState) (shapes : List (Option Shape)) (tenants : List Tenant) (options : Options) (reserved : ℕ) (page : Page) (count : ℕ)
-    → IsMemory table shapes tenants reserved → IsPageOf (view_of table shapes tenants options) page
-    → (page.number + count) * 4096 < length (bytes_of_map (view_of table shapes tenants options) page) + 4096
+run_inside : (table : TableState) (shapes : List (Option Shape)) (tenants : List Tenant) (pass : Pass) (reserved : ℕ) (page : Page) (count : ℕ)
+    → IsMemory table shapes tenants reserved → IsPageOf (view_of table shapes tenants pass) page
+    → (page.number + count) * 4096 < length (bytes_of_map (view_of table shapes tenants pass) page) + 4096
     → page_place page + count ≤ length table.entries
 unfolding view_of part
-run_inside table shapes tenants options reserved page count is there within =
-    let found = page_located table shapes tenants options reserved page is there in
+run_inside table shapes tenants pass reserved page count is there within =
+    let found = page_located table shapes tenants pass reserved page is there in
     let few = length-take (byte_len_of found.shape) (concat (part_of (contents_of table) (map_place page.tenant page.map * 256) 256)) in
     let bytes = ap (λ flat. length (bytes_in flat)) found.flat in
     let small = (found.pages.shaped).paged in
@@ -33,10 +33,10 @@ run_inside table shapes tenants options reserved page count is there within =
 pub break_costs-requires : goal.break_costs-requires
 break_costs-requires c =
     let within = rw (← c.self.view_is) at c.requires.pages in
-    let there : IsPageOf (view_of c.self.inside.table c.self.inside.shapes.items c.self.inside.tenants.items c.self.inside.options) c.args.first = rw (← c.self.view_is) at c.requires.there in
-    rw (c.place_of.ensures) (run_inside c.self.inside.table c.self.inside.shapes.items c.self.inside.tenants.items c.self.inside.options c.self.inside.reserved c.args.first c.args.count c.self.invariant there within)
+    let there : IsPageOf (view_of c.self.inside.table c.self.inside.shapes.items c.self.inside.tenants.items c.self.inside.pass) c.args.first = rw (← c.self.view_is) at c.requires.there in
+    rw (c.place_of.ensures) (run_inside c.self.inside.table c.self.inside.shapes.items c.self.inside.tenants.items c.self.inside.pass c.self.inside.reserved c.args.first c.args.count c.self.invariant.0 there within)
 
 pub returns : goal.returns
 unfolding view_of
 returns c =
-    rw (← c.self.view_is) (c.break_costs.ensures c.self.inside.options ∙ ap (λ (place : ℕ). cost_from (sharing_of c.self.inside.table c.self.inside.options) place c.args.count) c.place_of.ensures)
+    rw (← c.self.view_is) (c.break_costs.ensures c.self.inside.pass ∙ ap (λ (place : ℕ). cost_from (sharing_of c.self.inside.table c.self.inside.pass) place c.args.count) c.place_of.ensures)

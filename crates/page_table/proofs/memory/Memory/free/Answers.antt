@@ -4,5 +4,5 @@ use Rattle.page_table.proofs.memory.Memory.free.Goals as goal
 
 pub returns : goal.returns
 returns c =
-    let told = free_is c.self.inside.table c.self.inside.shapes.items c.self.inside.tenants.items c.self.inside.options (omega (arith, c.free.ensures)) in
+    let told = free_is c.self.inside.table c.self.inside.shapes.items c.self.inside.tenants.items c.self.inside.pass (omega (arith, c.free.ensures)) in
     rw (← c.self.view_is) (omega (arith, c.free.ensures, told))

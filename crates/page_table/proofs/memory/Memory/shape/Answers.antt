@@ -13,9 +13,9 @@ returns-then-map-ge-MAX_MAPS-clause-valid c = subst (λ (x : Option FlatMap). If
 
 pub returns-clause-shape : goal.returns-clause-shape
 returns-clause-shape c =
-    rw (← c.self.view_is, shape_told c.self.inside.table c.self.inside.shapes.items c.self.inside.tenants.items c.self.inside.options c.args.tenant c.args.map c.if-map-ge-MAX_MAPS.false)
+    rw (← c.self.view_is, shape_told c.self.inside.table c.self.inside.shapes.items c.self.inside.tenants.items c.self.inside.pass c.args.tenant c.args.map c.if-map-ge-MAX_MAPS.false)
     (c.shape_at.ensures ∙ ap (λ (l : List (Option Shape)). slice_index_or l c.map_index.result None) c.deref.ensures.value ∙ ap (λ (n : ℕ). slice_index_or c.self.inside.shapes.items n None) c.map_index.ensures)
 
 pub returns-clause-valid : goal.returns-clause-valid
 returns-clause-valid c =
-    rw (← c.self.view_is) (map_ok c.self.inside.table c.self.inside.shapes.items c.self.inside.tenants.items c.self.inside.options c.args.tenant c.args.map c.self.invariant.maps c.if-map-ge-MAX_MAPS.false c.pages_are_bytes.ensures)
+    rw (← c.self.view_is) (map_ok c.self.inside.table c.self.inside.shapes.items c.self.inside.tenants.items c.self.inside.pass c.args.tenant c.args.map c.self.invariant.0.maps c.if-map-ge-MAX_MAPS.false c.pages_are_bytes.ensures)

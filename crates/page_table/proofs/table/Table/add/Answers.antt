@@ -2,6 +2,7 @@ use Rattle.std.proofs.Common.{◌≡◌, ◌<◌, length, slice_index_or, [], No
 use Rattle.page_table.specs.Table.{TableState, contents_of, entry_at}
 use Rattle.page_table.proofs.Adding.{IsUnused, unused-frame, sound-added, contents-added, states-added, groups-added, used-added}
 use Rattle.page_table.proofs.Putting.{no_entry_of_content}
+use Rattle.page_table.proofs.Entries.{kept-empty}
 use Rattle.page_table.proofs.table.Table.add.Goals as goal
 
 abbrev table : goal.After-self-1 → TableState
@@ -36,3 +37,6 @@ returns-clause-groups c = rw (c.clear.ensures, ← c.self.view_is) (groups-added
 
 pub returns-clause-used : goal.returns-clause-used
 returns-clause-used c = rw (← c.self.view_is) (used-added (table c) c.args.place c.take-frame.result c.args.mergeable c.self.invariant.0.fits (unused c) (there c) (empty c))
+
+pub returns-clause-kept : goal.returns-clause-kept
+returns-clause-kept c = rw (← c.self.view_is) (kept-empty (table c).entries c.args.place _ (empty c))

@@ -23,7 +23,7 @@ pub returns-in_default-clause-cost : goal.returns-in_default-clause-cost
 returns-in_default-clause-cost c =
     let behind = entry-behind c.self.inside.entries.items c.deref.result.now c.split_at.result.1.now c.split_at-2.result.1.now c.args.first c.args.number
     c.deref.ensures.value c.split_at.ensures.back c.split_at-2.ensures.back in
-    rw (← c.self.view_is) (λ options. sym (cost-after-none _ options c.args.first c.args.number c.self.invariant.0.fits (sym behind ∙ c.in_default.is)))
+    rw (← c.self.view_is) (λ pass. sym (cost-after-none _ pass c.args.first c.args.number c.self.invariant.0.fits (sym behind ∙ c.in_default.is)))
 
 abbrev table : In-Some → TableState
 table c = record { arena = c.self.inside.arena; entries = c.self.inside.entries.items; groups = c.self.inside.groups.items }
@@ -43,7 +43,7 @@ before c =
 
 pub returns-then-not-entry-clause-cost : goal.returns-then-not-entry-clause-cost
 returns-then-not-entry-clause-cost c =
-    rw (← c.self.view_is) (λ options. sym (cost-after-own (table (goal.at.returns-then-not-entry-clause-cost c).In-Some) options c.args.first c.args.number c.in-Some.entry c.self.invariant.0.fits (here (goal.at.returns-then-not-entry-clause-cost c).In-Some)
+    rw (← c.self.view_is) (λ pass. sym (cost-after-own (table (goal.at.returns-then-not-entry-clause-cost c).In-Some) pass c.args.first c.args.number c.in-Some.entry c.self.invariant.0.fits (here (goal.at.returns-then-not-entry-clause-cost c).In-Some)
     (when-not c.in-Some.entry.protected c.if-not-entry.true)))
 
 pub count-requires : goal.count-requires
@@ -59,9 +59,9 @@ overflow_sub-left c =
 pub returns-clause-cost : goal.returns-clause-cost
 returns-clause-cost c =
     let left = ap (λ (n : ℕ). c.count.result - n) (c.count_on.ensures ∙ before (goal.at.returns-clause-cost c).In-Some) ∙ ap (λ (n : ℕ). n - pages_on c.in-Some.entry.frame (part_of c.self.inside.entries.items c.args.first c.args.number)) c.count.ensures in
-    rw (← c.self.view_is) (λ options.
+    rw (← c.self.view_is) (λ pass.
     c.from.ensures
     ∙ as-number (nat_lt 1 (c.count.result - c.count_on.result))
     ∙ ap (λ (n : ℕ). if nat_lt 1 n then 1 else 0) left
-    ∙ sym (cost-after (table (goal.at.returns-clause-cost c).In-Some) c.self.inside.counts options c.args.first c.args.number c.in-Some.entry c.self.invariant.0 (inside (goal.at.returns-clause-cost c).In-Some) (here (goal.at.returns-clause-cost c).In-Some)
+    ∙ sym (cost-after (table (goal.at.returns-clause-cost c).In-Some) c.self.inside.counts pass c.args.first c.args.number c.in-Some.entry c.self.invariant.0 (inside (goal.at.returns-clause-cost c).In-Some) (here (goal.at.returns-clause-cost c).In-Some)
     (when-not-not c.in-Some.entry.protected c.if-not-entry.false)))

@@ -2,6 +2,7 @@ use Rattle.std.proofs.Common.{◌≡◌, ◌+◌, Some, rules}
 use Rattle.std.proofs.lemmas.Fn.{filter_same}
 use Rattle.page_table.specs.Table.{TableState, entry_at, pages_on, one_if_zero}
 use Rattle.page_table.proofs.Ending.{but, contents-ended, sharing-ended, used-ended, sound-ended}
+use Rattle.page_table.proofs.Entries.{kept-shared}
 use Rattle.page_table.proofs.table.Table.end_group.Goals as goal
 use Rattle.page_table.proofs.table.Table.end_group.Goals.{After-retain}
 
@@ -30,11 +31,14 @@ returns-clause-contents c =
     (contents-ended (table c) c.args.place c.args.entry c.broken.result c.self.invariant.0.fits (here c) c.requires.shared (last c) c.broken.ensures.state c.broken.ensures.frame)
 
 pub returns-clause-sharing : goal.returns-clause-sharing
-returns-clause-sharing c options =
+returns-clause-sharing c pass =
     rw (left c, ← c.self.view_is)
-    (sharing-ended (table c) c.args.place c.args.entry c.broken.result c.self.invariant.0.fits (here c) c.requires.shared (last c) c.broken.ensures.state c.broken.ensures.frame options)
+    (sharing-ended (table c) c.args.place c.args.entry c.broken.result c.self.invariant.0.fits (here c) c.requires.shared (last c) c.broken.ensures.state c.broken.ensures.frame pass)
 
 pub returns-clause-used : goal.returns-clause-used
 returns-clause-used c =
     rw (left c, ← c.self.view_is)
     (used-ended (table c) c.args.place c.args.entry c.broken.result c.self.invariant.0.fits (here c) c.requires.shared (last c) c.broken.ensures.state c.broken.ensures.frame)
+
+pub returns-clause-kept : goal.returns-clause-kept
+returns-clause-kept c = rw (← c.self.view_is) (kept-shared (table c).entries c.args.place c.args.entry _ (here c) c.requires.shared)

@@ -2,6 +2,7 @@ use Rattle.std.proofs.Common.{◌≡◌, ◌<◌, ◌+◌, Some, length-set}
 use Rattle.page_table.specs.Table.{TableState, entry_at, one_if_zero, pages_on}
 use Rattle.page_table.proofs.Adding.{IsUnused, unused-frame}
 use Rattle.page_table.proofs.Leaving.{contents-left, sharing-left, used-left, sound-left}
+use Rattle.page_table.proofs.Entries.{kept-shared}
 use Rattle.page_table.proofs.table.Table.leave.Goals as goal
 
 abbrev table : goal.After-self-1 → TableState
@@ -38,3 +39,6 @@ pub returns-clause-used : goal.returns-clause-used
 returns-clause-used c =
     rw (← c.self.view_is)
     (used-left (table c) c.args.place c.args.entry c.broken.result c.self.invariant.0.fits (unused c) (here c) c.requires.shared (company c) c.broken.ensures.state c.broken.ensures.own)
+
+pub returns-clause-kept : goal.returns-clause-kept
+returns-clause-kept c = rw (← c.self.view_is) (kept-shared (table c).entries c.args.place c.args.entry _ (here c) c.requires.shared)

@@ -1,6 +1,7 @@
-use Rattle.std.proofs.Common.{rules, ◌≡◌, ◌∙◌, ◌∷◌, ◌++◌, [], Bool, true, if◌then◌else◌, is_ok, ℕ, sym, ap}
+use Rattle.std.proofs.Common.{rules, ◌≡◌, ◌∙◌, ◌∷◌, ◌++◌, [], Bool, true, if◌then◌else◌, is_ok, ℕ, slice_set, Some, None, sym, ap}
 use Rattle.page_table.specs.Table.{TableState}
 use Rattle.page_table.proofs.Pairing.{IsPairing, IsGroupEntry, pairing-from, contents-pair, used-pair, sound-pair, sharing-pair}
+use Rattle.std.proofs.lemmas.List.{get_or-set_other}
 use Rattle.page_table.proofs.table.Table.pair.Goals as goal
 
 abbrev table : goal.Else-prove → TableState
@@ -36,11 +37,17 @@ returns-clause-contents c =
     (contents-pair (table c) c.args.first c.args.second c.page-one.result c.page-other.result c.merged.result c.merged-2.result (pairs c))
 
 pub returns-clause-sharing : goal.returns-clause-sharing
-returns-clause-sharing c options =
+returns-clause-sharing c pass =
     rw (← c.self.view_is, pushed c)
-    (sharing-pair (table c) c.args.first c.args.second c.page-one.result c.page-other.result c.merged.result c.merged-2.result (pairs c) options)
+    (sharing-pair (table c) c.args.first c.args.second c.page-one.result c.page-other.result c.merged.result c.merged-2.result (pairs c) pass)
 
 pub returns-clause-used : goal.returns-clause-used
 returns-clause-used c =
     rw (← c.self.view_is, pushed c)
     (used-pair (table c) c.args.first c.args.second c.page-one.result c.page-other.result c.merged.result c.merged-2.result (pairs c))
+
+pub returns-clause-others : goal.returns-clause-others
+returns-clause-others c i ne_first ne_second =
+    rw (← c.self.view_is)
+    (get_or-set_other (slice_set (table c).entries c.args.first (Some c.merged.result)) c.args.second i (Some c.merged-2.result) None ne_second
+    ∙ get_or-set_other (table c).entries c.args.first i (Some c.merged.result) None ne_first)

@@ -39,9 +39,9 @@ locked true h = refl
 locked false h = absurd (cc)
 
 pub returns-then-not-entry-clause-sharing : goal.returns-then-not-entry-clause-sharing
-returns-then-not-entry-clause-sharing c options =
+returns-then-not-entry-clause-sharing c pass =
     let d = (goal.at.returns-then-not-entry-clause-sharing c).In-Some in
-    rw (← c.self.view_is) (sharing-unbroken (table d) options c.args.place c.in-Some.entry c.self.invariant.0.fits (here d) (own c.in-Some.entry.protected c.if-not-entry.true))
+    rw (← c.self.view_is) (sharing-unbroken (table d) pass c.args.place c.in-Some.entry c.self.invariant.0.fits (here d) (own c.in-Some.entry.protected c.if-not-entry.true))
 
 pub returns-then-not-entry-clause-used : goal.returns-then-not-entry-clause-used
 returns-then-not-entry-clause-used c =

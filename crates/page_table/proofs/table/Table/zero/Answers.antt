@@ -1,6 +1,7 @@
 use Rattle.page_table.specs.Table.{TableState}
 use Rattle.page_table.proofs.Moving.{IsMove, few, contents-moved, used-moved, sound-moved}
 use Rattle.page_table.proofs.Zeroing.{IsZeroEntry, move-zeroed, sharing-zeroed}
+use Rattle.std.proofs.lemmas.List.{get_or-set_other}
 use Rattle.page_table.proofs.table.Table.zero.Goals as goal
 
 pub share-requires-clause-few : goal.share-requires-clause-few
@@ -31,7 +32,10 @@ pub returns-clause-contents : goal.returns-clause-contents
 returns-clause-contents c = rw (← c.self.view_is) (contents-moved (table c) c.args.place c.page-entry.result c.merged.result (move c))
 
 pub returns-clause-sharing : goal.returns-clause-sharing
-returns-clause-sharing c options = rw (← c.self.view_is) (sharing-zeroed (table c) c.args.place c.page-entry.result c.merged.result (move c) (to c) options)
+returns-clause-sharing c pass = rw (← c.self.view_is) (sharing-zeroed (table c) c.args.place c.page-entry.result c.merged.result (move c) (to c) pass)
 
 pub returns-clause-used : goal.returns-clause-used
 returns-clause-used c = rw (← c.self.view_is) (used-moved (table c) c.args.place c.page-entry.result c.merged.result (move c))
+
+pub returns-clause-others : goal.returns-clause-others
+returns-clause-others c i ne = rw (← c.self.view_is) (get_or-set_other (table c).entries c.args.place i _ _ ne)

@@ -1,0 +1,125 @@
+-- A page that keeps its own frame gets another status and fingerprint.
+use Rattle.std.proofs.Common.{◌≡◌, ◌≢◌, ◌∙◌, inl, inr, ⊎_elim, ℕ, ◌+◌, ◌<◌, ◌==◌, Bool, true, false, if◌then◌else◌, List, length, slice_index_or, slice_set, Option, Some, None, IfSome, option_map, refl, sym, ap, subst, arith}
+use Rattle.std.proofs.lemmas.List.{length-set, map-set}
+use Rattle.host_types.specs.declared.status.Status.{Status}
+use Rattle.host_types.specs.declared.status.Status.TheVariants.{New, Volatile, Waiting, Grouped, Zero}
+use Rattle.host_types.specs.Sharing.{PageState, is_shared, state_at}
+use Rattle.host_types.specs.Visits.{with_page}
+use Rattle.frame_arena.specs.Pages.{page_at}
+use Rattle.page_table.specs.declared.entry.Entry.{Entry}
+use Rattle.page_table.specs.declared.pass.Pass.{Pass}
+use Rattle.page_table.specs.Table.{TableState, CountsState, IsOwnAt, IsTable, IsEntry, IsAlone, IsGroup, IsSound, AreCountsOf, LiesRight, one_if_zero, entry_at, contents_of, groups_of, state_of, states_of, sharing_of, is_on, pages_on, used_by, marked}
+use Rattle.page_table.proofs.Entries.{one_when, on_one, pages_on-set, inside, at_set, places_on-set, groups-kept}
+use Rattle.page_table.proofs.Adding.{own_one, own_pages-set}
+use Rattle.page_table.proofs.Putting.{is_alone, entry_fits}
+use Rattle.page_table.proofs.Moving.{with_entry, state_here, contents-entry, fits-after}
+
+-- an entry with another status and fingerprint
+abbrev pub marked_entry : Entry → Status → ℕ → Entry
+marked_entry entry status last = record entry { status = status; last = Some last }
+
+-- the page at a place has its own frame, and so has one of the new status
+pub record IsMarking (table : TableState) (i : ℕ) (entry : Entry) (status : Status) : Type 0 where
+  pub is : IsTable table
+  pub here : entry_at table.entries i ≡ Some entry
+  pub own : is_shared entry.status ≡ false
+  pub own_new : is_shared status ≡ false
+
+-- a page that callers see as such may be marked
+pub marking-from : (table now : TableState) (i : ℕ) (entry : Entry) (status : Status) → table ≡ now → IsTable table → entry_at now.entries i ≡ Some entry → IsOwnAt now i → is_shared status ≡ false → IsMarking table i entry status
+marking-from table now i entry status e is there own own_new =
+    record {
+      is = is;
+      here = ap (λ (t : TableState). entry_at t.entries i) e ∙ there;
+      own = subst (λ (y : Option Entry). IfSome y (λ (e : Entry). is_shared e.status ≡ false)) there own;
+      own_new = own_new;
+    }
+
+module _ (table : TableState) (i : ℕ) (entry : Entry) (status : Status) (last : ℕ) (marking : IsMarking table i entry status) where
+  open marking use {is, here, own, own_new}
+
+  abbrev x : Entry
+  x = marked_entry entry status last
+
+  there : i < length table.entries
+  there = inside table.entries i entry here
+
+  -- the page stays on its frame
+  on-marked : (g : ℕ) → is_on g (Some x) ≡ is_on g (entry_at table.entries i)
+  on-marked g = sym (ap (is_on g) here)
+
+  pages_on-marked : (g : ℕ) → pages_on g (slice_set table.entries i (Some x)) ≡ pages_on g table.entries
+  pages_on-marked g =
+      let count = pages_on-set g table.entries i (Some x) there in
+      let same : on_one g (Some x) ≡ on_one g (entry_at table.entries i) = ap one_when (on-marked g) in
+      omega (arith, count, same)
+
+  pub contents-marked : contents_of (with_entry table i x) ≡ contents_of table
+  contents-marked = contents-entry table i entry x table.groups here refl
+
+  pub used-marked : used_by (with_entry table i x) ≡ used_by table
+  used-marked =
+      let count = own_pages-set table.entries i (Some x) there in
+      let old : own_one (entry_at table.entries i) ≡ 1 = ap own_one here ∙ ap (λ (b : Bool). if b then 0 else 1) own in
+      let new : own_one (Some x) ≡ 1 = ap (λ (b : Bool). if b then 0 else 1) own_new in
+      omega (arith, count, old, new)
+
+  groups-marked : groups_of (with_entry table i x) ≡ groups_of table
+  unfolding groups_of
+  groups-marked = groups-kept table.entries (with_entry table i x).entries table.groups (λ g le. places_on-set 0 g table.entries i (Some x) (on-marked g))
+
+  pub sharing-marked : (pass : Pass) → sharing_of (with_entry table i x) pass ≡ with_page (sharing_of table pass) i (marked status last)
+  sharing-marked pass =
+      let page : Some (state_of x) ≡ option_map (marked status last) (state_at (sharing_of table pass) i) = sym (ap (option_map (marked status last)) (state_here table i entry pass here)) in
+      let pages : states_of (with_entry table i x).entries ≡ slice_set (states_of table.entries) i (option_map (marked status last) (state_at (sharing_of table pass) i)) =
+      map-set (option_map state_of) table.entries i (Some x) ∙ ap (slice_set (states_of table.entries) i) page in
+      let groups = groups-marked in
+      cc
+
+  IsTable-marked : IsTable (with_entry table i x)
+  IsTable-marked =
+      record {
+        some = is.some;
+        small = is.small;
+        pages = is.pages;
+        zero = is.zero;
+        entries = λ j. at_set (λ y. IfSome y (IsEntry (with_entry table i x))) table.entries i j (Some x) tt its_own (λ ne. other (entry_at table.entries j) (is.entries j));
+        groups = λ g. ⊎_elim (λ e. inl e)
+            (λ group. inr (record { above = IsGroup.above group; once = IsGroup.once group; some = let same = pages_on-marked g in omega (arith, same, IsGroup.some group) }))
+            (is.groups g);
+        few = rw (length-set table.entries i (Some x)) is.few;
+      }
+    where
+      stays : (f : ℕ) → IsAlone table f → IsAlone (with_entry table i x) f
+      stays f a = record { above = a.above; one = pages_on-marked f ∙ a.one; no_group = a.no_group }
+
+      lies : (status : Status) → is_shared status ≡ false → IsAlone (with_entry table i x) entry.frame → LiesRight (with_entry table i x) entry.frame status
+      lies New e a = a
+      lies Volatile e a = a
+      lies Waiting e a = a
+      lies Grouped e a = absurd (cc)
+      lies Zero e a = absurd (cc)
+
+      its_own : IsEntry (with_entry table i x) x
+      its_own =
+          let fits = entry_fits table i entry is here in
+          record {
+            frame = fits.frame;
+            protected = fits.protected ∙ own ∙ sym own_new;
+            right = lies status own_new (stays entry.frame (is_alone table entry fits own));
+          }
+
+      other : (y : Option Entry) → IfSome y (IsEntry table) → IfSome y (IsEntry (with_entry table i x))
+      other None h = tt
+      other (Some y) h = fits-after table (with_entry table i x) y refl (stays y.frame) (λ once. once) h
+
+  pub sound-marked : (counts : CountsState) → AreCountsOf table counts → IsSound (with_entry table i x) counts
+  sound-marked counts counted =
+      record {
+        fits = IsTable-marked;
+        counted = record {
+          sized = counted.sized;
+          counted = λ g h. counted.counted g h ∙ ap (λ (n : ℕ). one_if_zero g + n) (sym (pages_on-marked g));
+          used = let same = used-marked in let used = counted.used in omega (arith, same, used);
+        };
+      }

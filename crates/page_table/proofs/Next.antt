@@ -1,0 +1,63 @@
+-- The next page that may be merged.
+use Rattle.std.proofs.Common.{◌≡◌, ◌∙◌, ℕ, zero, suc, ◌+◌, ◌<◌, ◌≤◌, Bool, true, false, if◌then◌else◌, List, [], ◌∷◌, drop, length, slice_index_or, Option, Some, None, refl, sym, ap, arith}
+use Rattle.std.proofs.lemmas.List.{get_or-drop, length-drop}
+use Rattle.host_types.specs.Sharing.{PageState}
+use Rattle.host_types.specs.Visits.{is_mergeable, first_mergeable}
+
+rest_from : (pages : List (Option PageState)) (n : ℕ) → n < length pages → drop n pages ≡ slice_index_or pages n None ∷ drop (n + 1) pages
+rest_from [] n h = absurd (omega arith)
+rest_from (x ∷ xs) zero h = refl
+rest_from (x ∷ xs) (suc n) h = let next : suc n + 1 ≡ suc (n + 1) = omega arith in rw next (rest_from xs n (omega arith))
+
+-- a page that may not be merged is passed over
+pub next-after : (pages : List (Option PageState)) (n : ℕ) → n < length pages → is_mergeable (slice_index_or pages n None) ≡ false → first_mergeable n (drop n pages) ≡ first_mergeable (n + 1) (drop (n + 1) pages)
+unfolding first_mergeable
+next-after pages n h apart = ap (first_mergeable n) (rest_from pages n h) ∙ ap (λ (b : Bool). if b then Some n else first_mergeable (n + 1) (drop (n + 1) pages)) apart
+
+pub next-here : (pages : List (Option PageState)) (n : ℕ) → n < length pages → is_mergeable (slice_index_or pages n None) ≡ true → first_mergeable n (drop n pages) ≡ Some n
+unfolding first_mergeable
+next-here pages n h may = ap (first_mergeable n) (rest_from pages n h) ∙ ap (λ (b : Bool). if b then Some n else first_mergeable (n + 1) (drop (n + 1) pages)) may
+
+pub next-none : (pages : List (Option PageState)) (n : ℕ) → length pages ≤ n → first_mergeable n (drop n pages) ≡ None
+unfolding first_mergeable
+next-none [] zero h = refl
+next-none [] (suc n) h = refl
+next-none (x ∷ xs) zero h = absurd (omega arith)
+next-none (x ∷ xs) (suc n) h = none (drop n xs) (empty xs n (omega arith))
+  where
+    empty : (ys : List (Option PageState)) (m : ℕ) → length ys ≤ m → drop m ys ≡ []
+    empty [] zero h = refl
+    empty [] (suc m) h = refl
+    empty (y ∷ ys) zero h = absurd (omega arith)
+    empty (y ∷ ys) (suc m) h = empty ys m (omega arith)
+
+    none : (ys : List (Option PageState)) → ys ≡ [] → first_mergeable (suc n) ys ≡ None
+    none ys e = ap (first_mergeable (suc n)) e
+
+-- a page that was found
+pub record IsNext (pages : List (Option PageState)) (from i : ℕ) : Type 0 where
+  pub behind : from ≤ i
+  pub inside : i < length pages
+  pub mergeable : is_mergeable (slice_index_or pages i None) ≡ true
+
+found : (n : ℕ) (ys : List (Option PageState)) (i : ℕ) → first_mergeable n ys ≡ Some i → (k : ℕ) × (i ≡ n + k) × (k < length ys) × (is_mergeable (slice_index_or ys k None) ≡ true)
+unfolding first_mergeable
+found n [] i e = absurd (cc)
+found n (y ∷ ys) i e = by_head (is_mergeable y) refl (found (n + 1) ys i) e
+  where
+    one : Some n ≡ Some i → i ≡ n
+    one e = cc
+
+    by_head : (b : Bool) → is_mergeable y ≡ b → (first_mergeable (n + 1) ys ≡ Some i → (k : ℕ) × (i ≡ n + 1 + k) × (k < length ys) × (is_mergeable (slice_index_or ys k None) ≡ true))
+        → (if b then Some n else first_mergeable (n + 1) ys) ≡ Some i → (k : ℕ) × (i ≡ n + k) × (k < length (y ∷ ys)) × (is_mergeable (slice_index_or (y ∷ ys) k None) ≡ true)
+    by_head true h rest e = let same = one e in (0, omega (arith, same), omega arith, h)
+    by_head false h rest e = let later = rest e in (suc later.0, omega (arith, later.1), omega (arith, later.2), later.3)
+
+pub next-is : (pages : List (Option PageState)) (from i : ℕ) → first_mergeable from (drop from pages) ≡ Some i → IsNext pages from i
+next-is pages from i e =
+    let it = found from (drop from pages) i e in
+    record {
+      behind = omega (arith, it.1);
+      inside = let long = length-drop from pages in omega (arith, it.1, it.2, long);
+      mergeable = ap (λ n. is_mergeable (slice_index_or pages n None)) it.1 ∙ ap is_mergeable (sym (get_or-drop from pages it.0 None)) ∙ it.3;
+    }

@@ -1,0 +1,170 @@
+-- The pages that wait: what keeps them, and how many there are.
+use Rattle.std.proofs.Common.{◌≡◌, ◌≢◌, ◌∙◌, ⊎_elim, ℕ, zero, suc, ◌+◌, ◌<◌, ◌≤◌, ◌==◌, ◌||◌, nat_le, not, Bool, true, false, if◌then◌else◌, List, [], ◌∷◌, ◌++◌, length, map, filter, slice_set, Option, Some, None, IfSome, refl, sym, ap, subst, arith}
+use Rattle.std.specs.List.{list_any}
+use Rattle.std.proofs.lemmas.List.{get_or-set_other}
+use Rattle.std.proofs.lemmas.Bool.Decides.{nat_tests, eqb_tells}
+use Rattle.host_types.specs.declared.status.Status.{Status}
+use Rattle.host_types.specs.declared.status.Status.TheVariants.{Waiting}
+use Rattle.host_types.specs.Sharing.{is_shared, waiting_without}
+use Rattle.unstable_tree.specs.declared.tree.Waiter.{Waiter}
+use Rattle.page_table.specs.declared.entry.Entry.{Entry}
+use Rattle.page_table.specs.declared.pass.Pass.{Pass}
+use Rattle.page_table.specs.Table.{TableState, AreOwnKept, AreOthersKept, entry_at, own_pages, used_by, waiting_of, forgets}
+use Rattle.page_table.specs.View.{is_listed, is_behind, IsWaiter, AreWaiters, IsPass}
+use Rattle.page_table.proofs.Entries.{inside, equal}
+use Rattle.page_table.proofs.Adding.{own_one, own_pages-set}
+
+-- a waiting page has a frame of its own
+pub waiter_own : (entries : List (Option Entry)) (cursor : Option ℕ) (w : Waiter) → (is : IsWaiter entries cursor w) → is_shared is.entry.status ≡ false
+waiter_own entries cursor w is = ap is_shared is.status
+
+-- what keeps each waiting page keeps all
+pub waiters-kept : (old new : List (Option Entry)) (c d : Option ℕ) (ws : List Waiter) → ((w : Waiter) → IsWaiter old c w → IsWaiter new d w) → AreWaiters old c ws → AreWaiters new d ws
+waiters-kept old new c d [] h are = tt
+waiters-kept old new c d (w ∷ ws) h are = (h w are.0, are.1, waiters-kept old new c d ws h are.2)
+
+-- a waiting page whose entry stays
+pub waiter-kept : (old new : List (Option Entry)) (c : Option ℕ) (w : Waiter) → ((entry : Entry) → entry_at old w.place ≡ Some entry → is_shared entry.status ≡ false → entry_at new w.place ≡ Some entry) → IsWaiter old c w → IsWaiter new c w
+waiter-kept old new c w h is =
+    record { entry = is.entry; here = h is.entry is.here (waiter_own old c w is); frame = is.frame; status = is.status; mergeable = is.mergeable; behind = is.behind }
+
+either : (a b : Bool) → (a || b) ≡ false → (a ≡ false) × (b ≡ false)
+either true b h = absurd (cc)
+either false b h = (refl, h)
+
+apart_places : (j i : ℕ) → (j == i) ≡ false → j ≢ i
+apart_places j i h e = grind (arith, nat_tests)
+
+-- where no page waits at a place, what happens there keeps all that wait
+pub waiters-others : (old new : List (Option Entry)) (c : Option ℕ) (i : ℕ) (ws : List Waiter) → is_listed i ws ≡ false
+    → ((j : ℕ) → j ≢ i → entry_at new j ≡ entry_at old j) → AreWaiters old c ws → AreWaiters new c ws
+waiters-others old new c i [] none h are = tt
+waiters-others old new c i (w ∷ ws) none h are =
+    let parts = either (w.place == i) (is_listed i ws) none in
+    (waiter-kept old new c w (λ entry e own. h w.place (apart_places w.place i parts.0) ∙ e) are.0, are.1, waiters-others old new c i ws parts.1 h are.2)
+
+-- the waiting pages without one
+abbrev pub others_of : ℕ → List Waiter → List Waiter
+others_of i ws = filter (λ w. not (w.place == i)) ws
+
+pub listed-others : (i : ℕ) (ws : List Waiter) → is_listed i (others_of i ws) ≡ false
+listed-others i [] = refl
+listed-others i (w ∷ ws) = by_head (w.place == i) refl (listed-others i ws)
+  where
+    by_head : (b : Bool) → (w.place == i) ≡ b → is_listed i (others_of i ws) ≡ false → is_listed i (if not b then w ∷ others_of i ws else others_of i ws) ≡ false
+    by_head true e rest = rest
+    by_head false e rest = rw e rest
+
+-- a page that doesn't wait doesn't wait among fewer
+pub listed-fewer : (i j : ℕ) (ws : List Waiter) → is_listed i ws ≡ false → is_listed i (others_of j ws) ≡ false
+listed-fewer i j [] none = refl
+listed-fewer i j (w ∷ ws) none = by_head (not (w.place == j)) (either (w.place == i) (is_listed i ws) none) (listed-fewer i j ws (either (w.place == i) (is_listed i ws) none).1)
+  where
+    by_head : (b : Bool) → ((w.place == i) ≡ false) × (is_listed i ws ≡ false) → is_listed i (others_of j ws) ≡ false → is_listed i (if b then w ∷ others_of j ws else others_of j ws) ≡ false
+    by_head true parts rest = rw parts.0 rest
+    by_head false parts rest = rest
+
+pub waiters-fewer : (entries : List (Option Entry)) (c : Option ℕ) (i : ℕ) (ws : List Waiter) → AreWaiters entries c ws → AreWaiters entries c (others_of i ws)
+waiters-fewer entries c i [] are = tt
+waiters-fewer entries c i (w ∷ ws) are = by_head (not (w.place == i)) (waiters-fewer entries c i ws are.2)
+  where
+    by_head : (b : Bool) → AreWaiters entries c (others_of i ws) → AreWaiters entries c (if b then w ∷ others_of i ws else others_of i ws)
+    by_head true rest = (are.0, listed-fewer w.place i ws are.1, rest)
+    by_head false rest = rest
+
+-- the waiting list without a page, as callers see it
+pub waiting-forgets : (i : ℕ) (ws : List Waiter) → map waiting_of (others_of i ws) ≡ waiting_without i (map waiting_of ws)
+waiting-forgets i [] = refl
+waiting-forgets i (w ∷ ws) = by_head (not (w.place == i)) (waiting-forgets i ws)
+  where
+    by_head : (b : Bool) → map waiting_of (others_of i ws) ≡ waiting_without i (map waiting_of ws)
+        → map waiting_of (if b then w ∷ others_of i ws else others_of i ws) ≡ (if b then waiting_of w ∷ waiting_without i (map waiting_of ws) else waiting_without i (map waiting_of ws))
+    by_head true rest = ap (λ l. waiting_of w ∷ l) rest
+    by_head false rest = rest
+
+-- one more page waits
+pub waiters-more : (entries : List (Option Entry)) (c : Option ℕ) (ws : List Waiter) (w : Waiter) → AreWaiters entries c ws → IsWaiter entries c w → is_listed w.place ws ≡ false → AreWaiters entries c (ws ++ w ∷ [])
+waiters-more entries c [] w are is none = (is, refl, tt)
+waiters-more entries c (v ∷ ws) w are is none =
+    let parts = either (v.place == w.place) (is_listed w.place ws) none in
+    (are.0, last ws parts.0 are.1, waiters-more entries c ws w are.2 is parts.1)
+  where
+    turned : (v.place == w.place) ≡ false → (w.place == v.place) ≡ false
+    turned h = grind (arith, nat_tests)
+
+    last : (ws : List Waiter) → (v.place == w.place) ≡ false → is_listed v.place ws ≡ false → is_listed v.place (ws ++ w ∷ []) ≡ false
+    last [] h none = rw (turned h) refl
+    last (u ∷ us) h none = let parts = either (u.place == v.place) (is_listed v.place us) none in rw parts.0 (last us h parts.1)
+
+-- as callers see it, too
+pub listed-told : (i : ℕ) (ws : List Waiter) → is_listed i ws ≡ list_any (λ (entry : ℕ × ℕ). entry.0 == i) (map waiting_of ws)
+listed-told i [] = refl
+listed-told i (w ∷ ws) = ap (λ b. (w.place == i) || b) (listed-told i ws)
+
+-- as many pages have frames of their own as wait
+pub waiters-few : (entries : List (Option Entry)) (c : Option ℕ) (ws : List Waiter) → AreWaiters entries c ws → length ws ≤ own_pages entries
+waiters-few entries c [] are = omega arith
+waiters-few entries c (w ∷ ws) are =
+    let there = inside entries w.place are.0.entry are.0.here in
+    let rest = waiters-few (slice_set entries w.place None) c ws (waiters-others entries (slice_set entries w.place None) c w.place ws are.1 (λ j ne. get_or-set_other entries w.place j None None ne) are.2) in
+    let count = own_pages-set entries w.place None there in
+    let own : own_one (entry_at entries w.place) ≡ 1 = ap own_one are.0.here ∙ ap (λ (b : Bool). if b then 0 else 1) (waiter_own entries c w are.0) in
+    omega (arith, rest, count, own)
+
+-- no page waits that wasn't visited in this pass
+pub ahead-free : (entries : List (Option Entry)) (c i : ℕ) (ws : List Waiter) → c < i → AreWaiters entries (Some c) ws → is_listed i ws ≡ false
+ahead-free entries c i [] h are = refl
+ahead-free entries c i (w ∷ ws) h are = rw (off (are.0).behind) (ahead-free entries c i ws h are.2)
+  where
+    off : nat_le w.place c ≡ true → (w.place == i) ≡ false
+    off le = grind (arith, nat_tests)
+
+-- the pass stays where each waiting page does
+pub pass-kept : (old new : TableState) (pass : Pass) → IsPass old pass → AreOwnKept old new → length new.arena ≡ length old.arena → IsPass new pass
+pass-kept old new pass is kept arena =
+    record {
+      waiters = waiters-kept old.entries new.entries pass.cursor pass.cursor pass.waiting.listed (λ w waiter. waiter-kept old.entries new.entries pass.cursor w (λ entry e own. kept w.place entry e own) waiter) is.waiters;
+      room = omega (arith, arena, is.room);
+      cursor = is.cursor;
+    }
+
+-- a page changes that doesn't wait
+pub pass-others : (old new : TableState) (pass : Pass) (i : ℕ) → IsPass old pass → is_listed i pass.waiting.listed ≡ false → AreOthersKept i old new → length new.arena ≡ length old.arena → IsPass new pass
+pass-others old new pass i is none others arena =
+    record {
+      waiters = waiters-others old.entries new.entries pass.cursor i pass.waiting.listed none others is.waiters;
+      room = omega (arith, arena, is.room);
+      cursor = is.cursor;
+    }
+
+pub pass-forgets : (table : TableState) (pass : Pass) (i : ℕ) → IsPass table pass → IsPass table (forgets i pass)
+pass-forgets table pass i is =
+    record { waiters = waiters-fewer table.entries pass.cursor i pass.waiting.listed is.waiters; room = is.room; cursor = is.cursor }
+
+-- a page changes, and doesn't wait any more
+pub pass-left : (old new : TableState) (pass : Pass) (i : ℕ) → IsPass old pass → AreOthersKept i old new → length new.arena ≡ length old.arena → IsPass new (forgets i pass)
+pass-left old new pass i is others arena =
+    pass-others old new (forgets i pass) i (pass-forgets old pass i is) (listed-others i pass.waiting.listed) others arena
+
+-- two pages change, and don't wait any more
+pub pass-left-both : (old new : TableState) (pass : Pass) (i j : ℕ) → IsPass old pass → ((k : ℕ) → k ≢ i → k ≢ j → entry_at new.entries k ≡ entry_at old.entries k) → length new.arena ≡ length old.arena
+    → IsPass new (forgets i (forgets j pass))
+pass-left-both old new pass i j is others arena =
+    let fewer : Pass = forgets i (forgets j pass) in
+    let are = pass-forgets old (forgets j pass) i (pass-forgets old pass j is) in
+    record {
+      waiters = both fewer.waiting.listed (listed-others i (others_of j pass.waiting.listed)) (listed-fewer j i (others_of j pass.waiting.listed) (listed-others j pass.waiting.listed)) are.waiters;
+      room = omega (arith, arena, is.room);
+      cursor = is.cursor;
+    }
+  where
+    both : (ws : List Waiter) → is_listed i ws ≡ false → is_listed j ws ≡ false → AreWaiters old.entries pass.cursor ws → AreWaiters new.entries pass.cursor ws
+    both [] one other are = tt
+    both (w ∷ ws) one other are =
+        let first = either (w.place == i) (is_listed i ws) one in
+        let second = either (w.place == j) (is_listed j ws) other in
+        (waiter-kept old.entries new.entries pass.cursor w (λ entry e own. others w.place (apart_places w.place i first.0) (apart_places w.place j second.0) ∙ e) are.0, are.1, both ws first.1 second.1 are.2)
+
+-- every page stays that was there
+pub kept-own : (old new : TableState) → ((i : ℕ) (entry : Entry) → entry_at old.entries i ≡ Some entry → entry_at new.entries i ≡ Some entry) → AreOwnKept old new
+kept-own old new h i entry e own = h i entry e
