@@ -1,4 +1,6 @@
 pub mod Accepted
 pub mod Begins
+pub mod Naming
 pub mod Numbers
+pub mod Placing
 pub mod Walk

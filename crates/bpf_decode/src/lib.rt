@@ -2,6 +2,8 @@
 //! which texts are well formed. `decode` judges a text by the table in docs/INSTRUCTIONS.md.
 #![tactic(auto)]
 
+mod code;
+mod decoded;
 mod insn;
 mod operation;
 mod program;
@@ -9,8 +11,11 @@ mod slot;
 #[cfg(test)]
 mod tests;
 mod text;
+mod typed;
 
+pub use code::Code;
 pub use insn::Insn;
 pub use operation::{AluCode, Comparison, Distance, Extension, Operation, Size, Source, Width};
 pub use program::{Program, decode};
 pub use text::judgement_is_one;
+pub use typed::Typed;

@@ -1,3 +1,5 @@
+use crate::insn::Insn;
+
 /// Where the second operand of arithmetic or of a store comes from (RFC 9669, sections 4.1 and 5.1).
 #[derive(Clone, Copy, Debug, PartialEq, Eq)]
 pub enum Source {
@@ -254,6 +256,7 @@ impl Comparison {
 
 impl Operation {
     ghost use Rattle.std.specs.Prelude.{◌≡◌, ℤ, Bool};
+    ghost use Rattle.bpf_decode.specs.Decoded.{src_by, imm_by};
     ghost use Rattle.bpf_decode.specs.Opcodes.{swap_of, negation_of, alu_operation_of, load_of, store_of, wide_of, branch_of, jump_of, jump32_of, operation_of, allows_src, uses_dst, uses_src, allows_offset, allows_imm};
 
     /// What an opcode says; `None` if it isn't in the table.
@@ -429,6 +432,24 @@ impl Operation {
             Operation::Load { .. } => true,
             Operation::LoadImmediate | Operation::Jump { .. } | Operation::Call | Operation::Exit =>
                 false,
+        }
+    }
+
+    // The register of the second operand: 11, which is always zero, where none is named.
+    pub(crate) fn src(self, insn: &Insn) -> u8
+        ensures { result ≡ src_by self insn.now }
+    {
+        if self.uses_src() { insn.src } else { 11 }
+    }
+
+    // The number that is added to that register.
+    pub(crate) fn imm(self, insn: &Insn) -> u64
+        ensures { result ≡ imm_by self insn.now }
+    {
+        match self {
+            Operation::LoadImmediate => insn.wide_immediate(),
+            _ if self.uses_src() => 0,
+            _ => insn.immediate(),
         }
     }
 

@@ -26,6 +26,7 @@ pub fn holds(insn: &Insn, a: u64, b: u64) -> bool
 }
 
 /// Whether a comparison holds of the numbers of dst and of the second operand.
+#[inline(always)]
 #[tactic(auto, unfolding(crate::specs::Comparisons::holds))]
 pub fn compares(comparison: Comparison, width: Width, a: u64, b: u64) -> bool
     ensures { result ≡ holds comparison width a b }
@@ -37,6 +38,7 @@ pub fn compares(comparison: Comparison, width: Width, a: u64, b: u64) -> bool
 }
 
 // Whether a comparison holds of two numbers of 64 bits.
+#[inline(always)]
 #[tactic(auto, using(crate::proofs::Halves::low_of_small))]
 fn compared_64(comparison: Comparison, a: u64, b: u64) -> bool
     ensures { result ≡ compared comparison Bits64 a b }
@@ -57,6 +59,7 @@ fn compared_64(comparison: Comparison, a: u64, b: u64) -> bool
 }
 
 // Whether a comparison holds of two numbers of 32 bits.
+#[inline(always)]
 fn compared_32(comparison: Comparison, a: u32, b: u32) -> bool
     ensures { result ≡ compared comparison Bits32 a b }
 {

@@ -35,6 +35,7 @@ pub fn alu(insn: &Insn, a: u64, b: u64) -> u64
 
 /// What an operation with a number in its field `offset` makes of the numbers of dst and of the
 /// second operand.
+#[inline(always)]
 #[tactic(auto, unfolding(crate::specs::Arithmetic::alu))]
 pub fn computed(code: AluCode, width: Width, offset: i16, a: u64, b: u64) -> u64
     ensures { result ≡ alu code width offset a b }

@@ -4,6 +4,7 @@ ghost use Rattle.std.specs.Prelude.{◌≡◌};
 ghost use Rattle.insn_alu.specs.Arithmetic.{cut, swapped};
 
 /// The low 16, 32 or 64 bits of a number.
+#[inline(always)]
 pub(crate) fn cut(bits: u64, a: u64) -> u64
     ensures { result ≡ cut bits a }
 {
@@ -15,6 +16,7 @@ pub(crate) fn cut(bits: u64, a: u64) -> u64
 }
 
 /// The same bits with their bytes in the other order.
+#[inline(always)]
 pub(crate) fn swapped(bits: u64, a: u64) -> u64
     ensures { result ≡ swapped bits a }
 {

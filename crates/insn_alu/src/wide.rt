@@ -7,6 +7,7 @@ ghost use Rattle.insn_alu.specs.Arithmetic.{alu, count, quotient, remainder, mov
 use bpf_decode::AluCode;
 
 /// What an operation on 64 bits makes of two numbers.
+#[inline(always)]
 #[tactic(auto, unfolding(crate::specs::Arithmetic::alu))]
 pub(crate) fn computed_64(code: AluCode, offset: i16, a: u64, b: u64) -> u64
     requires { is_swap code ≡ false }
@@ -31,6 +32,7 @@ pub(crate) fn computed_64(code: AluCode, offset: i16, a: u64, b: u64) -> u64
 }
 
 /// A shift's count: its low bits.
+#[inline(always)]
 fn count(b: u64) -> u32
     ensures count { result ≡ count Bits64 b }
     ensures small { result < 64 }
@@ -39,6 +41,7 @@ fn count(b: u64) -> u32
 }
 
 /// A division truncates. By zero it gives 0; the least signed number divided by -1 gives itself.
+#[inline(always)]
 fn quotient(offset: i16, a: u64, b: u64) -> u64
     ensures { result ≡ quotient Bits64 offset a b }
 {
@@ -55,6 +58,7 @@ fn quotient(offset: i16, a: u64, b: u64) -> u64
 }
 
 /// What a division leaves. By zero it leaves all.
+#[inline(always)]
 fn remainder(offset: i16, a: u64, b: u64) -> u64
     ensures { result ≡ remainder Bits64 offset a b }
 {
@@ -71,6 +75,7 @@ fn remainder(offset: i16, a: u64, b: u64) -> u64
 }
 
 /// A number that is moved: its low 8, 16 or 32 bits with their sign, or all of it.
+#[inline(always)]
 fn moved(offset: i16, b: u64) -> u64
     ensures { result ≡ moved Bits64 offset b }
 {

@@ -7,6 +7,7 @@ ghost use Rattle.insn_alu.specs.Arithmetic.{alu, count, quotient, remainder, mov
 use bpf_decode::AluCode;
 
 /// What an operation on 32 bits makes of two numbers.
+#[inline(always)]
 #[tactic(auto, unfolding(crate::specs::Arithmetic::alu))]
 pub(crate) fn computed_32(code: AluCode, offset: i16, a: u32, b: u32) -> u32
     requires { is_swap code ≡ false }
@@ -31,6 +32,7 @@ pub(crate) fn computed_32(code: AluCode, offset: i16, a: u32, b: u32) -> u32
 }
 
 /// A shift's count: its low bits.
+#[inline(always)]
 fn count(b: u32) -> u32
     ensures count { result ≡ count Bits32 b }
     ensures small { result < 32 }
@@ -39,6 +41,7 @@ fn count(b: u32) -> u32
 }
 
 /// A division truncates. By zero it gives 0; the least signed number divided by -1 gives itself.
+#[inline(always)]
 fn quotient(offset: i16, a: u32, b: u32) -> u32
     ensures { result ≡ quotient Bits32 offset a b }
 {
@@ -55,6 +58,7 @@ fn quotient(offset: i16, a: u32, b: u32) -> u32
 }
 
 /// What a division leaves. By zero it leaves all.
+#[inline(always)]
 fn remainder(offset: i16, a: u32, b: u32) -> u32
     ensures { result ≡ remainder Bits32 offset a b }
 {
@@ -71,6 +75,7 @@ fn remainder(offset: i16, a: u32, b: u32) -> u32
 }
 
 /// A number that is moved: its low 8, 16 or 32 bits with their sign, or all of it.
+#[inline(always)]
 fn moved(offset: i16, b: u32) -> u32
     ensures { result ≡ moved Bits32 offset b }
 {

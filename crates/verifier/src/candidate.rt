@@ -79,6 +79,14 @@ impl Candidate {
         self.program.insn(slot)
     }
 
+    /// The program.
+    #[inline]
+    pub(crate) fn program(&self) -> &Program
+        ensures { result.now ≡ self.now.text }
+    {
+        &self.program
+    }
+
     /// The shapes of the maps that the program may use, by number.
     pub(crate) fn shapes(&self) -> &[Shape]
         ensures { all_there result.now ≡ self.now.shapes }

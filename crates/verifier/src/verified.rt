@@ -64,6 +64,14 @@ impl Verified {
         self.candidate.insn(slot)
     }
 
+    /// The program that was verified.
+    #[inline]
+    pub fn program(&self) -> &Program
+        ensures { result.now ≡ self.now.subject.text }
+    {
+        self.candidate.program()
+    }
+
     /// What is known of a register at a slot: `None` where nothing is known of it, or where the
     /// slot isn't reached.
     pub fn kind(&self, slot: u32, register: u8) -> Option<Kind>
