@@ -20,5 +20,7 @@ pub mod InTable
 pub mod Starts
 pub mod Covering
 pub mod Following
+pub mod Leading
+pub mod Advancing
 pub mod Beginning
 pub mod Driving

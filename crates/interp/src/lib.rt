@@ -6,6 +6,7 @@ mod need;
 mod run;
 #[cfg(test)]
 mod tests;
+mod way;
 
 pub use need::Need;
 pub use run::Run;

@@ -20,8 +20,11 @@ use verifier::{Verified, verify};
 // How many slots the program has.
 const SLOTS: usize = 4096;
 
-// How often each call is made.
-const ROUNDS: u32 = 200;
+// How often each program is run.
+const ROUNDS: u32 = 2000;
+
+// How often it is decoded and verified.
+const VERIFIED: u32 = 50;
 
 // Sets R6 to R9 and the bytes of the stack that the programs read.
 const SETUP: [[u8; 8]; 8] = [
@@ -67,6 +70,9 @@ const STACK: [[u8; 8]; 8] = [
     [0x91, 0xa6, 0xf1, 0xff, 0, 0, 0, 0],
 ];
 
+// A product that waits for the one before it.
+const PRODUCT: [u8; 8] = [0x27, 0x06, 0, 0, 0x03, 0, 0, 0];
+
 // A jump over the next instruction, so that two ways meet at every second slot.
 const JUMPS: [[u8; 8]; 2] = [
     [0x15, 0x06, 0x01, 0, 0x05, 0, 0, 0],
@@ -76,30 +82,28 @@ const JUMPS: [[u8; 8]; 2] = [
 // How the instructions of a program are drawn.
 #[derive(Clone, Copy)]
 enum Mix {
-    Arithmetic,
+    RandomArithmetic,
+    Products,
     Stack,
-    Random,
     Jumps,
 }
 
 impl Mix {
     fn name(self) -> &'static str {
         match self {
-            Mix::Arithmetic => "arithmetic",
+            Mix::RandomArithmetic => "random arithmetic",
+            Mix::Products => "chain of products",
             Mix::Stack => "stack access",
-            Mix::Random => "a random mix",
             Mix::Jumps => "jumps",
         }
     }
 
     // The instruction at a place, by a number that is drawn for it.
     fn insn(self, place: usize, drawn: u32) -> [u8; 8] {
-        let drawn = (drawn / 65536) as usize;
         match self {
-            Mix::Arithmetic => ARITHMETIC[place % 16],
+            Mix::RandomArithmetic => ARITHMETIC[(drawn / 65536) as usize % 16],
+            Mix::Products => PRODUCT,
             Mix::Stack => STACK[place % 8],
-            Mix::Random if drawn % 3 == 0 => STACK[drawn / 3 % 8],
-            Mix::Random => ARITHMETIC[drawn / 3 % 16],
             Mix::Jumps => JUMPS[place % 2],
         }
     }
@@ -129,8 +133,23 @@ fn accepted(alloc: Global, text: &[u8]) -> Result<Verified, Refused>
     verify(alloc, program, &[], 0)
 }
 
-// How many steps a run makes to its end.
-fn steps_of(mut run: Run, program: &Verified) -> u32
+// How the steps of a run are made.
+#[derive(Clone, Copy)]
+enum Call {
+    Advance,
+    Next,
+}
+
+// How many steps a run makes to its end, in one call.
+fn advanced(mut run: Run, program: &Verified) -> u32
+    requires { (s : MachineState) × StandsFor program.now run s }
+{
+    let _number = run.finish(program);
+    run.steps()
+}
+
+// How many steps a run makes to its end, each in a call of its own.
+fn stepped(mut run: Run, program: &Verified) -> u32
     requires { (s : MachineState) × StandsFor program.now run s }
 {
     'steps: for _ in 0..SLOTS {
@@ -152,48 +171,51 @@ fn each(rt: &impl Clock, start: &Instant, calls: u32) -> Result<u128> {
     Ok(elapsed / u128::from(calls.max(1)))
 }
 
-// Decodes and verifies the program, again and again.
-fn measure_verify(rt: &(impl Clock + Print + AllocGlobal), text: &[u8]) -> Result<()> {
+// Decodes and verifies the program, again and again: the microseconds of one time.
+fn measure_verify(rt: &(impl Clock + AllocGlobal), text: &[u8]) -> Result<u128> {
     let start = Instant::now(rt)?;
-    for _ in 0..ROUNDS {
+    for _ in 0..VERIFIED {
         accepted(rt.alloc(), text).map_err(refusal)?;
     }
-    let nanoseconds = each(rt, &start, ROUNDS)?;
-    println!(rt; "decode and verify {SLOTS} slots: {nanoseconds} ns")?;
-    Ok(())
+    Ok(each(rt, &start, VERIFIED)? / 1000)
 }
 
 // Runs the program to its end, and tells how many steps it made.
-fn run_to_end(alloc: Global, program: &Verified) -> Result<u32, Fault>
+fn run_to_end(alloc: Global, program: &Verified, call: Call) -> Result<u32, Fault>
     requires { program.now.subject.shapes ≡ all_there [] }
 {
     let run = Run::begin(alloc, program, &[])?;
-    Ok(steps_of(run, program))
+    Ok(match call {
+        Call::Advance => advanced(run, program),
+        Call::Next => stepped(run, program),
+    })
 }
 
-// Runs the program, again and again.
-fn measure_steps(rt: &(impl Clock + Print + AllocGlobal), program: &Verified) -> Result<()>
+// Runs the program, again and again: the picoseconds of a step.
+fn measure_steps(rt: &(impl Clock + AllocGlobal), program: &Verified, call: Call) -> Result<u128>
     requires { program.now.subject.shapes ≡ all_there [] }
 {
     let start = Instant::now(rt)?;
     let mut steps = 0;
     for _ in 0..ROUNDS {
-        steps = run_to_end(rt.alloc(), program).map_err(|fault| anyhow!("{fault}"))?;
+        steps = run_to_end(rt.alloc(), program, call).map_err(|fault| anyhow!("{fault}"))?;
     }
-    let picoseconds = start.elapsed(rt)?.as_nanos() * 1000
-        / u128::from(ROUNDS)
-        / u128::from(steps.max(1));
-    println!(rt; "a step of {steps}: {picoseconds} ps")?;
-    Ok(())
+    let picoseconds = start.elapsed(rt)?.as_nanos() * 1000;
+    Ok(picoseconds / u128::from(ROUNDS) / u128::from(steps.max(1)))
 }
 
-// Measures one program.
+// Measures one program: a row of the table.
 fn measure(rt: &(impl Clock + Print + AllocGlobal), mix: Mix) -> Result<()> {
     let text = text(rt.alloc(), mix)?;
-    println!(rt; "{}", mix.name())?;
-    measure_verify(rt, text.as_slice())?;
+    let verified = measure_verify(rt, text.as_slice())?;
     let program = accepted(rt.alloc(), text.as_slice()).map_err(refusal)?;
-    measure_steps(rt, &program)
+    let advanced = measure_steps(rt, &program, Call::Advance)?;
+    let stepped = measure_steps(rt, &program, Call::Next)?;
+    println!(rt;
+        "{}: many steps {advanced} ps, next {stepped} ps, decode and verify {verified} us",
+        mix.name()
+    )?;
+    Ok(())
 }
 
 fn main(rt: HostRuntime) -> Result<()> {
@@ -202,8 +224,11 @@ fn main(rt: HostRuntime) -> Result<()> {
     if asked.is_none() {
         return Ok(());
     }
-    measure(&rt, Mix::Arithmetic)?;
+    println!(&rt;
+        "a step of a program of {SLOTS} slots, and one time that it is decoded and verified"
+    )?;
+    measure(&rt, Mix::RandomArithmetic)?;
+    measure(&rt, Mix::Products)?;
     measure(&rt, Mix::Stack)?;
-    measure(&rt, Mix::Random)?;
     measure(&rt, Mix::Jumps)
 }
