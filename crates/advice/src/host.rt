@@ -4,6 +4,7 @@ ghost use Rattle.std.specs.Prelude.{◌↔◌, IsSome, IsTrue};
 ghost use Rattle.advice.specs.Answered.{is_of_limits, is_of_tenants};
 
 use crate::Advice;
+use host_types::Opt;
 
 /// What a host's shape, options, sizes and memory may be.
 pub fn on_limits(number: u32) -> Option<Advice>
@@ -50,4 +51,37 @@ pub fn on_tenants(number: u32) -> Option<Advice>
         _ => return None,
     };
     Some(Advice { wrong, mend })
+}
+
+/// A size of contexts that no program can be loaded with.
+pub fn on_context_size() -> Advice {
+    Advice {
+        wrong: "this size of contexts is above 256 or no multiple of 8",
+        mend: "give a multiple of 8 up to 256",
+    }
+}
+
+/// A context of another length than its program's.
+pub fn on_context_length() -> Advice {
+    Advice {
+        wrong: "the context hasn't the size that its program was loaded with",
+        mend: "give as many bytes as the program's load says",
+    }
+}
+
+/// An option with a value that it can't have.
+pub fn on_option(option: Opt) -> Advice {
+    let (wrong, mend) = match option {
+        Opt::PagesToScan => (
+            "`pages_to_scan` can't have this value",
+            "give it 1 to 100000",
+        ),
+        Opt::Run => ("`run` can't be set to this value", "give it 0 or 1"),
+        Opt::UseZeroPages => ("`use_zero_pages` can't have this value", "give it 0 or 1"),
+        Opt::MaxPageSharing => (
+            "`max_page_sharing` can't have this value",
+            "give it 2 to 65535",
+        ),
+    };
+    Advice { wrong, mend }
 }

@@ -3,10 +3,16 @@
 #![tactic(auto)]
 
 mod host;
+mod instruction;
 mod program;
+#[cfg(test)]
+mod tests;
 
 ghost use Rattle.std.specs.Prelude.{◌↔◌, IsSome, IsTrue};
 ghost use Rattle.advice.specs.Answered.{is_answered};
+
+pub use host::{on_context_length, on_context_size, on_option};
+use host_types::Refused;
 
 /// What a refusal says.
 #[derive(Clone, Copy, Debug, PartialEq, Eq)]
@@ -29,4 +35,12 @@ pub fn advice_on(number: u32) -> Option<Advice>
         .or(program::on_call(number))
         .or(host::on_limits(number))
         .or(host::on_tenants(number))
+}
+
+/// The advice on a refusal of a text, by its number and by what stands at its slot. There is one for each
+/// number that can be answered, as `advice_on` has it, and for no other.
+pub fn advice_on_text(refused: Refused, text: &[u8]) -> Option<Advice>
+    ensures { IsSome result ↔ IsTrue (is_answered refused.number) }
+{
+    instruction::on_refused(refused, text).or(advice_on(refused.number))
 }

@@ -41,7 +41,7 @@ pub fn on_way(number: u32) -> Option<Advice>
     let (wrong, mend) = match number {
         11 => (
             "a jump leads to its own slot or back",
-            "jump forward alone: there are no loops",
+            "jump forward alone: unroll loops, in C by `#pragma unroll`",
         ),
         12 => (
             "a jump leads past the end, or into a wide instruction",

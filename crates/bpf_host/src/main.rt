@@ -1,12 +1,15 @@
 //! The program `bpf_host`.
 #![tactic(auto)]
 
+ghost use Rattle.std.specs.Prelude.{◌≡◌};
+ghost use Rattle.bpf_host.specs.Status.{status_of};
+
 mod words;
 
 use engines::check::check;
 use engines::replay::replay;
 use host_file::FileFault;
-use std::alloc::AllocError;
+use std::alloc::{AllocError, Global};
 use std::io::{self, BufWriter, Write};
 use std::process::ExitCode;
 use std::rt::{Env, Files};
@@ -15,13 +18,44 @@ use words::{Request, request_of};
 
 fn main(rt: HostRuntime) -> ExitCode {
     let errors = rt.stderr();
-    match run(&rt, &mut io::writer(&errors)) {
-        Ok(status) => ExitCode::from(status),
-        Err(fault) => {
-            let _ = rt.eprintln(&fault);
-            ExitCode::from(2)
+    let mut errors = io::writer(&errors);
+    let outcome = run(&rt, &mut errors);
+    if let Err(fault) = &outcome {
+        // The status tells it too: the words may be lost.
+        let _ = say(rt.alloc(), &mut errors, fault);
+    }
+    ExitCode::from(status_of(&outcome))
+}
+
+/// The exit status: the one that was answered, or 2 for a fault.
+fn status_of(outcome: &Result<u8, FileFault>) -> u8
+    ensures { result ≡ status_of outcome.now }
+{
+    match outcome {
+        Ok(status) => *status,
+        Err(_) => 2,
+    }
+}
+
+/// Writes the words of a fault.
+fn say<W: Write>(alloc: Global, words: &mut W, fault: &FileFault) -> io::Result<()> {
+    match fault.to_string(alloc) {
+        Ok(said) => write_plain(words, said.as_str())?,
+        Err(AllocError) => write!(words, "out of memory")?,
+    }
+    writeln!(words)
+}
+
+/// Writes a text in which no character steers a terminal: one that would is written by its number.
+fn write_plain<W: Write>(words: &mut W, text: &str) -> io::Result<()> {
+    for c in text.chars() {
+        if c.is_control() && c != '\n' {
+            write!(words, "{}", c.escape_unicode())?;
+        } else {
+            write!(words, "{c}")?;
         }
     }
+    Ok(())
 }
 
 /// Does what the command line asks for. What a refusal means goes to `errors`. Answers the status 0
@@ -43,8 +77,12 @@ fn run<R: AllocGlobal + Env + Files + Print, E: Write>(
     let mut output = output.map_err(|_| FileFault::OutOfMemory(AllocError))?;
     match request {
         Request::Replay { path } => {
-            let mut file = fs::open(rt, path).map_err(FileFault::Read)?;
-            replay(alloc, &mut file, &mut output)
+            let answer = replay_at(rt, path, &mut output, errors);
+            if let Err(FileFault::Read(_) | FileFault::Bad(_)) = &answer {
+                let _ = write_plain(errors, path);
+                let _ = write!(errors, ": ");
+            }
+            answer
         }
         Request::Check {
             hex,
@@ -52,4 +90,15 @@ fn run<R: AllocGlobal + Env + Files + Print, E: Write>(
             context,
         } => check(alloc, hex, shapes.as_slice(), context, &mut output, errors),
     }
+}
+
+/// Replays the host file at a path.
+fn replay_at<R: AllocGlobal + Files, W: Write, E: Write>(
+    rt: &R,
+    path: &str,
+    output: &mut W,
+    errors: &mut E,
+) -> Result<u8, FileFault> {
+    let mut file = fs::open(rt, path).map_err(FileFault::Read)?;
+    replay(rt.alloc(), &mut file, output, errors)
 }

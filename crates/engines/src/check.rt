@@ -1,16 +1,18 @@
 //! The engine of `check`: one program, judged and not run.
 
-ghost use Rattle.std.specs.Prelude.{◌≡◌, ◌≤◌, length, IfErr, IfOk, OnErr};
-ghost use Rattle.host_file.specs.Faults.{IsOfWords, IsUsage};
+ghost use Rattle.std.specs.Prelude.{◌≡◌, ◌≤◌, length, IfErr, IfOk, OnErr, OnOk};
+ghost use Rattle.std.specs.Io.KnownBytes.{Appends};
+ghost use Rattle.host_file.specs.Faults.{IsBad, IsOfWords, IsUsage};
 ghost use Rattle.engines.specs.Check.{AnswersWords, AskNothing, IsAccepted, IsCheckRefusal, subject_of};
+ghost use Rattle.engines.specs.Lines.{accepted_text, line_of, refusal_text};
 
-mod explanation;
 mod question;
 #[cfg(test)]
 mod tests;
 
+use crate::explanation::explain;
 use crate::fault::written;
-use explanation::explain;
+use crate::lines::{write_accepted, write_refusal};
 use host_core::{accepted, is_context_size};
 use host_file::FileFault;
 use host_types::Fault;
@@ -32,7 +34,7 @@ pub fn check<W: Write, E: Write>(
     words: &mut E,
 ) -> Result<u8, FileFault>
     ensures status { IfOk result (λ status. status ≤ 1) }
-    ensures judged { IfOk result (AnswersWords hex.now (length shapes.now) context.now) }
+    ensures judged { IfOk result (AnswersWords hex.now (length shapes.now) context.now (W.contents output.old) (W.contents output.new)) }
     ensures usage { IfErr result (λ fault. IsUsage fault → AskNothing hex.now (length shapes.now) context.now) }
     ensures unwritten { IfErr result (λ fault. IsOfWords fault → output.new ≡ output.old) }
     ensures silent { OnErr result (words.new ≡ words.old) }
@@ -40,13 +42,13 @@ pub fn check<W: Write, E: Write>(
     let asked = question_of(alloc, hex, shapes, context)?;
     match judgement(alloc, &asked) {
         Ok(program) => {
-            write_accepted(output, &program)?;
+            tell_accepted(output, &program)?;
             Ok(0)
         }
         Err(fault) => {
-            write_refused(output, fault)?;
+            tell_refusal(output, fault)?;
             // The answer is written: what it means may be lost.
-            let _ = explain(words, asked.text.as_slice(), fault);
+            let _ = explain(words, Some(asked.text.as_slice()), fault);
             Ok(1)
         }
     }
@@ -63,22 +65,22 @@ fn judgement(alloc: Global, asked: &Question) -> Result<Verified, Fault>
     accepted(alloc, asked.text.as_slice(), asked.context_size)
 }
 
-/// Writes that a program is accepted. It has no maps to store to, so that it reserves nothing.
-fn write_accepted<W: Write>(output: &mut W, program: &Verified) -> Result<(), FileFault>
-    ensures { IfErr result (λ fault. ¬ IsOfWords fault) }
+/// Writes that a program is accepted, and passes it on.
+fn tell_accepted<W: Write>(output: &mut W, program: &Verified) -> Result<(), FileFault>
+    ensures line { OnOk result (Appends (W.contents output.old) (W.contents output.new) (line_of (accepted_text program.now.subject.text))) }
+    ensures bad { IfErr result (λ fault. ¬ IsBad fault) }
+    ensures words { IfErr result (λ fault. ¬ IsOfWords fault) }
 {
-    let slots = program.slots();
-    let instructions = program.instructions();
-    written(writeln!(
-        output,
-        "accepted slots {slots} instructions {instructions} reserve 0"
-    ))?;
+    write_accepted(output, program)?;
     written(output.flush())
 }
 
-fn write_refused<W: Write>(output: &mut W, fault: Fault) -> Result<(), FileFault>
-    ensures { IfErr result (λ fault. ¬ IsOfWords fault) }
+/// Writes that a program is refused, and passes it on.
+fn tell_refusal<W: Write>(output: &mut W, fault: Fault) -> Result<(), FileFault>
+    ensures line { OnOk result (Appends (W.contents output.old) (W.contents output.new) (line_of (refusal_text fault))) }
+    ensures bad { IfErr result (λ fault. ¬ IsBad fault) }
+    ensures words { IfErr result (λ fault. ¬ IsOfWords fault) }
 {
-    written(writeln!(output, "{fault}"))?;
+    write_refusal(output, fault)?;
     written(output.flush())
 }

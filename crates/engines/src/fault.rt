@@ -1,4 +1,4 @@
-ghost use Rattle.std.specs.Prelude.{IfErr};
+ghost use Rattle.std.specs.Prelude.{IfErr, IsOk, OnOk};
 ghost use Rattle.host_file.specs.Faults.{IsBad, IsOfWords};
 
 use host_file::FileFault;
@@ -17,6 +17,7 @@ pub fn usage(said: Result<String, AllocError>) -> FileFault
 
 /// The fault of a write that failed.
 pub fn written(outcome: io::Result<()>) -> Result<(), FileFault>
+    ensures ok { OnOk result (IsOk outcome) }
     ensures bad { IfErr result (λ fault. ¬ IsBad fault) }
     ensures words { IfErr result (λ fault. ¬ IsOfWords fault) }
 {

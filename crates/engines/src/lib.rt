@@ -3,9 +3,12 @@
 #![tactic(auto)]
 
 pub mod check;
+mod explanation;
 mod fault;
+mod lines;
 #[cfg(test)]
 mod memory_tests;
 pub mod replay;
+mod session;
 
 pub use fault::usage;

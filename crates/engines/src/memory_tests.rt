@@ -6,6 +6,7 @@ use crate::check::check;
 use crate::replay::replay;
 use host_file::FileFault;
 use std::alloc::{AllocError, Global};
+use std::io;
 use std::test::Fail;
 
 // A host file that runs R0 = [R1]; EXIT on the number 42, and what it prints.
@@ -27,16 +28,17 @@ fn room(alloc: Global) -> Result<Vec<u8>, AllocError> {
 #[test]
 fn replays_again(rt: HostRuntime) -> Result<(), Fail> {
     let mut output = room(rt.alloc())?;
-    let status = match replay(rt.alloc(), &mut FILE.as_bytes(), &mut output) {
+    let mut words = io::sink();
+    let status = match replay(rt.alloc(), &mut FILE.as_bytes(), &mut output, &mut words) {
         Err(FileFault::OutOfMemory(_)) => {
             assert!(rt; output.is_empty());
-            replay(rt.alloc(), &mut FILE.as_bytes(), &mut output)?
+            replay(rt.alloc(), &mut FILE.as_bytes(), &mut output, &mut words)?
         }
         Ok(1) => {
             let said = str::from_utf8(output.as_slice())?;
             assert!(rt; said.contains("refused 41 OutOfMemory\n"), "{said}");
             output.clear();
-            replay(rt.alloc(), &mut FILE.as_bytes(), &mut output)?
+            replay(rt.alloc(), &mut FILE.as_bytes(), &mut output, &mut words)?
         }
         answer => answer?,
     };

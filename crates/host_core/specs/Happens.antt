@@ -1,5 +1,5 @@
 -- What events do (this project's own rules, docs/HOST.md).
-use Rattle.std.specs.Prelude.{◌≡◌, ℕ, ◌%◌, ◌<◌, ◌≤◌, nat_le, ◌==◌, ◌&&◌, Bool, not, is_some, List, [], ◌∷◌, ◌++◌, length, map, slice_get, slice_set, ◌⊎◌, if◌then◌else◌, MatchOption, IfSome, IsSomeAnd, Option, Some, None, suc, false}
+use Rattle.std.specs.Prelude.{◌≡◌, ◌≢◌, ℕ, ◌%◌, ◌<◌, ◌≤◌, nat_le, ◌==◌, ◌&&◌, Bool, not, is_some, List, [], ◌∷◌, ◌++◌, length, map, replicate, slice_get, slice_set, ◌⊎◌, if◌then◌else◌, MatchOption, IfSome, IsSomeAnd, Option, Some, None, suc, false}
 use Rattle.std.specs.Option.{option_map}
 use Rattle.host_types.specs.declared.fault.Fault.{Fault}
 use Rattle.host_types.specs.declared.fault.Fault.TheVariants as fault
@@ -133,6 +133,19 @@ AllHappen w (event ∷ events) (reply ∷ replies) w' =
     (next : World) × Happens w event reply next × IsPromised w event reply next × AllHappen next events replies w'
 AllHappen w [] (reply ∷ replies) w' = ⊥
 AllHappen w (event ∷ events) [] w' = ⊥
+
+-- Events that are steps of a tenant, up to a limit, and their replies: each is Stepped, but for the last where
+-- that is another, with which the run ended or which is a refusal.
+abbrev pub AreSteps : ℕ → ℕ → Option Reply → List Event → List Reply → Type 0
+AreSteps t limit None events replies = (events ≡ replicate limit (Step t)) × (replies ≡ replicate limit Stepped)
+AreSteps t limit (Some last) events replies =
+    (n : ℕ) × (n < limit) × (last ≢ Stepped)
+    × (events ≡ replicate n (Step t) ++ Step t ∷ []) × (replies ≡ replicate n Stepped ++ last ∷ [])
+
+-- steps of a tenant happen, up to a limit
+abbrev pub StepsHappen : World → ℕ → ℕ → Option Reply → World → Type 0
+StepsHappen w t limit last w' =
+    (events : List Event) × (replies : List Reply) × AreSteps t limit last events replies × AllHappen w events replies w'
 
 -- two lists of events that happen one after the other happen as one list
 abbrev pub JoinHappens : Type 0

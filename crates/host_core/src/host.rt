@@ -2,7 +2,7 @@ ghost use Rattle.std.specs.Prelude.{◌≡◌, ◌↔◌, ◌⊎◌, IsTrue, Err
 ghost use Rattle.host_types.specs.OptionTable.{AreOptions};
 ghost use Rattle.host_types.specs.declared.fault.Fault.TheVariants.{BadShape, BadOption, OutOfMemory};
 ghost use Rattle.host_core.specs.World.{World, new_tenant};
-ghost use Rattle.host_core.specs.Happens.{Happens, IsPromised, AllHappen, JoinHappens, SplitHappens};
+ghost use Rattle.host_core.specs.Happens.{Happens, IsPromised, AllHappen, StepsHappen, JoinHappens, SplitHappens};
 ghost use Rattle.host_core.specs.HostView.{StandsForWorld, IsHostSize};
 
 mod tenant;
@@ -86,6 +86,21 @@ impl Host {
             replies.push_reserved(reply);
         }
         Ok(replies)
+    }
+
+    /// Makes steps of a tenant's open run, up to a limit, and none after one with which the run ends or
+    /// that is refused: the reply to that one, or `None` where the limit comes first. It takes no memory.
+    pub fn make_steps(&mut self, tenant: u32, limit: u64) -> Option<Reply>
+        ensures { (w : World) → StandsForWorld self.old w
+            → (next : World) × StandsForWorld self.new next × StepsHappen w tenant limit result next }
+    {
+        for _ in 0..limit {
+            match self.apply(&Event::Step { tenant }) {
+                Reply::Stepped => {}
+                last => return Some(last),
+            }
+        }
+        None
     }
 }
 

@@ -63,7 +63,7 @@ pub enum Cause {
     NotTable(Key),
     #[error("`{0}` is no array of tables")]
     NotTables(Key),
-    #[error("no event does `{0}`")]
+    #[error("no event does `{0}`; an event does load, begin, step, finish or run")]
     UnknownEvent(String),
 }
 

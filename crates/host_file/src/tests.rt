@@ -155,8 +155,14 @@ fn says_which_event_is_bad(rt: HostRuntime) -> Result<(), Fail> {
     let rows = [
         ("tenant = 0", "event 1: the key `do` is missing"),
         ("do = 1, tenant = 0", "event 1: `do` is no string"),
-        ("do = \"visit\"", "event 1: no event does `visit`"),
-        ("do = \"Step\", tenant = 0", "event 1: no event does `Step`"),
+        (
+            "do = \"visit\"",
+            "event 1: no event does `visit`; an event does load, begin, step, finish or run",
+        ),
+        (
+            "do = \"Step\", tenant = 0",
+            "event 1: no event does `Step`; an event does load, begin, step, finish or run",
+        ),
         ("do = \"step\"", "event 1: the key `tenant` is missing"),
         (
             "do = \"step\", tenant = 0, program = 0",

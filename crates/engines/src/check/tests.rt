@@ -77,6 +77,12 @@ fn accepts_programs(rt: HostRuntime) -> Result<(), Fail> {
             "accepted slots 2 instructions 2 reserve 0\n",
         ),
         (load, "8", "accepted slots 5 instructions 5 reserve 0\n"),
+        // R0 = 30064771081, by a wide instruction; EXIT
+        (
+            "180000000900000000000000070000009500000000000000",
+            "0",
+            "accepted slots 3 instructions 2 reserve 0\n",
+        ),
     ];
     for (hex, context, want) in rows {
         let (status, output, words) = checked(rt.alloc(), hex, context)?;
@@ -113,6 +119,11 @@ fn refuses_programs(rt: HostRuntime) -> Result<(), Fail> {
             "refused 18 UnsetStack at 0\n",
         ),
         (load, "0", "refused 16 OutsideContext at 0\n"),
+        (
+            "bfa00000000000009500000000000000",
+            "0",
+            "refused 25 PointerLeaks at 1\n",
+        ),
         (ANSWER, "7", "refused 39 BadContext\n"),
         (ANSWER, "264", "refused 39 BadContext\n"),
         (ANSWER, "4294967295", "refused 39 BadContext\n"),
@@ -171,8 +182,8 @@ fn says_what_a_refusal_means(rt: HostRuntime) -> Result<(), Fail> {
         (
             "b70000002a0000000500ffff000000009500000000000000",
             "0",
-            "slot 1: goto -1: a jump leads to its own slot or back; jump forward alone: there are no \
-            loops\n",
+            "slot 1: goto -1: a jump leads to its own slot or back; jump forward alone: unroll loops, \
+            in C by `#pragma unroll`\n",
         ),
         (
             "b700000000000000b70b000000000000",
@@ -182,15 +193,12 @@ fn says_what_a_refusal_means(rt: HostRuntime) -> Result<(), Fail> {
         (
             "",
             "0",
-            "slot 0: the text is empty, longer than 4096 slots, or ends inside a slot; give 1 to \
-            4096 whole slots of eight bytes\n",
+            "slot 0: the text is empty; give 1 to 4096 slots of eight bytes\n",
         ),
         (
             ANSWER,
             "9",
-            "a context size above 256 or no multiple of 8, or a context of another length than the \
-            size that its program was loaded with; give a size that is a multiple of 8 up to 256, \
-            and a run as many bytes as its program's load says\n",
+            "this size of contexts is above 256 or no multiple of 8; give a multiple of 8 up to 256\n",
         ),
     ];
     for (hex, context, want) in rows {

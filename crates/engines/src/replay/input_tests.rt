@@ -36,9 +36,12 @@ fn refused(alloc: Global, bytes: &[u8], fails_at: usize) -> Result<FileFault, Fa
         fails_at,
     };
     let mut written: Vec<u8> = Vec::new(alloc);
-    match replay(alloc, &mut reader, &mut written) {
+    let mut words: Vec<u8> = Vec::new(alloc);
+    match replay(alloc, &mut reader, &mut written, &mut words) {
         Ok(_) => Err(Fail::from("it was replayed")),
-        Err(_) if !written.is_empty() => Err(Fail::from("something was written")),
+        Err(_) if !written.is_empty() || !words.is_empty() => Err(Fail::from(
+            "something was written",
+        )),
         Err(fault) => Ok(fault),
     }
 }

@@ -3,6 +3,7 @@
 
 use super::replay;
 use std::alloc::Global;
+use std::io;
 use std::test::Fail;
 
 /// The program of a row in hex, what the kernel returned, and the number of steps.
@@ -15,7 +16,7 @@ fn printed(alloc: Global, hex: &str) -> Result<String, Fail> {
     let text = format!(in alloc; "tenants = 1\nframes = 2\nevent = [{load}, {run}]\n")?;
     let mut input = text.as_bytes();
     let mut output = Vec::new(alloc);
-    replay(alloc, &mut input, &mut output)?;
+    replay(alloc, &mut input, &mut output, &mut io::sink())?;
     Ok(String::from_utf8(output)?)
 }
 

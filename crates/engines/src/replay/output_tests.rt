@@ -34,12 +34,37 @@ impl Write for Narrow {
     }
 }
 
-/// The status and the output of a replay.
-fn replayed(alloc: Global, text: &str) -> Result<(u8, String), Fail> {
+/// Takes what is written, and fails when it is asked to pass it on.
+#[derive(Drop)]
+struct Stuck;
+
+impl Write for Stuck {
+    fn write(&mut self, buf: &[u8]) -> io::Result<usize> {
+        Ok(buf.len())
+    }
+
+    fn flush(&mut self) -> io::Result<()> {
+        Err(io::Error::from(io::ErrorKind::StorageFull))
+    }
+}
+
+/// The status, the output and the words of a replay.
+fn told(alloc: Global, text: &str) -> Result<(u8, String, String), Fail> {
     let mut input = text.as_bytes();
     let mut output = Vec::new(alloc);
-    let status = replay(alloc, &mut input, &mut output)?;
-    Ok((status, String::from_utf8(output)?))
+    let mut words = Vec::new(alloc);
+    let status = replay(alloc, &mut input, &mut output, &mut words)?;
+    Ok((
+        status,
+        String::from_utf8(output)?,
+        String::from_utf8(words)?,
+    ))
+}
+
+/// The status and the output of a replay.
+fn replayed(alloc: Global, text: &str) -> Result<(u8, String), Fail> {
+    let (status, output, _) = told(alloc, text)?;
+    Ok((status, output))
 }
 
 /// A file of one tenant and these events, after the load of a program that returns 42 in two steps.
@@ -177,7 +202,7 @@ fn nothing_follows_a_write_that_fails(rt: HostRuntime) -> Result<(), Fail> {
             has_failed: false,
             goes_on: false,
         };
-        let outcome = replay(rt.alloc(), &mut input, &mut output);
+        let outcome = replay(rt.alloc(), &mut input, &mut output, &mut io::sink());
         let is_write = matches!(outcome, Err(FileFault::Write(_)));
         assert!(rt; is_write, "at {room}");
         assert!(rt; !output.goes_on, "at {room}");
@@ -186,5 +211,84 @@ fn nothing_follows_a_write_that_fails(rt: HostRuntime) -> Result<(), Fail> {
             whole.as_bytes().get(..room).unwrap_or(&[])
         );
     }
+    Ok(())
+}
+
+#[test]
+fn a_flush_that_fails_is_the_fault(rt: HostRuntime) -> Result<(), Fail> {
+    let text = file_of(rt.alloc(), RUN)?;
+    let outcome = replay(
+        rt.alloc(),
+        &mut text.as_bytes(),
+        &mut Stuck,
+        &mut io::sink(),
+    );
+    assert!(rt; matches!(outcome, Err(FileFault::Write(_))));
+    Ok(())
+}
+
+#[test]
+fn each_tenant_counts_its_own_runs(rt: HostRuntime) -> Result<(), Fail> {
+    let hex = "b70000002a0000009500000000000000";
+    let load = "do = \"load\", context = 0";
+    let run = "do = \"run\", program = 0, context = \"\"";
+    let text = format!(in rt.alloc();
+        "tenants = 2\nframes = 2\nevent = [\
+        {{ {load}, tenant = 0, hex = \"{hex}\" }}, {{ {load}, tenant = 1, hex = \"{hex}\" }}, \
+        {{ {run}, tenant = 0 }}, {{ {run}, tenant = 1 }}, {{ {run}, tenant = 1 }}]\n"
+    )?;
+    let (status, output) = replayed(rt.alloc(), text.as_str())?;
+    assert_eq!(rt; status, 0);
+    assert_eq!(rt;
+        output.as_str(),
+        "tenant 0 run 0 ret 42 steps 2\n\
+        tenant 1 run 0 ret 42 steps 2\n\
+        tenant 1 run 1 ret 42 steps 2\n"
+    );
+    Ok(())
+}
+
+#[test]
+fn a_ninth_program_is_refused(rt: HostRuntime) -> Result<(), Fail> {
+    let load =
+        ", { do = \"load\", tenant = 0, hex = \"b70000002a0000009500000000000000\", context = 0 }";
+    let eight = format!(in rt.alloc(); "{load}{load}{load}{load}{load}{load}{load}{load}")?;
+    let (status, output) = replayed(rt.alloc(), file_of(rt.alloc(), eight.as_str())?.as_str())?;
+    assert_eq!(rt; status, 1);
+    assert_eq!(rt; output.as_str(), "tenant 0 refused 45 TooManyPrograms\n");
+    Ok(())
+}
+
+#[test]
+fn says_which_event_was_refused_and_why(rt: HostRuntime) -> Result<(), Fail> {
+    let rows = [
+        (
+            ", { do = \"step\", tenant = 0 }",
+            "event 1: there is no open run to step; begin one\n",
+        ),
+        (
+            ", { do = \"load\", tenant = 0, hex = \"9500000000000000\", context = 9 }",
+            "event 1: this size of contexts is above 256 or no multiple of 8; give a multiple of 8 \
+            up to 256\n",
+        ),
+        (
+            ", { do = \"run\", tenant = 0, program = 0, context = \"00\" }",
+            "event 1: the context hasn't the size that its program was loaded with; give as many \
+            bytes as the program's load says\n",
+        ),
+        (
+            ", { do = \"load\", tenant = 0, hex = \"bfa00000000000009500000000000000\", context = 0 }",
+            "event 1: slot 1: exit: the program returns an address; return a number in R0\n",
+        ),
+    ];
+    for (events, want) in rows {
+        let (status, _, words) = told(rt.alloc(), file_of(rt.alloc(), events)?.as_str())?;
+        assert_eq!(rt; status, 1, "{events}");
+        assert_eq!(rt; words.as_str(), want);
+    }
+    let option = "tenants = 1\nframes = 2\noptions.max_page_sharing = 1\n";
+    let (_, _, words) = told(rt.alloc(), option)?;
+    let want = "`max_page_sharing` can't have this value; give it 2 to 65535\n";
+    assert_eq!(rt; words.as_str(), want);
     Ok(())
 }

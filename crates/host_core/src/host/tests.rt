@@ -195,3 +195,22 @@ fn runs_tenants_side_by_side(rt: HostRuntime) -> Result<(), Fail> {
     assert_eq!(rt; replies.as_slice(), expected.as_slice());
     Ok(())
 }
+
+#[test]
+fn makes_steps_to_a_limit_the_end_or_a_refusal(rt: HostRuntime) -> Result<(), Fail> {
+    let alloc = rt.alloc();
+    let mut host = Host::new(alloc, 2, 2, Options::standard())?;
+    host.apply_all(&two_runs(alloc)?)?;
+    assert_eq!(rt; host.make_steps(0, 0), None);
+    assert_eq!(rt; host.make_steps(0, 1), None);
+    let ended = Reply::Ended { ret: 42, steps: 2 };
+    assert_eq!(rt; host.make_steps(0, 5), Some(ended));
+    assert_eq!(rt; host.make_steps(0, 5), Some(Reply::Refused(Fault::NoRun)));
+    let ended = Reply::Ended { ret: 7, steps: 2 };
+    assert_eq!(rt; host.make_steps(1, u64::MAX), Some(ended));
+    assert_eq!(rt;
+        host.make_steps(2, 1),
+        Some(Reply::Refused(Fault::BadTenant))
+    );
+    Ok(())
+}

@@ -1,0 +1,191 @@
+//! The refusals whose words depend on the text. Each function has the cases of one number, and answers
+//! `None` where the general words say it.
+
+ghost use Rattle.std.specs.Prelude.{◌≡◌, ◌<◌, ◌%◌, length, IfSome, IsTrue};
+ghost use Rattle.bpf_decode.specs.Text.{slots_of};
+ghost use Rattle.advice.specs.Answered.{is_answered};
+
+use crate::Advice;
+use bpf_decode::{AluCode, Insn, Operation, Source};
+use host_types::Refused;
+
+// The most bytes of a text.
+const LONGEST_TEXT: usize = 32768;
+
+// The bits of an opcode that are those of an atomic instruction: its class and its mode (RFC 9669,
+// section 5.3).
+const ATOMIC: u8 = 0xc3;
+
+// The field src of a call of a function of the program's own (RFC 9669, section 4.3).
+const LOCAL_CALL: u8 = 1;
+
+/// What is said of a refusal of this text alone.
+pub fn on_refused(refused: Refused, text: &[u8]) -> Option<Advice>
+    ensures { IfSome result (λ _. IsTrue (is_answered refused.number)) }
+{
+    if refused.number == 1 {
+        return Some(on_length(text));
+    }
+    let slot = refused.slot as usize;
+    if text.len() % 8 != 0 || slot >= text.len() / 8 {
+        return None;
+    }
+    let insn = Insn::read(text, slot);
+    match refused.number {
+        2 => on_opcode(insn.opcode),
+        3 => on_field(&insn),
+        12 => on_target(&insn, text, refused.slot),
+        15 => on_kind(&insn),
+        25 => on_leak(&insn),
+        _ => None,
+    }
+}
+
+/// The length of a text that has no whole slots, or too many.
+fn on_length(text: &[u8]) -> Advice {
+    if text.is_empty() {
+        Advice {
+            wrong: "the text is empty",
+            mend: "give 1 to 4096 slots of eight bytes",
+        }
+    } else if text.len() > LONGEST_TEXT {
+        Advice {
+            wrong: "the text is longer than 4096 slots",
+            mend: "make the program shorter, or two of it",
+        }
+    } else {
+        Advice {
+            wrong: "the text ends inside a slot",
+            mend: "give whole slots of eight bytes",
+        }
+    }
+}
+
+/// An opcode of an instruction that the host doesn't take.
+fn on_opcode(opcode: u8) -> Option<Advice> {
+    if opcode & 0xe7 == ATOMIC {
+        return Some(Advice {
+            wrong: "an atomic instruction isn't taken",
+            mend: "load, compute and store: a program runs alone on its memory",
+        });
+    }
+    match opcode {
+        0x8d => Some(Advice {
+            wrong: "a call by a register isn't taken",
+            mend: "call a helper by its number, and inline functions",
+        }),
+        0x20 | 0x28 | 0x30 | 0x40 | 0x48 | 0x50 => Some(Advice {
+            wrong: "the old loads from a packet aren't taken",
+            mend: "load from the context, to which R1 points",
+        }),
+        _ => None,
+    }
+}
+
+/// A field with a number that means nothing there.
+fn on_field(insn: &Insn) -> Option<Advice> {
+    let (wrong, mend) = match Operation::of(insn.opcode)? {
+        Operation::Call if insn.src == LOCAL_CALL => (
+            "a call of a function of the program's own isn't taken",
+            "inline it: in C mark it `static inline __attribute__((always_inline))`",
+        ),
+        Operation::Call if insn.src != 0 => (
+            "a call with this field src isn't taken",
+            "call a helper by its number, with src 0",
+        ),
+        Operation::LoadImmediate => (
+            "this form of the wide instruction isn't taken",
+            "load a number with src 0, the second half's other fields 0",
+        ),
+        Operation::Alu {
+            code: AluCode::Div | AluCode::Mod,
+            ..
+        } => (
+            "a division has an offset other than 0 and 1, or a field that it doesn't use",
+            "give offset 0, or 1 for a signed one, and 0 in the other fields",
+        ),
+        Operation::Alu {
+            code: AluCode::Mov,
+            source: Source::Register,
+            ..
+        } => (
+            "a move has an offset other than 0, 8, 16 and, with 64 bits, 32, or an imm",
+            "give one of these, and 0 in imm",
+        ),
+        Operation::Alu {
+            code: AluCode::ToLittleEndian | AluCode::ToBigEndian | AluCode::SwapBytes,
+            ..
+        } => (
+            "a byte swap has a width other than 16, 32 and 64, or a field that it doesn't use",
+            "give one of these in imm, and 0 in the other fields",
+        ),
+        _ => (
+            "a field that the instruction doesn't use isn't 0",
+            "write 0 in it",
+        ),
+    };
+    Some(Advice { wrong, mend })
+}
+
+/// A jump that leads to no instruction.
+fn on_target(insn: &Insn, text: &[u8], slot: u32) -> Option<Advice> {
+    let distance = match Operation::of(insn.opcode)? {
+        Operation::Jump { distance } => insn.distance(distance),
+        Operation::Branch { .. } => i32::from(insn.offset),
+        _ => return None,
+    };
+    let target = i64::from(slot) + 1 + i64::from(distance);
+    let (wrong, mend) = match usize::try_from(target) {
+        Ok(target) if target < text.len() / 8 => (
+            "a jump leads into the second half of a wide instruction",
+            "count two slots for a wide instruction",
+        ),
+        _ => (
+            "a jump leads past the end of the text",
+            "count slots from the next instruction; the last target is the last instruction",
+        ),
+    };
+    Some(Advice { wrong, mend })
+}
+
+/// A value of a kind that the instruction doesn't take.
+fn on_kind(insn: &Insn) -> Option<Advice> {
+    let (wrong, mend) = match Operation::of(insn.opcode)? {
+        Operation::Load { .. } => (
+            "a load goes through a number",
+            "load through R1, R10, or a copy of one of them",
+        ),
+        Operation::Store { .. } => (
+            "a store goes through a number or into the context",
+            "store to the stack, through R10 or a copy of it",
+        ),
+        Operation::Branch { .. } => ("an address is compared", "compare numbers"),
+        Operation::Alu { .. } => (
+            "this arithmetic isn't taken on an address",
+            "copy an address with 64 bits, and add or subtract constants alone",
+        ),
+        Operation::Call => (
+            "R1 doesn't hold the name of a map, which the helper wants",
+            "leave the call out: programs have no maps yet",
+        ),
+        _ => return None,
+    };
+    Some(Advice { wrong, mend })
+}
+
+/// An address that would leave the program, or be taken apart.
+fn on_leak(insn: &Insn) -> Option<Advice> {
+    let (wrong, mend) = match Operation::of(insn.opcode)? {
+        Operation::Exit => ("the program returns an address", "return a number in R0"),
+        Operation::Store { .. } => (
+            "an address is stored in fewer than eight bytes",
+            "store it as a double word",
+        ),
+        Operation::Load { .. } => (
+            "a part of an address is loaded from the stack",
+            "load it as a double word",
+        ),
+        _ => return None,
+    };
+    Some(Advice { wrong, mend })
+}

@@ -1,0 +1,87 @@
+//! What a refusal means to an author: of a program, or of a host file.
+
+ghost use Rattle.std.specs.Prelude.{◌≡◌, ◌<◌, ◌%◌, length};
+ghost use Rattle.bpf_decode.specs.Text.{slots_of};
+
+use advice::{Advice, advice_on, advice_on_text, on_context_length, on_context_size, on_option};
+use bpf_decode::Insn;
+use disassembly::Assembly;
+use host_types::{Fault, Opt, Options, Refused};
+use std::io;
+use std::io::Write;
+
+// The number of a refusal of the text's length. It is said at slot 0, and speaks of no instruction.
+const BAD_LENGTH: u32 = 1;
+
+// The last number of what is wrong with an instruction alone. The others speak of well-formed texts.
+const LAST_OF_TEXT: u32 = 5;
+
+/// Writes what a refusal means: the slot that it names and what stands there, the rule, and how to mend
+/// it. `text` is the program's, where a text was judged.
+pub fn explain<W: Write>(words: &mut W, text: Option<&[u8]>, fault: Fault) -> io::Result<()> {
+    match (fault, text) {
+        (Fault::Program(refused), Some(text)) => {
+            write!(words, "slot {}: ", refused.slot)?;
+            write_what_stands(words, text, refused)?;
+            write_advice(words, fault, advice_on_text(refused, text))
+        }
+        (Fault::BadContext, Some(_)) => write_advice(words, fault, Some(on_context_size())),
+        (Fault::BadContext, None) => write_advice(words, fault, Some(on_context_length())),
+        _ => write_advice(words, fault, advice_on(fault.number())),
+    }
+}
+
+/// Writes what the refusal of a host with these options means.
+pub fn explain_host<W: Write>(words: &mut W, options: &Options, fault: Fault) -> io::Result<()> {
+    match (fault, wrong_option(options)) {
+        (Fault::BadOption, Some(option)) => write_advice(words, fault, Some(on_option(option))),
+        _ => explain(words, None, fault),
+    }
+}
+
+/// The first option that can't have its value.
+fn wrong_option(options: &Options) -> Option<Opt> {
+    let values = [
+        (Opt::PagesToScan, options.pages_to_scan),
+        (Opt::Run, options.run),
+        (Opt::UseZeroPages, options.use_zero_pages),
+        (Opt::MaxPageSharing, options.max_page_sharing),
+    ];
+    for (option, value) in values {
+        if !option.allows(value) {
+            return Some(option);
+        }
+    }
+    None
+}
+
+fn write_advice<W: Write>(words: &mut W, fault: Fault, advice: Option<Advice>) -> io::Result<()> {
+    match advice {
+        Some(advice) => writeln!(words, "{}; {}", advice.wrong, advice.mend),
+        None => writeln!(words, "{}", fault.name()),
+    }
+}
+
+/// Writes what stands at a refused slot: its instruction, or its bytes where they make none.
+fn write_what_stands<W: Write>(words: &mut W, text: &[u8], refused: Refused) -> io::Result<()> {
+    let slot = refused.slot as usize;
+    if refused.number == BAD_LENGTH || text.len() % 8 != 0 || slot >= text.len() / 8 {
+        return Ok(());
+    }
+    if refused.number <= LAST_OF_TEXT {
+        return write_bytes(words, text, slot);
+    }
+    let insn = Assembly(Insn::read(text, slot));
+    write!(words, "{insn}: ")
+}
+
+/// Writes the eight bytes of a slot.
+fn write_bytes<W: Write>(words: &mut W, text: &[u8], slot: usize) -> io::Result<()>
+    requires whole { length text.now % 8 ≡ 0 }
+    requires within { slot < slots_of text.now }
+{
+    for byte in &text[8 * slot..8 * slot + 8] {
+        write!(words, "{byte:02x}")?;
+    }
+    write!(words, ": ")
+}
