@@ -66,6 +66,11 @@ MayMerge memory page =
 abbrev pub IsNotWaiting : MemoryState → Page → Type 0
 IsNotWaiting memory page = is_waiting memory.sharing (page_place page) ≡ false
 
+-- the page had this fingerprint at its last visit
+abbrev pub HadFingerprint : MemoryState → Page → ℕ → Type 0
+HadFingerprint memory page fingerprint =
+    IfSome (state_at memory.sharing (page_place page)) (λ state. state.last ≡ Some fingerprint)
+
 -- the bytes of the page at each place
 abbrev pub contents_now : MemoryState → Contents
 contents_now memory = contents_in memory.maps
