@@ -12,7 +12,7 @@ use Rattle.host_types.specs.Pages.{page_place}
 use Rattle.host_types.specs.Shapes.{IsShape, byte_len_of}
 use Rattle.host_types.specs.Sharing.{Sharing, state_at, new_page, is_shared}
 use Rattle.host_types.specs.Tenant.{TenantPart}
-use Rattle.host_types.specs.Visits.{Contents, contents_in, is_open, is_partner, is_waiting}
+use Rattle.host_types.specs.Visits.{Contents, contents_in, is_open, find_partner, is_waiting}
 use Rattle.page_table.specs.Limits.{AreLimits, page_count}
 use Rattle.page_table.specs.State.{MemoryState, part, bytes_of_map, free_number, frame_at, have_of}
 
@@ -89,7 +89,7 @@ open_frame memory i =
 -- the earliest page that waits for the page's bytes, by its place
 abbrev pub partner_place : MemoryState → ℕ → ℕ → Option ℕ
 partner_place memory i fingerprint =
-    option_map (λ (entry : ℕ × ℕ). entry.0) (find (is_partner (contents_now memory) fingerprint (contents_now memory i)) memory.sharing.waiting)
+    option_map (λ (entry : ℕ × ℕ). entry.0) (find_partner (contents_now memory) memory.sharing i fingerprint)
 
 -- the pages of a new map, which were never visited
 unfoldable pub with_new_pages : Sharing → ℕ → ℕ → Bool → Sharing

@@ -207,6 +207,7 @@ impl Memory {
         ensures there { result.frame < length self.now.arena }
         ensures protection { result.protected ≡ is_shared result.status }
         ensures content { page_at self.now.arena result.frame ≡ page_bytes (bytes_of_map self.now page) page.number }
+        ensures bytes { page_at self.now.arena result.frame ≡ contents_now self.now (page_place page) }
     {
         let Some(entry) = self.table.entry(place_of(page)) else {
             unreachable!()
@@ -439,8 +440,10 @@ impl Memory {
     #[tactic(auto, unfolding(crate::specs::View::view_of))]
     pub fn set_option(&mut self, option: Opt, value: u32)
         requires { MayBe option value }
-        ensures { self.new ≡ record self.old { sharing =
-            record self.old.sharing { options = with_option self.old.sharing.options option value } } }
+        ensures { self.new ≡ record self.old {
+          sharing =
+              record self.old.sharing { options = with_option self.old.sharing.options option value };
+        } }
     {
         self.pass.set(option, value);
     }
@@ -494,7 +497,8 @@ impl Memory {
         ensures have { have_of self.new ≡ have_of self.old }
         ensures settings { KeepsSettings self.old self.new }
     {
-        self.table.mark(place_of(page), Status::Volatile, fingerprint);
+        self.table
+            .mark(place_of(page), Status::Volatile, fingerprint);
     }
 
     /// Puts a page on the waiting list, with the fingerprint that it had at its last visit and has
@@ -535,7 +539,11 @@ impl Memory {
     {
         self.table.facts();
         let frame = self.entry(page).frame;
-        match self.pass.waiting.find(self.table.arena(), fingerprint, frame) {
+        match self
+            .pass
+            .waiting
+            .find(self.table.arena(), fingerprint, frame)
+        {
             Some(waiter) => Some(page_at(waiter.place)),
             None => None,
         }

@@ -48,10 +48,11 @@ join-requires-clause-same c =
 
 pub invariant_of-self : goal.invariant_of-self
 invariant_of-self c =
-    let free : IsNotWaiting (view_of c.self.inside.table c.self.inside.shapes.items c.self.inside.tenants.items c.self.inside.pass) c.args.page = rw (← c.self.view_is) at c.requires.free in
-    (memory_kept c.self.inside.table c.join.new.self c.self.inside.shapes.items c.self.inside.tenants.items c.self.inside.pass c.self.inside.pass c.join.ensures.contents c.join.ensures.arena
-    c.self.inside.reserved c.self.invariant.0 (omega (arith, c.join.ensures.used, c.self.invariant.0.room)),
-    pass-others c.self.inside.table c.join.new.self c.self.inside.pass c.place_of.result c.self.invariant.1 (rw c.place_of.ensures (not-waiting c.self.inside.table c.self.inside.shapes.items c.self.inside.tenants.items c.self.inside.pass c.args.page free)) c.join.ensures.others c.join.ensures.arena)
+    let free : IsNotWaiting (view_of c.self.inside.table c.self.inside.shapes.items c.self.inside.tenants.items c.self.inside.pass) c.args.page = rw (← c.self.view_is) at c.requires.free in (
+      memory_kept c.self.inside.table c.join.new.self c.self.inside.shapes.items c.self.inside.tenants.items c.self.inside.pass c.self.inside.pass c.join.ensures.contents c.join.ensures.arena
+          c.self.inside.reserved c.self.invariant.0 (omega (arith, c.join.ensures.used, c.self.invariant.0.room)),
+      pass-others c.self.inside.table c.join.new.self c.self.inside.pass c.place_of.result c.self.invariant.1 (rw c.place_of.ensures (not-waiting c.self.inside.table c.self.inside.shapes.items c.self.inside.tenants.items c.self.inside.pass c.args.page free)) c.join.ensures.others c.join.ensures.arena,
+    )
 
 pub returns-clause-maps : goal.returns-clause-maps
 returns-clause-maps c = rw (← c.self.view_is) (maps_kept c.self.inside.table c.join.new.self c.self.inside.shapes.items c.self.inside.tenants.items c.self.inside.pass _ c.join.ensures.contents c.join.ensures.arena)

@@ -56,12 +56,13 @@ behind c =
     rw c.place_of-place.ensures (is-behind c.self.inside.pass.cursor (page_place c.args.page) behind)
 
 pub invariant_of-self : goal.invariant_of-self
-invariant_of-self c =
-    (memory_kept c.self.inside.table c.mark.new.self c.self.inside.shapes.items c.self.inside.tenants.items c.self.inside.pass c.self.inside.pass c.mark.ensures.contents (arena c)
-    c.self.inside.reserved c.self.invariant.0 (omega (arith, c.mark.ensures.used, c.self.invariant.0.room)),
-    rw c.insert.ensures
-    (pass-waits c.self.inside.table c.mark.new.self c.self.inside.pass (record { place = c.place_of-place.result; frame = c.page-frame.result.frame; fingerprint = c.args.fingerprint })
-    (marked_entry c.page-frame.result Waiting c.args.fingerprint) c.self.invariant.1 (free c) c.mark.ensures.others (arena c) (c.mark.ensures.here c.page-frame.result c.page-frame.ensures) refl refl (mergeable c) (behind c)))
+invariant_of-self c = (
+  memory_kept c.self.inside.table c.mark.new.self c.self.inside.shapes.items c.self.inside.tenants.items c.self.inside.pass c.self.inside.pass c.mark.ensures.contents (arena c)
+      c.self.inside.reserved c.self.invariant.0 (omega (arith, c.mark.ensures.used, c.self.invariant.0.room)),
+  rw c.insert.ensures
+      (pass-waits c.self.inside.table c.mark.new.self c.self.inside.pass (record { place = c.place_of-place.result; frame = c.page-frame.result.frame; fingerprint = c.args.fingerprint })
+      (marked_entry c.page-frame.result Waiting c.args.fingerprint) c.self.invariant.1 (free c) c.mark.ensures.others (arena c) (c.mark.ensures.here c.page-frame.result c.page-frame.ensures) refl refl (mergeable c) (behind c)),
+)
 
 pub returns-clause-maps : goal.returns-clause-maps
 returns-clause-maps c = rw (← c.self.view_is) (maps_kept c.self.inside.table c.mark.new.self c.self.inside.shapes.items c.self.inside.tenants.items c.self.inside.pass _ c.mark.ensures.contents (arena c))
