@@ -114,6 +114,10 @@ had (Some last) fingerprint = last == fingerprint
 abbrev pub is_partner : Contents → ℕ → List ℕ → ℕ × ℕ → Bool
 is_partner contents fingerprint bytes entry = (entry.1 == fingerprint) && bytes_eq (contents entry.0) bytes
 
+-- the earliest partner of a page
+abbrev pub find_partner : Contents → Sharing → ℕ → ℕ → Option (ℕ × ℕ)
+find_partner contents sharing i fingerprint = find (is_partner contents fingerprint (contents i)) sharing.waiting
+
 -- what a visit did, and what it left
 abbrev pub Visit : Type 0
 Visit = Visited × Sharing
@@ -131,7 +135,7 @@ looked_at contents sharing i last =
     if has_open contents sharing i then (visited.Joined, joined contents sharing i) else (
     if not (had last fingerprint) then (visited.Changed, changed sharing i fingerprint) else (
     if sharing.options.use_zero_pages == 1 && bytes_eq bytes zero_page then (visited.Zeroed, zeroed sharing i) else
-    met sharing i fingerprint (find (is_partner contents fingerprint bytes) sharing.waiting)))
+    met sharing i fingerprint (find_partner contents sharing i fingerprint)))
 
 -- what becomes of the visited page
 unfoldable pub decided : Contents → Sharing → ℕ → Option PageState → Visit

@@ -24,3 +24,5 @@ pub mod Waiters
 pub mod Marking
 pub mod Joining
 pub mod Next
+pub mod Scanning
+pub mod Partners

@@ -128,14 +128,14 @@ same_page : (t m n u k l : ℕ) → t ≡ u → m ≡ k → n ≡ l → page_of 
 same_page t m n u k l a b c = rw (a, b, c) refl
 
 module _ (table : TableState) (shapes : List (Option Shape)) (tenants : List Tenant) (pass : Pass) (reserved : ℕ) (is : IsMemory table shapes tenants reserved) where
-  number_small : (page : Page) → IsPageOf (view_of table shapes tenants pass) page → page.number < 256
+  pub number_small : (page : Page) → IsPageOf (view_of table shapes tenants pass) page → page.number < 256
   number_small page there =
       let loc = page_located table shapes tenants pass reserved page is there in
       let few = few_pages loc.shape loc.pages.shaped in
       let h = page_number table shapes tenants pass reserved page is there in
       omega arith
 
-  map_small : (page : Page) → IsPageOf (view_of table shapes tenants pass) page → page.map < 8
+  pub map_small : (page : Page) → IsPageOf (view_of table shapes tenants pass) page → page.map < 8
   map_small page there = (page_located table shapes tenants pass reserved page is there).small
 
   pub places_apart : (first second : Page) → IsPageOf (view_of table shapes tenants pass) first → IsPageOf (view_of table shapes tenants pass) second → first ≢ second

@@ -12,7 +12,7 @@ use Rattle.host_types.specs.Pages.{page_place}
 use Rattle.host_types.specs.Shapes.{IsShape, byte_len_of}
 use Rattle.host_types.specs.Sharing.{Sharing, state_at, new_page, is_shared}
 use Rattle.host_types.specs.Tenant.{TenantPart}
-use Rattle.host_types.specs.Visits.{Contents, contents_in, is_open, is_partner, is_waiting}
+use Rattle.host_types.specs.Visits.{Contents, contents_in, is_open, find_partner, is_waiting}
 use Rattle.page_table.specs.Limits.{AreLimits, page_count}
 use Rattle.page_table.specs.State.{MemoryState, part, bytes_of_map, free_number, frame_at, have_of}
 
@@ -66,6 +66,11 @@ MayMerge memory page =
 abbrev pub IsNotWaiting : MemoryState → Page → Type 0
 IsNotWaiting memory page = is_waiting memory.sharing (page_place page) ≡ false
 
+-- the page had this fingerprint at its last visit
+abbrev pub HadFingerprint : MemoryState → Page → ℕ → Type 0
+HadFingerprint memory page fingerprint =
+    IfSome (state_at memory.sharing (page_place page)) (λ state. state.last ≡ Some fingerprint)
+
 -- the bytes of the page at each place
 abbrev pub contents_now : MemoryState → Contents
 contents_now memory = contents_in memory.maps
@@ -84,7 +89,7 @@ open_frame memory i =
 -- the earliest page that waits for the page's bytes, by its place
 abbrev pub partner_place : MemoryState → ℕ → ℕ → Option ℕ
 partner_place memory i fingerprint =
-    option_map (λ (entry : ℕ × ℕ). entry.0) (find (is_partner (contents_now memory) fingerprint (contents_now memory i)) memory.sharing.waiting)
+    option_map (λ (entry : ℕ × ℕ). entry.0) (find_partner (contents_now memory) memory.sharing i fingerprint)
 
 -- the pages of a new map, which were never visited
 unfoldable pub with_new_pages : Sharing → ℕ → ℕ → Bool → Sharing

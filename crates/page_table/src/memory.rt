@@ -1,16 +1,18 @@
-ghost use Rattle.std.specs.Prelude.{◌≡◌, ◌≢◌, ◌+◌, ◌*◌, ◌-◌, ◌/◌, ◌<◌, ◌≤◌, ◌%◌, ◌↔◌, IsTrue, ℕ, [], length, replicate, is_none, position, Option, Some, None, IfOk, OnOk, IfErr, OnErr, IfSome, option_map, slice_index_or};
+ghost use Rattle.std.specs.Prelude.{◌≡◌, ◌≢◌, ◌+◌, ◌*◌, ◌-◌, ◌/◌, ◌<◌, ◌≤◌, ◌%◌, ◌↔◌, IsTrue, ℕ, [], length, replicate, is_none, position, Option, Some, None, IfOk, OnOk, IfErr, OnErr, IfSome, option_map, slice_index_or, true, is_some};
 ghost use Rattle.host_types.specs.Bytes.{part_of, with_part};
 ghost use Rattle.host_types.specs.Memory.{FlatMap, map_at};
-ghost use Rattle.host_types.specs.OptionTable.{AreOptions};
+ghost use Rattle.host_types.specs.OptionTable.{AreOptions, MayBe};
 ghost use Rattle.host_types.specs.Pages.{map_place, page_place, page_bytes, zero_page};
 ghost use Rattle.host_types.specs.Shapes.{IsShape};
 ghost use Rattle.host_types.specs.Sharing.{new_page, state_at, is_shared, broken, break_cost, cost_from, paired, zeroed};
 ghost use Rattle.host_types.specs.Tenant.{IsFlatMap};
+ghost use Rattle.host_types.specs.Unmerging.{with_option};
+ghost use Rattle.host_types.specs.Visits.{page_to_visit, is_mergeable, flushed, moved_on, changed, waits, has_open, joined};
 ghost use Rattle.frame_arena.specs.Pages.{page_at};
 ghost use Rattle.page_table.specs.Limits.{AreLimits, page_count, shape_of};
 ghost use Rattle.page_table.specs.State.{MemoryState, part, bytes_of_map, free_number, new_memory, free_of, have_of, frame_at};
 ghost use Rattle.page_table.specs.Reads.{ReadsAs};
-ghost use Rattle.page_table.specs.Changes.{zero_map, part_written, part_created, AreKept, MayMerge, IsKeptBut, AreMapsKeptBut, KeepsSettings, IsPageOf, IsOwn, with_new_pages, FitsMap, RefusesMap, RefusesMemory};
+ghost use Rattle.page_table.specs.Changes.{IsNotWaiting, HadFingerprint, contents_now, open_frame, partner_place, zero_map, part_written, part_created, AreKept, MayMerge, IsKeptBut, AreMapsKeptBut, KeepsSettings, IsPageOf, IsOwn, with_new_pages, FitsMap, RefusesMap, RefusesMemory};
 ghost use Rattle.page_table.specs.declared.entry.Entry.{Entry};
 ghost use Rattle.page_table.specs.Table.{state_of, states_of, contents_of, groups_of, used_by, entry_at};
 
@@ -19,9 +21,10 @@ use crate::pass::Pass;
 use crate::table::Table;
 use crate::tenant::Tenant;
 use frame_arena::{FrameArena, PAGE_SIZE};
-use host_types::{Fault, MapNo, Options, Page, Shape};
+use host_types::{Fault, MapNo, Opt, Options, Page, Shape, Status};
 use std::alloc::{AllocError, Global};
 use std::marker::Model;
+use unstable_tree::Waiter;
 
 /// The most frames of a memory.
 const MAX_FRAMES: u32 = 4096;
@@ -84,6 +87,21 @@ fn map_index(tenant: u32, map: MapNo) -> usize
     ensures { result ≡ map_place tenant map }
 {
     tenant as usize * MAX_MAPS + map as usize
+}
+
+/// The page at a place.
+fn page_at(place: usize) -> Page
+    requires { place < 32768 }
+    ensures place { page_place result ≡ place }
+    ensures map { result.map < 8 }
+    ensures number { result.number < 256 }
+{
+    let index = place / MAX_PAGES;
+    Page {
+        tenant: (index / MAX_MAPS) as u32,
+        map: (index % MAX_MAPS) as MapNo,
+        number: (place % MAX_PAGES) as u32,
+    }
 }
 
 /// The place of a page among all pages.
@@ -189,6 +207,7 @@ impl Memory {
         ensures there { result.frame < length self.now.arena }
         ensures protection { result.protected ≡ is_shared result.status }
         ensures content { page_at self.now.arena result.frame ≡ page_bytes (bytes_of_map self.now page) page.number }
+        ensures bytes { page_at self.now.arena result.frame ≡ contents_now self.now (page_place page) }
     {
         let Some(entry) = self.table.entry(place_of(page)) else {
             unreachable!()
@@ -394,6 +413,169 @@ impl Memory {
         let place = place_of(page);
         self.table.zero(place);
         self.pass.waiting.forget(place);
+    }
+}
+
+impl Memory {
+    /// The page that was visited last in this pass, none at the start of a pass.
+    #[tactic(auto, unfolding(crate::specs::View::view_of))]
+    pub fn cursor(&self) -> Option<Page>
+        ensures { option_map page_place result ≡ self.now.sharing.cursor }
+    {
+        match self.pass.cursor {
+            Some(place) => Some(page_at(place)),
+            None => None,
+        }
+    }
+
+    /// How many passes ended, at most `2^64 - 1`.
+    #[tactic(auto, unfolding(crate::specs::View::view_of))]
+    pub fn full_scans(&self) -> u64
+        ensures { result ≡ self.now.sharing.full_scans }
+    {
+        self.pass.full_scans
+    }
+
+    /// Sets one option to a value that it may have.
+    #[tactic(auto, unfolding(crate::specs::View::view_of))]
+    pub fn set_option(&mut self, option: Opt, value: u32)
+        requires { MayBe option value }
+        ensures { self.new ≡ record self.old {
+          sharing =
+              record self.old.sharing { options = with_option self.old.sharing.options option value };
+        } }
+    {
+        self.pass.set(option, value);
+    }
+
+    /// The page that is visited next: the first one behind the cursor that may be merged.
+    pub fn next_page(&self) -> Option<Page>
+        ensures place { option_map page_place result ≡ page_to_visit self.now.sharing }
+        ensures there { IfSome result (IsPageOf self.now) }
+        ensures mergeable { IfSome result (λ page.
+            is_mergeable (state_at self.now.sharing (page_place page)) ≡ true) }
+    {
+        self.table.facts();
+        match self.table.next_mergeable(self.pass.look_from()) {
+            Some(place) => Some(page_at(place)),
+            None => None,
+        }
+    }
+
+    /// Takes all pages off the waiting list, as at the start of a pass.
+    #[tactic(auto, unfolding(crate::specs::View::view_of))]
+    pub fn flush(&mut self)
+        ensures { self.new ≡ record self.old { sharing = flushed self.old.sharing } }
+    {
+        self.pass.waiting.flush();
+    }
+
+    /// Makes the next page the one visited last. Behind the last page that may be merged the pass
+    /// ends.
+    pub fn advance(&mut self, page: Page)
+        requires next { page_to_visit self.old.sharing ≡ Some (page_place page) }
+        requires start { self.old.sharing.cursor ≡ None → self.old.sharing.waiting ≡ [] }
+        ensures moved { self.new ≡ record self.old { sharing = moved_on self.old.sharing (page_place page) } }
+        ensures free { IsNotWaiting self.new page }
+    {
+        let place = place_of(page);
+        if self.table.next_mergeable(place + 1).is_some() {
+            self.pass.cursor = Some(place);
+        } else {
+            self.pass.end();
+        }
+    }
+
+    /// Keeps a page's fingerprint, which is another one than at its last visit: the page is volatile.
+    pub fn change(&mut self, page: Page, fingerprint: u64)
+        requires there { IsPageOf self.old page }
+        requires may { MayMerge self.old page }
+        requires free { IsNotWaiting self.old page }
+        ensures maps { self.new.maps ≡ self.old.maps }
+        ensures kept { AreKept self.old self.new }
+        ensures sharing { self.new.sharing ≡ changed self.old.sharing (page_place page) fingerprint }
+        ensures have { have_of self.new ≡ have_of self.old }
+        ensures settings { KeepsSettings self.old self.new }
+    {
+        self.table
+            .mark(place_of(page), Status::Volatile, fingerprint);
+    }
+
+    /// Puts a page on the waiting list, with the fingerprint that it had at its last visit and has
+    /// now. The page doesn't stand behind the cursor.
+    pub fn wait(&mut self, page: Page, fingerprint: u64)
+        requires there { IsPageOf self.old page }
+        requires may { MayMerge self.old page }
+        requires free { IsNotWaiting self.old page }
+        requires last { HadFingerprint self.old page fingerprint }
+        requires behind { IfSome self.old.sharing.cursor (λ c. page_place page ≤ c) }
+        ensures maps { self.new.maps ≡ self.old.maps }
+        ensures kept { AreKept self.old self.new }
+        ensures sharing { self.new.sharing ≡ waits self.old.sharing (page_place page) fingerprint }
+        ensures have { have_of self.new ≡ have_of self.old }
+        ensures settings { KeepsSettings self.old self.new }
+    {
+        let place = place_of(page);
+        let frame = self.table.page(place).frame;
+        self.table.mark(place, Status::Waiting, fingerprint);
+        self.pass.waiting.insert(Waiter {
+            place,
+            frame,
+            fingerprint,
+        });
+    }
+
+    /// The page that waits longest of those that had this fingerprint at their last visit and have
+    /// the bytes of a page now.
+    pub fn partner(&self, page: Page, fingerprint: u64) -> Option<Page>
+        requires there { IsPageOf self.now page }
+        requires free { IsNotWaiting self.now page }
+        ensures found { option_map page_place result ≡ partner_place self.now (page_place page) fingerprint }
+        ensures there { IfSome result (IsPageOf self.now) }
+        ensures may { IfSome result (MayMerge self.now) }
+        ensures apart { IfSome result (λ other. other ≢ page) }
+        ensures same { IfSome result (λ other. page_bytes (bytes_of_map self.now other) other.number
+            ≡ page_bytes (bytes_of_map self.now page) page.number) }
+    {
+        self.table.facts();
+        let frame = self.entry(page).frame;
+        match self
+            .pass
+            .waiting
+            .find(self.table.arena(), fingerprint, frame)
+        {
+            Some(waiter) => Some(page_at(waiter.place)),
+            None => None,
+        }
+    }
+
+    /// The frame of the earliest group of a page's bytes that has fewer pages than a frame may hold.
+    pub fn open_group(&self, page: Page) -> Option<u32>
+        requires { IsPageOf self.now page }
+        ensures frame { result ≡ open_frame self.now (page_place page) }
+        ensures told { is_some result ≡ has_open (contents_now self.now) self.now.sharing (page_place page) }
+    {
+        self.table.facts();
+        let frame = self.entry(page).frame;
+        self.table.open_group(frame, self.pass.max_page_sharing())
+    }
+
+    /// Puts a page into the earliest group that is open to it, by that group's frame; the page's own
+    /// frame is free then.
+    pub fn join_group(&mut self, page: Page, group: u32)
+        requires there { IsPageOf self.old page }
+        requires may { MayMerge self.old page }
+        requires free { IsNotWaiting self.old page }
+        requires open { open_frame self.old (page_place page) ≡ Some group }
+        ensures maps { self.new.maps ≡ self.old.maps }
+        ensures kept { AreKept self.old self.new }
+        ensures sharing { self.new.sharing ≡ joined (contents_now self.old) self.old.sharing (page_place page) }
+        ensures free { free_of self.new ≡ free_of self.old + 1 }
+        ensures have { have_of self.new ≡ have_of self.old + 1 }
+        ensures settings { KeepsSettings self.old self.new }
+    {
+        self.table.facts();
+        self.table.join(place_of(page), group);
     }
 }
 

@@ -1,7 +1,9 @@
-ghost use Rattle.std.specs.Prelude.{◌≡◌, [], None, IfOk};
+ghost use Rattle.std.specs.Prelude.{◌≡◌, ◌<◌, None, IfOk, IfSome};
+ghost use Rattle.host_types.specs.Unmerging.{with_option};
+ghost use Rattle.host_types.specs.Visits.{look_from, one_more};
 ghost use Rattle.page_table.specs.Table.{new_pass};
 
-use host_types::Options;
+use host_types::{Opt, Options};
 use std::alloc::{AllocError, Global};
 use unstable_tree::UnstableTree;
 
@@ -30,5 +32,43 @@ impl Pass {
             full_scans: 0,
             waiting,
         })
+    }
+
+    /// The place where the next visit looks first.
+    pub(crate) fn look_from(&self) -> usize
+        requires { IfSome self.now.cursor (λ c. c < 32768) }
+        ensures { result ≡ look_from self.now.cursor }
+    {
+        match self.cursor {
+            Some(place) => place + 1,
+            None => 0,
+        }
+    }
+
+    /// How many pages one frame may hold.
+    pub(crate) fn max_page_sharing(&self) -> u32
+        ensures { result ≡ self.now.options.max_page_sharing }
+    {
+        self.options.max_page_sharing
+    }
+
+    /// Ends the pass.
+    pub(crate) fn end(&mut self)
+        ensures { self.new ≡ record self.old { cursor = None; full_scans = one_more self.old.full_scans } }
+    {
+        self.cursor = None;
+        self.full_scans = self.full_scans.saturating_add(1);
+    }
+
+    /// Sets one option.
+    pub(crate) fn set(&mut self, option: Opt, value: u32)
+        ensures { self.new ≡ record self.old { options = with_option self.old.options option value } }
+    {
+        match option {
+            Opt::PagesToScan => self.options.pages_to_scan = value,
+            Opt::Run => self.options.run = value,
+            Opt::UseZeroPages => self.options.use_zero_pages = value,
+            Opt::MaxPageSharing => self.options.max_page_sharing = value,
+        }
     }
 }

@@ -108,7 +108,7 @@ impl Table {
     }
 
     /// What is kept of a page that is there.
-    fn page(&self, place: usize) -> Entry
+    pub(crate) fn page(&self, place: usize) -> Entry
         requires { IsPageAt self.now place }
         ensures { entry_at self.now.entries place ≡ Some result }
     {

@@ -40,10 +40,11 @@ used : (c : goal.After-self-1) → used_by c.add_pages.new.table ≡ used_by c.s
 used c = c.add_pages.ensures.used ∙ ap (λ (n : ℕ). used_by c.self.inside.table + n) c.pages.ensures
 
 pub invariant_of-self : goal.invariant_of-self
-invariant_of-self c =
-    (rw c.map_index-index.ensures (memory_created c.self.inside.table c.add_pages.new.table c.self.inside.shapes.items c.self.inside.tenants.items c.self.inside.pass c.self.inside.reserved c.args.tenant c.args.number c.args.shape c.args.mergeable
-    c.self.invariant.0 c.requires.number (tenant_inside c.self.inside.table c.self.inside.shapes.items c.self.inside.tenants.items c.self.inside.pass c.args.self.now c.self.view_is c.args.tenant c.requires.tenant) (number_empty c.self.inside.table c.self.inside.shapes.items c.self.inside.tenants.items c.self.inside.pass c.args.self.now c.self.view_is c.args.tenant c.args.number c.requires.number c.requires.none) c.requires.shape (contents c) (states c) c.add_pages.ensures.groups (used c) c.add_pages.ensures.arena (room_inside c.self.inside.table c.self.inside.shapes.items c.self.inside.tenants.items c.self.inside.pass c.args.self.now c.self.view_is c.self.inside.reserved (page_count c.args.shape) c.self.invariant.0 c.requires.room)),
-    pass-kept c.self.inside.table c.add_pages.new.table c.self.inside.pass c.self.invariant.1 (kept-own c.self.inside.table c.add_pages.new.table c.add_pages.ensures.kept) c.add_pages.ensures.arena)
+invariant_of-self c = (
+  rw c.map_index-index.ensures (memory_created c.self.inside.table c.add_pages.new.table c.self.inside.shapes.items c.self.inside.tenants.items c.self.inside.pass c.self.inside.reserved c.args.tenant c.args.number c.args.shape c.args.mergeable
+      c.self.invariant.0 c.requires.number (tenant_inside c.self.inside.table c.self.inside.shapes.items c.self.inside.tenants.items c.self.inside.pass c.args.self.now c.self.view_is c.args.tenant c.requires.tenant) (number_empty c.self.inside.table c.self.inside.shapes.items c.self.inside.tenants.items c.self.inside.pass c.args.self.now c.self.view_is c.args.tenant c.args.number c.requires.number c.requires.none) c.requires.shape (contents c) (states c) c.add_pages.ensures.groups (used c) c.add_pages.ensures.arena (room_inside c.self.inside.table c.self.inside.shapes.items c.self.inside.tenants.items c.self.inside.pass c.args.self.now c.self.view_is c.self.inside.reserved (page_count c.args.shape) c.self.invariant.0 c.requires.room)),
+  pass-kept c.self.inside.table c.add_pages.new.table c.self.inside.pass c.self.invariant.1 (kept-own c.self.inside.table c.add_pages.new.table c.add_pages.ensures.kept) c.add_pages.ensures.arena,
+)
 
 told : (c : goal.After-self-1) → Creates (view_of c.self.inside.table c.self.inside.shapes.items c.self.inside.tenants.items c.self.inside.pass) (view_of c.add_pages.new.table (slice_set c.self.inside.shapes.items (map_place c.args.tenant c.args.number) (Some c.args.shape)) c.self.inside.tenants.items c.self.inside.pass) c.args.tenant c.args.number c.args.shape c.args.mergeable
 told c =

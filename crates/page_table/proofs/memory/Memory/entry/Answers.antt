@@ -5,6 +5,7 @@ use Rattle.page_table.specs.Changes.{IsPageOf}
 use Rattle.page_table.specs.View.{view_of}
 use Rattle.page_table.proofs.Putting.{page_inside, page_there, content_at}
 use Rattle.page_table.proofs.Reading.{is_page_at, content_is, state_is, frame_is}
+use Rattle.page_table.proofs.Scanning.{bytes_here}
 use Rattle.page_table.proofs.memory.Memory.entry.Goals as goal
 
 pub entry-requires : goal.entry-requires
@@ -41,3 +42,10 @@ unfolding view_of
 returns-clause-content c =
     rw (← c.self.view_is) (sym (content_at c.self.inside.table (page_place c.args.page) c.in-Some.entry (here c))
     ∙ content_is c.self.inside.table c.self.inside.shapes.items c.self.inside.tenants.items c.self.inside.pass c.self.inside.reserved c.args.page c.self.invariant.0 (there c))
+
+pub returns-clause-bytes : goal.returns-clause-bytes
+unfolding view_of
+returns-clause-bytes c =
+    rw (← c.self.view_is) (sym (content_at c.self.inside.table (page_place c.args.page) c.in-Some.entry (here c))
+    ∙ content_is c.self.inside.table c.self.inside.shapes.items c.self.inside.tenants.items c.self.inside.pass c.self.inside.reserved c.args.page c.self.invariant.0 (there c)
+    ∙ sym (bytes_here c.self.inside.table c.self.inside.shapes.items c.self.inside.tenants.items c.self.inside.pass c.self.inside.reserved c.self.invariant.0 c.args.page (there c)))

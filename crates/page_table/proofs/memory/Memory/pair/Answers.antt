@@ -51,10 +51,11 @@ pair-requires-clause-same c =
     (contents_equal c.self.inside.table c.self.inside.shapes.items c.self.inside.tenants.items c.self.inside.pass c.self.inside.reserved c.self.invariant.0 c.args.first c.args.second (one c) (other c) same)
 
 pub invariant_of-self : goal.invariant_of-self
-invariant_of-self c =
-    (memory_kept c.self.inside.table c.pair.new.self c.self.inside.shapes.items c.self.inside.tenants.items c.self.inside.pass c.self.inside.pass c.pair.ensures.contents c.pair.ensures.arena
-    c.self.inside.reserved c.self.invariant.0 (omega (arith, c.pair.ensures.used, c.self.invariant.0.room)),
-    rw (c.forget-2.ensures, c.forget.ensures) (pass-left-both c.self.inside.table c.pair.new.self c.self.inside.pass c.place_of-first.result c.place_of-second.result c.self.invariant.1 c.pair.ensures.others c.pair.ensures.arena))
+invariant_of-self c = (
+  memory_kept c.self.inside.table c.pair.new.self c.self.inside.shapes.items c.self.inside.tenants.items c.self.inside.pass c.self.inside.pass c.pair.ensures.contents c.pair.ensures.arena
+      c.self.inside.reserved c.self.invariant.0 (omega (arith, c.pair.ensures.used, c.self.invariant.0.room)),
+  rw (c.forget-2.ensures, c.forget.ensures) (pass-left-both c.self.inside.table c.pair.new.self c.self.inside.pass c.place_of-first.result c.place_of-second.result c.self.invariant.1 c.pair.ensures.others c.pair.ensures.arena),
+)
 
 pub returns-clause-maps : goal.returns-clause-maps
 returns-clause-maps c =

@@ -29,10 +29,11 @@ in_map : (c : goal.After-put) → c.args.page.number * 4096 + c.args.at + length
 in_map c = rw (← c.self.view_is) at c.requires.in_map
 
 pub invariant_of-self : goal.invariant_of-self
-invariant_of-self c =
-    (memory_written c.self.inside.table c.put.new.self c.self.inside.shapes.items c.self.inside.tenants.items c.self.inside.pass c.self.inside.reserved c.args.page c.args.at c.args.bytes.now
-    c.self.invariant.0 (there c) c.requires.in_page (in_map c) (rw c.place_of.ensures at c.put.ensures.contents) c.put.ensures.entries c.put.ensures.groups c.put.ensures.arena,
-    pass-kept c.self.inside.table c.put.new.self c.self.inside.pass c.self.invariant.1 (λ i entry e own. ap (λ l. entry_at l i) c.put.ensures.entries ∙ e) c.put.ensures.arena)
+invariant_of-self c = (
+  memory_written c.self.inside.table c.put.new.self c.self.inside.shapes.items c.self.inside.tenants.items c.self.inside.pass c.self.inside.reserved c.args.page c.args.at c.args.bytes.now
+      c.self.invariant.0 (there c) c.requires.in_page (in_map c) (rw c.place_of.ensures at c.put.ensures.contents) c.put.ensures.entries c.put.ensures.groups c.put.ensures.arena,
+  pass-kept c.self.inside.table c.put.new.self c.self.inside.pass c.self.invariant.1 (λ i entry e own. ap (λ l. entry_at l i) c.put.ensures.entries ∙ e) c.put.ensures.arena,
+)
 
 told : (c : goal.After-put) → Writes (before c) (view_of c.put.new.self c.self.inside.shapes.items c.self.inside.tenants.items c.self.inside.pass) c.args.page c.args.at c.args.bytes.now
 told c =

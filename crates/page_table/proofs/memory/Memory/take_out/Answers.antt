@@ -36,10 +36,11 @@ fits c = rw (told c) (cost_fits c.self.inside.table c.self.inside.shapes.items c
 
 pub invariant_of-self : goal.invariant_of-self
 invariant_of-self c =
-    let reserved = cost_reserved c.self.inside.table c.self.inside.shapes.items c.self.inside.tenants.items c.self.inside.pass c.costs_are_told.ensures c.self.inside.reserved (page_place c.args.page) c.self.invariant.0 (room c) in
-    (memory_kept c.self.inside.table c.take_out.new.self c.self.inside.shapes.items c.self.inside.tenants.items c.self.inside.pass c.self.inside.pass c.take_out.ensures.contents c.take_out.ensures.arena
-    c.self.inside.reserved c.self.invariant.0 (omega (arith, used c, told c, reserved)),
-    pass-kept c.self.inside.table c.take_out.new.self c.self.inside.pass c.self.invariant.1 c.take_out.ensures.kept c.take_out.ensures.arena)
+    let reserved = cost_reserved c.self.inside.table c.self.inside.shapes.items c.self.inside.tenants.items c.self.inside.pass c.costs_are_told.ensures c.self.inside.reserved (page_place c.args.page) c.self.invariant.0 (room c) in (
+      memory_kept c.self.inside.table c.take_out.new.self c.self.inside.shapes.items c.self.inside.tenants.items c.self.inside.pass c.self.inside.pass c.take_out.ensures.contents c.take_out.ensures.arena
+          c.self.inside.reserved c.self.invariant.0 (omega (arith, used c, told c, reserved)),
+      pass-kept c.self.inside.table c.take_out.new.self c.self.inside.pass c.self.invariant.1 c.take_out.ensures.kept c.take_out.ensures.arena,
+    )
 
 pub returns-clause-maps : goal.returns-clause-maps
 returns-clause-maps c =

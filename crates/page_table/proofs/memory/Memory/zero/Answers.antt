@@ -33,10 +33,11 @@ zero-requires-clause-zeros c =
     rw c.place_of-place.ensures (content_is c.self.inside.table c.self.inside.shapes.items c.self.inside.tenants.items c.self.inside.pass c.self.inside.reserved c.args.page c.self.invariant.0 (there c) ∙ zeros)
 
 pub invariant_of-self : goal.invariant_of-self
-invariant_of-self c =
-    (memory_kept c.self.inside.table c.zero.new.self c.self.inside.shapes.items c.self.inside.tenants.items c.self.inside.pass c.self.inside.pass c.zero.ensures.contents c.zero.ensures.arena
-    c.self.inside.reserved c.self.invariant.0 (omega (arith, c.zero.ensures.used, c.self.invariant.0.room)),
-    rw c.forget.ensures (pass-left c.self.inside.table c.zero.new.self c.self.inside.pass c.place_of-place.result c.self.invariant.1 c.zero.ensures.others c.zero.ensures.arena))
+invariant_of-self c = (
+  memory_kept c.self.inside.table c.zero.new.self c.self.inside.shapes.items c.self.inside.tenants.items c.self.inside.pass c.self.inside.pass c.zero.ensures.contents c.zero.ensures.arena
+      c.self.inside.reserved c.self.invariant.0 (omega (arith, c.zero.ensures.used, c.self.invariant.0.room)),
+  rw c.forget.ensures (pass-left c.self.inside.table c.zero.new.self c.self.inside.pass c.place_of-place.result c.self.invariant.1 c.zero.ensures.others c.zero.ensures.arena),
+)
 
 pub returns-clause-maps : goal.returns-clause-maps
 returns-clause-maps c =

@@ -1,0 +1,214 @@
+-- Waiting pages as callers see them.
+use Rattle.std.proofs.Common.{◌≡◌, ◌≢◌, ◌∙◌, ⊎_elim, ℕ, ◌+◌, ◌<◌, ◌≤◌, ◌==◌, ◌&&◌, ◌||◌, nat_le, bytes_eq, Bool, true, false, if◌then◌else◌, All, is_some, drop, slice_set, List, [], ◌∷◌, ◌++◌, length, map, find, slice_index_or, Option, Some, None, IfSome, option_map, refl, sym, ap, subst, arith}
+use Rattle.std.specs.List.{list_any}
+use Rattle.std.proofs.lemmas.List.{map-append}
+use Rattle.std.proofs.lemmas.List.Elements.{All-nil, All-cons}
+use Rattle.std.proofs.lemmas.Slice.Eq.{bytes_eq-Decides}
+use Rattle.std.proofs.lemmas.Bool.Decides.{nat_tests}
+use Rattle.host_types.specs.declared.shape.Page.{Page}
+use Rattle.host_types.specs.declared.shape.Shape.{Shape}
+use Rattle.host_types.specs.declared.status.Status.TheVariants.{Waiting}
+use Rattle.host_types.specs.Pages.{page_place}
+use Rattle.host_types.specs.Sharing.{Sharing, PageState, state_at, is_shared, with_status}
+use Rattle.host_types.specs.Visits.{contents_in, is_partner, is_mergeable, first_mergeable, look_from, moved_on, one_more, with_page, waits}
+use Rattle.frame_arena.specs.Pages.{page_at}
+use Rattle.unstable_tree.specs.declared.tree.Waiter.{Waiter}
+use Rattle.unstable_tree.specs.WaitingList.{is_match}
+use Rattle.page_table.specs.declared.entry.Entry.{Entry}
+use Rattle.page_table.specs.declared.pass.Pass.{Pass}
+use Rattle.page_table.specs.declared.tenant.Tenant.{Tenant}
+use Rattle.page_table.specs.Changes.{IsNotWaiting, MayMerge}
+use Rattle.page_table.specs.Table.{TableState, IsTable, AreOthersKept, entry_at, own_pages, used_by, waiting_of, states_of, state_of, groups_of, sharing_of, marked}
+use Rattle.page_table.specs.View.{view_of, IsMemory, IsPass, IsWaiter, AreWaiters, is_listed, is_behind}
+use Rattle.page_table.proofs.Putting.{entry_fits}
+use Rattle.page_table.proofs.Scanning.{frame_told}
+use Rattle.page_table.proofs.Costs.{state-at}
+use Rattle.page_table.proofs.Next.{next-is}
+use Rattle.page_table.proofs.Waiters.{waiters-few, waiters-kept, waiters-more, ahead-free, listed-told, pass-others}
+
+-- the frames of waiting pages are there
+pub waiters-frames : (table : TableState) (c : Option ℕ) (ws : List Waiter) → IsTable table → AreWaiters table.entries c ws → All (λ w. w.frame < length table.arena) ws
+waiters-frames table c [] fits are = All-nil (λ (w : Waiter). w.frame < length table.arena)
+waiters-frames table c (w ∷ ws) fits are =
+    let entry = entry_fits table w.place (are.0).entry fits (are.0).here in
+    All-cons (λ (w : Waiter). w.frame < length table.arena) w ws (omega (arith, entry.frame, (are.0).frame)) (waiters-frames table c ws fits are.2)
+
+-- a waiting page that was found
+pub record IsFound (entries : List (Option Entry)) (c : Option ℕ) (test : Waiter → Bool) (ws : List Waiter) (w : Waiter) : Type 0 where
+  pub waiter : IsWaiter entries c w
+  pub passes : test w ≡ true
+  pub listed : is_listed w.place ws ≡ true
+
+pub found-waiter : (entries : List (Option Entry)) (c : Option ℕ) (test : Waiter → Bool) (ws : List Waiter) (w : Waiter) → AreWaiters entries c ws → find test ws ≡ Some w → IsFound entries c test ws w
+found-waiter entries c test [] w are e = absurd (cc)
+found-waiter entries c test (v ∷ ws) w are e = by_head (test v) refl (found-waiter entries c test ws w are.2) e
+  where
+    one : Some v ≡ Some w → v ≡ w
+    one e = cc
+
+    same_place : (v.place == v.place) ≡ true
+    same_place = grind (arith, nat_tests)
+
+    first : test v ≡ true → IsFound entries c test (v ∷ ws) v
+    first h = record { waiter = are.0; passes = h; listed = ap (λ b. b || is_listed v.place ws) same_place }
+
+    any : (b : Bool) → (b || true) ≡ true
+    any true = refl
+    any false = refl
+
+    by_head : (b : Bool) → test v ≡ b → (find test ws ≡ Some w → IsFound entries c test ws w) → (if b then Some v else find test ws) ≡ Some w → IsFound entries c test (v ∷ ws) w
+    by_head true h rest e = subst (IsFound entries c test (v ∷ ws)) (one e) (first h)
+    by_head false h rest e =
+        let later = rest e in
+        record { waiter = later.waiter; passes = later.passes; listed = ap (λ b. (v.place == w.place) || b) later.listed ∙ any (v.place == w.place) }
+
+module _ (table : TableState) (shapes : List (Option Shape)) (tenants : List Tenant) (pass : Pass) (reserved : ℕ) (is : IsMemory table shapes tenants reserved) (fits : IsTable table) where
+  abbrev contents : ℕ → List ℕ
+  contents = contents_in (view_of table shapes tenants pass).maps
+
+  -- a waiting page has what it is compared by
+  partner-told : (fingerprint : ℕ) (bytes : List ℕ) (c : Option ℕ) (w : Waiter) → IsWaiter table.entries c w → is_partner contents fingerprint bytes (waiting_of w) ≡ is_match table.arena fingerprint bytes w
+  partner-told fingerprint bytes c w waiter =
+      ap (λ l. (w.fingerprint == fingerprint) && bytes_eq l bytes) (frame_told table shapes tenants pass reserved is w.place waiter.entry fits waiter.here ∙ ap (page_at table.arena) waiter.frame)
+
+  -- the earliest partner, as callers see it
+  pub partners-told : (fingerprint : ℕ) (bytes : List ℕ) (c : Option ℕ) (ws : List Waiter) → AreWaiters table.entries c ws
+      → option_map (λ (entry : ℕ × ℕ). entry.0) (find (is_partner contents fingerprint bytes) (map waiting_of ws)) ≡ option_map (λ (w : Waiter). w.place) (find (is_match table.arena fingerprint bytes) ws)
+  partners-told fingerprint bytes c [] are = refl
+  partners-told fingerprint bytes c (w ∷ ws) are =
+      ap (λ (b : Bool). option_map (λ (entry : ℕ × ℕ). entry.0) (if b then Some (waiting_of w) else find (is_partner contents fingerprint bytes) (map waiting_of ws))) (partner-told fingerprint bytes c w are.0)
+      ∙ by_head (is_match table.arena fingerprint bytes w) (partners-told fingerprint bytes c ws are.2)
+    where
+      by_head : (b : Bool) → option_map (λ (entry : ℕ × ℕ). entry.0) (find (is_partner contents fingerprint bytes) (map waiting_of ws)) ≡ option_map (λ (w : Waiter). w.place) (find (is_match table.arena fingerprint bytes) ws)
+          → option_map (λ (entry : ℕ × ℕ). entry.0) (if b then Some (waiting_of w) else find (is_partner contents fingerprint bytes) (map waiting_of ws)) ≡ option_map (λ (w : Waiter). w.place) (if b then Some w else find (is_match table.arena fingerprint bytes) ws)
+      by_head true rest = refl
+      by_head false rest = rest
+
+-- there is room for one more
+pub room-left : (table : TableState) (shapes : List (Option Shape)) (tenants : List Tenant) (reserved : ℕ) (c : Option ℕ) (ws : List Waiter) (room : ℕ) → IsMemory table shapes tenants reserved → AreWaiters table.entries c ws → length table.arena ≤ room → length ws < room
+room-left table shapes tenants reserved c ws room is are fitting =
+    let few = waiters-few table.entries c ws are in
+    omega (arith, few, fitting, is.room)
+
+-- the page that becomes the one visited last stands behind those that wait
+pub waiters-behind : (entries : List (Option Entry)) (c i : ℕ) (ws : List Waiter) → c < i → AreWaiters entries (Some c) ws → AreWaiters entries (Some i) ws
+waiters-behind entries c i ws h are =
+    waiters-kept entries entries (Some c) (Some i) ws
+    (λ w waiter. record { entry = waiter.entry; here = waiter.here; frame = waiter.frame; status = waiter.status; mergeable = waiter.mergeable; behind = later w waiter.behind })
+    are
+  where
+    later : (w : Waiter) → nat_le w.place c ≡ true → nat_le w.place i ≡ true
+    later w le = grind (arith, nat_tests)
+
+pub waiters-started : (entries : List (Option Entry)) (c : Option ℕ) (ws : List Waiter) → AreWaiters entries c ws → AreWaiters entries None ws
+waiters-started entries c ws are =
+    waiters-kept entries entries c None ws
+    (λ w waiter. record { entry = waiter.entry; here = waiter.here; frame = waiter.frame; status = waiter.status; mergeable = waiter.mergeable; behind = refl })
+    are
+
+-- a visit goes past all that wait, and a pass begins without them
+pub advanced : (entries : List (Option Entry)) (pages : List (Option PageState)) (c : Option ℕ) (ws : List Waiter) (i : ℕ) → AreWaiters entries c ws
+    → first_mergeable (look_from c) (drop (look_from c) pages) ≡ Some i → (c ≡ None → map waiting_of ws ≡ []) → AreWaiters entries (Some i) ws × (is_listed i ws ≡ false)
+advanced entries pages None ws i are e start = by_list ws (start refl)
+  where
+    by_list : (ws : List Waiter) → map waiting_of ws ≡ [] → AreWaiters entries (Some i) ws × (is_listed i ws ≡ false)
+    by_list [] h = (tt, refl)
+    by_list (w ∷ ws) h = absurd (cc)
+advanced entries pages (Some c) ws i are e start =
+    let next = (next-is pages (c + 1) i e).behind in
+    let past : c < i = omega (arith, next) in
+    (waiters-behind entries c i ws past are, ahead-free entries c i ws past are)
+
+-- the cursor goes on
+pub moved-on : (table : TableState) (shapes : List (Option Shape)) (tenants : List Tenant) (pass : Pass) (i : ℕ)
+    → is_some (first_mergeable (i + 1) (drop (i + 1) (states_of table.entries))) ≡ true
+    → view_of table shapes tenants (record pass { cursor = Some i }) ≡ record (view_of table shapes tenants pass) { sharing = moved_on (sharing_of table pass) i }
+unfolding view_of moved_on
+moved-on table shapes tenants pass i more = rw more refl
+
+pub moved-ended : (table : TableState) (shapes : List (Option Shape)) (tenants : List Tenant) (pass : Pass) (i : ℕ)
+    → is_some (first_mergeable (i + 1) (drop (i + 1) (states_of table.entries))) ≡ false
+    → view_of table shapes tenants (record pass { cursor = None; full_scans = one_more pass.full_scans }) ≡ record (view_of table shapes tenants pass) { sharing = moved_on (sharing_of table pass) i }
+unfolding view_of moved_on
+moved-ended table shapes tenants pass i none = rw none refl
+
+pub pass-on : (table : TableState) (pass : Pass) (i : ℕ) → IsPass table pass → AreWaiters table.entries (Some i) pass.waiting.listed → i < 32768 → IsPass table (record pass { cursor = Some i })
+pass-on table pass i is are small = record { waiters = are; room = is.room; cursor = small }
+
+pub pass-ended : (table : TableState) (pass : Pass) (n : ℕ) → IsPass table pass → IsPass table (record pass { cursor = None; full_scans = n })
+pass-ended table pass n is = record { waiters = waiters-started table.entries pass.cursor pass.waiting.listed is.waiters; room = is.room; cursor = tt }
+
+-- a page that doesn't wait, as callers see it
+pub not-waiting : (table : TableState) (shapes : List (Option Shape)) (tenants : List Tenant) (pass : Pass) (page : Page) → IsNotWaiting (view_of table shapes tenants pass) page → is_listed (page_place page) pass.waiting.listed ≡ false
+unfolding view_of
+not-waiting table shapes tenants pass page free = listed-told (page_place page) pass.waiting.listed ∙ free
+
+pub waits-not : (table : TableState) (shapes : List (Option Shape)) (tenants : List Tenant) (pass : Pass) (page : Page) → is_listed (page_place page) pass.waiting.listed ≡ false → IsNotWaiting (view_of table shapes tenants pass) page
+unfolding view_of
+waits-not table shapes tenants pass page free = sym (listed-told (page_place page) pass.waiting.listed) ∙ free
+
+-- a page that is marked as waiting, and put on the list
+pub pass-waits : (old new : TableState) (pass : Pass) (w : Waiter) (entry : Entry) → IsPass old pass → is_listed w.place pass.waiting.listed ≡ false → AreOthersKept w.place old new → length new.arena ≡ length old.arena
+    → entry_at new.entries w.place ≡ Some entry → entry.frame ≡ w.frame → entry.status ≡ Waiting → entry.mergeable ≡ true → is_behind pass.cursor w.place ≡ true
+    → IsPass new (record pass { waiting = record pass.waiting { listed = pass.waiting.listed ++ w ∷ [] } })
+pass-waits old new pass w entry is free others arena here frame status mergeable behind =
+    let kept = pass-others old new pass w.place is free others arena in
+    record {
+      waiters = waiters-more new.entries pass.cursor pass.waiting.listed w kept.waiters (record { entry = entry; here = here; frame = frame; status = status; mergeable = mergeable; behind = behind }) free;
+      room = kept.room;
+      cursor = kept.cursor;
+    }
+
+pub is-behind : (c : Option ℕ) (i : ℕ) → IfSome c (λ n. i ≤ n) → is_behind c i ≡ true
+is-behind None i h = refl
+is-behind (Some n) i h = grind (arith, nat_tests)
+
+-- a page with an entry that may be merged
+pub may-entry : (table : TableState) (shapes : List (Option Shape)) (tenants : List Tenant) (pass : Pass) (page : Page) (entry : Entry) → entry_at table.entries (page_place page) ≡ Some entry
+    → MayMerge (view_of table shapes tenants pass) page → entry.mergeable ≡ true
+unfolding view_of
+may-entry table shapes tenants pass page entry e may =
+    (subst (λ (x : Option PageState). IfSome x (λ state. (state.mergeable ≡ true) × (is_shared state.status ≡ false))) (state-at table pass (page_place page) ∙ ap (option_map state_of) e) may).0
+
+-- a page whose entry may be merged
+pub may-told : (table : TableState) (shapes : List (Option Shape)) (tenants : List Tenant) (pass : Pass) (page : Page) (entry : Entry) → entry_at table.entries (page_place page) ≡ Some entry
+    → entry.mergeable ≡ true → is_shared entry.status ≡ false → MayMerge (view_of table shapes tenants pass) page
+unfolding view_of
+may-told table shapes tenants pass page entry e mergeable own =
+    subst (λ (x : Option PageState). IfSome x (λ state. (state.mergeable ≡ true) × (is_shared state.status ≡ false))) (sym (state-at table pass (page_place page) ∙ ap (option_map state_of) e)) (mergeable, own)
+
+-- a match has the bytes
+pub match-bytes : (arena : List (List ℕ)) (fingerprint : ℕ) (bytes : List ℕ) (w : Waiter) → is_match arena fingerprint bytes w ≡ true → page_at arena w.frame ≡ bytes
+match-bytes arena fingerprint bytes w h = by_test (w.fingerprint == fingerprint) h
+  where
+    by_test : (b : Bool) → (b && bytes_eq (page_at arena w.frame) bytes) ≡ true → page_at arena w.frame ≡ bytes
+    by_test true h = (bytes_eq-Decides (page_at arena w.frame) bytes).0 h
+    by_test false h = absurd (cc)
+
+-- an entry of a page that may be merged
+pub entry-may : (table : TableState) (pass : Pass) (i : ℕ) → is_mergeable (state_at (sharing_of table pass) i) ≡ true → (entry : Entry) × (entry_at table.entries i ≡ Some entry)
+entry-may table pass i may = by_entry (entry_at table.entries i) refl
+  where
+    by_entry : (x : Option Entry) → entry_at table.entries i ≡ x → (entry : Entry) × (entry_at table.entries i ≡ Some entry)
+    by_entry None e = absurd (let none : false ≡ true = sym (ap is_mergeable (state-at table pass i ∙ ap (option_map state_of) e)) ∙ may in cc)
+    by_entry (Some entry) e = (entry, e)
+
+-- a page that had the fingerprint and waits with it only has another status
+pub marked-waiting : (table : TableState) (pass : Pass) (i fingerprint : ℕ) → IfSome (state_at (sharing_of table pass) i) (λ state. state.last ≡ Some fingerprint)
+    → option_map (marked Waiting fingerprint) (state_at (sharing_of table pass) i) ≡ option_map (with_status Waiting) (state_at (sharing_of table pass) i)
+marked-waiting table pass i fingerprint had = by_state (state_at (sharing_of table pass) i) had
+  where
+    by_state : (x : Option PageState) → IfSome x (λ state. state.last ≡ Some fingerprint) → option_map (marked Waiting fingerprint) x ≡ option_map (with_status Waiting) x
+    by_state None h = refl
+    by_state (Some state) h = rw h refl
+
+pub sharing-waits : (table new : TableState) (pass : Pass) (w : Waiter) → IfSome (state_at (sharing_of table pass) w.place) (λ state. state.last ≡ Some w.fingerprint)
+    → sharing_of new pass ≡ with_page (sharing_of table pass) w.place (marked Waiting w.fingerprint)
+    → sharing_of new (record pass { waiting = record pass.waiting { listed = pass.waiting.listed ++ w ∷ [] } }) ≡ waits (sharing_of table pass) w.place w.fingerprint
+unfolding waits
+sharing-waits table new pass w had marked =
+    let pages : states_of new.entries ≡ slice_set (states_of table.entries) w.place (option_map (with_status Waiting) (state_at (sharing_of table pass) w.place)) =
+    ap (λ (s : Sharing). s.pages) marked ∙ ap (slice_set (states_of table.entries) w.place) (marked-waiting table pass w.place w.fingerprint had) in
+    let groups : groups_of new ≡ groups_of table = ap (λ (s : Sharing). s.groups) marked in
+    let waiting = map-append waiting_of pass.waiting.listed (w ∷ []) in
+    cc

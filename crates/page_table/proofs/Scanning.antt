@@ -1,0 +1,296 @@
+-- What a memory tells of pages by their places, of open groups and of waiting pages.
+use Rattle.std.proofs.Common.{◌≡◌, ◌≢◌, ◌∙◌, ◌⊎◌, ⊎_elim, ℕ, zero, suc, ◌+◌, ◌-◌, ◌*◌, ◌/◌, ◌%◌, ◌<◌, ◌≤◌, ◌==◌, ◌&&◌, ◌||◌, nat_lt, bytes_eq, Bool, true, false, if◌then◌else◌, List, [], ◌∷◌, length, map, find, slice_index_or, slice_set, Option, Some, None, IfSome, option_map, is_some, refl, sym, ap, subst, arith, length-take}
+use Rattle.std.specs.List.{concat, list_any}
+use Rattle.std.proofs.lemmas.List.{length-take-le}
+use Rattle.std.proofs.lemmas.List.Sums.{sum_by-cons}
+use Rattle.std.proofs.lemmas.Slice.Eq.{bytes_eq-Decides}
+use Rattle.std.proofs.lemmas.Bool.Decides.{nat_tests, eqb_tells}
+use Rattle.host_types.specs.declared.shape.Page.{Page}
+use Rattle.host_types.specs.declared.status.Status.TheVariants.{Grouped}
+use Rattle.host_types.specs.declared.shape.Shape.{Shape}
+use Rattle.host_types.specs.Bytes.{part_of}
+use Rattle.host_types.specs.Memory.{FlatMap, map_at}
+use Rattle.host_types.specs.Pages.{map_place, page_place, page_bytes}
+use Rattle.host_types.specs.Shapes.{byte_len_of}
+use Rattle.host_types.specs.Sharing.{joined_by, with_status}
+use Rattle.host_types.specs.Visits.{contents_in, group_bytes, is_open, has_open, join_first, joined}
+use Rattle.frame_arena.specs.Pages.{page_at}
+use Rattle.page_table.specs.declared.entry.Entry.{Entry}
+use Rattle.page_table.specs.declared.pass.Pass.{Pass}
+use Rattle.page_table.specs.declared.tenant.Tenant.{Tenant}
+use Rattle.page_table.specs.Limits.{page_count}
+use Rattle.page_table.specs.State.{MemoryState, part, bytes_of_map, frame_at}
+use Rattle.page_table.specs.Changes.{IsPageOf, frame_of_group, open_frame, contents_now}
+use Rattle.page_table.specs.Table.{TableState, IsTable, IsPageAt, ArePages, ArePagesOf, maps_of, flat_of, contents_of, entry_at, groups_of, sharing_of, states_of, frames_of, times, is_on, places_on, pages_on, is_open_frame, joined_on}
+use Rattle.page_table.specs.View.{view_of, IsMemory}
+use Rattle.page_table.proofs.Maps.{map_at-maps_of, length-concat}
+use Rattle.page_table.proofs.Reading.{map_at-part, bytes_in, content_in, content_is}
+use Rattle.page_table.proofs.Creating.{length-contents}
+use Rattle.page_table.proofs.Entries.{one_when, on_one, on_one-false, times-head, times-tail, inside}
+use Rattle.page_table.proofs.Groups.{length-places}
+use Rattle.page_table.proofs.Putting.{page_inside, content_at, entry_fits}
+use Rattle.page_table.proofs.Joining.{group_of}
+use Rattle.page_table.proofs.Merging.{map_small, number_small}
+
+-- a page with an entry is there
+pub is_page_at_entry : (table : TableState) (i : ℕ) (entry : Entry) → IsTable table → entry_at table.entries i ≡ Some entry → IsPageAt table i
+is_page_at_entry table i entry is e = ap length (content_at table i entry e) ∙ is.pages entry.frame (entry_fits table i entry is e).frame
+
+module _ (table : TableState) (shapes : List (Option Shape)) (tenants : List Tenant) (pass : Pass) (reserved : ℕ) (is : IsMemory table shapes tenants reserved) where
+  abbrev view : MemoryState
+  view = view_of table shapes tenants pass
+
+  -- a page by its place
+  pub page_there : (page : Page) → page.map < 8 → page.number < 256 → IsPageAt table (page_place page) → IsPageOf view page
+  unfolding view_of part
+  page_there page small few at =
+      by_shape (slice_index_or shapes (map_place page.tenant page.map) None) refl
+    where
+      k : ℕ
+      k = map_place page.tenant page.map
+
+      inside_shapes : map_place page.tenant page.map < length shapes
+      inside_shapes =
+          let there = page_inside table (page_place page) at in
+          let long = length-contents table in
+          omega (arith, there, long, is.maps.places, few)
+
+      content : length (slice_index_or (part_of (contents_of table) (map_place page.tenant page.map * 256) 256) page.number []) ≡ 4096
+      content = sym (ap length (content_in (contents_of table) (map_place page.tenant page.map) page.number few)) ∙ at
+
+      by_shape : (shape : Option Shape) → slice_index_or shapes (map_place page.tenant page.map) None ≡ shape
+          → page.number * 4096 < length (bytes_in (map_at (part_of (maps_of shapes (contents_of table)) (page.tenant * 8) 8) page.map))
+      by_shape None e =
+          let none = subst (λ s. ArePages s (part_of (contents_of table) (map_place page.tenant page.map * 256) 256)) e (is.maps.each (map_place page.tenant page.map) inside_shapes) in
+          absurd (omega (arith, content, ap length (none page.number)))
+      by_shape (Some shape) e =
+          let pages : ArePagesOf shape (part_of (contents_of table) (map_place page.tenant page.map * 256) 256) = subst (λ s. ArePages s (part_of (contents_of table) (map_place page.tenant page.map * 256) 256)) e (is.maps.each (map_place page.tenant page.map) inside_shapes) in
+          let known : map_at (part_of (maps_of shapes (contents_of table)) (page.tenant * 8) 8) page.map ≡ Some (flat_of (part_of (contents_of table) (map_place page.tenant page.map * 256) 256) shape) =
+          map_at-part (maps_of shapes (contents_of table)) page.tenant page.map small ∙ map_at-maps_of shapes (contents_of table) (map_place page.tenant page.map) ∙ ap (option_map (flat_of (part_of (contents_of table) (map_place page.tenant page.map * 256) 256))) e in
+          let whole = length-concat (part_of (contents_of table) (map_place page.tenant page.map * 256) 256) (page_count shape) pages.there pages.none in
+          let front = length-take-le (byte_len_of shape) (concat (part_of (contents_of table) (map_place page.tenant page.map * 256) 256)) (omega (arith, whole)) in
+          let bytes = ap (λ flat. length (bytes_in flat)) known in
+          let below : page.number < page_count shape = ⊎_elim (λ less. less) (λ past. absurd (omega (arith, content, ap length (pages.none page.number past)))) (order page.number (page_count shape)) in
+          omega (arith, bytes, front, below)
+        where
+          order : (a b : ℕ) → (a < b) ⊎ (b ≤ a)
+          order a b = grind arith
+
+  -- the bytes at a page's place
+  pub contents_told : (page : Page) → page.map < 8 → page.number < 256 → contents_in view.maps (page_place page) ≡ page_bytes (bytes_of_map view page) page.number
+  unfolding view_of part contents_in
+  contents_told page small few =
+      let index : page_place page / 256 ≡ map_place page.tenant page.map = omega arith in
+      let number : page_place page % 256 ≡ page.number = omega arith in
+      rw (index, number) (ap (λ flat. page_bytes (bytes_in flat) page.number) (sym (map_at-part (maps_of shapes (contents_of table)) page.tenant page.map small)))
+
+  -- the bytes of a page that is there
+  pub bytes_here : (page : Page) → IsPageOf view page → contents_in view.maps (page_place page) ≡ page_bytes (bytes_of_map view page) page.number
+  bytes_here page there = contents_told page (map_small table shapes tenants pass reserved is page there) (number_small table shapes tenants pass reserved is page there)
+
+  -- the bytes at each place with an entry are those of its frame
+  pub frame_told : (i : ℕ) (entry : Entry) → IsTable table → entry_at table.entries i ≡ Some entry → contents_in view.maps i ≡ page_at table.arena entry.frame
+  frame_told i entry fits e =
+      let place : page_place (named i) ≡ i = omega arith in
+      let there = page_there (named i) (omega arith) (omega arith) (subst (IsPageAt table) (sym place) (is_page_at_entry table i entry fits e)) in
+      ap (contents_in view.maps) (sym place) ∙ contents_told (named i) (omega arith) (omega arith)
+      ∙ sym (content_is table shapes tenants pass reserved (named i) is there)
+      ∙ ap (λ j. slice_index_or (contents_of table) j []) place ∙ content_at table i entry e
+    where
+      named : ℕ → Page
+      named i = record { tenant = i / 2048; map = i / 256 % 8; number = i % 256 }
+
+-- the first of some places, under a reading of places
+abbrev first_in : {X : Type 0} → X → (ℕ → X) → List ℕ → X
+first_in none read [] = none
+first_in none read (i ∷ places) = read i
+
+bytes-first : (contents : ℕ → List ℕ) (places : List ℕ) → group_bytes contents places ≡ first_in [] contents places
+unfolding group_bytes
+bytes-first contents [] = refl
+bytes-first contents (i ∷ places) = refl
+
+frame-first : (memory : MemoryState) (places : List ℕ) → frame_of_group memory (Some places) ≡ first_in None (frame_at memory) places
+frame-first memory [] = refl
+frame-first memory (i ∷ places) = refl
+
+-- what all pages on a frame read as, the first one does
+first-places : {X : Type 0} (none : X) (read : ℕ → X) (told : X) (g n : ℕ) (xs : List (Option Entry)) → ((k : ℕ) → is_on g (entry_at xs k) ≡ true → read (n + k) ≡ told) → 1 ≤ pages_on g xs
+    → first_in none read (places_on n g xs) ≡ told
+unfolding places_on pages_on
+first-places none read told g n [] h some = absurd (omega arith)
+first-places {X} none read told g n (x ∷ xs) h some = by_head (is_on g x) refl
+    (first-places none read told g (n + 1) xs (λ k on. let next : n + 1 + k ≡ n + suc k = omega arith in ap read next ∙ h (suc k) on))
+  where
+    by_head : (b : Bool) → is_on g x ≡ b → (1 ≤ pages_on g xs → first_in none read (places_on (n + 1) g xs) ≡ told)
+        → first_in none read (if b then n ∷ places_on (n + 1) g xs else places_on (n + 1) g xs) ≡ told
+    by_head true e rest = let start : n ≡ n + 0 = omega arith in ap read start ∙ h 0 e
+    by_head false e rest =
+        let split = sum_by-cons (on_one g) x xs in
+        let without = on_one-false g x e in
+        rest (omega (arith, split, without, some))
+
+-- what is found stands in the list, and passes the test
+pub find-in : (test : ℕ → Bool) (gs : List ℕ) (f : ℕ) → find test gs ≡ Some f → (1 ≤ times f gs) × (test f ≡ true)
+find-in test [] f e = absurd (cc)
+find-in test (g ∷ gs) f e = by_head (test g) refl (find-in test gs f) e
+  where
+    one : Some g ≡ Some f → g ≡ f
+    one e = cc
+
+    by_head : (b : Bool) → test g ≡ b → (find test gs ≡ Some f → (1 ≤ times f gs) × (test f ≡ true)) → (if b then Some g else find test gs) ≡ Some f → (1 ≤ times f (g ∷ gs)) × (test f ≡ true)
+    by_head true h rest e = (subst (λ n. 1 ≤ times n (g ∷ gs)) (one e) (times-head g gs), ap test (sym (one e)) ∙ h)
+    by_head false h rest e = let later = rest e in (let more = times-tail f g gs in omega (arith, more, later.0), later.1)
+
+-- tests of groups and of their frames that agree
+module _ (test : List ℕ → Bool) (opens : ℕ → Bool) (places : ℕ → List ℕ) where
+  Agree : List ℕ → Type 0
+  Agree gs = (g : ℕ) → 1 ≤ times g gs → test (places g) ≡ opens g
+
+  later : (g : ℕ) (gs : List ℕ) → ((f : ℕ) → 1 ≤ times f (g ∷ gs) → test (places f) ≡ opens f) → (f : ℕ) → 1 ≤ times f gs → test (places f) ≡ opens f
+  later g gs same f some = same f (let more = times-tail f g gs in omega (arith, more, some))
+
+  pub find-places : (gs : List ℕ) → ((g : ℕ) → 1 ≤ times g gs → test (places g) ≡ opens g) → find test (map places gs) ≡ option_map places (find opens gs)
+  find-places [] same = refl
+  find-places (g ∷ gs) same = ap (λ (b : Bool). if b then Some (places g) else find test (map places gs)) (same g (times-head g gs)) ∙ by_head (opens g) (find-places gs (later g gs same))
+    where
+      by_head : (b : Bool) → find test (map places gs) ≡ option_map places (find opens gs)
+          → (if b then Some (places g) else find test (map places gs)) ≡ option_map places (if b then Some g else find opens gs)
+      by_head true rest = refl
+      by_head false rest = rest
+
+  pub any-places : (gs : List ℕ) → ((g : ℕ) → 1 ≤ times g gs → test (places g) ≡ opens g) → list_any test (map places gs) ≡ is_some (find opens gs)
+  any-places [] same = refl
+  any-places (g ∷ gs) same = ap (λ (b : Bool). b || list_any test (map places gs)) (same g (times-head g gs)) ∙ by_head (opens g) (any-places gs (later g gs same))
+    where
+      by_head : (b : Bool) → list_any test (map places gs) ≡ is_some (find opens gs) → (b || list_any test (map places gs)) ≡ is_some (if b then Some g else find opens gs)
+      by_head true rest = refl
+      by_head false rest = rest
+
+  -- the groups, where a page joins the group of the frame f
+  abbrev pub grown : ℕ → ℕ → ℕ → List ℕ
+  grown i f g = if g == f then joined_by i (places g) else places g
+
+  others-stay : (i f : ℕ) (gs : List ℕ) → times f gs ≡ 0 → map (grown i f) gs ≡ map places gs
+  others-stay i f [] none = refl
+  others-stay i f (g ∷ gs) none =
+      let split = sum_by-cons (λ (x : ℕ). one_when (x == f)) g gs in
+      ⊎_elim (λ same. absurd (let one = ap one_when same.0 in omega (arith, split, none, one)))
+      (λ other. let rest = others-stay i f gs (omega (arith, split, none)) in
+      let first : grown i f g ≡ places g = ap (λ (b : Bool). if b then joined_by i (places g) else places g) other.0 in cc)
+      (eqb_tells g f)
+
+  pub join-places : (i f : ℕ) (gs : List ℕ) → ((g : ℕ) → 1 ≤ times g gs → test (places g) ≡ opens g) → find opens gs ≡ Some f → times f gs ≤ 1
+      → join_first test i (map places gs) ≡ map (grown i f) gs
+  unfolding join_first
+  join-places i f [] same e once = refl
+  join-places i f (g ∷ gs) same e once =
+      ap (λ (b : Bool). if b then joined_by i (places g) ∷ map places gs else places g ∷ join_first test i (map places gs)) (same g (times-head g gs))
+      ∙ by_head (opens g) refl (join-places i f gs (later g gs same)) e (sum_by-cons (λ (x : ℕ). one_when (x == f)) g gs)
+    where
+      one : Some g ≡ Some f → g ≡ f
+      one e = cc
+
+      equal_here : g ≡ f → (g == f) ≡ true
+      equal_here e = grind (arith, nat_tests)
+
+      by_head : (b : Bool) → opens g ≡ b → (find opens gs ≡ Some f → times f gs ≤ 1 → join_first test i (map places gs) ≡ map (grown i f) gs)
+          → (if b then Some g else find opens gs) ≡ Some f → times f (g ∷ gs) ≡ one_when (g == f) + times f gs
+          → (if b then joined_by i (places g) ∷ map places gs else places g ∷ join_first test i (map places gs)) ≡ grown i f g ∷ map (grown i f) gs
+      by_head true h rest e split =
+          let here = equal_here (one e) in
+          let counted = ap one_when here in
+          let others = others-stay i f gs (omega (arith, split, counted, once)) in
+          let first : grown i f g ≡ joined_by i (places g) = ap (λ (b : Bool). if b then joined_by i (places g) else places g) here in
+          cc
+      by_head false h rest e split =
+          let there = find-in opens gs f e in
+          ⊎_elim (λ same. absurd (let one = ap one_when same.0 in omega (arith, split, once, one, there.0)))
+          (λ other. let first : grown i f g ≡ places g = ap (λ (b : Bool). if b then joined_by i (places g) else places g) other.0 in
+          let tail = rest e (omega (arith, split, once)) in cc)
+          (eqb_tells g f)
+
+module _ (table : TableState) (shapes : List (Option Shape)) (tenants : List Tenant) (pass : Pass) (reserved : ℕ) (is : IsMemory table shapes tenants reserved) (fits : IsTable table) where
+  abbrev memory : MemoryState
+  memory = view_of table shapes tenants pass
+
+  abbrev contents : ℕ → List ℕ
+  contents = contents_in (view_of table shapes tenants pass).maps
+
+  on-frame : (g k : ℕ) (x : Option Entry) → entry_at table.entries k ≡ x → is_on g x ≡ true → contents k ≡ page_at table.arena g
+  on-frame g k None e on = absurd (cc)
+  on-frame g k (Some entry) e on =
+      let same : entry.frame ≡ g = grind (arith, nat_tests) in
+      frame_told table shapes tenants pass reserved is k entry fits e ∙ ap (page_at table.arena) same
+
+  bytes-of_group : (g : ℕ) → 1 ≤ times g table.groups → group_bytes contents (places_on 0 g table.entries) ≡ page_at table.arena g
+  bytes-of_group g some =
+      bytes-first contents (places_on 0 g table.entries)
+      ∙ first-places [] contents (page_at table.arena g) g 0 table.entries
+      (λ k on. let start : 0 + k ≡ k = omega arith in ap contents start ∙ on-frame g k (entry_at table.entries k) refl on) (group_of table g fits some).some
+
+  -- whether a group is open is told by its frame
+  pub open-group : (bytes : List ℕ) (g : ℕ) → 1 ≤ times g table.groups
+      → is_open contents (sharing_of table pass) bytes (places_on 0 g table.entries) ≡ is_open_frame table bytes pass.options.max_page_sharing g
+  open-group bytes g some =
+      ap (λ l. bytes_eq l bytes && nat_lt (length (places_on 0 g table.entries)) pass.options.max_page_sharing) (bytes-of_group g some)
+      ∙ ap (λ n. bytes_eq (page_at table.arena g) bytes && nat_lt n pass.options.max_page_sharing) (length-places 0 g table.entries)
+
+  frame-on : (g k : ℕ) → is_on g (entry_at table.entries k) ≡ true → slice_index_or (frames_of table.entries) k None ≡ Some g
+  frame-on g k on = by_list table.entries k on
+    where
+      by_list : (xs : List (Option Entry)) (k : ℕ) → is_on g (entry_at xs k) ≡ true → slice_index_or (frames_of xs) k None ≡ Some g
+      by_list [] k on = absurd (cc)
+      by_list (None ∷ xs) zero on = absurd (cc)
+      by_list (Some entry ∷ xs) zero on = let same : entry.frame ≡ g = grind (arith, nat_tests) in ap Some same
+      by_list (x ∷ xs) (suc k) on = by_list xs k on
+
+  frame-of_group : (g : ℕ) → 1 ≤ times g table.groups → frame_of_group memory (Some (places_on 0 g table.entries)) ≡ Some g
+  unfolding view_of
+  frame-of_group g some =
+      frame-first memory (places_on 0 g table.entries)
+      ∙ first-places None (frame_at memory) (Some g) g 0 table.entries
+      (λ k on. let start : 0 + k ≡ k = omega arith in ap (frame_at memory) start ∙ frame-on g k on) (group_of table g fits some).some
+
+  abbrev opens : List ℕ → ℕ → Bool
+  opens bytes = is_open_frame table bytes pass.options.max_page_sharing
+
+  pub open-frame : (i : ℕ) → open_frame memory i ≡ find (opens (contents i)) table.groups
+  unfolding view_of groups_of
+  open-frame i =
+      ap (frame_of_group memory) (find-places (is_open contents (sharing_of table pass) (contents i)) (opens (contents i)) (λ g. places_on 0 g table.entries) table.groups (open-group (contents i)))
+      ∙ by_found (find (opens (contents i)) table.groups) refl
+    where
+      by_found : (x : Option ℕ) → find (opens (contents i)) table.groups ≡ x → frame_of_group memory (option_map (λ g. places_on 0 g table.entries) x) ≡ x
+      by_found None e = refl
+      by_found (Some g) e = frame-of_group g (find-in (opens (contents i)) table.groups g e).0
+
+  pub has-open : (i : ℕ) → has_open contents memory.sharing i ≡ is_some (find (opens (contents i)) table.groups)
+  unfolding view_of groups_of has_open
+  has-open i = any-places (is_open contents (sharing_of table pass) (contents i)) (opens (contents i)) (λ g. places_on 0 g table.entries) table.groups (open-group (contents i))
+
+  pub joins : (i f : ℕ) → find (opens (contents i)) table.groups ≡ Some f
+      → join_first (is_open contents (sharing_of table pass) (contents i)) i (groups_of table) ≡ map (joined_on table i f) table.groups
+  unfolding groups_of
+  joins i f e =
+      let there = (find-in (opens (contents i)) table.groups f e).0 in
+      let once = (group_of table f fits there).once in
+      join-places (is_open contents (sharing_of table pass) (contents i)) (opens (contents i)) (λ g. places_on 0 g table.entries) i f table.groups (open-group (contents i)) e (omega (arith, once))
+
+  -- the state of sharing after a page joined the group
+  pub sharing-joins : (new : TableState) (i f : ℕ) → find (opens (contents i)) table.groups ≡ Some f
+      → states_of new.entries ≡ slice_set (states_of table.entries) i (option_map (with_status Grouped) (slice_index_or (states_of table.entries) i None))
+      → groups_of new ≡ map (joined_on table i f) table.groups
+      → (view_of new shapes tenants pass).sharing ≡ joined contents memory.sharing i
+  unfolding view_of joined
+  sharing-joins new i f e states groups =
+      let together = groups ∙ sym (joins i f e) in
+      cc
+
+-- an open group has the bytes
+pub open-bytes : (table : TableState) (bytes : List ℕ) (limit f : ℕ) → is_open_frame table bytes limit f ≡ true → page_at table.arena f ≡ bytes
+open-bytes table bytes limit f h = by_test (bytes_eq (page_at table.arena f) bytes) refl h
+  where
+    by_test : (b : Bool) → bytes_eq (page_at table.arena f) bytes ≡ b → (b && nat_lt (pages_on f table.entries) limit) ≡ true → page_at table.arena f ≡ bytes
+    by_test true e h = (bytes_eq-Decides (page_at table.arena f) bytes).0 e
+    by_test false e h = absurd (cc)

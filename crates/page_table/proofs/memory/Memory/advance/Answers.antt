@@ -1,0 +1,68 @@
+use Rattle.std.proofs.Common.{◌≡◌, ◌∙◌, ◌+◌, ◌<◌, ℕ, [], true, false, drop, length, map, is_some, None, Some, sym, ap, subst, arith, option_map}
+use Rattle.std.proofs.lemmas.List.{length-map}
+use Rattle.host_types.specs.Pages.{page_place}
+use Rattle.host_types.specs.Visits.{first_mergeable, look_from}
+use Rattle.page_table.specs.Table.{states_of, state_of, waiting_of}
+use Rattle.page_table.specs.View.{view_of, AreWaiters, is_listed}
+use Rattle.page_table.proofs.Creating.{length-contents}
+use Rattle.page_table.proofs.Next.{next-is}
+use Rattle.page_table.proofs.Partners.{advanced, moved-on, moved-ended, pass-on, pass-ended, waits-not}
+use Rattle.page_table.proofs.memory.Memory.advance.Goals as goal
+use Rattle.page_table.proofs.memory.Memory.advance.Goals.{After-is_some}
+
+next : (c : After-is_some) → first_mergeable (look_from c.self.inside.pass.cursor) (drop (look_from c.self.inside.pass.cursor) (states_of c.self.inside.table.entries)) ≡ Some (page_place c.args.page)
+unfolding view_of
+next c = rw (← c.self.view_is) at c.requires.next
+
+start : (c : After-is_some) → c.self.inside.pass.cursor ≡ None → map waiting_of c.self.inside.pass.waiting.listed ≡ []
+unfolding view_of
+start c = rw (← c.self.view_is) at c.requires.start
+
+gone : (c : After-is_some) → AreWaiters c.self.inside.table.entries (Some (page_place c.args.page)) c.self.inside.pass.waiting.listed × (is_listed (page_place c.args.page) c.self.inside.pass.waiting.listed ≡ false)
+gone c =
+    advanced c.self.inside.table.entries (states_of c.self.inside.table.entries) c.self.inside.pass.cursor c.self.inside.pass.waiting.listed (page_place c.args.page) c.self.invariant.1.waiters (next c) (start c)
+
+small : (c : After-is_some) → page_place c.args.page < 32768
+small c =
+    let inside = (next-is (states_of c.self.inside.table.entries) (look_from c.self.inside.pass.cursor) (page_place c.args.page) (next c)).inside in
+    let long = length-map c.self.inside.table.entries (option_map state_of) in
+    let all = length-contents c.self.inside.table in
+    let is = c.self.invariant.0 in
+    omega (arith, inside, long, all, is.maps.places, is.numbers, is.few)
+
+more : (c : After-is_some) → is_some (first_mergeable (page_place c.args.page + 1) (drop (page_place c.args.page + 1) (states_of c.self.inside.table.entries))) ≡ c.is_some.result
+more c = rw (← c.place_of-place.ensures) (ap is_some (sym c.next_mergeable.ensures) ∙ sym c.is_some.ensures)
+
+pub invariant_of-self : goal.invariant_of-self
+invariant_of-self c =
+    let d = (goal.at.invariant_of-self c).After-is_some in
+    (c.self.invariant.0, rw c.place_of-place.ensures (pass-on c.self.inside.table c.self.inside.pass (page_place c.args.page) c.self.invariant.1 (gone d).0 (small d)))
+
+pub invariant_of-self-else-is_some : goal.invariant_of-self-else-is_some
+invariant_of-self-else-is_some c = (c.self.invariant.0, rw c.end.ensures (pass-ended c.self.inside.table c.self.inside.pass _ c.self.invariant.1))
+
+pub returns-then-is_some-clause-moved : goal.returns-then-is_some-clause-moved
+unfolding view_of
+returns-then-is_some-clause-moved c =
+    let d = (goal.at.returns-then-is_some-clause-moved c).After-is_some in
+    rw (← c.self.view_is, c.place_of-place.ensures)
+    (moved-on c.self.inside.table c.self.inside.shapes.items c.self.inside.tenants.items c.self.inside.pass (page_place c.args.page) (more d ∙ c.if-is_some.true))
+
+pub returns-then-is_some-clause-free : goal.returns-then-is_some-clause-free
+unfolding view_of
+returns-then-is_some-clause-free c =
+    let d = (goal.at.returns-then-is_some-clause-free c).After-is_some in
+    waits-not c.self.inside.table c.self.inside.shapes.items c.self.inside.tenants.items c.self.inside.pass c.args.page (gone d).1
+
+pub returns-else-is_some-clause-moved : goal.returns-else-is_some-clause-moved
+unfolding view_of
+returns-else-is_some-clause-moved c =
+    let d = (goal.at.returns-else-is_some-clause-moved c).After-is_some in
+    rw (← c.self.view_is, c.end.ensures)
+    (moved-ended c.self.inside.table c.self.inside.shapes.items c.self.inside.tenants.items c.self.inside.pass (page_place c.args.page) (more d ∙ c.if-is_some.false))
+
+pub returns-else-is_some-clause-free : goal.returns-else-is_some-clause-free
+unfolding view_of
+returns-else-is_some-clause-free c =
+    let d = (goal.at.returns-else-is_some-clause-free c).After-is_some in
+    rw (c.end.ensures) (waits-not c.self.inside.table c.self.inside.shapes.items c.self.inside.tenants.items c.self.inside.pass c.args.page (gone d).1)

@@ -1,0 +1,52 @@
+use Rattle.std.proofs.Common.{◌≡◌, ◌∙◌, ◌<◌, true, length, drop, Option, Some, None, sym, ap, subst, option_map, arith}
+use Rattle.std.proofs.lemmas.List.{length-map}
+use Rattle.host_types.specs.Pages.{page_place}
+use Rattle.host_types.specs.Sharing.{state_at}
+use Rattle.host_types.specs.Visits.{first_mergeable, is_mergeable, look_from}
+use Rattle.page_table.specs.Table.{TableState, IsPageAt, state_of, states_of, sharing_of}
+use Rattle.page_table.specs.View.{view_of}
+use Rattle.page_table.proofs.Next.{IsNext, next-is}
+use Rattle.page_table.proofs.Partners.{entry-may}
+use Rattle.page_table.proofs.Scanning.{page_there, is_page_at_entry}
+use Rattle.page_table.proofs.memory.Memory.next_page.Goals as goal
+use Rattle.page_table.proofs.memory.Memory.next_page.Goals.{In-Some}
+
+told : (c : In-Some) → first_mergeable (look_from c.self.inside.pass.cursor) (drop (look_from c.self.inside.pass.cursor) (states_of c.self.inside.table.entries)) ≡ Some c.in-Some.place
+told c = rw (← c.look_from.ensures) (sym c.next_mergeable.ensures ∙ c.in-Some.is)
+
+next : (c : In-Some) → IsNext (states_of c.self.inside.table.entries) (look_from c.self.inside.pass.cursor) c.in-Some.place
+next c = next-is (states_of c.self.inside.table.entries) (look_from c.self.inside.pass.cursor) c.in-Some.place (told c)
+
+small : (c : In-Some) → c.in-Some.place < 32768
+small c =
+    let long = length-map c.self.inside.table.entries (option_map state_of) in
+    omega (arith, long, (next c).inside, (c.facts.ensures.1).fits.few)
+
+pub page_at-requires : goal.page_at-requires
+page_at-requires c = small (goal.at.page_at-requires c).In-Some
+
+there : (c : In-Some) → IsPageAt c.self.inside.table c.in-Some.place
+there c =
+    let entry = entry-may c.self.inside.table c.self.inside.pass c.in-Some.place (next c).mergeable in
+    is_page_at_entry c.self.inside.table c.in-Some.place entry.0 (c.facts.ensures.1).fits entry.1
+
+pub returns-in-Some-clause-place : goal.returns-in-Some-clause-place
+unfolding view_of
+returns-in-Some-clause-place c =
+    rw (← c.self.view_is) (ap Some c.page_at.ensures.place ∙ sym (told (goal.at.returns-in-Some-clause-place c).In-Some))
+
+pub returns-in-Some-clause-there : goal.returns-in-Some-clause-there
+returns-in-Some-clause-there c =
+    rw (← c.self.view_is)
+    (page_there c.self.inside.table c.self.inside.shapes.items c.self.inside.tenants.items c.self.inside.pass c.self.inside.reserved c.self.invariant.0 c.page_at.result c.page_at.ensures.map c.page_at.ensures.number
+    (subst (IsPageAt c.self.inside.table) (sym c.page_at.ensures.place) (there (goal.at.returns-in-Some-clause-there c).In-Some)))
+
+pub returns-in-Some-clause-mergeable : goal.returns-in-Some-clause-mergeable
+unfolding view_of
+returns-in-Some-clause-mergeable c =
+    rw (← c.self.view_is)
+    (ap (λ i. is_mergeable (state_at (sharing_of c.self.inside.table c.self.inside.pass) i)) c.page_at.ensures.place ∙ (next (goal.at.returns-in-Some-clause-mergeable c).In-Some).mergeable)
+
+pub returns-in-None-clause-place : goal.returns-in-None-clause-place
+unfolding view_of
+returns-in-None-clause-place c = rw (← c.self.view_is, ← c.look_from.ensures) (sym c.in-None.is ∙ c.next_mergeable.ensures)

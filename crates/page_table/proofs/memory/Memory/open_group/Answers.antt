@@ -1,0 +1,34 @@
+use Rattle.std.proofs.Common.{◌≡◌, ◌∙◌, ◌<◌, length, find, is_some, ap, sym}
+use Rattle.host_types.specs.Pages.{page_place, page_bytes}
+use Rattle.frame_arena.specs.Pages.{page_at}
+use Rattle.page_table.specs.State.{bytes_of_map}
+use Rattle.page_table.specs.Changes.{IsPageOf, contents_now}
+use Rattle.page_table.specs.Table.{is_open_frame}
+use Rattle.page_table.specs.View.{view_of}
+use Rattle.page_table.proofs.Scanning.{bytes_here, open-frame, has-open}
+use Rattle.page_table.proofs.memory.Memory.open_group.Goals as goal
+
+pub open_group-requires : goal.open_group-requires
+unfolding view_of
+open_group-requires c = rw (← c.self.view_is) at c.entry-frame.ensures.there
+
+content_of : (c : goal.After-open_group) → page_at c.self.inside.table.arena c.entry-frame.result.frame ≡ page_bytes (bytes_of_map (view_of c.self.inside.table c.self.inside.shapes.items c.self.inside.tenants.items c.self.inside.pass) c.args.page) c.args.page.number
+unfolding view_of
+content_of c = rw (← c.self.view_is) at c.entry-frame.ensures.content
+
+found : (c : goal.After-open_group) → c.open_group.result ≡ find (is_open_frame c.self.inside.table (contents_now (view_of c.self.inside.table c.self.inside.shapes.items c.self.inside.tenants.items c.self.inside.pass) (page_place c.args.page)) c.self.inside.pass.options.max_page_sharing) c.self.inside.table.groups
+found c =
+    let there : IsPageOf (view_of c.self.inside.table c.self.inside.shapes.items c.self.inside.tenants.items c.self.inside.pass) c.args.page = rw (← c.self.view_is) at c.requires in
+    let content : page_at c.self.inside.table.arena c.entry-frame.result.frame ≡ page_bytes (bytes_of_map (view_of c.self.inside.table c.self.inside.shapes.items c.self.inside.tenants.items c.self.inside.pass) c.args.page) c.args.page.number = content_of c in
+    c.open_group.ensures
+    ∙ ap (λ n. find (is_open_frame c.self.inside.table (page_at c.self.inside.table.arena c.entry-frame.result.frame) n) c.self.inside.table.groups) c.max_page_sharing.ensures
+    ∙ ap (λ l. find (is_open_frame c.self.inside.table l c.self.inside.pass.options.max_page_sharing) c.self.inside.table.groups)
+    (content ∙ sym (bytes_here c.self.inside.table c.self.inside.shapes.items c.self.inside.tenants.items c.self.inside.pass c.self.inside.reserved c.self.invariant.0 c.args.page there))
+
+pub returns-clause-frame : goal.returns-clause-frame
+returns-clause-frame c =
+    rw (← c.self.view_is) (found c ∙ sym (open-frame c.self.inside.table c.self.inside.shapes.items c.self.inside.tenants.items c.self.inside.pass c.self.inside.reserved c.self.invariant.0 (c.facts.ensures.1).fits (page_place c.args.page)))
+
+pub returns-clause-told : goal.returns-clause-told
+returns-clause-told c =
+    rw (← c.self.view_is) (ap is_some (found c) ∙ sym (has-open c.self.inside.table c.self.inside.shapes.items c.self.inside.tenants.items c.self.inside.pass c.self.inside.reserved c.self.invariant.0 (c.facts.ensures.1).fits (page_place c.args.page)))

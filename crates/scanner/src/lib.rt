@@ -1,0 +1,7 @@
+//! The scanner of a memory: it visits pages one after another, and merges those of the same bytes. No
+//! call takes memory, and no call changes what a tenant's maps hold.
+#![tactic(auto)]
+
+mod scan;
+
+pub use scan::visit;
