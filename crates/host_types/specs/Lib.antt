@@ -3,6 +3,7 @@ pub mod Layout
 pub mod Shapes
 pub mod Memory
 pub mod OptionTable
+pub mod Rules
 pub mod Refusals
 pub mod Tenant
 pub mod Pages

@@ -1,30 +1,32 @@
 -- The numbers and names of the refusals, as docs/HOST.md lists them.
 use Rattle.std.specs.Prelude.{ℕ, List, if◌then◌else◌, ◌==◌, codes}
+use Rattle.host_types.specs.Rules.{bad_length, unknown_opcode, bad_field, bad_register, cut_wide, back_jump, jump_out, falls_off, unset_register, wrong_kind, outside_context, outside_stack, unset_stack, outside_map, misaligned, null_not_checked, frame_written, unknown_helper, unknown_map, pointer_leaks}
 use Rattle.host_types.specs.declared.fault.Fault.{Fault}
 use Rattle.host_types.specs.declared.fault.Fault.TheVariants.{Program, NoFrames, TooManyMaps, BadShape, NoMap, NoElement, Busy, NoRun, NoProgram, BadContext, BadOption, OutOfMemory, BadTenant, PagesShared, TooManyPrograms}
 
+-- the word that is printed for a rule's number; another number is that of want of memory
 abbrev pub rule_name : ℕ → List ℕ
 rule_name n =
-    if n == 1 then codes "BadLength" else (
-    if n == 2 then codes "UnknownOpcode" else (
-    if n == 3 then codes "BadField" else (
-    if n == 4 then codes "BadRegister" else (
-    if n == 5 then codes "CutWide" else (
-    if n == 11 then codes "BackJump" else (
-    if n == 12 then codes "JumpOut" else (
-    if n == 13 then codes "FallsOff" else (
-    if n == 14 then codes "UnsetRegister" else (
-    if n == 15 then codes "WrongKind" else (
-    if n == 16 then codes "OutsideContext" else (
-    if n == 17 then codes "OutsideStack" else (
-    if n == 18 then codes "UnsetStack" else (
-    if n == 19 then codes "OutsideMap" else (
-    if n == 20 then codes "Misaligned" else (
-    if n == 21 then codes "NullNotChecked" else (
-    if n == 22 then codes "FrameWritten" else (
-    if n == 23 then codes "UnknownHelper" else (
-    if n == 24 then codes "UnknownMap" else (
-    if n == 25 then codes "PointerLeaks" else codes "OutOfMemory")))))))))))))))))))
+    if n == bad_length then codes "BadLength" else (
+    if n == unknown_opcode then codes "UnknownOpcode" else (
+    if n == bad_field then codes "BadField" else (
+    if n == bad_register then codes "BadRegister" else (
+    if n == cut_wide then codes "CutWide" else (
+    if n == back_jump then codes "BackJump" else (
+    if n == jump_out then codes "JumpOut" else (
+    if n == falls_off then codes "FallsOff" else (
+    if n == unset_register then codes "UnsetRegister" else (
+    if n == wrong_kind then codes "WrongKind" else (
+    if n == outside_context then codes "OutsideContext" else (
+    if n == outside_stack then codes "OutsideStack" else (
+    if n == unset_stack then codes "UnsetStack" else (
+    if n == outside_map then codes "OutsideMap" else (
+    if n == misaligned then codes "Misaligned" else (
+    if n == null_not_checked then codes "NullNotChecked" else (
+    if n == frame_written then codes "FrameWritten" else (
+    if n == unknown_helper then codes "UnknownHelper" else (
+    if n == unknown_map then codes "UnknownMap" else (
+    if n == pointer_leaks then codes "PointerLeaks" else codes "OutOfMemory")))))))))))))))))))
 
 abbrev pub fault_number : Fault → ℕ
 fault_number (Program refused) = refused.number

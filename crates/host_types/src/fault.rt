@@ -1,3 +1,8 @@
+use crate::rule::{
+    BACK_JUMP, BAD_FIELD, BAD_LENGTH, BAD_REGISTER, CUT_WIDE, FALLS_OFF, FRAME_WRITTEN, JUMP_OUT,
+    MISALIGNED, NULL_NOT_CHECKED, OUTSIDE_CONTEXT, OUTSIDE_MAP, OUTSIDE_STACK, POINTER_LEAKS,
+    UNKNOWN_HELPER, UNKNOWN_MAP, UNKNOWN_OPCODE, UNSET_REGISTER, UNSET_STACK, WRONG_KIND,
+};
 use std::fmt;
 
 /// A refusal of a program by its number, 1 to 25, and the slot that breaks the rule; or number 41
@@ -47,31 +52,37 @@ impl Refused {
     ghost use Rattle.std.specs.Prelude.{◌≡◌};
     ghost use Rattle.host_types.specs.Refusals.{rule_name};
 
+    /// The refusal for want of memory.
+    pub const OUT_OF_MEMORY: Refused = Refused {
+        number: 41,
+        slot: 0,
+    };
+
     /// The rule's name, as it is printed. A number that is no rule's is that of want of memory.
     pub fn name(&self) -> &'static str
         ensures { result.now ≡ rule_name self.now.number }
     {
         match self.number {
-            1 => "BadLength",
-            2 => "UnknownOpcode",
-            3 => "BadField",
-            4 => "BadRegister",
-            5 => "CutWide",
-            11 => "BackJump",
-            12 => "JumpOut",
-            13 => "FallsOff",
-            14 => "UnsetRegister",
-            15 => "WrongKind",
-            16 => "OutsideContext",
-            17 => "OutsideStack",
-            18 => "UnsetStack",
-            19 => "OutsideMap",
-            20 => "Misaligned",
-            21 => "NullNotChecked",
-            22 => "FrameWritten",
-            23 => "UnknownHelper",
-            24 => "UnknownMap",
-            25 => "PointerLeaks",
+            BAD_LENGTH => "BadLength",
+            UNKNOWN_OPCODE => "UnknownOpcode",
+            BAD_FIELD => "BadField",
+            BAD_REGISTER => "BadRegister",
+            CUT_WIDE => "CutWide",
+            BACK_JUMP => "BackJump",
+            JUMP_OUT => "JumpOut",
+            FALLS_OFF => "FallsOff",
+            UNSET_REGISTER => "UnsetRegister",
+            WRONG_KIND => "WrongKind",
+            OUTSIDE_CONTEXT => "OutsideContext",
+            OUTSIDE_STACK => "OutsideStack",
+            UNSET_STACK => "UnsetStack",
+            OUTSIDE_MAP => "OutsideMap",
+            MISALIGNED => "Misaligned",
+            NULL_NOT_CHECKED => "NullNotChecked",
+            FRAME_WRITTEN => "FrameWritten",
+            UNKNOWN_HELPER => "UnknownHelper",
+            UNKNOWN_MAP => "UnknownMap",
+            POINTER_LEAKS => "PointerLeaks",
             _ => "OutOfMemory",
         }
     }
@@ -151,16 +162,15 @@ mod tests {
     #[test]
     fn prints_refusals(rt: HostRuntime) -> Result<(), Fail> {
         let outside = Refused {
-            number: 16,
+            number: OUTSIDE_CONTEXT,
             slot: 3,
-        };
-        let memory = Refused {
-            number: 41,
-            slot: 0,
         };
         let rows = [
             (Fault::Program(outside), "refused 16 OutsideContext at 3"),
-            (Fault::Program(memory), "refused 41 OutOfMemory"),
+            (
+                Fault::Program(Refused::OUT_OF_MEMORY),
+                "refused 41 OutOfMemory",
+            ),
             (
                 Fault::NoFrames { need: 2, have: 1 },
                 "refused 31 NoFrames need 2 have 1",

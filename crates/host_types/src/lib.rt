@@ -5,6 +5,7 @@
 
 mod fault;
 mod options;
+pub mod rule;
 mod shape;
 mod status;
 mod visited;

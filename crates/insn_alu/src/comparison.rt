@@ -37,25 +37,32 @@ pub fn compares(comparison: Comparison, width: Width, a: u64, b: u64) -> bool
     }
 }
 
+// What is written alike for both widths.
+macro_rules! compared {
+    ($comparison:expr, $a:expr, $b:expr) => {
+        match $comparison {
+            Comparison::Equal => $a == $b,
+            Comparison::NotEqual => $a != $b,
+            Comparison::Greater => $a > $b,
+            Comparison::GreaterOrEqual => $a >= $b,
+            Comparison::Less => $a < $b,
+            Comparison::LessOrEqual => $a <= $b,
+            Comparison::AnyBit => $a & $b != 0,
+            Comparison::SignedGreater => $a.cast_signed() > $b.cast_signed(),
+            Comparison::SignedGreaterOrEqual => $a.cast_signed() >= $b.cast_signed(),
+            Comparison::SignedLess => $a.cast_signed() < $b.cast_signed(),
+            Comparison::SignedLessOrEqual => $a.cast_signed() <= $b.cast_signed(),
+        }
+    };
+}
+
 // Whether a comparison holds of two numbers of 64 bits.
 #[inline(always)]
 #[tactic(auto, using(crate::proofs::Halves::low_of_small))]
 fn compared_64(comparison: Comparison, a: u64, b: u64) -> bool
     ensures { result ≡ compared comparison Bits64 a b }
 {
-    match comparison {
-        Comparison::Equal => a == b,
-        Comparison::NotEqual => a != b,
-        Comparison::Greater => a > b,
-        Comparison::GreaterOrEqual => a >= b,
-        Comparison::Less => a < b,
-        Comparison::LessOrEqual => a <= b,
-        Comparison::AnyBit => a & b != 0,
-        Comparison::SignedGreater => a.cast_signed() > b.cast_signed(),
-        Comparison::SignedGreaterOrEqual => a.cast_signed() >= b.cast_signed(),
-        Comparison::SignedLess => a.cast_signed() < b.cast_signed(),
-        Comparison::SignedLessOrEqual => a.cast_signed() <= b.cast_signed(),
-    }
+    compared!(comparison, a, b)
 }
 
 // Whether a comparison holds of two numbers of 32 bits.
@@ -63,17 +70,5 @@ fn compared_64(comparison: Comparison, a: u64, b: u64) -> bool
 fn compared_32(comparison: Comparison, a: u32, b: u32) -> bool
     ensures { result ≡ compared comparison Bits32 a b }
 {
-    match comparison {
-        Comparison::Equal => a == b,
-        Comparison::NotEqual => a != b,
-        Comparison::Greater => a > b,
-        Comparison::GreaterOrEqual => a >= b,
-        Comparison::Less => a < b,
-        Comparison::LessOrEqual => a <= b,
-        Comparison::AnyBit => a & b != 0,
-        Comparison::SignedGreater => a.cast_signed() > b.cast_signed(),
-        Comparison::SignedGreaterOrEqual => a.cast_signed() >= b.cast_signed(),
-        Comparison::SignedLess => a.cast_signed() < b.cast_signed(),
-        Comparison::SignedLessOrEqual => a.cast_signed() <= b.cast_signed(),
-    }
+    compared!(comparison, a, b)
 }

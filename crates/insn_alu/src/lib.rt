@@ -5,6 +5,7 @@ ghost use Rattle.std.specs.Prelude.{◌≡◌};
 ghost use Rattle.insn_alu.specs.Arithmetic.{IsArithmetic, alu, alu_of};
 
 mod comparison;
+mod either;
 mod swap;
 #[cfg(test)]
 mod tests;

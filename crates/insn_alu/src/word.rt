@@ -4,6 +4,7 @@ ghost use Rattle.std.specs.Prelude.{◌≡◌, ◌<◌, false};
 ghost use Rattle.bpf_decode.specs.declared.operation.Width.TheVariants.{Bits32};
 ghost use Rattle.insn_alu.specs.Arithmetic.{alu, count, quotient, remainder, moved, is_swap};
 
+use crate::either::{computed, quotient, remainder};
 use bpf_decode::AluCode;
 
 /// What an operation on 32 bits makes of two numbers.
@@ -13,22 +14,7 @@ pub(crate) fn computed_32(code: AluCode, offset: i16, a: u32, b: u32) -> u32
     requires { is_swap code ≡ false }
     ensures { result ≡ alu code Bits32 offset a b }
 {
-    match code {
-        AluCode::Add => a.wrapping_add(b),
-        AluCode::Sub => a.wrapping_sub(b),
-        AluCode::Mul => a.wrapping_mul(b),
-        AluCode::Div => quotient(offset, a, b),
-        AluCode::Or => a | b,
-        AluCode::And => a & b,
-        AluCode::Lsh => a << count(b),
-        AluCode::Rsh => a >> count(b),
-        AluCode::Neg => a.wrapping_neg(),
-        AluCode::Mod => remainder(offset, a, b),
-        AluCode::Xor => a ^ b,
-        AluCode::Mov => moved(offset, b),
-        AluCode::Arsh => (a.cast_signed() >> count(b)).cast_unsigned(),
-        AluCode::ToLittleEndian | AluCode::ToBigEndian | AluCode::SwapBytes => unreachable!(),
-    }
+    computed!(code, offset, a, b)
 }
 
 /// A shift's count: its low bits.
@@ -45,16 +31,7 @@ fn count(b: u32) -> u32
 fn quotient(offset: i16, a: u32, b: u32) -> u32
     ensures { result ≡ quotient Bits32 offset a b }
 {
-    if b == 0 {
-        return 0;
-    }
-    if offset == 1 {
-        a.cast_signed()
-            .wrapping_div(b.cast_signed())
-            .cast_unsigned()
-    } else {
-        a / b
-    }
+    quotient!(offset, a, b)
 }
 
 /// What a division leaves. By zero it leaves all.
@@ -62,16 +39,7 @@ fn quotient(offset: i16, a: u32, b: u32) -> u32
 fn remainder(offset: i16, a: u32, b: u32) -> u32
     ensures { result ≡ remainder Bits32 offset a b }
 {
-    if b == 0 {
-        return a;
-    }
-    if offset == 1 {
-        a.cast_signed()
-            .wrapping_rem(b.cast_signed())
-            .cast_unsigned()
-    } else {
-        a % b
-    }
+    remainder!(offset, a, b)
 }
 
 /// A number that is moved: its low 8, 16 or 32 bits with their sign, or all of it.

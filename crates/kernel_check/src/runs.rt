@@ -14,9 +14,6 @@ use verifier::{Verified, verify};
 // As many steps as a program has instructions at most.
 const STEPS: u32 = 4096;
 
-// The number of a refusal for want of memory.
-const OUT_OF_MEMORY: u32 = 41;
-
 /// How a program went, with no context and no maps.
 #[derive(Clone, Copy, PartialEq, Eq)]
 pub(crate) enum Outcome {
@@ -59,7 +56,7 @@ fn verified_on_the_host(
 
 // How a text goes that is refused.
 fn refusal(refused: Refused) -> Outcome {
-    if refused.number == OUT_OF_MEMORY {
+    if refused == Refused::OUT_OF_MEMORY {
         Outcome::Unable
     } else {
         Outcome::Refused

@@ -37,10 +37,7 @@ fn program_of(alloc: Global, slots: &[u64]) -> Result<Program, Refused> {
     let mut text = Vec::new(alloc);
     for slot in slots {
         if text.extend_from_slice(&slot.to_be_bytes()).is_err() {
-            return Err(Refused {
-                number: 41,
-                slot: 0,
-            });
+            return Err(Refused::OUT_OF_MEMORY);
         }
     }
     decode(alloc, &text)
@@ -196,7 +193,7 @@ const THREE_WAYS: [u64; 7] = [
 
 #[test]
 fn knows_what_verify_knows(rt: HostRuntime) -> Result<(), Fail> {
-    let rows: [(&[u64], (u32, u8), Option<Kind>); 9] = [
+    let rows: [(&[u64], (u32, u8), Option<Kind>); 10] = [
         (&SKIPS, (3, 0), scalar(0, 0, Align::Eight)),
         (&SKIPS, (4, 0), scalar(0, 1, Align::One)),
         (&SKIPS, (3, 1), scalar(1, u64::MAX, Align::One)),
@@ -228,6 +225,12 @@ fn knows_what_verify_knows(rt: HostRuntime) -> Result<(), Fail> {
             ],
             (5, 0),
             scalar(0, 255, Align::One),
+        ),
+        // R0 = 0x7_0000_0009, which takes two slots
+        (
+            &[0x18000000_09000000, 0x00000000_07000000, EXIT],
+            (2, 0),
+            scalar(0x7_0000_0009, 0x7_0000_0009, Align::One),
         ),
         // if R2 == 0 goto +0; R0 = R2
         (

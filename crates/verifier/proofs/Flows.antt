@@ -2,6 +2,7 @@
 use Rattle.std.proofs.Common.{◌≡◌, ℕ, suc, ◌+◌, ◌<◌, nat_lt, nat_le, ℤ, pos, negsuc, ◌+ℤ◌, Bool, true, false, ◌&&◌, if◌then◌else◌, List, [], ◌++◌, All, Option, Some, None, Result, Ok, Err, refl, sym, ap, subst, inl, inr, arith}
 use Rattle.std.proofs.lemmas.Bool.Decides.{eqb_tells, nat_tests}
 use Rattle.std.proofs.lemmas.List.Elements.{All-nil, All-cons, All-append}
+use Rattle.host_types.specs.Rules.{back_jump, jump_out, falls_off}
 use Rattle.bpf_decode.specs.declared.insn.Insn.{Insn}
 use Rattle.bpf_decode.specs.declared.operation.Source.{Source}
 use Rattle.bpf_decode.specs.declared.operation.Width.{Width}
@@ -71,7 +72,7 @@ above_from_test a b e = grind (arith, nat_tests)
 -- an instruction that falls through leads behind itself
 falls_within : (text : List ℕ) (slot to : ℕ) → falls_to text slot ≡ Ok to → (to ≡ slot + width_at text slot) × (to < slots_of text)
 falls_within text slot to e =
-    let chosen = chosen_ok (nat_lt (slot + width_at text slot) (slots_of text)) (slot + width_at text slot) to 13 e in
+    let chosen = chosen_ok (nat_lt (slot + width_at text slot) (slots_of text)) (slot + width_at text slot) to falls_off e in
     let below = below_from_test (slot + width_at text slot) (slots_of text) chosen.0 in
     (chosen.1, omega (arith, below, chosen.1))
 
@@ -106,8 +107,8 @@ lands_ahead : (p : Subject) (slot to : ℕ) (at : ℤ) → lands_on p.text slot 
 lands_ahead p slot to (negsuc n) e d = absurd cc
 lands_ahead p slot to (pos at) e d =
     let there = nat_lt at (slots_of p.text) && is_instruction p.text at in
-    let passed = passed_ok (nat_le at slot) 11 to (if there then Ok at else Err 12) e in
-    let chosen = chosen_ok there at to 12 passed.1 in
+    let passed = passed_ok (nat_le at slot) back_jump to (if there then Ok at else Err jump_out) e in
+    let chosen = chosen_ok there at to jump_out passed.1 in
     let found = both_true (nat_lt at (slots_of p.text)) (is_instruction p.text at) chosen.0 in
     let P : ℕ → Type 0 = λ s. is_instruction p.text s ≡ true in
     record {

@@ -7,3 +7,4 @@ pub mod Uniqueness
 pub mod Flows
 pub mod Lawful
 pub mod Passes
+pub mod WithoutMaps

@@ -1,6 +1,7 @@
 -- What flows on from an instruction, or which rule it breaks (this project's own profile, docs/VERIFIER.md;
 -- the numbers are those of the refusals).
 use Rattle.std.specs.Prelude.{ℕ, ◌+◌, ◌-◌, ◌*◌, ◌/◌, ◌%◌, ◌^◌, bit_and, bit_or, nat_lt, nat_le, ◌==◌, ℤ, pos, negsuc, ◌+ℤ◌, Bool, true, false, not, ◌&&◌, ◌||◌, if◌then◌else◌, List, [], ◌∷◌, ◌++◌, Option, Some, None, option_map, Result, Ok, Err}
+use Rattle.host_types.specs.Rules.{unknown_opcode, back_jump, jump_out, falls_off, unset_register, wrong_kind, outside_context, outside_stack, unset_stack, misaligned, frame_written, unknown_helper, unknown_map, pointer_leaks}
 use Rattle.host_types.specs.Layout.{stack_size}
 use Rattle.bpf_decode.specs.declared.insn.Insn.{Insn}
 use Rattle.bpf_decode.specs.declared.operation.Source.{Source}
@@ -56,11 +57,11 @@ known_or None rule = Err rule
 
 -- the kind of a register that is read
 abbrev pub read_kind : Description → ℕ → Result Kind ℕ
-read_kind d i = known_or (register_of d i) 14
+read_kind d i = known_or (register_of d i) unset_register
 
 -- R10 is read-only
 abbrev pub writable : ℕ → Result (Unit {0}) ℕ
-writable i = holds_or (not (i == 10)) 22
+writable i = holds_or (not (i == 10)) frame_written
 
 -- the description with a kind written to a register
 abbrev pub write_kind : Description → ℕ → Result Kind ℕ → Result Description ℕ
@@ -95,15 +96,15 @@ lies_below (negsuc n) size end rule = Err rule
 
 -- the place of an access that is aligned to its size
 abbrev pub aligned : ℕ → ℕ → Result ℕ ℕ
-aligned at size = if at % size == 0 then Ok at else Err 20
+aligned at size = if at % size == 0 then Ok at else Err misaligned
 
 -- the place in the context of an access at an offset from its beginning
 abbrev pub context_place : ℕ → ℤ → ℕ → Result ℕ ℕ
-context_place context_size offset size = lies_below offset size context_size 16 >>= λ at. aligned at size
+context_place context_size offset size = lies_below offset size context_size outside_context >>= λ at. aligned at size
 
 -- the place in the stack of an access at an offset from its end
 abbrev pub stack_place : ℤ → ℕ → Result ℕ ℕ
-stack_place offset size = lies_below (offset +ℤ pos stack_size) size stack_size 17 >>= λ at. aligned at size
+stack_place offset size = lies_below (offset +ℤ pos stack_size) size stack_size outside_stack >>= λ at. aligned at size
 
 -- the numbers that are loaded: with sign extension they are all numbers
 abbrev pub loaded_range : Size → Extension → Range
@@ -122,9 +123,9 @@ places at size = (2 ^ byte_count size - 1) * 2 ^ (at % 8)
 abbrev pub slot_kind : Size → Extension → StackSlot → ℕ → Result Kind ℕ
 slot_kind DoubleWord extension (Kept kind) at = Ok kind
 slot_kind size extension (Kept (Scalar range)) at = Ok (Scalar (loaded_range size extension))
-slot_kind size extension (Kept pointer) at = Err 25
+slot_kind size extension (Kept pointer) at = Err pointer_leaks
 slot_kind size extension (Bytes set) at =
-    if bit_and set (places at size) == places at size then Ok (Scalar (loaded_range size extension)) else Err 18
+    if bit_and set (places at size) == places at size then Ok (Scalar (loaded_range size extension)) else Err unset_stack
 
 -- what is known of a number that is loaded through a base
 abbrev pub load_kind : Subject → Size → Extension → Insn → Description → Kind → Result Kind ℕ
@@ -132,7 +133,7 @@ load_kind p size extension insn d (Context k) =
     context_place p.context_size (k +ℤ insn.offset) (byte_count size) >>= λ at. Ok (Scalar (loaded_range size extension))
 load_kind p size extension insn d (Stack k) =
     stack_place (k +ℤ insn.offset) (byte_count size) >>= λ at. slot_kind size extension (slot_of d (at / 8)) at
-load_kind p size extension insn d (Scalar range) = Err 15
+load_kind p size extension insn d (Scalar range) = Err wrong_kind
 
 -- what is known of a number that is loaded
 abbrev pub loaded_kind : Subject → Size → Extension → Insn → Description → Result Kind ℕ
@@ -145,7 +146,7 @@ after_load p size extension insn d = write_kind d insn.dst (loaded_kind p size e
 -- what is known of what the wide instruction loads: a number, or the name of a map, and no program has
 -- maps yet
 abbrev pub wide_kind : Insn → Result Kind ℕ
-wide_kind insn = if insn.src == 0 then Ok (Scalar (constant (wide_immediate insn))) else Err 24
+wide_kind insn = if insn.src == 0 then Ok (Scalar (constant (wide_immediate insn))) else Err unknown_map
 
 -- the load of both immediates
 unfoldable pub after_load_immediate : Insn → Description → Result Description ℕ
@@ -154,7 +155,7 @@ after_load_immediate insn d = write_kind d insn.dst (wide_kind insn)
 -- where a store through a base goes; the context is read-only
 abbrev pub store_place : Size → Insn → Kind → Result ℕ ℕ
 store_place size insn (Stack k) = stack_place (k +ℤ insn.offset) (byte_count size)
-store_place size insn base = Err 15
+store_place size insn base = Err wrong_kind
 
 -- where a store goes
 abbrev pub stored_place : Size → Insn → Description → Result ℕ ℕ
@@ -165,7 +166,7 @@ stored_place size insn d = read_kind d insn.dst >>= λ base. store_place size in
 abbrev pub written_slot : Size → StackSlot → ℕ → Kind → Result StackSlot ℕ
 written_slot DoubleWord slot at kind = Ok (Kept kind)
 written_slot size slot at (Scalar range) = Ok (Bytes (bit_or (places_of slot) (places at size)))
-written_slot size slot at pointer = Err 25
+written_slot size slot at pointer = Err pointer_leaks
 
 -- a store
 unfoldable pub after_store : Size → Source → Insn → Description → Result Description ℕ
@@ -177,18 +178,18 @@ after_store size source insn d = do
 -- R0 is returned, and no pointer is
 abbrev pub is_returned : Kind → Result (Unit {0}) ℕ
 is_returned (Scalar range) = Ok tt
-is_returned pointer = Err 25
+is_returned pointer = Err pointer_leaks
 
 -- the slot to which an instruction falls through
 abbrev pub falls_to : List ℕ → ℕ → Result ℕ ℕ
-falls_to text slot = let to = slot + width_at text slot in if nat_lt to (slots_of text) then Ok to else Err 13
+falls_to text slot = let to = slot + width_at text slot in if nat_lt to (slots_of text) then Ok to else Err falls_off
 
 -- a slot to which an instruction may jump: one behind it, at which an instruction begins
 abbrev pub lands_on : List ℕ → ℕ → ℤ → Result ℕ ℕ
-lands_on text slot (negsuc n) = Err 11
+lands_on text slot (negsuc n) = Err back_jump
 lands_on text slot (pos to) =
-    if nat_le to slot then Err 11 else (
-    if nat_lt to (slots_of text) && is_instruction text to then Ok to else Err 12)
+    if nat_le to slot then Err back_jump else (
+    if nat_lt to (slots_of text) && is_instruction text to then Ok to else Err jump_out)
 
 -- the slot to which an instruction jumps; the distance counts from the next instruction
 abbrev pub jumps_to : List ℕ → ℕ → ℤ → Result ℕ ℕ
@@ -202,7 +203,7 @@ target to (Some d) = (to, d) ∷ []
 -- only numbers are compared
 abbrev pub are_numbers : Kind × Kind → Result (Range × Range) ℕ
 are_numbers (Scalar a, Scalar b) = Ok (a, b)
-are_numbers kinds = Err 15
+are_numbers kinds = Err wrong_kind
 
 -- the ranges of the numbers that a conditional jump compares
 abbrev pub compared_ranges : Width → Source → Insn → Description → Result (Range × Range) ℕ
@@ -232,7 +233,7 @@ arguments_are_known number d =
 -- A call of a helper: its first argument is the name of a map, of which there is none yet.
 abbrev pub after_call : Insn → Description → Result Description ℕ
 after_call insn d =
-    if is insn.imm 1 || (is insn.imm 2 || is insn.imm 3) then (arguments_are_known insn.imm d >>= λ known. Err 15) else Err 23
+    if is insn.imm 1 || (is insn.imm 2 || is insn.imm 3) then (arguments_are_known insn.imm d >>= λ known. Err wrong_kind) else Err unknown_helper
 
 -- what is known after an instruction that falls through
 abbrev pub after : Subject → Operation → Insn → Description → Result Description ℕ
@@ -261,4 +262,4 @@ flow_by p operation slot d = falls_on p slot (after p operation (insn_at p.text 
 
 -- where the instruction at a slot leads from a description, or the rule that it breaks
 abbrev pub flow : Subject → ℕ → Description → Result (List (ℕ × Description)) ℕ
-flow p slot d = known_or (operation_of (insn_at p.text slot).opcode) 2 >>= λ operation. flow_by p operation slot d
+flow p slot d = known_or (operation_of (insn_at p.text slot).opcode) unknown_opcode >>= λ operation. flow_by p operation slot d

@@ -7,11 +7,11 @@ ghost use Rattle.verifier_kinds.specs.Descriptions.{IsDescription, IsSlot, place
 ghost use Rattle.verifier.specs.Flow.{lies_below, aligned, context_place, stack_place, loaded_range, places, slot_kind, load_kind, loaded_kind, after_load, wide_kind, after_load_immediate, store_place, stored_place, written_slot, after_store};
 
 use crate::candidate::Candidate;
-use crate::rules::{
-    MISALIGNED, NO_MAP, OUTSIDE_CONTEXT, OUTSIDE_STACK, POINTER_LEAKS, UNSET_STACK, WRONG_KIND,
-    both, operand_kind, read_kind, write_kind,
-};
+use crate::rules::{both, operand_kind, read_kind, write_kind};
 use bpf_decode::{Extension, Insn, Size, Source, Width};
+use host_types::rule::{
+    MISALIGNED, OUTSIDE_CONTEXT, OUTSIDE_STACK, POINTER_LEAKS, UNKNOWN_MAP, UNSET_STACK, WRONG_KIND,
+};
 use verifier_kinds::{Align, Description, Kind, Range, StackSlot};
 
 /// The bytes of the stack.
@@ -210,7 +210,7 @@ fn wide_kind(insn: &Insn) -> Result<Kind, u32>
     if insn.src == 0 {
         Ok(Kind::Scalar(Range::constant(insn.wide_immediate())))
     } else {
-        Err(NO_MAP)
+        Err(UNKNOWN_MAP)
     }
 }
 

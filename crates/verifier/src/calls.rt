@@ -4,8 +4,9 @@ ghost use Rattle.std.specs.Prelude.{◌≡◌, IfOk};
 ghost use Rattle.verifier_kinds.specs.Descriptions.{IsDescription};
 ghost use Rattle.verifier.specs.Flow.{arguments_are_known, after_call};
 
-use crate::rules::{NO_HELPER, WRONG_KIND, both, read_kind};
+use crate::rules::{both, read_kind};
 use bpf_decode::Insn;
+use host_types::rule::{UNKNOWN_HELPER, WRONG_KIND};
 use verifier_kinds::Description;
 
 // The helpers on elements of maps, by their numbers.
@@ -39,6 +40,6 @@ pub(crate) fn after_call(insn: &Insn, d: &Description) -> Result<Description, u3
             arguments_are_known(insn.imm, d)?;
             Err(WRONG_KIND)
         }
-        _ => Err(NO_HELPER),
+        _ => Err(UNKNOWN_HELPER),
     }
 }

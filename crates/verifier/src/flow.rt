@@ -12,8 +12,9 @@ ghost use Rattle.verifier.specs.Pass.{AreDescribed, targets_in, flow_in};
 use crate::access::{after_load, after_load_immediate, after_store};
 use crate::calls::after_call;
 use crate::candidate::Candidate;
-use crate::rules::{POINTER_LEAKS, both, operand_kind, read_kind, write_kind};
+use crate::rules::{both, operand_kind, read_kind, write_kind};
 use bpf_decode::{AluCode, Insn, Operation, Source, Width};
+use host_types::rule::POINTER_LEAKS;
 use verifier_kinds::{Description, Kind, arith};
 
 /// A slot to which an instruction leads, and what is known there.

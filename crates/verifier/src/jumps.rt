@@ -9,8 +9,9 @@ ghost use Rattle.verifier.specs.Pass.{AreDescribed, target_in, targets_in, flow_
 
 use crate::candidate::Candidate;
 use crate::flow::{Onward, Target};
-use crate::rules::{WRONG_KIND, both, operand_kind, read_kind};
+use crate::rules::{both, operand_kind, read_kind};
 use bpf_decode::{Comparison, Distance, Insn, Source, Width};
+use host_types::rule::WRONG_KIND;
 use verifier_kinds::{Description, Kind, Range, refined};
 
 /// A target that is reached where something is known there.

@@ -1,4 +1,4 @@
-//! The rules that a slot may break, and the questions that several operations ask.
+//! The questions that several operations ask.
 
 ghost use Rattle.std.specs.Prelude.{◌≡◌, ◌≤◌, IfOk};
 ghost use Rattle.verifier_kinds.specs.Kinds.{IsKind};
@@ -6,34 +6,8 @@ ghost use Rattle.verifier_kinds.specs.Descriptions.{IsDescription};
 ghost use Rattle.verifier.specs.Flow.{both, read_kind, writable, write_kind, immediate_kind, operand_kind};
 
 use bpf_decode::{Insn, Source, Width};
+use host_types::rule::{FRAME_WRITTEN, UNSET_REGISTER};
 use verifier_kinds::{Description, Kind, Range};
-
-// The rules, by the numbers of their refusals.
-pub(crate) const JUMPS_BACK: u32 = 11;
-
-pub(crate) const NO_TARGET: u32 = 12;
-
-pub(crate) const FALLS_OFF: u32 = 13;
-
-const UNSET_REGISTER: u32 = 14;
-
-pub(crate) const WRONG_KIND: u32 = 15;
-
-pub(crate) const OUTSIDE_CONTEXT: u32 = 16;
-
-pub(crate) const OUTSIDE_STACK: u32 = 17;
-
-pub(crate) const UNSET_STACK: u32 = 18;
-
-pub(crate) const MISALIGNED: u32 = 20;
-
-const FRAME_WRITTEN: u32 = 22;
-
-pub(crate) const NO_HELPER: u32 = 23;
-
-pub(crate) const NO_MAP: u32 = 24;
-
-pub(crate) const POINTER_LEAKS: u32 = 25;
 
 /// The register that holds the frame pointer.
 const FRAME_POINTER: u8 = 10;

@@ -12,12 +12,6 @@ use host_types::Refused;
 use std::alloc::{AllocError, Global};
 use verifier_kinds::Description;
 
-/// The refusal for want of memory.
-pub(crate) const OUT_OF_MEMORY: Refused = Refused {
-    number: 41,
-    slot: 0,
-};
-
 /// Lets a description flow to a slot, if there is one: what is known there is joined with it.
 fn enter(table: &mut Vec<Option<Description>>, target: Option<Target>)
     requires within { IfSome target (λ t. t.slot < length table.old.items) }
@@ -83,7 +77,7 @@ pub(crate) fn make_table(
     ensures refused { IfErr result (λ refused. (refused ≡ out_of_memory) ⊎ IsRefusal candidate.now refused) }
 {
     let Ok(mut table) = start_table(alloc, candidate) else {
-        return Err(OUT_OF_MEMORY);
+        return Err(Refused::OUT_OF_MEMORY);
     };
     for slot in 0..candidate.slots() {
         if let Err(number) = pass_slot(candidate, &mut table, slot) {

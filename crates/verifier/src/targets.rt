@@ -5,7 +5,7 @@ ghost use Rattle.bpf_decode.specs.Text.{IsInstruction};
 ghost use Rattle.verifier.specs.Flow.{falls_to, lands_on, jumps_to};
 
 use crate::candidate::Candidate;
-use crate::rules::{FALLS_OFF, JUMPS_BACK, NO_TARGET};
+use host_types::rule::{BACK_JUMP, FALLS_OFF, JUMP_OUT};
 
 impl Candidate {
     /// The slot to which the instruction at a slot falls through.
@@ -37,14 +37,14 @@ impl Candidate {
         ensures { result ≡ lands_on self.now.text slot to }
     {
         let Ok(to) = u64::try_from(to) else {
-            return Err(JUMPS_BACK);
+            return Err(BACK_JUMP);
         };
         if to <= u64::from(slot) {
-            Err(JUMPS_BACK)
+            Err(BACK_JUMP)
         } else if to < u64::from(self.slots()) && self.begins(to as u32) {
             Ok(to as u32)
         } else {
-            Err(NO_TARGET)
+            Err(JUMP_OUT)
         }
     }
 }

@@ -3,7 +3,6 @@ ghost use Rattle.verifier.specs.Subject.{IsContextSize};
 mod calls;
 mod jumps;
 
-use crate::table::OUT_OF_MEMORY;
 use crate::verified::{Verified, verify};
 use bpf_decode::decode;
 use host_types::{Refused, Shape};
@@ -25,7 +24,7 @@ fn judged(alloc: Global, slots: &[u64], ctx_size: u32) -> Result<Verified, Refus
     requires { IsContextSize ctx_size }
 {
     let Ok(text) = text_of(alloc, slots) else {
-        return Err(OUT_OF_MEMORY);
+        return Err(Refused::OUT_OF_MEMORY);
     };
     let program = decode(alloc, &text)?;
     verify(alloc, program, &[], ctx_size)
@@ -438,6 +437,20 @@ fn wide_loads_fall_two_slots_on(rt: HostRuntime) -> Result<(), Fail> {
     let number = scalar(0x1_0000_002a, 0x1_0000_002a, Align::Two);
     assert_eq!(rt; program.kind(2, 0), number);
     assert_eq!(rt; refusal(rt.alloc(), &[wide, 0], 0), Some((13, 0)));
+    Ok(())
+}
+
+// R0 = 0, again and again; EXIT
+#[test]
+fn longest_texts_are_accepted(rt: HostRuntime) -> Result<(), Fail> {
+    let mut slots = Vec::new(rt.alloc());
+    slots.resize(4095, 0xb7000000_00000000)?;
+    slots.push(EXIT)?;
+    let program = judged(rt.alloc(), &slots, 0)?;
+    assert_eq!(rt; program.slots(), 4096);
+    assert_eq!(rt; program.instructions(), 4096);
+    let zero = scalar(0, 0, Align::Eight);
+    assert_eq!(rt; program.kind(4095, 0), zero);
     Ok(())
 }
 

@@ -6,7 +6,7 @@ ghost use Rattle.verifier.specs.Table.{IsRefusal};
 ghost use Rattle.verifier.specs.Verified.{AreShapes, IsVerified, kind_at};
 
 use crate::candidate::Candidate;
-use crate::table::{OUT_OF_MEMORY, make_table};
+use crate::table::make_table;
 use bpf_decode::{Insn, Program};
 use host_types::{Refused, Shape};
 use std::alloc::Global;
@@ -121,7 +121,7 @@ pub fn verify(
         ⊎ IsRefusal (record { text = program; shapes = all_there shapes.now; context_size = ctx_size }) refused) }
 {
     let Ok(candidate) = Candidate::new(alloc, program, shapes, ctx_size) else {
-        return Err(OUT_OF_MEMORY);
+        return Err(Refused::OUT_OF_MEMORY);
     };
     let table = make_table(alloc, &candidate)?;
     let instructions = candidate.count_instructions();

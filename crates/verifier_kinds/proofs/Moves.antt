@@ -5,6 +5,7 @@ use Rattle.std.specs.Int.{cast_signed, w64}
 use Rattle.std.proofs.lemmas.Int.{ints, to_z_pos}
 use Rattle.std.proofs.Math.Facts.{to_z-neg}
 use Rattle.std.proofs.lemmas.Bool.{cond-true, cond-false, and_left, and_right, and_parts, cases_Bool, cases_lt}
+use Rattle.host_types.specs.Rules.{wrong_kind}
 use Rattle.verifier_kinds.specs.declared.kind.Range.{Range}
 use Rattle.verifier_kinds.specs.declared.kind.Kind.{Kind}
 use Rattle.verifier_kinds.specs.Kinds.{IsOffset, is_constant}
@@ -64,7 +65,7 @@ moved_is kind rule offset by result e = elim (cases_Bool (is_constant by)) [
       let kept = kept_is_offset kind rule (offset +ℤ cast_signed w64 by.low) result (sym (moved_by_constant kind rule offset by t) ∙ e) in
       (t, kept.0, kept.1)
   | inr f ↦
-      let is : ◌≡◌ {A = Result Kind ℕ} (Err 15) (Ok result) = sym (cond-false (is_constant by) (within_offsets kind rule (offset +ℤ cast_signed w64 by.low)) (Err 15) f) ∙ e in
+      let is : ◌≡◌ {A = Result Kind ℕ} (Err wrong_kind) (Ok result) = sym (cond-false (is_constant by) (within_offsets kind rule (offset +ℤ cast_signed w64 by.low)) (Err wrong_kind) f) ∙ e in
       cc
 ]
 
@@ -74,7 +75,7 @@ moved_back_is kind rule offset by result e = elim (cases_Bool (is_constant by)) 
       let kept = kept_is_offset kind rule (offset -ℤ cast_signed w64 by.low) result (sym (moved_back_by_constant kind rule offset by t) ∙ e) in
       (t, kept.0, kept.1)
   | inr f ↦
-      let is : ◌≡◌ {A = Result Kind ℕ} (Err 15) (Ok result) = sym (cond-false (is_constant by) (within_offsets kind rule (offset -ℤ cast_signed w64 by.low)) (Err 15) f) ∙ e in
+      let is : ◌≡◌ {A = Result Kind ℕ} (Err wrong_kind) (Ok result) = sym (cond-false (is_constant by) (within_offsets kind rule (offset -ℤ cast_signed w64 by.low)) (Err wrong_kind) f) ∙ e in
       cc
 ]
 

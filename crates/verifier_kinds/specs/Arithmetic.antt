@@ -1,6 +1,7 @@
 -- What arithmetic makes of kinds (this project's own profile; the numbers are those of its refusals).
 use Rattle.std.specs.Prelude.{ℕ, ◌+◌, ◌-◌, ◌*◌, ◌/◌, ◌^◌, min, max, nat_lt, nat_le, ◌==◌, ℤ, pos, negsuc, ◌+ℤ◌, ◌-ℤ◌, int_le, ◌&&◌, if◌then◌else◌, Option, Some, None, Result, Ok, Err}
 use Rattle.std.specs.Int.{cast_signed, leading_zeros, w64}
+use Rattle.host_types.specs.Rules.{unset_register, wrong_kind, outside_context, outside_stack}
 use Rattle.bpf_decode.specs.declared.insn.Insn.{Insn}
 use Rattle.bpf_decode.specs.declared.operation.Width.{Width}
 use Rattle.bpf_decode.specs.declared.operation.Width.TheVariants.{Bits32, Bits64}
@@ -131,30 +132,30 @@ within_offsets kind rule offset = if int_le (negsuc 65535) offset && int_le offs
 -- a pointer that a number moves: only by a constant, of which 2^63 or more stands for itself less 2^64
 abbrev pub moved : (ℤ → Kind) → ℕ → ℤ → Range → Result Kind ℕ
 moved kind rule offset by =
-    if is_constant by then within_offsets kind rule (offset +ℤ cast_signed w64 by.low) else Err 15
+    if is_constant by then within_offsets kind rule (offset +ℤ cast_signed w64 by.low) else Err wrong_kind
 
 -- a pointer that a number moves back
 abbrev pub moved_back : (ℤ → Kind) → ℕ → ℤ → Range → Result Kind ℕ
 moved_back kind rule offset by =
-    if is_constant by then within_offsets kind rule (offset -ℤ cast_signed w64 by.low) else Err 15
+    if is_constant by then within_offsets kind rule (offset -ℤ cast_signed w64 by.low) else Err wrong_kind
 
 -- a pointer takes part in additions and subtractions of 64 bits alone
 abbrev pub displaced : (ℤ → Kind) → ℕ → AluCode → Width → ℤ → Range → Result Kind ℕ
 displaced kind rule Add Bits64 offset by = moved kind rule offset by
 displaced kind rule Sub Bits64 offset by = moved_back kind rule offset by
-displaced kind rule code width offset by = Err 15
+displaced kind rule code width offset by = Err wrong_kind
 
 -- what an operation makes of the kinds of dst and of the second operand; a pointer is moved as dst alone
 abbrev pub kind_of : AluCode → Width → ℤ → Kind → Kind → Result Kind ℕ
 kind_of code width offset (Scalar a) (Scalar b) = Ok (Scalar (range_of code width offset a b))
-kind_of code width offset (Context k) (Scalar by) = displaced Context 16 code width k by
-kind_of code width offset (Stack k) (Scalar by) = displaced Stack 17 code width k by
-kind_of code width offset a b = Err 15
+kind_of code width offset (Context k) (Scalar by) = displaced Context outside_context code width k by
+kind_of code width offset (Stack k) (Scalar by) = displaced Stack outside_stack code width k by
+kind_of code width offset a b = Err wrong_kind
 
 -- what a move of a number makes of its kind
 abbrev pub moved_number : Width → ℤ → Kind → Result Kind ℕ
 moved_number width offset (Scalar b) = Ok (Scalar (range_of Mov width offset b b))
-moved_number width offset pointer = Err 15
+moved_number width offset pointer = Err wrong_kind
 
 -- a move of all 64 bits copies any kind
 abbrev pub copied : Width → ℤ → Kind → Result Kind ℕ
@@ -164,7 +165,7 @@ copied Bits32 offset kind = moved_number Bits32 offset kind
 -- what an operation makes of the kind of dst, where it is known, and of the second operand
 abbrev pub kind_with_dst : AluCode → Width → ℤ → Option Kind → Kind → Result Kind ℕ
 kind_with_dst code width offset (Some a) b = kind_of code width offset a b
-kind_with_dst code width offset None b = Err 14
+kind_with_dst code width offset None b = Err unset_register
 
 -- what an operation makes of kinds: a move alone doesn't ask for that of dst
 abbrev pub arith_by : AluCode → Width → ℤ → Option Kind → Kind → Result Kind ℕ
@@ -176,4 +177,4 @@ arith_of insn a b = arith_with (operation_of insn.opcode)
   where
     arith_with : Option Operation → Result Kind ℕ
     arith_with (Some (Alu code width source)) = arith_by code width insn.offset a b
-    arith_with other = Err 15
+    arith_with other = Err wrong_kind

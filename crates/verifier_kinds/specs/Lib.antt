@@ -2,3 +2,4 @@ pub mod Kinds
 pub mod Descriptions
 pub mod Arithmetic
 pub mod Refinement
+pub mod Laws

@@ -8,18 +8,7 @@ ghost use Rattle.verifier_kinds.specs.Kinds.{IsKind, IsNormal, IsOffset};
 use crate::kind::{Kind, Range};
 use crate::rows::range_of;
 use bpf_decode::{AluCode, Insn, Operation, Width};
-
-/// Arithmetic on a register of which nothing is known.
-const UNSET_REGISTER: u32 = 14;
-
-/// Arithmetic that a pointer doesn't take part in.
-const WRONG_KIND: u32 = 15;
-
-/// A pointer to the context that is moved too far.
-const OUTSIDE_CONTEXT: u32 = 16;
-
-/// A pointer to the stack that is moved too far.
-const OUTSIDE_STACK: u32 = 17;
+use host_types::rule::{OUTSIDE_CONTEXT, OUTSIDE_STACK, UNSET_REGISTER, WRONG_KIND};
 
 /// The kind that an arithmetic instruction leaves in dst, of which `a` is known before; `b` is the
 /// kind of the second operand. The error is the number of the rule that it breaks: 14 where it
@@ -238,8 +227,11 @@ mod tests {
         assert_eq!(rt; arith(&insn(MOV, 0), None, byte()), Ok(byte()));
         assert_eq!(rt; arith(&insn(MOV_32, 0), None, byte()), Ok(byte()));
         assert_eq!(rt; arith(&insn(MOV, 8), None, constant(0x10c)), Ok(twelve));
-        assert_eq!(rt; arith(&insn(ADD, 0), None, byte()), Err(14));
-        assert_eq!(rt; arith(&insn(ADD_32, 0), None, Kind::Stack(0)), Err(14));
+        assert_eq!(rt; arith(&insn(ADD, 0), None, byte()), Err(UNSET_REGISTER));
+        assert_eq!(rt;
+            arith(&insn(ADD_32, 0), None, Kind::Stack(0)),
+            Err(UNSET_REGISTER)
+        );
     }
 
     #[test]
@@ -252,9 +244,18 @@ mod tests {
             add(Kind::Context(8), constant(minus(8))),
             Ok(Kind::Context(0))
         );
-        assert_eq!(rt; add(Kind::Stack(-65536), constant(minus(1))), Err(17));
-        assert_eq!(rt; add(Kind::Context(65536), constant(1)), Err(16));
-        assert_eq!(rt; add(Kind::Context(0), constant(1 << 63)), Err(16));
+        assert_eq!(rt;
+            add(Kind::Stack(-65536), constant(minus(1))),
+            Err(OUTSIDE_STACK)
+        );
+        assert_eq!(rt;
+            add(Kind::Context(65536), constant(1)),
+            Err(OUTSIDE_CONTEXT)
+        );
+        assert_eq!(rt;
+            add(Kind::Context(0), constant(1 << 63)),
+            Err(OUTSIDE_CONTEXT)
+        );
     }
 
     #[test]
@@ -268,22 +269,31 @@ mod tests {
             sub(Kind::Context(65536), constant(65536)),
             Ok(Kind::Context(0))
         );
-        assert_eq!(rt; sub(Kind::Stack(-65536), constant(1)), Err(17));
-        assert_eq!(rt; sub(Kind::Context(65536), constant(minus(1))), Err(16));
-        assert_eq!(rt; sub(Kind::Context(0), constant(1 << 63)), Err(16));
+        assert_eq!(rt; sub(Kind::Stack(-65536), constant(1)), Err(OUTSIDE_STACK));
+        assert_eq!(rt;
+            sub(Kind::Context(65536), constant(minus(1))),
+            Err(OUTSIDE_CONTEXT)
+        );
+        assert_eq!(rt;
+            sub(Kind::Context(0), constant(1 << 63)),
+            Err(OUTSIDE_CONTEXT)
+        );
     }
 
     #[test]
     fn refuses_other_uses_of_pointers(rt: HostRuntime) {
         let stack = Kind::Stack(-8);
-        assert_eq!(rt; add(Kind::Context(0), byte()), Err(15));
-        assert_eq!(rt; sub(Kind::Context(0), byte()), Err(15));
-        assert_eq!(rt; add(byte(), stack), Err(15));
-        assert_eq!(rt; add(stack, stack), Err(15));
-        assert_eq!(rt; sub(stack, stack), Err(15));
-        assert_eq!(rt; arith(&insn(ADD_32, 0), Some(stack), constant(8)), Err(15));
+        assert_eq!(rt; add(Kind::Context(0), byte()), Err(WRONG_KIND));
+        assert_eq!(rt; sub(Kind::Context(0), byte()), Err(WRONG_KIND));
+        assert_eq!(rt; add(byte(), stack), Err(WRONG_KIND));
+        assert_eq!(rt; add(stack, stack), Err(WRONG_KIND));
+        assert_eq!(rt; sub(stack, stack), Err(WRONG_KIND));
+        assert_eq!(rt;
+            arith(&insn(ADD_32, 0), Some(stack), constant(8)),
+            Err(WRONG_KIND)
+        );
         assert_eq!(rt; arith(&insn(MOV, 0), None, stack), Ok(stack));
-        assert_eq!(rt; arith(&insn(MOV_32, 0), None, stack), Err(15));
-        assert_eq!(rt; arith(&insn(MOV, 32), None, stack), Err(15));
+        assert_eq!(rt; arith(&insn(MOV_32, 0), None, stack), Err(WRONG_KIND));
+        assert_eq!(rt; arith(&insn(MOV, 32), None, stack), Err(WRONG_KIND));
     }
 }

@@ -7,9 +7,11 @@ mod arithmetic;
 mod branches;
 mod description;
 mod kind;
+mod laws;
 mod rows;
 
 pub use arithmetic::arith;
 pub use branches::{refine, refined};
 pub use description::{Description, StackSlot};
 pub use kind::{Align, Kind, Range};
+pub use laws::join_is_least;

@@ -7,7 +7,7 @@ ghost use Rattle.interp.specs.Machine.{MachineState};
 ghost use Rattle.interp.specs.StandsFor.{StandsFor};
 
 use super::{EXIT, run_on, text_of};
-use crate::machine::Ending;
+use crate::machine::{Ending, Machine};
 use bpf_decode::decode;
 use host_types::{Fault, Refused};
 use interp::{Need, Run};
@@ -20,20 +20,20 @@ fn accepted(alloc: Global, slots: &[u64]) -> Result<Verified, Refused>
     ensures { IfOk result (λ v. v.subject.shapes ≡ all_there []) }
 {
     let Ok(text) = text_of(alloc, slots) else {
-        return Err(Refused {
-            number: 41,
-            slot: 0,
-        });
+        return Err(Refused::OUT_OF_MEMORY);
     };
     let program = decode(alloc, &text)?;
     verify(alloc, program, &[], 16)
 }
 
-// How at most ten steps of a run go.
+// As many steps as a program has instructions at most.
+const STEPS: u32 = 4096;
+
+// How a run goes.
 fn ending(mut run: Run, program: &Verified) -> Ending
     requires { (s : MachineState) × StandsFor program.now run s }
 {
-    'steps: for _ in 0..10 {
+    'steps: for _ in 0..STEPS {
         match run.next(program) {
             Need::Ended(number) => return Ending::Exited {
                 number,
@@ -53,7 +53,7 @@ fn context_of(numbers: [u64; 2]) -> [u8; 16] {
     bytes
 }
 
-// How at most ten steps of a program go on the fast interpreter.
+// How a program goes on the fast interpreter.
 fn run_fast(alloc: Global, context: &[u8], slots: &[u64]) -> Result<Ending, Fault> {
     match accepted(alloc, slots) {
         Ok(program) => {
@@ -106,6 +106,24 @@ fn agree_on_accepted_programs(rt: HostRuntime) -> Result<(), Fail> {
             assert_eq!(rt; fast, Ok(plain), "{slots:?} on {context:?}");
         }
     }
+    Ok(())
+}
+
+// R0 = 0, again and again; EXIT
+#[test]
+fn agree_on_the_longest_program(rt: HostRuntime) -> Result<(), Fail> {
+    let mut slots = Vec::new(rt.alloc());
+    slots.resize(4095, 0xb7000000_00000000)?;
+    slots.push(EXIT)?;
+    let text = text_of(rt.alloc(), &slots)?;
+    assert!(rt; text.len() % 8 == 0);
+    let mut machine = Machine::start(Vec::new(rt.alloc()), Vec::new(rt.alloc()));
+    let longest = Ending::Exited {
+        number: 0,
+        steps: STEPS,
+    };
+    assert_eq!(rt; machine.run(&text, STEPS), longest);
+    assert_eq!(rt; run_fast(rt.alloc(), &[0; 16], &slots), Ok(longest));
     Ok(())
 }
 
