@@ -3,5 +3,7 @@
 #![tactic(auto)]
 
 mod scan;
+#[cfg(test)]
+mod tests;
 
 pub use scan::visit;
