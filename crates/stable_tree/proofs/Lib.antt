@@ -1,0 +1,6 @@
+pub mod Cuts
+pub mod Sorting
+pub mod Pairs
+pub mod Inserting
+pub mod Ordered
+pub mod Removing

@@ -1,0 +1,30 @@
+use Rattle.std.proofs.Common.{ap, arith, length}
+use Rattle.stable_tree.specs.Groups.{Groups, groups_of}
+use Rattle.stable_tree.proofs.Cuts.{length-cut, concat-cut, fewer-chains}
+use Rattle.stable_tree.proofs.tree.StableTree.add.Goals as goal
+
+pub add-requires-clause-chain : goal.add-requires-clause-chain
+add-requires-clause-chain c =
+    let seen = ap (λ (tree : Groups). length tree.chains) c.self.view_is in
+    let size = length-cut c.self.inside.chains.items c.self.inside.frames.items in
+    let there = c.requires.chain in
+    omega (arith, seen, size, there)
+
+pub add-requires-clause-room : goal.add-requires-clause-room
+add-requires-clause-room c =
+    let seen = ap (λ (tree : Groups). length (groups_of tree)) c.self.view_is in
+    let all = ap length (concat-cut c.self.inside.chains.items c.self.inside.frames.items c.self.invariant.0) in
+    let few = c.requires.room in
+    let room = ap (λ (tree : Groups). tree.room) c.self.view_is in
+    let kept = c.self.invariant.2 in
+    omega (arith, seen, all, few, room, kept)
+
+pub add-requires-clause-chain_room : goal.add-requires-clause-chain_room
+add-requires-clause-chain_room c =
+    let seen = ap (λ (tree : Groups). length (groups_of tree)) c.self.view_is in
+    let all = ap length (concat-cut c.self.inside.chains.items c.self.inside.frames.items c.self.invariant.0) in
+    let fewer = fewer-chains c.self.inside.chains.items c.self.inside.frames.items c.self.invariant.0 in
+    let few = c.requires.room in
+    let room = ap (λ (tree : Groups). tree.room) c.self.view_is in
+    let kept = c.self.invariant.1 in
+    omega (arith, seen, all, fewer, few, room, kept)

@@ -1,0 +1,250 @@
+ghost use Rattle.std.specs.Prelude.{◌≡◌, ◌≢◌, ◌++◌, ◌∷◌, [], ◌==◌, ◌+◌, ◌<◌, ◌≤◌, ℕ, List, not, nat_lt, filter, find, insert, remove, length, max, All, OnOk, OnErr, IfSome, slice_index_or, slice_set};
+ghost use Rattle.std.specs.Ordering.{nat_cmp};
+ghost use Rattle.frame_arena.specs.Pages.{page_at};
+ghost use Rattle.stable_tree.specs.Groups.{Groups, IsSorted, IsSpot, IsCutAt, has, is_before, is_there, groups_of, groups_at, groups_found};
+
+use crate::chains::{
+    Chain, add, first_below, first_of, frames_of, lengthen, position_of, shorten, take_out,
+};
+use frame_arena::FrameArena;
+use std::alloc::{AllocError, Global};
+use std::marker::Model;
+
+/// Where the groups of one content stand. It is of use until the tree changes.
+#[derive(Clone, Copy, Debug, PartialEq, Eq)]
+pub struct Spot {
+    chain: usize,
+}
+
+/// The frames of all groups. Contracts see a list of chains, one for each content; a chain has the
+/// frames of the groups with that content in order of creation.
+#[derive(Drop)]
+pub struct StableTree {
+    // sorted by content
+    chains: Vec<Chain>,
+    // chain after chain
+    frames: Vec<u32>,
+    // for how many groups `reserve` was called
+    room: usize,
+}
+
+impl Model for StableTree {
+    ghost use Rattle.std.specs.Prelude.{◌≤◌, vec_capacity};
+    ghost use Rattle.stable_tree.specs.Groups.{Groups};
+    ghost use Rattle.stable_tree.specs.Cut.{AreCut, cut};
+
+    ghost Value = { Groups };
+
+    ghost view = { λ tree. record { chains = cut tree.chains.items tree.frames.items; room = tree.room } };
+
+    ghost invariant = { λ tree. AreCut tree.chains.items tree.frames.items
+        × (tree.room ≤ vec_capacity tree.chains) × (tree.room ≤ vec_capacity tree.frames) };
+}
+
+impl StableTree {
+    /// There are no groups, and there is no room for one.
+    pub fn new(alloc: Global) -> Self
+        ensures { result ≡ record { chains = []; room = 0 } }
+    {
+        StableTree {
+            chains: Vec::new(alloc),
+            frames: Vec::new(alloc),
+            room: 0,
+        }
+    }
+
+    /// Makes room for that many groups in all. It is refused only where memory ran out, and changes
+    /// nothing then.
+    pub fn reserve(&mut self, groups: usize) -> Result<(), AllocError>
+        ensures reserved { OnOk result (self.new ≡ record self.old { room = max self.old.room groups }) }
+        ensures refused { OnErr result (self.new ≡ self.old) }
+        ensures short { OnErr result (self.old.room < groups) }
+    {
+        if groups <= self.room {
+            return Ok(());
+        }
+        let chains = self.chains.len();
+        if chains < groups {
+            self.chains.reserve_exact(groups - chains)?;
+        }
+        let frames = self.frames.len();
+        if frames < groups {
+            self.frames.reserve_exact(groups - frames)?;
+        }
+        self.room = groups;
+        Ok(())
+    }
+
+    /// How many groups there are.
+    pub fn groups(&self) -> usize
+        ensures { result ≡ length (groups_of self.now) }
+    {
+        self.frames.len()
+    }
+
+    /// Where the groups that have the bytes of a frame stand, if there are any.
+    pub fn find(&self, arena: &FrameArena, frame: u32) -> Option<Spot>
+        requires frame { frame < length arena.now }
+        requires sorted { IsSorted arena.now self.now.chains }
+        ensures found { groups_found self.now result ≡ filter (has arena.now (page_at arena.now frame)) (groups_of self.now) }
+        ensures spot { IfSome result (IsSpot self.now) }
+    {
+        let chain = self.lower_bound(arena, frame);
+        if self.is_there(arena, frame, chain) {
+            return Some(Spot { chain });
+        }
+        None
+    }
+
+    /// The earliest of the groups at a spot that fewer than `limit` hold.
+    pub fn first_open(&self, spot: Spot, counts: &[u32], limit: u32) -> Option<u32>
+        requires spot { IsSpot self.now spot }
+        requires counts { All (λ frame. frame < length counts.now) (groups_at self.now spot) }
+        ensures { result ≡ find (λ frame. nat_lt (slice_index_or counts.now frame 0) limit) (groups_at self.now spot) }
+    {
+        first_below(self.chain(spot.chain), counts, limit)
+    }
+
+    /// Puts a group behind all others that have its bytes. It takes no memory.
+    pub fn insert(&mut self, arena: &FrameArena, frame: u32)
+        requires frame { frame < length arena.now }
+        requires sorted { IsSorted arena.now self.old.chains }
+        requires new { All (λ group. group ≢ frame) (groups_of self.old) }
+        requires room { length (groups_of self.old) < self.old.room }
+        ensures inserted { (bytes : List ℕ) → filter (has arena.now bytes) (groups_of self.new)
+            ≡ filter (has arena.now bytes) (groups_of self.old) ++ filter (has arena.now bytes) (frame ∷ []) }
+        ensures sorted { IsSorted arena.now self.new.chains }
+        ensures room { self.new.room ≡ self.old.room }
+    {
+        let chain = self.lower_bound(arena, frame);
+        if self.is_there(arena, frame, chain) {
+            self.lengthen(chain, frame);
+            return;
+        }
+        self.add(chain, frame);
+    }
+
+    /// Takes out a group, if it is there. The arena's pages are as they were when it was put in.
+    pub fn remove(&mut self, arena: &FrameArena, frame: u32)
+        requires frame { frame < length arena.now }
+        requires sorted { IsSorted arena.now self.old.chains }
+        ensures removed { groups_of self.new ≡ filter (λ group. not (group == frame)) (groups_of self.old) }
+        ensures sorted { IsSorted arena.now self.new.chains }
+        ensures room { self.new.room ≡ self.old.room }
+    {
+        let chain = self.lower_bound(arena, frame);
+        if !self.is_there(arena, frame, chain) {
+            return;
+        }
+        let Some(place) = position_of(self.chain(chain), frame) else {
+            return;
+        };
+        if self.chain(chain).len() == 1 {
+            self.take_out(chain);
+            return;
+        }
+        self.shorten(chain, place);
+    }
+
+    // Takes a frame out of a chain of two or more.
+    fn shorten(&mut self, chain: usize, place: usize)
+        requires chain { chain < length self.old.chains }
+        requires place { place < length (slice_index_or self.old.chains chain []) }
+        requires more { 2 ≤ length (slice_index_or self.old.chains chain []) }
+        ensures { self.new ≡ record self.old {
+          chains = slice_set self.old.chains chain (remove (slice_index_or self.old.chains chain []) place);
+        } }
+    {
+        shorten(&mut self.chains, &mut self.frames, chain, place);
+    }
+
+    // Takes out a chain of one frame.
+    fn take_out(&mut self, chain: usize)
+        requires chain { chain < length self.old.chains }
+        requires one { length (slice_index_or self.old.chains chain []) ≡ 1 }
+        ensures { self.new ≡ record self.old { chains = remove self.old.chains chain } }
+    {
+        take_out(&mut self.chains, &mut self.frames, chain);
+    }
+
+    // Puts a frame at the end of a chain.
+    fn lengthen(&mut self, chain: usize, frame: u32)
+        requires chain { chain < length self.old.chains }
+        requires room { length (groups_of self.old) < self.old.room }
+        ensures { self.new ≡ record self.old {
+          chains = slice_set self.old.chains chain (slice_index_or self.old.chains chain [] ++ frame ∷ []);
+        } }
+    {
+        lengthen(&mut self.chains, &mut self.frames, chain, frame);
+    }
+
+    // Makes a chain of one frame.
+    fn add(&mut self, chain: usize, frame: u32)
+        requires chain { chain ≤ length self.old.chains }
+        requires room { length (groups_of self.old) < self.old.room }
+        ensures { self.new ≡ record self.old { chains = insert self.old.chains chain (frame ∷ []) } }
+    {
+        add(&mut self.chains, &mut self.frames, chain, frame);
+    }
+
+    // How many chains there are.
+    fn count(&self) -> usize
+        ensures { result ≡ length self.now.chains }
+    {
+        self.chains.len()
+    }
+
+    // The frames of a chain.
+    fn chain(&self, chain: usize) -> &[u32]
+        requires { chain < length self.now.chains }
+        ensures { result.now ≡ slice_index_or self.now.chains chain [] }
+    {
+        frames_of(&self.chains, &self.frames, chain)
+    }
+
+    // The frame of a chain's earliest group.
+    fn first(&self, chain: usize) -> u32
+        requires { chain < length self.now.chains }
+        ensures { result ≡ slice_index_or (slice_index_or self.now.chains chain []) 0 0 }
+    {
+        first_of(&self.chains, &self.frames, chain)
+    }
+
+    // Whether there is a chain of this number, and its content is a frame's.
+    fn is_there(&self, arena: &FrameArena, frame: u32, chain: usize) -> bool
+        requires frame { frame < length arena.now }
+        requires sorted { IsSorted arena.now self.now.chains }
+        ensures { result ≡ is_there arena.now (page_at arena.now frame) self.now.chains chain }
+    {
+        chain < self.count() && arena.same(self.first(chain), frame)
+    }
+
+    // Whether the content of a chain comes before a frame's.
+    fn is_before(&self, arena: &FrameArena, frame: u32, chain: usize) -> bool
+        requires frame { frame < length arena.now }
+        requires chain { chain < length self.now.chains }
+        requires sorted { IsSorted arena.now self.now.chains }
+        ensures { result ≡ is_before arena.now (page_at arena.now frame) (slice_index_or self.now.chains chain []) }
+    {
+        arena.order(self.first(chain), frame).is_lt()
+    }
+
+    // The first chain whose content doesn't come before a frame's.
+    fn lower_bound(&self, arena: &FrameArena, frame: u32) -> usize
+        requires frame { frame < length arena.now }
+        requires sorted { IsSorted arena.now self.now.chains }
+        ensures { IsCutAt arena.now (page_at arena.now frame) self.now.chains result }
+    {
+        let mut low = 0;
+        let mut high = self.count();
+        while low < high {
+            let middle = low + (high - low) / 2;
+            if self.is_before(arena, frame, middle) {
+                low = middle + 1;
+            } else {
+                high = middle;
+            }
+        }
+        low
+    }
+}
