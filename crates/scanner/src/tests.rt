@@ -31,7 +31,7 @@ fn byte_len(memory: &Memory, tenant: u32) -> u32
     }
 }
 
-/// Stores 1 as the first value of a tenant's map 0, as a run of the program P does, where that may be.
+/// Stores 1 as the first value of a tenant's map 0, where that may be.
 fn run(memory: &mut Memory, tenant: u32) -> bool {
     if byte_len(memory, tenant) < 8 || needs(memory, tenant, 0, 0, 8) > memory.have() {
         return false;

@@ -171,6 +171,24 @@ fn a_store_takes_its_page_out_of_the_group(rt: HostRuntime) -> Result<(), Fail> 
     Ok(())
 }
 
+/// The page that is taken out gets the group's bytes, and the group keeps them.
+#[test]
+fn a_break_copies_the_bytes_of_the_group(rt: HostRuntime) -> Result<(), Fail> {
+    let mut memory = Memory::new(rt.alloc(), 4, 2, Options::standard())?;
+    memory.create_map(0, 16, 1, true)?;
+    memory.create_map(1, 16, 1, true)?;
+    assert!(rt; stored_bytes(&mut memory, 0, 0, &[5; 16]));
+    assert!(rt; stored_bytes(&mut memory, 1, 0, &[5; 16]));
+    assert!(rt; paired(&mut memory, page(0, 0), page(1, 0)));
+    assert!(rt; stored(&mut memory, 0, 7));
+    let fives = 0x0505_0505_0505_0505;
+    assert_eq!(rt; loaded(&memory, 0, 0), Some(7));
+    assert_eq!(rt; loaded(&memory, 0, 8), Some(fives));
+    assert_eq!(rt; loaded(&memory, 1, 0), Some(fives));
+    assert_eq!(rt; loaded(&memory, 1, 8), Some(fives));
+    Ok(())
+}
+
 #[test]
 fn a_store_takes_its_page_off_the_frame_of_zeros(rt: HostRuntime) -> Result<(), Fail> {
     let mut memory = two_pages(rt.alloc())?;
