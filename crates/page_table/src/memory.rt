@@ -1,4 +1,4 @@
-ghost use Rattle.std.specs.Prelude.{◌≡◌, ◌≢◌, ◌+◌, ◌*◌, ◌-◌, ◌/◌, ◌<◌, ◌≤◌, ◌%◌, ◌↔◌, IsTrue, ℕ, [], length, replicate, is_none, position, Option, Some, None, IfOk, OnOk, IfErr, OnErr, IfSome, option_map, slice_index_or, true, is_some};
+ghost use Rattle.std.specs.Prelude.{◌≡◌, ◌≢◌, ◌+◌, ◌*◌, ◌-◌, ◌/◌, ◌<◌, ◌≤◌, ◌%◌, ◌↔◌, nat_lt, IsTrue, ℕ, [], length, replicate, is_none, position, Option, Some, None, IfOk, OnOk, IfErr, OnErr, IfSome, option_map, slice_index_or, true, is_some};
 ghost use Rattle.host_types.specs.Bytes.{part_of, with_part};
 ghost use Rattle.host_types.specs.Memory.{FlatMap, map_at};
 ghost use Rattle.host_types.specs.OptionTable.{AreOptions, MayBe};
@@ -6,7 +6,7 @@ ghost use Rattle.host_types.specs.Pages.{map_place, page_place, page_bytes, zero
 ghost use Rattle.host_types.specs.Shapes.{IsShape};
 ghost use Rattle.host_types.specs.Sharing.{new_page, state_at, is_shared, broken, break_cost, cost_from, paired, zeroed};
 ghost use Rattle.host_types.specs.Tenant.{IsFlatMap};
-ghost use Rattle.host_types.specs.Unmerging.{with_option};
+ghost use Rattle.host_types.specs.Unmerging.{with_option, MaySet};
 ghost use Rattle.host_types.specs.Visits.{page_to_visit, is_mergeable, flushed, moved_on, changed, waits, has_open, joined};
 ghost use Rattle.frame_arena.specs.Pages.{page_at};
 ghost use Rattle.page_table.specs.Limits.{AreLimits, page_count, shape_of};
@@ -436,10 +436,19 @@ impl Memory {
         self.pass.full_scans
     }
 
-    /// Sets one option to a value that it may have.
+    /// Whether there is a group.
+    pub fn has_groups(&self) -> bool
+        ensures { result ≡ nat_lt 0 (length self.now.sharing.groups) }
+    {
+        self.table.has_groups()
+    }
+
+    /// Sets one option to a value that it may have; the limit of a group's pages only while there is no
+    /// group.
     #[tactic(auto, unfolding(crate::specs::View::view_of))]
     pub fn set_option(&mut self, option: Opt, value: u32)
-        requires { MayBe option value }
+        requires value { MayBe option value }
+        requires now { MaySet self.old.sharing option }
         ensures { self.new ≡ record self.old {
           sharing =
               record self.old.sharing { options = with_option self.old.sharing.options option value };

@@ -1,4 +1,4 @@
-ghost use Rattle.std.specs.Prelude.{◌≡◌, ◌≢◌, ◌+◌, ◌<◌, ◌≤◌, true, false, [], ◌∷◌, ◌++◌, All, drop, find, map, option_map, length, replicate, slice_index_or, slice_set, Option, Some, None, IfOk, IfSome, ℕ};
+ghost use Rattle.std.specs.Prelude.{◌≡◌, ◌≢◌, ◌+◌, ◌<◌, ◌≤◌, nat_lt, true, false, [], ◌∷◌, ◌++◌, All, drop, find, map, option_map, length, replicate, slice_index_or, slice_set, Option, Some, None, IfOk, IfSome, ℕ};
 ghost use Rattle.host_types.specs.Bytes.{with_part};
 ghost use Rattle.page_table.specs.declared.pass.Pass.{Pass};
 ghost use Rattle.host_types.specs.declared.status.Status.TheVariants.{Grouped};
@@ -96,6 +96,13 @@ impl Table {
         ensures { result + used_by self.now ≡ length self.now.arena }
     {
         self.counts.unused()
+    }
+
+    /// Whether there is a group.
+    pub(crate) fn has_groups(&self) -> bool
+        ensures { result ≡ nat_lt 0 (length self.now.groups) }
+    {
+        !self.groups.is_empty()
     }
 
     /// What is kept of the page at a place.

@@ -2,8 +2,10 @@
 //! call takes memory, and no call changes what a tenant's maps hold.
 #![tactic(auto)]
 
+mod options;
 mod scan;
 #[cfg(test)]
 mod tests;
 
+pub use options::set;
 pub use scan::visit;

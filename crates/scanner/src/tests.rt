@@ -1,8 +1,8 @@
 ghost use Rattle.std.specs.Prelude.{◌≡◌, length};
 ghost use Rattle.page_table.specs.State.{part, map_bytes};
 
-use crate::visit;
-use host_types::{Fault, Options, Visited};
+use crate::{set, visit};
+use host_types::{Fault, Opt, Options, Visited};
 use page_table::Memory;
 use std::alloc::Global;
 use std::test::Fail;
@@ -88,7 +88,7 @@ fn pages_of_zeros_go_to_the_zero_frame(rt: HostRuntime) -> Result<(), Fail> {
     Ok(())
 }
 
-/// Four pages live in three frames, the zero frame among them.
+/// Four pages live in three frames, the zero frame among them; an option that can't be set stays.
 #[test]
 fn merging_makes_room_for_further_maps(rt: HostRuntime) -> Result<(), Fail> {
     let mut memory = memory_of(rt.alloc(), 3, 2, Options::standard())?;
@@ -97,6 +97,17 @@ fn merging_makes_room_for_further_maps(rt: HostRuntime) -> Result<(), Fail> {
     visits(&mut memory, 6);
     memory.create_map(1, 8, 1, true)?;
     visits(&mut memory, 8);
+    assert_eq!(rt; (memory.free(), memory.full_scans()), (1, 6));
+    assert_eq!(rt;
+        set(&mut memory, Opt::MaxPageSharing, 3),
+        Err(Fault::PagesShared)
+    );
+    assert_eq!(rt;
+        set(&mut memory, Opt::MaxPageSharing, 1),
+        Err(Fault::BadOption)
+    );
+    assert_eq!(rt; set(&mut memory, Opt::Run, 2), Err(Fault::BadOption));
+    assert_eq!(rt; memory.options(), Options::standard());
     assert_eq!(rt; (memory.free(), memory.full_scans()), (1, 6));
     Ok(())
 }
