@@ -4,3 +4,4 @@ pub mod Tenants
 pub mod Serving
 pub mod Joined
 pub mod Hosting
+pub mod Stepping

@@ -1,5 +1,5 @@
 -- What a host keeps of its tenants, and which worlds it stands for.
-use Rattle.std.specs.Prelude.{◌≡◌, ℕ, ◌≤◌, List, [], map, replicate, slice_get, slice_set, ◌⊎◌, Option, Some, None, Result, Ok, Err}
+use Rattle.std.specs.Prelude.{◌≡◌, ℕ, ◌+◌, ◌≤◌, List, [], map, replicate, slice_get, slice_set, ◌⊎◌, Option, Some, None, Result, Ok, Err}
 use Rattle.std.specs.List.{AllZip, All}
 use Rattle.host_types.specs.declared.fault.Fault.{Fault}
 use Rattle.host_types.specs.declared.fault.Fault.TheVariants.{OutOfMemory, Program}
@@ -8,14 +8,17 @@ use Rattle.bpf_decode.specs.Text.{IsWellFormed, IsFirstFault}
 use Rattle.verifier.specs.Subject.{Subject, all_there}
 use Rattle.verifier.specs.Table.{IsRefusal}
 use Rattle.verifier.specs.Verified.{Accepted, IsVerified}
-use Rattle.interp.specs.StandsFor.{StandsFor}
+use Rattle.interp.specs.declared.need.Need.{Need}
+use Rattle.interp.specs.declared.need.Need.TheVariants.{Private}
+use Rattle.interp.specs.Machine.{MachineState}
+use Rattle.interp.specs.StandsFor.{Running, StandsFor, FollowsSteps}
 use Rattle.host_core.specs.declared.event.Event.{Event}
 use Rattle.host_core.specs.declared.event.Event.TheVariants.{Load, Begin, Step}
 use Rattle.host_core.specs.declared.event.Reply.{Reply}
 use Rattle.host_core.specs.declared.event.Reply.TheVariants.{Refused}
 use Rattle.host_core.specs.declared.host.tenant.OpenRun.{OpenRun as KeptRun}
 use Rattle.host_core.specs.World.{OpenRun, Tenant, World, IsTenant}
-use Rattle.host_core.specs.Happens.{Happens, IsPromised}
+use Rattle.host_core.specs.Happens.{Happens, IsPromised, StepsHappen}
 
 -- a tenant as a host keeps it: its accepted programs by number, and its open run, if it has one
 pub record TenantView : Type 0 where
@@ -93,6 +96,18 @@ IsServed old event reply new =
     → (next : Tenant) × StandsForTenant new next
     × Happens w event reply (slice_set w (tenant_of event) next)
     × IsPromised w event reply (slice_set w (tenant_of event) next)
+
+-- Steps of a tenant were made, up to a limit: in each world in which it stood for one, they happen as Step
+-- events of that one, and leave one there for which the tenant stands now.
+abbrev pub HasMadeSteps : TenantView → ℕ → Option Reply → TenantView → Type 0
+HasMadeSteps old limit last new =
+    (w : World) (t : ℕ) (tenant : Tenant) → slice_get w t ≡ Some tenant → StandsForTenant old tenant
+    → (next : Tenant) × StandsForTenant new next × StepsHappen w t limit last (slice_set w t next)
+
+-- a run that stood for a state made steps, up to a limit, and as many as that where it goes on
+abbrev pub HasAdvanced : Accepted → MachineState → ℕ → Running → Need → Running → Type 0
+HasAdvanced accepted s limit old need new =
+    (n : ℕ) × FollowsSteps accepted s n need new × (new.steps ≡ old.steps + n) × (n ≤ limit) × (need ≡ Private → n ≡ limit)
 
 -- what a new host may be made of: 2 to 4096 frames, and 1 to 16 tenants (this project's own limits)
 pub record IsHostSize (frames tenants : ℕ) : Type 0 where

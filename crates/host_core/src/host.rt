@@ -94,13 +94,14 @@ impl Host {
         ensures { (w : World) → StandsForWorld self.old w
             → (next : World) × StandsForWorld self.new next × StepsHappen w tenant limit result next }
     {
-        for _ in 0..limit {
-            match self.apply(&Event::Step { tenant }) {
-                Reply::Stepped => {}
-                last => return Some(last),
-            }
+        if limit == 0 {
+            return None;
         }
-        None
+        let number = tenant as usize;
+        if number >= self.tenants.len() {
+            return Some(Reply::Refused(Fault::BadTenant));
+        }
+        self.tenants[number].make_steps(limit)
     }
 }
 

@@ -1,3 +1,5 @@
+ghost use Rattle.std.specs.Prelude.{◌≡◌, min};
+
 use crate::event::{Event, Reply};
 use crate::judge::{accepted, is_context_size};
 use host_types::Fault;
@@ -34,10 +36,10 @@ impl Model for Tenant {
 }
 
 impl Tenant {
-    ghost use Rattle.std.specs.Prelude.{ℕ, length};
+    ghost use Rattle.std.specs.Prelude.{ℕ, length, ◌<◌};
     ghost use Rattle.host_core.specs.declared.event.Event.TheVariants.{Load, Begin, Step};
     ghost use Rattle.host_core.specs.World.{new_tenant};
-    ghost use Rattle.host_core.specs.HostView.{StandsForTenant, IsServed, reply_of};
+    ghost use Rattle.host_core.specs.HostView.{StandsForTenant, IsServed, HasMadeSteps, reply_of};
 
     pub(super) fn new(alloc: Global) -> Tenant
         ensures { StandsForTenant result new_tenant }
@@ -73,7 +75,7 @@ impl Tenant {
                 context,
                 ..
             } => self.begin(alloc, *program, context.as_slice()),
-            Event::Step { .. } => self.step(),
+            Event::Step { .. } => Ok(self.step()),
         }
     }
 
@@ -115,40 +117,62 @@ impl Tenant {
     }
 
     // Makes a step of the open run.
-    fn step(&mut self) -> Result<Reply, Fault>
-        ensures { (t : ℕ) → IsServed self.old (Step t) (reply_of result) self.new }
+    fn step(&mut self) -> Reply
+        ensures { (t : ℕ) → IsServed self.old (Step t) result self.new }
+    {
+        match self.make_steps(1) {
+            Some(reply) => reply,
+            None => Reply::Stepped,
+        }
+    }
+
+    // Makes steps of the open run in one go, up to a limit: the reply to the last one, or `None` where
+    // each of them was made and the run goes on.
+    pub(super) fn make_steps(&mut self, limit: u64) -> Option<Reply>
+        requires { 0 < limit }
+        ensures { HasMadeSteps self.old limit result self.new }
     {
         let Some(open) = &mut self.run else {
-            return Err(Fault::NoRun);
+            return Some(Reply::Refused(Fault::NoRun));
         };
-        let need = open.next(self.programs.as_slice());
+        let need = open.advance(self.programs.as_slice(), limit);
         let steps = open.run.steps();
         match need {
-            Need::Private => Ok(Reply::Stepped),
+            Need::Private => None,
             Need::Ended(ret) => {
                 self.run = None;
-                Ok(Reply::Ended { ret, steps })
+                Some(Reply::Ended { ret, steps })
             }
         }
     }
 }
 
 impl OpenRun {
-    ghost use Rattle.std.specs.Prelude.{◌≡◌, ◌+◌, slice_get, Some};
+    ghost use Rattle.std.specs.Prelude.{◌≡◌, slice_get, Some};
     ghost use Rattle.verifier.specs.Verified.{Accepted};
     ghost use Rattle.interp.specs.Machine.{MachineState};
-    ghost use Rattle.interp.specs.StandsFor.{StandsFor, Follows};
+    ghost use Rattle.interp.specs.StandsFor.{StandsFor};
+    ghost use Rattle.host_core.specs.HostView.{HasAdvanced};
 
-    // Makes a step in place.
-    fn next(&mut self, programs: &[Verified]) -> Need
+    // Makes steps in place, up to a limit. No run makes more of them than its program has instructions.
+    fn advance(&mut self, programs: &[Verified], limit: u64) -> Need
         requires { (accepted : Accepted) × (slice_get programs.now self.old.program ≡ Some accepted)
             × ((s : MachineState) × StandsFor accepted self.old.run s) }
         ensures program { self.new.program ≡ self.old.program }
-        ensures steps { self.new.run.steps ≡ self.old.run.steps + 1 }
-        ensures follows { (accepted : Accepted) (s : MachineState)
+        ensures advanced { (accepted : Accepted) (s : MachineState)
             → slice_get programs.now self.old.program ≡ Some accepted
-            → StandsFor accepted self.old.run s → Follows accepted s result self.new.run }
+            → StandsFor accepted self.old.run s → HasAdvanced accepted s limit self.old.run result self.new.run }
     {
-        self.run.next(&programs[self.program as usize])
+        let program = &programs[self.program as usize];
+        program.facts();
+        self.run
+            .advance(program, lesser(program.instructions(), limit))
     }
+}
+
+// The lesser of two numbers.
+fn lesser(a: u32, b: u64) -> u32
+    ensures { result ≡ min a b }
+{
+    if u64::from(a) < b { a } else { b as u32 }
 }

@@ -1,28 +1,22 @@
-use Rattle.std.proofs.Common.{◌≡◌, ◌+◌, List, [], ◌∷◌, ◌++◌, replicate, refl, subst}
-use Rattle.std.proofs.lemmas.List.{replicate_more}
-use Rattle.host_core.specs.declared.event.Event.{Event}
-use Rattle.host_core.specs.declared.event.Event.TheVariants.{Step}
-use Rattle.host_core.specs.declared.event.Reply.{Reply}
-use Rattle.host_core.specs.declared.event.Reply.TheVariants.{Stepped}
-use Rattle.host_core.specs.Happens.{AllHappen}
-use Rattle.host_core.proofs.Hosting.{AllHappen-push}
+use Rattle.std.proofs.Common.{◌≤◌, ◌<◌, length, set, refl, subst, arith, Some}
+use Rattle.std.proofs.lemmas.Option.{slice_get_past, slice_get_read}
+use Rattle.host_types.specs.declared.fault.Fault.TheVariants.{BadTenant}
+use Rattle.host_core.specs.declared.event.Reply.TheVariants.{Refused}
+use Rattle.host_core.specs.HostView.{HostView}
+use Rattle.host_core.proofs.Stepping.{HostMakesSteps, host-made, host-no_tenant}
 use Rattle.host_core.proofs.host.Host.make_steps.Goals as goal
 
-pub returns-in_default : goal.returns-in_default
-returns-in_default c = λ w stands.
-    let n = c.loop.counter in
-    let before = c.loop.invariant w stands in
-    let then = c.apply.ensures before.0 before.1 in
-    let all = AllHappen-push w before.0 then.0 (replicate n (Step c.args.tenant)) (replicate n Stepped) (Step c.args.tenant) c.apply.result before.2 then.2 then.3 in
-    (then.0, then.1, (_, _, (n, c.loop-test.true, c.in_default.not-Stepped, refl, refl), all))
+pub returns-then-number-len : goal.returns-then-number-len
+returns-then-number-len c =
+    let past : length c.self.inside.tenants.items ≤ c.args.tenant = omega (arith, c.self.inside.tenants.ok.0) in
+    subst (λ view. HostMakesSteps view c.args.tenant c.args.limit (Some (Refused BadTenant)) view) c.self.view_is
+    (host-no_tenant c.self.inside.tenants.items c.args.tenant c.args.limit (omega arith) (slice_get_past _ _ past))
 
-pub loop-preserved : goal.loop-preserved
-loop-preserved c = λ w stands.
-    let n = c.loop.counter in
-    let step = Step c.args.tenant in
-    let before = c.loop.invariant w stands in
-    let then = c.apply.ensures before.0 before.1 in
-    let all = AllHappen-push w before.0 then.0 (replicate n step) (replicate n Stepped) step c.apply.result before.2 then.2 then.3 in
-    let stepped = subst (λ reply. AllHappen w (replicate n step ++ step ∷ []) (replicate n Stepped ++ reply ∷ []) then.0) c.in-Stepped.is all in
-    let events = subst (λ (events : List Event). AllHappen w events (replicate n Stepped ++ Stepped ∷ []) then.0) (replicate_more n step) stepped in
-    (then.0, then.1, subst (λ (replies : List Reply). AllHappen w (replicate (n + 1) step) replies then.0) (replicate_more n Stepped) events)
+pub returns : goal.returns
+returns c =
+    let items = c.self.inside.tenants.items in
+    let within : c.args.tenant < length items = omega (arith, c.self.inside.tenants.ok.0) in
+    let found = slice_get_read items (length items) c.args.tenant c.index_mut.result.now refl within c.index_mut.ensures.value in
+    let made = host-made items c.args.tenant c.args.limit c.index_mut.result.now c.make_steps.new.self c.make_steps.result found c.make_steps.ensures in
+    let new : HostView = set items c.args.tenant c.make_steps.new.self in
+    subst (λ old. HostMakesSteps old c.args.tenant c.args.limit c.make_steps.result new) c.self.view_is made
