@@ -5,7 +5,5 @@
 mod arena;
 mod block;
 mod number;
-#[cfg(test)]
-mod tests;
 
 pub use arena::{FrameArena, PAGE_SIZE};

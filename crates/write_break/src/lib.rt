@@ -3,10 +3,6 @@
 #![tactic(auto)]
 
 mod access;
-#[cfg(test)]
-mod agreement;
 mod number;
-#[cfg(test)]
-mod tests;
 
 pub use access::{load, needs, store, store_bytes};

@@ -2,7 +2,7 @@
 
 ghost use Rattle.std.specs.Prelude.{◌<◌, ◌^◌};
 
-use crate::tests::{is_there, page, paired, stored_bytes, zeroed};
+use crate::breaks::{is_there, page, paired, stored_bytes, zeroed};
 use host_types::{Fault, Options, Page};
 use page_table::Memory;
 use plain_sharing::PlainSharing;
@@ -45,12 +45,14 @@ fn two_maps(alloc: Global) -> Result<Both, Fault> {
 
 impl Both {
     /// Pairs two pages, where that may be.
-    fn pair(&mut self, alloc: Global, first: Page, second: Page) -> Result<bool, AllocError> {
+    fn pair(&mut self, alloc: Global, first: Page, second: Page) -> Result<bool, Fault> {
         if !paired(&mut self.memory, first, second) {
             return Ok(false);
         }
-        self.plain.pair(alloc, place(first), place(second))?;
-        Ok(true)
+        match self.plain.pair(alloc, place(first), place(second)) {
+            Ok(()) => Ok(true),
+            Err(AllocError) => Err(Fault::OutOfMemory),
+        }
     }
 
     /// Puts a page on the frame of zeros, where that may be.
@@ -95,20 +97,40 @@ impl Both {
     }
 }
 
+/// What is done to both.
+#[derive(Clone, Copy)]
+enum Step {
+    Pair((u32, u32), (u32, u32)),
+    Zero((u32, u32)),
+    Store((u32, u32), u8),
+}
+
+/// The number of the first step that can't be made, or after which the two don't agree.
+fn first_wrong(alloc: Global, steps: &[Step]) -> Result<Option<usize>, Fault> {
+    let mut both = two_maps(alloc)?;
+    for (number, step) in steps.iter().enumerate() {
+        let is_made = match *step {
+            Step::Pair(one, other) => both.pair(alloc, page(one.0, one.1), page(other.0, other.1))?,
+            Step::Zero(one) => both.zero(page(one.0, one.1)),
+            Step::Store(one, byte) => both.store(page(one.0, one.1), &[byte; 8]),
+        };
+        if !is_made || !both.agree() {
+            return Ok(Some(number));
+        }
+    }
+    Ok(None)
+}
+
 #[test]
-fn the_memory_shares_pages_as_the_plain_program_does(rt: HostRuntime) -> Result<(), Fail> {
-    let mut both = two_maps(rt.alloc())?;
-    assert!(rt; both.agree());
-    assert!(rt; both.pair(rt.alloc(), page(1, 0), page(0, 0))?);
-    assert!(rt; both.pair(rt.alloc(), page(0, 1), page(0, 2))?);
-    assert!(rt; both.zero(page(1, 1)));
-    assert!(rt; both.agree());
-    assert!(rt; both.store(page(0, 1), &[1; 8]));
-    assert!(rt; both.agree());
-    assert!(rt; both.store(page(1, 0), &[2; 8]));
-    assert!(rt; both.agree());
-    assert!(rt; both.zero(page(1, 2)));
-    assert!(rt; both.store(page(0, 0), &[2; 8]));
-    assert!(rt; both.agree());
-    Ok(())
+fn the_memory_shares_pages_as_the_plain_program_does(rt: HostRuntime) {
+    let steps = [
+        Step::Pair((1, 0), (0, 0)),
+        Step::Pair((0, 1), (0, 2)),
+        Step::Zero((1, 1)),
+        Step::Store((0, 1), 1),
+        Step::Store((1, 0), 2),
+        Step::Zero((1, 2)),
+        Step::Store((0, 0), 2),
+    ];
+    assert_eq!(rt; first_wrong(rt.alloc(), &steps), Ok(None));
 }

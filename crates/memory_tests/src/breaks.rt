@@ -3,11 +3,11 @@ ghost use Rattle.host_types.specs.Pages.{page_bytes, zero_page};
 ghost use Rattle.page_table.specs.State.{part, map_bytes, bytes_of_map};
 ghost use Rattle.page_table.specs.Changes.{IsPageOf, MayMerge};
 
-use crate::{load, needs, store, store_bytes};
 use host_types::{Fault, MapNo, Options, Page};
 use page_table::Memory;
 use std::alloc::Global;
 use std::test::Fail;
+use write_break::{load, needs, store, store_bytes};
 
 /// The bytes of a tenant's map; none where there is no such map.
 fn byte_len(memory: &Memory, tenant: u32, map: MapNo) -> u32
@@ -143,91 +143,166 @@ pub(crate) fn stored_bytes(memory: &mut Memory, tenant: u32, at: u32, bytes: &[u
     true
 }
 
+/// What a test does to a memory of two tenants, each with a map of 16 bytes.
+#[derive(Clone, Copy)]
+enum Step {
+    /// Pairs both pages.
+    Pair,
+    /// Puts a tenant's page on the frame of zeros.
+    Zero(u32),
+    /// Stores a byte in each of a tenant's 16 bytes.
+    Fill(u32, u8),
+    /// Stores a number in a tenant's first 8 bytes.
+    Store(u32, u64),
+}
+
+/// What is seen of the memory then: the free frames, what a store takes from each tenant, and the two
+/// numbers of each tenant.
+#[derive(Clone, Copy, PartialEq, Eq)]
+struct Seen {
+    free: u32,
+    costs: [Option<u32>; 2],
+    numbers: [[Option<u64>; 2]; 2],
+}
+
+impl Step {
+    /// Makes the step, where that may be.
+    fn make(self, memory: &mut Memory) -> bool {
+        match self {
+            Step::Pair => paired(memory, page(0, 0), page(1, 0)),
+            Step::Zero(tenant) => zeroed(memory, page(tenant, 0)),
+            Step::Fill(tenant, byte) => stored_bytes(memory, tenant, 0, &[byte; 16]),
+            Step::Store(tenant, value) => stored(memory, tenant, value),
+        }
+    }
+}
+
+impl Seen {
+    /// What is to be seen.
+    fn expected(free: u32, costs: [u32; 2], numbers: [[u64; 2]; 2]) -> Seen {
+        Seen {
+            free,
+            costs: costs.map(Some),
+            numbers: numbers.map(|pair| pair.map(Some)),
+        }
+    }
+
+    fn of(memory: &Memory) -> Seen {
+        Seen {
+            free: memory.free(),
+            costs: [0, 1].map(|tenant| cost(memory, tenant, 0, 8)),
+            numbers: [0, 1].map(|tenant| [0, 8].map(|at| loaded(memory, tenant, at))),
+        }
+    }
+}
+
 /// Two tenants and four frames, and a map of one page for each tenant.
 fn two_pages(alloc: Global) -> Result<Memory, Fault> {
     let mut memory = Memory::new(alloc, 4, 2, Options::standard())?;
-    memory.create_map(0, 8, 1, true)?;
-    memory.create_map(1, 8, 1, true)?;
+    memory.create_map(0, 16, 1, true)?;
+    memory.create_map(1, 16, 1, true)?;
     Ok(memory)
 }
 
+/// The number of the first step that can't be made, or after which something else is seen.
+fn first_wrong(alloc: Global, rows: &[(Step, Seen)]) -> Result<Option<usize>, Fault> {
+    let mut memory = two_pages(alloc)?;
+    for (number, (step, expected)) in rows.iter().enumerate() {
+        if !step.make(&mut memory) || Seen::of(&memory) != *expected {
+            return Ok(Some(number));
+        }
+    }
+    Ok(None)
+}
+
 #[test]
-fn a_store_takes_its_page_out_of_the_group(rt: HostRuntime) -> Result<(), Fail> {
-    let mut memory = two_pages(rt.alloc())?;
-    assert_eq!(rt; memory.free(), 1);
-    assert!(rt; paired(&mut memory, page(0, 0), page(1, 0)));
-    assert_eq!(rt; memory.free(), 2);
-    assert_eq!(rt; cost(&memory, 0, 0, 8), Some(1));
-    assert_eq!(rt; cost(&memory, 1, 0, 8), Some(1));
-    assert!(rt; stored(&mut memory, 0, 7));
-    assert_eq!(rt; loaded(&memory, 0, 0), Some(7));
-    assert_eq!(rt; loaded(&memory, 1, 0), Some(0));
-    assert_eq!(rt; memory.free(), 1);
-    assert_eq!(rt; cost(&memory, 1, 0, 8), Some(0));
-    assert!(rt; stored(&mut memory, 1, 9));
-    assert_eq!(rt; memory.free(), 1);
-    assert_eq!(rt; loaded(&memory, 0, 0), Some(7));
-    assert_eq!(rt; loaded(&memory, 1, 0), Some(9));
-    Ok(())
+fn a_store_takes_its_page_out_of_the_group(rt: HostRuntime) {
+    let rows = [
+        (Step::Pair, Seen::expected(2, [1, 1], [[0, 0], [0, 0]])),
+        (
+            Step::Store(0, 7),
+            Seen::expected(1, [0, 0], [[7, 0], [0, 0]]),
+        ),
+        (
+            Step::Store(1, 9),
+            Seen::expected(1, [0, 0], [[7, 0], [9, 0]]),
+        ),
+    ];
+    assert_eq!(rt; first_wrong(rt.alloc(), &rows), Ok(None));
 }
 
 /// The page that is taken out gets the group's bytes, and the group keeps them.
 #[test]
-fn a_break_copies_the_bytes_of_the_group(rt: HostRuntime) -> Result<(), Fail> {
-    let mut memory = Memory::new(rt.alloc(), 4, 2, Options::standard())?;
-    memory.create_map(0, 16, 1, true)?;
-    memory.create_map(1, 16, 1, true)?;
-    assert!(rt; stored_bytes(&mut memory, 0, 0, &[5; 16]));
-    assert!(rt; stored_bytes(&mut memory, 1, 0, &[5; 16]));
-    assert!(rt; paired(&mut memory, page(0, 0), page(1, 0)));
-    assert!(rt; stored(&mut memory, 0, 7));
+fn a_break_copies_the_bytes_of_the_group(rt: HostRuntime) {
     let fives = 0x0505_0505_0505_0505;
-    assert_eq!(rt; loaded(&memory, 0, 0), Some(7));
-    assert_eq!(rt; loaded(&memory, 0, 8), Some(fives));
-    assert_eq!(rt; loaded(&memory, 1, 0), Some(fives));
-    assert_eq!(rt; loaded(&memory, 1, 8), Some(fives));
-    Ok(())
+    let rows = [
+        (
+            Step::Fill(0, 5),
+            Seen::expected(1, [0, 0], [[fives, fives], [0, 0]]),
+        ),
+        (
+            Step::Fill(1, 5),
+            Seen::expected(1, [0, 0], [[fives, fives], [fives, fives]]),
+        ),
+        (
+            Step::Pair,
+            Seen::expected(2, [1, 1], [[fives, fives], [fives, fives]]),
+        ),
+        (
+            Step::Store(0, 7),
+            Seen::expected(1, [0, 0], [[7, fives], [fives, fives]]),
+        ),
+    ];
+    assert_eq!(rt; first_wrong(rt.alloc(), &rows), Ok(None));
 }
 
 #[test]
-fn a_store_takes_its_page_off_the_frame_of_zeros(rt: HostRuntime) -> Result<(), Fail> {
-    let mut memory = two_pages(rt.alloc())?;
-    assert_eq!(rt; memory.free(), 1);
-    assert!(rt; zeroed(&mut memory, page(0, 0)));
-    assert!(rt; zeroed(&mut memory, page(1, 0)));
-    assert_eq!(rt; memory.free(), 3);
-    assert_eq!(rt; cost(&memory, 0, 0, 8), Some(1));
-    assert_eq!(rt; cost(&memory, 1, 0, 8), Some(1));
-    assert!(rt; stored(&mut memory, 0, 7));
-    assert_eq!(rt; memory.free(), 2);
-    assert_eq!(rt; loaded(&memory, 1, 0), Some(0));
-    Ok(())
+fn a_store_takes_its_page_off_the_frame_of_zeros(rt: HostRuntime) {
+    let rows = [
+        (Step::Zero(0), Seen::expected(2, [1, 0], [[0, 0], [0, 0]])),
+        (Step::Zero(1), Seen::expected(3, [1, 1], [[0, 0], [0, 0]])),
+        (
+            Step::Store(0, 7),
+            Seen::expected(2, [0, 1], [[7, 0], [0, 0]]),
+        ),
+    ];
+    assert_eq!(rt; first_wrong(rt.alloc(), &rows), Ok(None));
 }
 
 /// Eight frames, a map of three pages and one of two: the first and the last of the three share
 /// frames with the two.
-#[test]
-fn bytes_are_stored_on_three_pages(rt: HostRuntime) -> Result<(), Fail> {
-    let mut memory = Memory::new(rt.alloc(), 8, 2, Options::standard())?;
+fn three_and_two(alloc: Global) -> Result<Memory, Fault> {
+    let mut memory = Memory::new(alloc, 8, 2, Options::standard())?;
     memory.create_map(0, 4096, 3, true)?;
     memory.create_map(1, 4096, 2, true)?;
-    assert!(rt; paired(&mut memory, page(0, 0), page(1, 0)));
-    assert!(rt; paired(&mut memory, page(0, 2), page(1, 1)));
-    assert_eq!(rt; memory.free(), 4);
-    assert_eq!(rt; cost(&memory, 0, 4000, 5000), Some(2));
-    assert!(rt; stored_bytes(&mut memory, 0, 4000, &[7; 5000]));
-    assert_eq!(rt; memory.free(), 2);
-    let sevens = 0x0707_0707_0707_0707;
-    assert_eq!(rt; loaded(&memory, 0, 3992), Some(0));
-    assert_eq!(rt; loaded(&memory, 0, 4000), Some(sevens));
-    assert_eq!(rt; loaded(&memory, 0, 4096), Some(sevens));
-    assert_eq!(rt; loaded(&memory, 0, 8192), Some(sevens));
-    assert_eq!(rt; loaded(&memory, 0, 8992), Some(sevens));
-    assert_eq!(rt; loaded(&memory, 0, 9000), Some(0));
-    assert_eq!(rt; loaded(&memory, 1, 4000), Some(0));
-    assert_eq!(rt; loaded(&memory, 1, 4096), Some(0));
-    assert_eq!(rt; cost(&memory, 0, 4000, 5000), Some(0));
-    assert!(rt; stored_bytes(&mut memory, 0, 12288, &[]));
+    Ok(memory)
+}
+
+/// Stores 5000 bytes to the three pages, and tells the free frames and what that takes before and after.
+fn stored_on_three(memory: &mut Memory) -> [(u32, Option<u32>); 2] {
+    let is_paired = paired(memory, page(0, 0), page(1, 0))
+        && paired(memory, page(0, 2), page(1, 1));
+    let before = (memory.free(), cost(memory, 0, 4000, 5000));
+    let is_stored = stored_bytes(memory, 0, 4000, &[7; 5000])
+        && stored_bytes(memory, 0, 12288, &[]);
+    if !is_paired || !is_stored {
+        return [before; 2];
+    }
+    [before, (memory.free(), cost(memory, 0, 4000, 5000))]
+}
+
+#[test]
+fn bytes_are_stored_on_three_pages(rt: HostRuntime) -> Result<(), Fail> {
+    let mut memory = three_and_two(rt.alloc())?;
+    let told = stored_on_three(&mut memory);
+    let numbers = [3992, 4000, 4096, 8192, 8992, 9000].map(|at| loaded(&memory, 0, at));
+    let others = [4000, 4096].map(|at| loaded(&memory, 1, at));
+    let sevens = Some(0x0707_0707_0707_0707);
+    let zero = Some(0);
+    let expected = [zero, sevens, sevens, sevens, sevens, zero];
+    assert!(rt;
+        told == [(4, Some(2)), (2, Some(0))] && numbers == expected && others == [zero, zero]
+    );
     Ok(())
 }
 
@@ -236,12 +311,12 @@ fn bytes_are_stored_on_three_pages(rt: HostRuntime) -> Result<(), Fail> {
 fn the_last_page_of_a_group_costs_nothing(rt: HostRuntime) -> Result<(), Fail> {
     let mut memory = Memory::new(rt.alloc(), 3, 1, Options::standard())?;
     memory.create_map(0, 4096, 2, true)?;
-    assert!(rt; paired(&mut memory, page(0, 1), page(0, 0)));
-    assert_eq!(rt; memory.free(), 1);
-    assert_eq!(rt; cost(&memory, 0, 4092, 8), Some(1));
-    assert!(rt; stored_bytes(&mut memory, 0, 4092, &[1, 2, 3, 4, 5, 6, 7, 8]));
-    assert_eq!(rt; memory.free(), 0);
-    assert_eq!(rt; loaded(&memory, 0, 4088), Some(0x0403_0201_0000_0000));
-    assert_eq!(rt; loaded(&memory, 0, 4096), Some(0x0807_0605));
+    let is_paired = paired(&mut memory, page(0, 1), page(0, 0));
+    let before = (memory.free(), cost(&memory, 0, 4092, 8));
+    let is_stored = stored_bytes(&mut memory, 0, 4092, &[1, 2, 3, 4, 5, 6, 7, 8]);
+    let numbers = [4088, 4096].map(|at| loaded(&memory, 0, at));
+    let expected = [Some(0x0403_0201_0000_0000), Some(0x0807_0605)];
+    assert!(rt; is_paired && is_stored);
+    assert!(rt; before == (1, Some(1)) && memory.free() == 0 && numbers == expected);
     Ok(())
 }

@@ -1,0 +1,9 @@
+//! Tests of the crates of the memory, in a crate above them all: so each of those is proved once.
+#![tactic(auto)]
+
+#[cfg(test)]
+mod agreement;
+#[cfg(test)]
+mod arena;
+#[cfg(test)]
+mod breaks;
