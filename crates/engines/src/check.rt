@@ -7,8 +7,6 @@ ghost use Rattle.engines.specs.Check.{AnswersWords, AskNothing, IsAccepted, IsCh
 ghost use Rattle.engines.specs.Lines.{accepted_text, line_of, refusal_text};
 
 mod question;
-#[cfg(test)]
-mod tests;
 
 use crate::explanation::explain;
 use crate::fault::written;

@@ -6,8 +6,6 @@ pub mod check;
 mod explanation;
 mod fault;
 mod lines;
-#[cfg(test)]
-mod memory_tests;
 pub mod replay;
 mod session;
 

@@ -5,12 +5,6 @@ ghost use Rattle.host_file.specs.Faults.{IsBad};
 ghost use Rattle.host_file.specs.HostFile.{IsFileText};
 ghost use Rattle.host_file.specs.declared.file.HostFile.{HostFile};
 
-#[cfg(test)]
-mod input_tests;
-#[cfg(test)]
-mod kernel_tests;
-#[cfg(test)]
-mod output_tests;
 
 use crate::explanation::explain_host;
 use crate::fault::written;

@@ -6,8 +6,6 @@ ghost use Rattle.host_core.specs.Happens.{Happens, IsPromised, AllHappen, StepsH
 ghost use Rattle.host_core.specs.HostView.{StandsForWorld, IsHostSize};
 
 mod tenant;
-#[cfg(test)]
-mod tests;
 
 use crate::event::{Event, Reply};
 use host_types::{Fault, Options};

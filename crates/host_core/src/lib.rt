@@ -6,8 +6,6 @@ mod bytes;
 mod event;
 mod host;
 mod judge;
-#[cfg(test)]
-mod memory_tests;
 
 pub use bytes::Bytes;
 pub use event::{Event, Reply};

@@ -7,11 +7,7 @@ mod event;
 mod fault;
 mod file;
 mod key;
-#[cfg(test)]
-mod memory_tests;
 mod section;
-#[cfg(test)]
-mod tests;
 
 pub use command::{Command, Commands};
 pub use fault::{BadFile, Cause, FileFault, Place};

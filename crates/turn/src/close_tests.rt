@@ -115,7 +115,7 @@ fn grow(turn: &Turn, seat: &mut Seat, more: u64) -> bool
 }
 
 /// A turn in which nothing changes. Tells whether the memory was home.
-fn look<K: Kind>(turn: &Turn, seat: &mut Place<K>) -> bool
+pub(crate) fn look<K: Kind>(turn: &Turn, seat: &mut Place<K>) -> bool
     requires { IsIdle turn.now seat.old }
     ensures { IsIdle turn.now seat.new }
 {
@@ -151,21 +151,20 @@ fn ended_by(alloc: Global, ending: u32) -> Result<Option<Memory>, Fault> {
     })
 }
 
+/// Whether a memory has each tenant's number, the options, and as many free frames as before.
+fn is_whole(memory: &Memory) -> bool {
+    let numbers = [0, 1, 2, 3].map(|tenant| number(memory, tenant));
+    let is_kept = memory.tenants() == 4 && memory.free() == 11 && memory.options() == options();
+    is_kept && numbers == [Some(1), Some(12), Some(23), Some(34)]
+}
+
 /// A `close` that changes another tenant's part meets its contract, as does one that gives nothing to some
 /// seats; so every tenant's map is looked at, whichever seat ends the turn.
 #[test]
 fn every_tenant_keeps_its_map_at_the_end(rt: HostRuntime) -> Result<(), Fail> {
     for ending in 0..4 {
-        let Some(memory) = ended_by(rt.alloc(), ending)? else {
-            panic!(rt; "the memory is home, and a try or the end gives none")
-        };
-        assert_eq!(rt; memory.tenants(), 4);
-        assert_eq!(rt; number(&memory, 0), Some(1));
-        assert_eq!(rt; number(&memory, 1), Some(12));
-        assert_eq!(rt; number(&memory, 2), Some(23));
-        assert_eq!(rt; number(&memory, 3), Some(34));
-        assert_eq!(rt; memory.free(), 11);
-        assert!(rt; memory.options() == options());
+        let memory = ended_by(rt.alloc(), ending)?;
+        assert!(rt; memory.is_some_and(|memory| is_whole(&memory)), "{ending}");
     }
     Ok(())
 }

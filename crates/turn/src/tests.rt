@@ -2,7 +2,8 @@ ghost use Rattle.std.specs.Prelude.{◌≤◌, length, IfOk};
 ghost use Rattle.page_table.specs.State.{part, map_bytes};
 ghost use Rattle.turn.specs.Seats.{IsIdle, part_of};
 
-use crate::{Seat, Turn};
+use crate::close_tests::look;
+use crate::{Kind, Place, Seat, Turn};
 use host_types::{Fault, MapNo, Options};
 use page_table::Memory;
 use std::alloc::Global;
@@ -107,6 +108,16 @@ fn add_thousand(rt: &impl Wait, turn: &Turn, mut seat: Seat, map: MapNo) -> Seat
     seat
 }
 
+/// The number of a seat's map in the memory that it gets at the end.
+fn last_number(turn: Turn, seat: Seat, map: MapNo) -> Option<u64>
+    requires idle { IsIdle turn seat }
+    requires map { 8 ≤ length (map_bytes (part_of seat) map) }
+{
+    let tenant = seat.tenant();
+    let memory = turn.close(seat)?;
+    Some(load(&memory, tenant, map, 0, 8))
+}
+
 #[test]
 fn two_threads_count_to_a_thousand(rt: HostRuntime) -> Result<(), Fail> {
     let Two {
@@ -121,15 +132,24 @@ fn two_threads_count_to_a_thousand(rt: HostRuntime) -> Result<(), Fail> {
         || add_thousand(&rt, &turn, first, first_map),
         || add_thousand(&rt, &turn, second, second_map),
     );
-    assert_eq!(rt; number(&rt, &turn, &mut first, first_map), 1000);
-    assert_eq!(rt; number(&rt, &turn, &mut second, second_map), 1000);
-    let tenant = first.tenant();
-    assert_eq!(rt; tenant, 0);
-    let Some(memory) = turn.close(first) else {
-        panic!(rt; "the memory is out")
-    };
-    assert_eq!(rt; load(&memory, tenant, first_map, 0, 8), 1000);
+    let one = number(&rt, &turn, &mut first, first_map);
+    let other = number(&rt, &turn, &mut second, second_map);
+    let last = last_number(turn, first, first_map);
+    assert!(rt; one == 1000 && other == 1000 && last == Some(1000));
     Ok(())
+}
+
+/// Which tries win: one while the memory is home, one of each seat while the first has it, and one after.
+fn wins(turn: &Turn, first: &mut Seat, second: &mut Seat) -> [bool; 3]
+    requires first { IsIdle turn.now first.old }
+    requires second { IsIdle turn.now second.old }
+{
+    let Some(held) = turn.try_take(first) else {
+        return [false; 3];
+    };
+    let beside = look(turn, second);
+    turn.give(first, held);
+    [true, beside, look(turn, second)]
 }
 
 /// A `try_take` that never wins meets its contract, so this test rules it out.
@@ -142,36 +162,33 @@ fn try_take_never_wins(rt: HostRuntime) -> Result<(), Fail> {
         first_map: _,
         second_map: _,
     } = two_tenants(rt.alloc())?;
-    let Some(held) = turn.try_take(&mut first) else {
-        panic!(rt; "nothing is held, and the try is lost")
-    };
-    if let Some(other) = turn.try_take(&mut second) {
-        turn.give(&mut second, other);
-        panic!(rt; "the memory is out, and the try is won");
-    }
-    turn.give(&mut first, held);
-    let Some(held) = turn.try_take(&mut second) else {
-        panic!(rt; "the memory was given, and the try is lost")
-    };
-    turn.give(&mut second, held);
+    assert!(rt; wins(&turn, &mut first, &mut second) == [true, false, true]);
     Ok(())
+}
+
+/// How many tenants the memory has that a seat takes.
+fn tenants<K: Kind>(rt: &impl Wait, turn: &Turn, seat: &mut Place<K>) -> u32
+    requires { IsIdle turn.now seat.old }
+{
+    let held = turn.take(rt, seat);
+    let tenants = held.memory().tenants();
+    turn.give(seat, held);
+    tenants
+}
+
+/// Whether a turn of so many seats is refused for a memory of three tenants.
+fn is_refused(alloc: Global, tenants: u32) -> Result<bool, Fault> {
+    let memory = Memory::new(alloc, 2, 3, Options::standard())?;
+    Ok(matches!(Turn::new(alloc, memory, tenants), Err(Fault::BadShape)))
 }
 
 #[test]
 fn a_turn_has_a_seat_for_each_tenant(rt: HostRuntime) -> Result<(), Fail> {
     let memory = Memory::new(rt.alloc(), 2, 3, Options::standard())?;
-    let refused = Turn::new(rt.alloc(), memory, 2);
-    assert!(rt; matches!(refused, Err(Fault::BadShape)));
-    let memory = Memory::new(rt.alloc(), 2, 3, Options::standard())?;
     let (turn, seats, mut scanner, mut host) = Turn::new(rt.alloc(), memory, 3)?;
-    for (tenant, seat) in seats.iter().enumerate() {
-        assert_eq!(rt; seat.tenant() as usize, tenant);
-    }
-    let held = turn.take(&rt, &mut scanner);
-    assert_eq!(rt; held.memory().tenants(), 3);
-    turn.give(&mut scanner, held);
-    let held = turn.take(&rt, &mut host);
-    assert_eq!(rt; held.memory().tenants(), 3);
-    turn.give(&mut host, held);
+    let numbered = seats.iter().map(|seat| seat.tenant()).eq(0..3);
+    let by_scanner = tenants(&rt, &turn, &mut scanner);
+    let by_host = tenants(&rt, &turn, &mut host);
+    assert!(rt; is_refused(rt.alloc(), 2)? && numbered && by_scanner == 3 && by_host == 3);
     Ok(())
 }

@@ -3,115 +3,68 @@ use host_file::FileFault;
 use std::alloc::{AllocError, Global};
 use std::test::Fail;
 
-fn owned(alloc: Global, words: &[&str]) -> Result<Vec<String>, AllocError> {
-    let mut all = Vec::new(alloc);
-    for word in words {
-        all.push(String::from_str(alloc, word)?)?;
-    }
-    Ok(all)
-}
-
-#[test]
-fn a_file_to_replay(rt: HostRuntime) -> Result<(), Fail> {
-    let words = owned(rt.alloc(), &["bpf_host", "replay", "a b.toml"])?;
-    let Request::Replay { path } = request_of(rt.alloc(), words.as_slice())? else {
-        return Err(Fail::from("it is no replay"));
-    };
-    assert_eq!(rt; path, "a b.toml");
-    Ok(())
-}
-
-/// What the words after `check` ask for, the words set apart by bars.
-fn asked(alloc: Global, line: &str) -> Result<String, Fail> {
-    let mut words = owned(alloc, &["bpf_host", "check"])?;
+/// The words of a line, which bars set apart.
+fn words_of(alloc: Global, line: &str) -> Result<Vec<String>, AllocError> {
+    let mut words = Vec::new(alloc);
     for word in line.split('|') {
         words.push(String::from_str(alloc, word)?)?;
     }
+    Ok(words)
+}
+
+/// What the words of a line ask for.
+fn asked(alloc: Global, line: &str) -> Result<String, FileFault> {
+    let words = words_of(alloc, line).map_err(FileFault::OutOfMemory)?;
     let request = request_of(alloc, words.as_slice())?;
-    Ok(format!(in alloc; "{request:?}")?)
+    format!(in alloc; "{request:?}").map_err(FileFault::OutOfMemory)
 }
 
+// Each line has the words, and behind ` => ` what they ask for.
+const REQUESTS: &str = r#"bpf_host|replay|a b.toml => Replay { path: "a b.toml" }
+bpf_host|check|95 => Check { hex: "95", shapes: [], context: "0" }
+bpf_host|check| => Check { hex: "", shapes: [], context: "0" }
+bpf_host|check|zz|--context|8 => Check { hex: "zz", shapes: [], context: "8" }
+bpf_host|check|--context|+8|95 => Check { hex: "95", shapes: [], context: "+8" }
+bpf_host|check|--context=08|95 => Check { hex: "95", shapes: [], context: "08" }
+bpf_host|check|95|8:1|--context|0x8 => Check { hex: "95", shapes: ["8:1"], context: "0x8" }
+bpf_host|check|95|--context||8:1|9 => Check { hex: "95", shapes: ["8:1", "9"], context: "" }
+bpf_host|check|95|8:1|--context|4294967296|64:1 => Check { hex: "95", shapes: ["8:1", "64:1"], context: "4294967296" }"#;
+
 #[test]
-fn a_program_to_check(rt: HostRuntime) -> Result<(), Fail> {
-    let rows = [
-        ("95", r#"Check { hex: "95", shapes: [], context: "0" }"#),
-        ("", r#"Check { hex: "", shapes: [], context: "0" }"#),
-        (
-            "zz|--context|8",
-            r#"Check { hex: "zz", shapes: [], context: "8" }"#,
-        ),
-        (
-            "--context|+8|95",
-            r#"Check { hex: "95", shapes: [], context: "+8" }"#,
-        ),
-        (
-            "--context=08|95",
-            r#"Check { hex: "95", shapes: [], context: "08" }"#,
-        ),
-        (
-            "95|8:1|--context|0x8",
-            r#"Check { hex: "95", shapes: ["8:1"], context: "0x8" }"#,
-        ),
-        (
-            "95|--context||8:1|9",
-            r#"Check { hex: "95", shapes: ["8:1", "9"], context: "" }"#,
-        ),
-        (
-            "95|8:1|--context|4294967296|64:1",
-            r#"Check { hex: "95", shapes: ["8:1", "64:1"], context: "4294967296" }"#,
-        ),
-    ];
-    for (line, want) in rows {
-        let said = asked(rt.alloc(), line)?;
-        assert_eq!(rt; said.as_str(), want);
+fn words_that_ask_for_something(rt: HostRuntime) -> Result<(), Fail> {
+    for row in REQUESTS.lines() {
+        let (line, want) = row.split_once(" => ").unwrap_or((row, ""));
+        assert!(rt; asked(rt.alloc(), line)?.as_str() == want, "{line}");
     }
     Ok(())
 }
 
+const WRONG: &str = "bpf_host
+bpf_host|help
+bpf_host|--help
+bpf_host|replay
+bpf_host|replay|--help
+bpf_host|replay|a|b
+bpf_host|replay|--fast|a
+bpf_host|serve|a
+bpf_host|check
+bpf_host|check|--help
+bpf_host|check|--context|8
+bpf_host|check|95|--context
+bpf_host|check|95|--context|-8
+bpf_host|check|95|--context|8|--context|8
+bpf_host|check|--context|8|95|--context|16
+bpf_host|--context|8|check|95
+bpf_host|check|95|--fast
+";
+
 #[test]
-fn all_else_is_usage(rt: HostRuntime) -> Result<(), Fail> {
-    let rows: [&[&str]; 18] = [
-        &["bpf_host"],
-        &["bpf_host", "help"],
-        &["bpf_host", "--help"],
-        &["bpf_host", "replay"],
-        &["bpf_host", "replay", "--help"],
-        &["bpf_host", "replay", "a", "b"],
-        &["bpf_host", "replay", "--fast", "a"],
-        &["bpf_host", "serve", "a"],
-        &["bpf_host", "check"],
-        &["bpf_host", "check", "--help"],
-        &["bpf_host", "check", "--context", "8"],
-        &["bpf_host", "check", "95", "--context"],
-        &["bpf_host", "check", "95", "--context", "-8"],
-        &[
-            "bpf_host",
-            "check",
-            "95",
-            "--context",
-            "8",
-            "--context",
-            "8",
-        ],
-        &[
-            "bpf_host",
-            "check",
-            "--context",
-            "8",
-            "95",
-            "--context",
-            "16",
-        ],
-        &["bpf_host", "--context", "8", "check", "95"],
-        &["bpf_host", "check", "95", "--fast"],
-        &[],
-    ];
-    for row in rows {
-        let words = owned(rt.alloc(), row)?;
-        match request_of(rt.alloc(), words.as_slice()) {
-            Err(FileFault::Usage(said)) => assert!(rt; !said.is_empty()),
-            _ => return Err(Fail::from("it is no usage")),
-        }
+fn all_else_is_usage(rt: HostRuntime) {
+    for line in WRONG.split('\n') {
+        let said = asked(rt.alloc(), line);
+        assert!(rt;
+            matches!(said, Err(FileFault::Usage(said)) if !said.is_empty()),
+            "{line}"
+        );
     }
-    Ok(())
 }

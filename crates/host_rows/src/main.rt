@@ -1,0 +1,100 @@
+//! Answers the requests of the standard input as the program `bpf_host` does (docs/HOST.md), in one run. A
+//! request is a line `$ check` or `$ replay`. The words of a check stand behind it between tabs: HEX, the
+//! size of the context, and any V:E. A host file stands in the lines below its `$ replay`. Below each request
+//! stands what goes to the standard output, then, after `! `, what goes to standard error, and last the exit
+//! status, or the words of a fault. The file `stdout` of this crate says what is wanted; rows are cheaper
+//! there than in tests, whose texts are proved.
+#![tactic(auto)]
+
+use engines::check::check;
+use engines::replay::replay;
+use host_file::FileFault;
+use std::alloc::Global;
+use std::io;
+use std::io::Input;
+
+/// What the words of a check stand behind.
+const CHECK: &str = "$ check\t";
+
+/// What goes to the standard output and to standard error.
+#[derive(Drop)]
+struct Told {
+    output: Vec<u8>,
+    words: Vec<u8>,
+}
+
+impl Told {
+    /// Makes a check by its words, between tabs.
+    fn check(&mut self, alloc: Global, words: &str) -> Result<u8, FileFault> {
+        let mut fields = words.split('\t');
+        let hex = fields.next().unwrap_or("");
+        let context = fields.next().unwrap_or("0");
+        let shapes: Vec<&str> = fields.collect(alloc).map_err(FileFault::OutOfMemory)?;
+        check(
+            alloc,
+            hex,
+            shapes.as_slice(),
+            context,
+            &mut self.output,
+            &mut self.words,
+        )
+    }
+
+    /// Does what a request asks for, whose first line and the lines below are given.
+    fn answer(&mut self, alloc: Global, head: &str, below: &str) -> Result<u8, FileFault> {
+        match head.strip_prefix(CHECK) {
+            Some(words) => self.check(alloc, words),
+            None => replay(
+                alloc,
+                &mut below.as_bytes(),
+                &mut self.output,
+                &mut self.words,
+            ),
+        }
+    }
+}
+
+/// Prints the lines of some bytes, each behind a mark.
+fn print_lines(rt: &impl Print, mark: &str, bytes: &[u8]) -> io::Result<()> {
+    for line in str::from_utf8(bytes).unwrap_or("no text").lines() {
+        println!(rt; "{mark}{line}")?;
+    }
+    Ok(())
+}
+
+/// Prints a request and what it is answered.
+fn print_answer(rt: &(impl AllocGlobal + Print), head: &str, below: &str) -> io::Result<()> {
+    let alloc = rt.alloc();
+    let mut told = Told {
+        output: Vec::new(alloc),
+        words: Vec::new(alloc),
+    };
+    let outcome = told.answer(alloc, head, below);
+    println!(rt; "{head}")?;
+    print_lines(rt, "", told.output.as_slice())?;
+    print_lines(rt, "! ", told.words.as_slice())?;
+    match outcome {
+        Ok(status) => println!(rt; "= {status}"),
+        Err(fault) => println!(rt; "= {fault}"),
+    }
+}
+
+fn main(rt: HostRuntime) -> io::Result<()> {
+    let alloc = rt.alloc();
+    let mut head = String::new(alloc);
+    let mut below = String::new(alloc);
+    for line in rt.lines(alloc) {
+        let line = line?;
+        if line.as_str().starts_with("$ ") {
+            if !head.is_empty() {
+                print_answer(&rt, head.as_str(), below.as_str())?;
+            }
+            below.clear();
+            head = line;
+        } else {
+            below.push_str(line.as_str())?;
+            below.push('\n')?;
+        }
+    }
+    print_answer(&rt, head.as_str(), below.as_str())
+}

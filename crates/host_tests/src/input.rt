@@ -1,0 +1,87 @@
+//! Inputs that fail, that are no text, or that are cut.
+
+use engines::replay::replay;
+use host_file::{FileFault, read_file};
+use std::alloc::Global;
+use std::io;
+use std::io::Read;
+use std::test::Fail;
+
+/// Gives its bytes one at a time, and fails at a place.
+#[derive(Drop)]
+struct Halting<'a> {
+    bytes: &'a [u8],
+    at: usize,
+    fails_at: usize,
+}
+
+impl<'a> Read for Halting<'a> {
+    fn read(&mut self, buf: &mut [u8]) -> io::Result<usize> {
+        if self.at == self.fails_at {
+            return Err(io::Error::from(io::ErrorKind::BrokenPipe));
+        }
+        match (self.bytes.get(self.at), buf.first_mut()) {
+            (Some(byte), Some(place)) => {
+                *place = *byte;
+                self.at = self.at.saturating_add(1);
+                Ok(1)
+            }
+            _ => Ok(0),
+        }
+    }
+}
+
+/// The fault of a replay that writes nothing.
+fn refused(alloc: Global, bytes: &[u8], fails_at: usize) -> Option<FileFault> {
+    let mut reader = Halting {
+        bytes,
+        at: 0,
+        fails_at,
+    };
+    let mut output: Vec<u8> = Vec::new(alloc);
+    let mut words: Vec<u8> = Vec::new(alloc);
+    let outcome = replay(alloc, &mut reader, &mut output, &mut words);
+    if output.is_empty() && words.is_empty() {
+        outcome.err()
+    } else {
+        None
+    }
+}
+
+#[test]
+fn a_read_that_fails_anywhere_is_the_fault(rt: HostRuntime) {
+    let bytes = b"tenants = 1\nframes = 2\n";
+    for place in 0..=bytes.len() {
+        let fault = refused(rt.alloc(), bytes, place);
+        assert!(rt; matches!(fault, Some(FileFault::Read(_))), "at {place}");
+    }
+}
+
+#[test]
+fn bytes_that_are_no_text_are_a_bad_file(rt: HostRuntime) {
+    let fault = refused(rt.alloc(), b"tenants = 1\n# \xff\nframes = 2\n", usize::MAX);
+    assert!(rt; matches!(fault, Some(FileFault::Bad(_))));
+}
+
+const FILE: &str = "tenants = 3\nframes = 4\noptions = { run = 0, max_page_sharing = 7 }\n\
+    event = [{ do = \"load\", tenant = 1, hex = \"B70a\", context = 8 }, { do = \"finish\", tenant = 0 }]\n";
+
+/// How many beginnings of a file are files, where the others are bad files.
+fn files_in(alloc: Global, text: &str) -> Result<usize, FileFault> {
+    let mut files: usize = 0;
+    for end in 0..text.len() {
+        match read_file(alloc, text.get(..end).unwrap_or("")) {
+            Ok(_) => files = files.saturating_add(1),
+            Err(FileFault::Bad(_)) => {}
+            Err(fault) => return Err(fault),
+        }
+    }
+    Ok(files)
+}
+
+// Whole are the first two lines with `frames`, a comment's beginning or a line with the options.
+#[test]
+fn cut_anywhere_it_is_bad_or_a_file(rt: HostRuntime) -> Result<(), Fail> {
+    assert!(rt; files_in(rt.alloc(), FILE)? > 0);
+    Ok(())
+}
