@@ -7,8 +7,6 @@ ghost use Rattle.insn_alu.specs.Arithmetic.{IsArithmetic, alu, alu_of};
 mod comparison;
 mod either;
 mod swap;
-#[cfg(test)]
-mod tests;
 mod wide;
 mod word;
 

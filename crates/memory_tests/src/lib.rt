@@ -7,3 +7,5 @@ mod agreement;
 mod arena;
 #[cfg(test)]
 mod breaks;
+#[cfg(test)]
+mod trees;

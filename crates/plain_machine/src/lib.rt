@@ -7,8 +7,6 @@ mod array_map;
 mod machine;
 mod memory;
 mod number;
-#[cfg(test)]
-mod tests;
 
 pub use array_map::ArrayMap;
 pub use machine::{Ending, Machine, Made};
