@@ -41,6 +41,7 @@ value-in-page stride size key some small divides =
     positive : (count stride : ℕ) → count * stride ≡ 4096 → 0 < count
     positive zero stride e = absurd (omega (arith, e))
     positive (suc count) stride e = omega arith
+
     ends : (at number stride count size : ℕ) {rest : ℕ} → at ≡ number * stride + rest → rest ≡ 0 → suc number * stride ≤ count * stride → count * stride ≡ 4096 → size ≤ stride → at + size ≤ 4096
     ends at number stride count size e none whole pages small = omega (arith, e, none, whole, pages, small)
 
@@ -70,6 +71,7 @@ break_cost-few sharing i = by_page (state_at sharing i) refl
     by_status true Grouped = omega arith
     by_status false Grouped = omega arith
     by_status company Zero = omega arith
+
     by_page : (page : Option PageState) → state_at sharing i ≡ page → break_cost sharing i ≤ 1
     by_page None e = rw e (omega arith)
     by_page (Some state) e = rw e (by_status (is_in_company sharing i) state.status)

@@ -1,2 +1,3 @@
 pub mod Charges
 pub mod Updates
+pub mod Elements

@@ -1,15 +1,16 @@
 -- What an update does, by whether it is refused.
-use Rattle.std.proofs.Common.{◌≡◌, ◌∙◌, ℕ, ◌==◌, true, false, List, slice_set, Option, Some, None, option_map, IfSome, IsSomeAnd, refl, sym, ap, subst}
+use Rattle.std.proofs.Common.{◌≡◌, ◌∙◌, ℕ, ◌==◌, ◌≤◌, Bool, true, false, List, slice_set, Option, Some, None, option_map, IfSome, IsSomeAnd, refl, sym, ap, subst, arith}
 use Rattle.std.proofs.lemmas.List.{set-get_or}
 use Rattle.host_types.specs.declared.shape.Shape.{Shape}
-use Rattle.host_types.specs.Helpers.{Update, helper, element_at, update_answer, map_updated, maps_updated}
+use Rattle.host_types.specs.Helpers.{Update, helper, element_at, update_answer, update_charge, map_updated, maps_updated}
 use Rattle.host_types.specs.Memory.{FlatMap, FlatMaps, map_at}
 use Rattle.host_types.specs.Shapes.{IsShape}
 use Rattle.host_types.specs.Sharing.{Sharing}
 use Rattle.host_types.specs.Tenant.{IsFlatMap}
 use Rattle.page_table.specs.Changes.{map_written}
 use Rattle.write_break.specs.Stores.{store_cost, stored_sharing}
-use Rattle.map_helpers.specs.Updates.{cost_in, sharing_in}
+use Rattle.map_helpers.specs.Updates.{cost_in, sharing_in, IsEnough}
+use Rattle.map_helpers.proofs.Charges.{cost-charged}
 
 -- the shape of what may be a map
 abbrev pub shape_in : Option FlatMap → Option Shape
@@ -17,12 +18,12 @@ shape_in found = option_map (λ (flat : FlatMap). flat.shape) found
 
 module _ (shape : Shape) (key : ℕ) (value : List ℕ) (flags : ℕ) where
   pub helped : (maps : FlatMaps) (m : ℕ) → shape_in (map_at maps m) ≡ Some shape
-      → helper Update maps m key value flags ≡ Some (update_answer shape key flags , maps_updated maps m key value flags)
+      → helper Update maps m key value flags ≡ Some (update_answer shape key flags, maps_updated maps m key value flags)
   unfolding helper
   helped maps m there = by_map (map_at maps m) refl there
     where
       by_map : (found : Option FlatMap) → map_at maps m ≡ found → shape_in found ≡ Some shape
-          → helper Update maps m key value flags ≡ Some (update_answer shape key flags , maps_updated maps m key value flags)
+          → helper Update maps m key value flags ≡ Some (update_answer shape key flags, maps_updated maps m key value flags)
       by_map None e is = absurd (cc)
       by_map (Some flat) e is = let same : flat.shape ≡ shape = cc in rw (e, same) refl
 
@@ -87,3 +88,16 @@ shape-valid shape (Some flat) is valid = let same : flat.shape ≡ shape = cc in
 pub value-sized : (shape : Shape) (size : ℕ) (found : Option FlatMap) → shape_in found ≡ Some shape → IsSomeAnd found (λ flat. flat.shape.value_size ≡ size) → shape.value_size ≡ size
 value-sized shape size None is sized = absurd (cc)
 value-sized shape size (Some flat) is sized = let same : flat.shape ≡ shape = cc in sym (ap (λ (s : Shape). s.value_size) same) ∙ sized
+
+-- an update takes what is charged for it at most
+pub charge-enough : (shape : Shape) → IsShape shape → IsEnough shape (update_charge shape)
+unfolding cost_in
+charge-enough shape valid owned sharing tenant m key flags is = by_map (map_at owned.maps m) is
+  where
+    by_answer : (answered : Bool) (found : FlatMap) → found.shape ≡ shape → (update_answer shape key flags == 0) ≡ answered → cost_in (Some found) sharing tenant m key flags ≤ update_charge shape
+    by_answer true found same e = rw (same, e) (cost-charged sharing tenant m key shape valid)
+    by_answer false found same e = rw (same, e) (omega arith)
+
+    by_map : (found : Option FlatMap) → IfSome found (λ flat. flat.shape ≡ shape) → cost_in found sharing tenant m key flags ≤ update_charge shape
+    by_map None none = omega arith
+    by_map (Some flat) same = by_answer (update_answer shape key flags == 0) flat same refl

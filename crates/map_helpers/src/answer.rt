@@ -5,18 +5,18 @@ ghost use Rattle.map_helpers.specs.Answers.{answer_of, error_number, flag_of};
 use host_types::Shape;
 
 /// What an update wants of its element, by Linux's flags.
-#[derive(Clone, Copy, Debug, PartialEq, Eq)]
-pub(crate) enum UpdateFlag {
+#[derive(Clone, Copy)]
+enum UpdateFlag {
     /// BPF_ANY: it may be there or not.
-    Any = 0,
+    Any,
     /// BPF_NOEXIST: it isn't there yet.
-    NoExist = 1,
+    NoExist,
     /// BPF_EXIST: it is there.
-    Exist = 2,
+    Exist,
 }
 
 /// Why a helper refuses, by Linux's numbers.
-#[derive(Clone, Copy, Debug, PartialEq, Eq)]
+#[derive(Clone, Copy)]
 pub(crate) enum HelperError {
     /// E2BIG: the key is past the map's end.
     TooBig = 7,

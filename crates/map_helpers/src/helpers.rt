@@ -5,9 +5,9 @@ ghost use Rattle.host_types.specs.Layout.{map_values};
 ghost use Rattle.host_types.specs.Shapes.{IsShape, byte_len_of};
 ghost use Rattle.page_table.specs.State.{part, have_of};
 ghost use Rattle.page_table.specs.Changes.{IsKeptBut, AreMapsKeptBut, KeepsSettings};
-ghost use Rattle.map_helpers.specs.Updates.{part_updated, update_cost, updated_sharing};
+ghost use Rattle.map_helpers.specs.Updates.{part_updated, update_cost, updated_sharing, LeadsToElement, IsEnough};
 
-use crate::answer::{update_error, HelperError};
+use crate::answer::{HelperError, update_error};
 use host_types::{MapNo, Shape};
 use page_table::Memory;
 use write_break::{needs, store_bytes};
@@ -32,13 +32,14 @@ fn element_at(shape: Shape, key: u32) -> u32
     shape.stride() * key
 }
 
-/// What the helper `lookup` answers for a map of this shape: the address of the key's element, or 0
-/// past the end.
+/// What the helper `lookup` answers for a map of this shape: the address of the key's element, at which
+/// a program finds just the bytes of its value; or 0 past the end.
 #[tactic(auto, unfolding(host_types::specs::Helpers::lookup_answer))]
 pub fn lookup(shape: Shape, map: MapNo, key: u32) -> u64
     requires map { map < 8 }
     requires shape { IsShape shape }
-    ensures { result ≡ lookup_answer shape map key }
+    ensures answer { result ≡ lookup_answer shape map key }
+    ensures element { key < shape.entries → LeadsToElement shape map key result }
 {
     if key >= shape.entries {
         return 0;
@@ -64,15 +65,22 @@ pub fn update_needs(memory: &Memory, tenant: u32, map: MapNo, key: u32, flags: u
     };
     match update_error(shape, key, flags) {
         Some(_) => 0,
-        None => needs(memory, tenant, map, element_at(shape, key), shape.value_size),
+        None => needs(
+            memory,
+            tenant,
+            map,
+            element_at(shape, key),
+            shape.value_size,
+        ),
     }
 }
 
 /// How many frames are to be reserved for an update of a map of this shape: 1 where no value crosses
-/// the end of a page, since the stride divides a page; else 2.
+/// the end of a page, since the stride divides a page; else 2. No update of such a map takes more.
 pub fn update_charge(shape: Shape) -> u32
     requires { IsShape shape }
-    ensures { result ≡ update_charge shape }
+    ensures charge { result ≡ update_charge shape }
+    ensures enough { IsEnough shape result }
 {
     if PAGE_SIZE % shape.stride() == 0 {
         1

@@ -27,8 +27,8 @@ returns-in-Some-update_error-clause-helped c =
     let answer : update_answer c.in-Some.shape c.args.key c.args.flags ≡ c.answer.result =
     sym c.update_error.ensures.answer ∙ ap answer_of c.in-Some-update_error.is ∙ sym c.answer.ensures in
     helped c.in-Some.shape c.args.key c.args.value.now c.args.flags (part c.args.memory.now c.args.tenant).maps c.args.map (there c)
-    ∙ ap (λ (n : ℕ). Some (n , maps_updated (part c.args.memory.now c.args.tenant).maps c.args.map c.args.key c.args.value.now c.args.flags)) answer
-    ∙ ap (λ (maps : FlatMaps). Some (c.answer.result , maps)) (sym (kept c))
+    ∙ ap (λ (n : ℕ). Some (n, maps_updated (part c.args.memory.now c.args.tenant).maps c.args.map c.args.key c.args.value.now c.args.flags)) answer
+    ∙ ap (λ (maps : FlatMaps). Some (c.answer.result, maps)) (sym (kept c))
 
 pub returns-in-Some-update_error-clause-part : goal.returns-in-Some-update_error-clause-part
 returns-in-Some-update_error-clause-part c = ap (λ (maps : FlatMaps). record (part c.args.memory.now c.args.tenant) { maps = maps }) (kept c)
@@ -78,8 +78,8 @@ returns-clause-helped c =
     let answer : update_answer c.in-Some.shape c.args.key c.args.flags ≡ 0 =
     sym c.update_error.ensures.answer ∙ ap answer_of c.in_default-update_error.is in
     helped c.in-Some.shape c.args.key c.args.value.now c.args.flags (part c.args.memory.now c.args.tenant).maps c.args.map (found here)
-    ∙ ap (λ (n : ℕ). Some (n , maps_updated (part c.args.memory.now c.args.tenant).maps c.args.map c.args.key c.args.value.now c.args.flags)) answer
-    ∙ ap (λ (owned : TenantPart). Some (0 , owned.maps)) (sym (written c))
+    ∙ ap (λ (n : ℕ). Some (n, maps_updated (part c.args.memory.now c.args.tenant).maps c.args.map c.args.key c.args.value.now c.args.flags)) answer
+    ∙ ap (λ (owned : TenantPart). Some (0, owned.maps)) (sym (written c))
 
 pub returns-clause-part : goal.returns-clause-part
 returns-clause-part c = written c
