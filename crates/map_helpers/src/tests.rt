@@ -97,16 +97,14 @@ fn words() -> [u8; 24] {
 #[test]
 fn an_update_parts_both_of_its_pages(rt: HostRuntime) -> Result<(), Fail> {
     let mut memory = shared_maps(rt.alloc())?;
-    assert_eq!(rt; memory.free(), 5);
-    assert_eq!(rt; update_needs(&memory, 0, 0, 170, 0), 2);
-    assert_eq!(rt; updated(&mut memory, 0, 0, 170, &words(), 0), Some(0));
-    assert_eq!(rt; memory.free(), 3);
-    assert_eq!(rt; found(&memory, 0, 0, 170), Some(4080));
+    assert!(rt; memory.free() == 5 && update_needs(&memory, 0, 0, 170, 0) == 2);
+    assert!(rt; updated(&mut memory, 0, 0, 170, &words(), 0) == Some(0));
+    assert!(rt; memory.free() == 3 && update_needs(&memory, 1, 0, 170, 0) == 0);
+    assert!(rt; found(&memory, 0, 0, 170) == Some(4080));
     assert!(rt; has(&memory, 0, 0, 0, &[1, 0]));
     assert!(rt; has(&memory, 0, 0, 4072, &[0, 7, 8, 9, 0]));
     assert!(rt; has(&memory, 1, 0, 0, &[1, 0]));
     assert!(rt; has(&memory, 1, 0, 4072, &[0, 0, 0, 0, 0]));
-    assert_eq!(rt; update_needs(&memory, 1, 0, 170, 0), 0);
     Ok(())
 }
 
@@ -116,24 +114,24 @@ fn is_refused(memory: &mut Memory, key: u32, flags: u64, answer: u64) -> bool {
     needs == 0 && updated(memory, 0, 0, key, &words(), flags) == Some(answer)
 }
 
-/// The errors in their order, on pages that share frames; 2 is the flag of an element that is there, and
-/// the last element ends at 4800.
+/// The errors in their order, on pages that share frames.
+fn are_refused(memory: &mut Memory) -> bool {
+    is_refused(memory, 170, 1, EXISTS)
+        && is_refused(memory, 170, 3, INVALID)
+        && is_refused(memory, 170, 1 << 63, INVALID)
+        && is_refused(memory, 200, 0, TOO_BIG)
+        && is_refused(memory, 200, 1, TOO_BIG)
+        && is_refused(memory, 200, 3, INVALID)
+}
+
+/// 2 is the flag of an element that is there, and the last element begins at 4776.
 #[test]
 fn an_update_that_is_refused_takes_nothing(rt: HostRuntime) -> Result<(), Fail> {
     let mut memory = shared_maps(rt.alloc())?;
-    for (key, flags, answer) in [
-        (170, 1, EXISTS),
-        (170, 3, INVALID),
-        (170, 1 << 63, INVALID),
-        (200, 0, TOO_BIG),
-        (200, 1, TOO_BIG),
-        (200, 3, INVALID),
-    ] {
-        assert!(rt; is_refused(&mut memory, key, flags, answer));
-    }
-    assert_eq!(rt; memory.free(), 5);
-    assert_eq!(rt; updated(&mut memory, 0, 0, 199, &words(), 2), Some(0));
-    assert_eq!(rt; memory.free(), 4);
+    assert!(rt; are_refused(&mut memory));
+    assert!(rt; memory.free() == 5);
+    assert!(rt; updated(&mut memory, 0, 0, 199, &words(), 2) == Some(0));
+    assert!(rt; memory.free() == 4);
     assert!(rt; has(&memory, 0, 0, 4080, &[0, 0, 0]));
     assert!(rt; has(&memory, 0, 0, 4776, &[7, 8, 9]));
     assert!(rt; has(&memory, 1, 0, 4776, &[0, 0, 0]));
@@ -158,9 +156,9 @@ fn zero_maps(alloc: Global) -> Result<Memory, Fault> {
 #[test]
 fn an_update_parts_a_page_of_zeros(rt: HostRuntime) -> Result<(), Fail> {
     let mut memory = zero_maps(rt.alloc())?;
-    assert_eq!(rt; memory.free(), 3);
-    assert_eq!(rt; updated(&mut memory, 0, 0, 511, &[255; 7], 0), Some(0));
-    assert_eq!(rt; memory.free(), 2);
+    assert!(rt; memory.free() == 3);
+    assert!(rt; updated(&mut memory, 0, 0, 511, &[255; 7], 0) == Some(0));
+    assert!(rt; memory.free() == 2);
     assert!(rt; has(&memory, 0, 0, 4080, &[0, 0x00ff_ffff_ffff_ffff]));
     assert!(rt; has(&memory, 1, 0, 4080, &[0, 0]));
     Ok(())
@@ -203,6 +201,14 @@ fn charge(value_size: u32) -> Option<u32> {
     Some(update_charge(shape))
 }
 
+fn are_charged() -> bool {
+    charge(1) == Some(1)
+        && charge(7) == Some(1)
+        && charge(8) == Some(1)
+        && charge(24) == Some(2)
+        && charge(4096) == Some(1)
+}
+
 #[test]
 fn answers_and_charges(rt: HostRuntime) -> Result<(), Fail> {
     let shape = Shape {
@@ -212,8 +218,6 @@ fn answers_and_charges(rt: HostRuntime) -> Result<(), Fail> {
     assert_eq!(rt; lookup(shape, 7, 199), (23 << 32) + 4776);
     assert_eq!(rt; lookup(shape, 7, 200), 0);
     assert_eq!(rt; delete(), INVALID);
-    for (value_size, frames) in [(1, 1), (7, 1), (8, 1), (24, 2), (4096, 1)] {
-        assert_eq!(rt; charge(value_size), Some(frames));
-    }
+    assert!(rt; are_charged());
     Ok(())
 }
