@@ -10,3 +10,4 @@ pub mod Pages
 pub mod Sharing
 pub mod Visits
 pub mod Unmerging
+pub mod Helpers

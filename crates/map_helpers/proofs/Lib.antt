@@ -1,0 +1,3 @@
+pub mod Charges
+pub mod Updates
+pub mod Elements
