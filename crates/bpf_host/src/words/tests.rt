@@ -63,7 +63,7 @@ fn all_else_is_usage(rt: HostRuntime) {
     for line in WRONG.split('\n') {
         let said = asked(rt.alloc(), line);
         assert!(rt;
-            matches!(said, Err(FileFault::Usage(said)) if !said.is_empty()),
+            matches!(&said, Err(FileFault::Usage(words)) if !words.is_empty()),
             "{line}"
         );
     }
