@@ -245,7 +245,7 @@ broken-shared : (s : Sharing) (i : ℕ) → is_shared_page (state_at s i) ≡ tr
 unfolding broken
 broken-shared s i h = ap (λ (b : Bool). if b then taken s i else s) h
 
-broken-own : (s : Sharing) (i : ℕ) → is_shared_page (state_at s i) ≡ false → broken s i ≡ s
+pub broken-own : (s : Sharing) (i : ℕ) → is_shared_page (state_at s i) ≡ false → broken s i ≡ s
 unfolding broken
 broken-own s i h = ap (λ (b : Bool). if b then taken s i else s) h
 
@@ -254,7 +254,7 @@ unfolding break_cost
 cost-there s i state here =
     ap (λ (x : Option PageState). unwrap_or (option_map (λ (state : PageState). cost_of (is_in_company s i) state.status) x) 0) here
 
-cost-none : (s : Sharing) (i : ℕ) → state_at s i ≡ None → break_cost s i ≡ 0
+pub cost-none : (s : Sharing) (i : ℕ) → state_at s i ≡ None → break_cost s i ≡ 0
 unfolding break_cost
 cost-none s i here =
     ap (λ (x : Option PageState). unwrap_or (option_map (λ (state : PageState). cost_of (is_in_company s i) state.status) x) 0) here
@@ -475,6 +475,9 @@ module _ (s : Sharing) (are : AreListed s) where
       let zeros = no_zeros last.pages (all_unshared s) in
       let whole = (need-from s 0 (length s.pages) are).1 in
       omega (arith, none, zeros, whole)
+
+  pub broken_share_nothing : SharesNothing (broken_from s 0 (length s.pages))
+  broken_share_nothing = record { groups = groups_gone; pages = all_unshared s }
 
   pub unmerged_shares_nothing : SharesNothing (unmerged s)
   unfolding unmerged
