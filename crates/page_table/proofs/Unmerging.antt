@@ -4,11 +4,16 @@ use Rattle.std.proofs.lemmas.List.Sums.{sum_by-cons}
 use Rattle.host_types.specs.declared.status.Status.{Status}
 use Rattle.host_types.specs.declared.status.Status.TheVariants.{New, Volatile, Waiting, Grouped, Zero}
 use Rattle.host_types.specs.Sharing.{Sharing, PageState, state_at, is_shared_page, broken, break_cost, broken_from, cost_from}
-use Rattle.host_types.specs.Unmerging.{members, zeros_at, one_if_zeros, zero_pages, unmerge_need, SharesNothing}
+use Rattle.host_types.specs.Unmerging.{unmerged, members, zeros_at, one_if_zeros, zero_pages, unmerge_need, SharesNothing}
 use Rattle.host_types.proofs.Unmerging as law
 use Rattle.page_table.specs.declared.entry.Entry.{Entry}
 use Rattle.page_table.specs.declared.pass.Pass.{Pass}
-use Rattle.page_table.specs.Table.{TableState, CountsState, IsTable, IsSound, IsEntry, IsAlone, IsGroup, IsPageAt, LiesRight, times, entry_at, is_on, state_of, states_of, groups_of, sharing_of, new_pass, pages_on, places_on, contents_of}
+use Rattle.page_table.specs.declared.tenant.Tenant.{Tenant}
+use Rattle.page_table.specs.State.{have_of}
+use Rattle.page_table.specs.View.{view_of, IsMemory, IsPass}
+use Rattle.host_types.specs.declared.shape.Shape.{Shape}
+use Rattle.page_table.proofs.Free.{free_is}
+use Rattle.page_table.specs.Table.{TableState, CountsState, IsTable, IsSound, IsEntry, IsAlone, IsGroup, IsPageAt, LiesRight, times, entry_at, is_on, state_of, states_of, groups_of, sharing_of, used_by, new_pass, pages_on, places_on, contents_of}
 use Rattle.page_table.proofs.Breaks.{cost_from-last, broken_from-last}
 use Rattle.page_table.proofs.Counting.{same_either_way}
 use Rattle.page_table.proofs.Creating.{length-states}
@@ -260,3 +265,43 @@ module _ (table : TableState) (is : IsTable table) (pass : Pass) where
       let less = cost_from-less (sharing_of table pass) (n + 1) m in
       let all = all_cost (n + 1 + m) (omega (arith, there)) in
       omega (arith, last, here, less, all, taken, room)
+
+-- the need hangs on the table alone
+need_of_table : (table : TableState) (pass now : Pass) → unmerge_need (sharing_of table now) ≡ unmerge_need (sharing_of table pass)
+unfolding unmerge_need members zero_pages
+need_of_table table pass now = refl
+
+-- where the frames that unmerging takes may be had, there is room for it
+module _ (table : TableState) (shapes : List (Option Shape)) (tenants : List Tenant) (pass : Pass) (reserved : ℕ) (is : IsMemory table shapes tenants reserved)
+    (enough : unmerge_need (view_of table shapes tenants pass).sharing ≤ have_of (view_of table shapes tenants pass)) where
+  pub need_reserved : reserved + (used_by table + unmerge_need (view_of table shapes tenants pass).sharing) ≤ length table.arena
+  unfolding view_of
+  need_reserved =
+      let free = free_is table shapes tenants pass (omega (arith, is.room)) in
+      omega (arith, enough, free, is.room, is.sum)
+
+  pub need_fits : (now : Pass) → used_by table + unmerge_need (sharing_of table now) ≤ length table.arena
+  unfolding view_of
+  need_fits now =
+      let same = need_of_table table pass now in
+      let room = need_reserved in
+      omega (arith, same, room)
+
+-- the state of sharing after all pages were taken out and the scanner was stopped
+module _ (old new : TableState) (pass now : Pass) (stopped : now ≡ record pass { options = record pass.options { run = 2 } })
+    (broken : (p : Pass) → sharing_of new p ≡ broken_from (sharing_of old p) 0 (length old.entries)) where
+  pub unmerged_is : sharing_of new now ≡ unmerged (sharing_of old pass)
+  unfolding unmerged
+  unmerged_is = ap (sharing_of new) stopped ∙ ap stop (broken pass ∙ ap (broken_from (sharing_of old pass) 0) (sym (length-states old.entries)))
+    where
+      stop : Sharing → Sharing
+      stop s = record s { options = record s.options { run = 2 } }
+
+  pub unmerged_apart : SharesNothing (broken_from (sharing_of old pass) 0 (length old.entries)) → SharesNothing (sharing_of new now)
+  unmerged_apart none =
+      let here : SharesNothing (sharing_of new pass) = subst SharesNothing (sym (broken pass)) none in
+      record { groups = here.groups; pages = here.pages }
+
+-- stopping the scanner leaves the waiting pages
+pub pass_stopped : (table : TableState) (pass now : Pass) → now ≡ record pass { options = record pass.options { run = 2 } } → IsPass table pass → IsPass table now
+pass_stopped table pass now stopped is = subst (IsPass table) (sym stopped) (record { waiters = is.waiters; room = is.room; cursor = is.cursor })
