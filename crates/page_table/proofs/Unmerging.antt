@@ -1,9 +1,9 @@
 -- What unmerging takes, told by the pages on the groups' frames.
-use Rattle.std.proofs.Common.{◌≡◌, ◌≢◌, ◌∙◌, ⊎_elim, ℕ, zero, suc, ◌+◌, ◌-◌, ◌*◌, ◌<◌, ◌≤◌, ◌==◌, Bool, true, false, if◌then◌else◌, List, [], ◌∷◌, length, map, sum_by, slice_index_or, Option, Some, None, option_map, is_some, refl, sym, ap, subst, arith}
+use Rattle.std.proofs.Common.{◌≡◌, ◌∙◌, ⊎_elim, ℕ, zero, suc, ◌+◌, ◌-◌, ◌<◌, ◌≤◌, ◌==◌, Bool, true, false, if◌then◌else◌, List, [], ◌∷◌, length, map, sum_by, slice_index_or, Option, Some, None, option_map, is_some, refl, sym, ap, subst, arith}
 use Rattle.std.proofs.lemmas.List.Sums.{sum_by-cons}
 use Rattle.host_types.specs.declared.status.Status.{Status}
 use Rattle.host_types.specs.declared.status.Status.TheVariants.{New, Volatile, Waiting, Grouped, Zero}
-use Rattle.host_types.specs.Sharing.{Sharing, PageState, state_at, is_shared_page, broken, break_cost, broken_from, cost_from}
+use Rattle.host_types.specs.Sharing.{Sharing, state_at, is_shared_page, broken, break_cost, broken_from, cost_from}
 use Rattle.host_types.specs.Unmerging.{unmerged, members, zeros_at, one_if_zeros, zero_pages, unmerge_need, SharesNothing}
 use Rattle.host_types.proofs.Unmerging as law
 use Rattle.page_table.specs.declared.entry.Entry.{Entry}
@@ -13,12 +13,12 @@ use Rattle.page_table.specs.State.{have_of}
 use Rattle.page_table.specs.View.{view_of, IsMemory, IsPass}
 use Rattle.host_types.specs.declared.shape.Shape.{Shape}
 use Rattle.page_table.proofs.Free.{free_is}
-use Rattle.page_table.specs.Table.{TableState, CountsState, IsTable, IsSound, IsEntry, IsAlone, IsGroup, IsPageAt, LiesRight, times, entry_at, is_on, state_of, states_of, groups_of, sharing_of, used_by, new_pass, pages_on, places_on, contents_of}
+use Rattle.page_table.specs.Table.{TableState, CountsState, IsTable, IsSound, IsEntry, IsGroup, IsPageAt, LiesRight, times, entry_at, is_on, state_of, states_of, groups_of, sharing_of, used_by, new_pass, pages_on, places_on}
 use Rattle.page_table.proofs.Breaks.{cost_from-last, broken_from-last}
 use Rattle.page_table.proofs.Counting.{same_either_way}
 use Rattle.page_table.proofs.Creating.{length-states}
 use Rattle.page_table.proofs.Costs.{state-at}
-use Rattle.page_table.proofs.Entries.{one_when, on_one, on_one-true, on_one-false, not_equal, equal, times-head, times-tail}
+use Rattle.page_table.proofs.Entries.{one_when, on_one, not_equal, equal, times-head, times-tail}
 use Rattle.page_table.proofs.Groups.{length-places}
 use Rattle.page_table.proofs.Joining.{group-inside}
 use Rattle.page_table.proofs.Moving.{pages_on-le, no_holder}

@@ -1,4 +1,4 @@
-use Rattle.std.proofs.Common.{◌≡◌, ◌∙◌, length, refl, sym}
+use Rattle.std.proofs.Common.{◌∙◌, sym}
 use Rattle.page_table.specs.View.{view_of}
 use Rattle.page_table.proofs.Creating.{length-states}
 use Rattle.page_table.proofs.Unmerging.{all_cost}

@@ -1,5 +1,5 @@
 use Rattle.std.proofs.Common.{◌≡◌, ◌≤◌, ◌-◌, ℕ, ◌∙◌, ap, slice_index_or, arith}
-use Rattle.page_table.specs.Table.{TableState, pages_on}
+use Rattle.page_table.specs.Table.{pages_on}
 use Rattle.page_table.proofs.Joining.{group-inside}
 use Rattle.page_table.proofs.Unmerging.{group-counted}
 use Rattle.page_table.proofs.table.Table.pages_but_one.Goals as goal

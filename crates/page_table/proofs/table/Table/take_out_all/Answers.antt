@@ -1,6 +1,5 @@
-use Rattle.std.proofs.Common.{◌≡◌, ◌∙◌, ◌≤◌, ◌+◌, ℕ, length, refl, sym, ap, arith}
+use Rattle.std.proofs.Common.{◌∙◌, length, refl, sym, ap, arith}
 use Rattle.host_types.specs.Sharing.{Sharing, broken, break_cost, broken_from, cost_from}
-use Rattle.page_table.specs.declared.pass.Pass.{Pass}
 use Rattle.page_table.specs.Table.{sharing_of}
 use Rattle.page_table.proofs.Creating.{length-contents}
 use Rattle.page_table.proofs.Unmerging.{broken_next, cost_next, next_fits, all_cost, nothing_shared}

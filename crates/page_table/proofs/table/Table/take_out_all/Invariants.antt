@@ -1,4 +1,4 @@
-use Rattle.std.proofs.Common.{◌≡◌, ◌≤◌, ◌+◌, ℕ, length}
+use Rattle.std.proofs.Common.{◌≡◌, ◌+◌, length}
 use Rattle.host_types.specs.Sharing.{broken_from, cost_from}
 use Rattle.page_table.specs.declared.pass.Pass.{Pass}
 use Rattle.page_table.specs.Table.{AreOwnKept, contents_of, sharing_of, used_by}

@@ -1,4 +1,4 @@
-use Rattle.std.proofs.Common.{◌≡◌, ◌∙◌, ◌≤◌, ◌+◌, ◌-◌, ℕ, List, length, take, sum_by, slice_index_or, subst, ap, arith}
+use Rattle.std.proofs.Common.{◌≡◌, ◌∙◌, ◌≤◌, ◌+◌, ◌-◌, ℕ, List, sum_by, slice_index_or, subst, ap, arith}
 use Rattle.std.proofs.lemmas.List.{take_all}
 use Rattle.page_table.specs.Table.{times, pages_on}
 use Rattle.page_table.proofs.Joining.{times-at}
