@@ -1,3 +1,4 @@
 pub mod Lists
 pub mod Bytes
 pub mod Pages
+pub mod Unmerging

@@ -1,14 +1,14 @@
 -- What is done to all pages at once, and to the options.
-use Rattle.std.specs.Prelude.{◌≡◌, ℕ, ◌+◌, ◌-◌, List, [], length, sum_by, Option, None, Some, ⊤}
+use Rattle.std.specs.Prelude.{◌≡◌, ℕ, ◌+◌, ◌-◌, ◌<◌, Bool, false, List, [], length, sum_by, Option, None, Some, ⊤}
 use Rattle.host_types.specs.declared.fault.Fault.{Fault}
-use Rattle.host_types.specs.declared.fault.Fault.TheVariants.{BadOption, PagesShared}
+use Rattle.host_types.specs.declared.fault.Fault.TheVariants.{NoFrames, BadOption, PagesShared}
 use Rattle.host_types.specs.declared.options.Opt.{Opt}
 use Rattle.host_types.specs.declared.options.Opt.TheVariants.{PagesToScan, Run, UseZeroPages, MaxPageSharing}
 use Rattle.host_types.specs.declared.options.Options.{Options}
 use Rattle.host_types.specs.declared.status.Status.{Status}
 use Rattle.host_types.specs.declared.status.Status.TheVariants.{New, Volatile, Waiting, Grouped, Zero}
 use Rattle.host_types.specs.OptionTable.{MayBe}
-use Rattle.host_types.specs.Sharing.{Sharing, PageState, broken_from, cost_from}
+use Rattle.host_types.specs.Sharing.{Sharing, PageState, state_at, is_shared_page, broken_from}
 
 -- every page that shares a frame gets one of its own, in page order, and the scanner stops
 unfoldable pub unmerged : Sharing → Sharing
@@ -16,9 +16,40 @@ unmerged sharing =
     let broken = broken_from sharing 0 (length sharing.pages) in
     record broken { options = record broken.options { run = 2 } }
 
--- how many frames that takes
+-- how many pages all groups have together
+unfoldable pub members : Sharing → ℕ
+members sharing = sum_by (λ (group : List ℕ). length group) sharing.groups
+
+-- one for a page on the frame of zeros
+abbrev pub one_if_zeros : Status → ℕ
+one_if_zeros New = 0
+one_if_zeros Volatile = 0
+one_if_zeros Waiting = 0
+one_if_zeros Grouped = 0
+one_if_zeros Zero = 1
+
+abbrev pub zeros_at : Option PageState → ℕ
+zeros_at None = 0
+zeros_at (Some state) = one_if_zeros state.status
+
+-- how many pages lie on the frame of zeros
+unfoldable pub zero_pages : Sharing → ℕ
+zero_pages sharing = sum_by zeros_at sharing.pages
+
+-- The frames that this takes: one for each page of a group but its last one, which keeps the group's
+-- frame, and one for each page on the frame of zeros.
 unfoldable pub unmerge_need : Sharing → ℕ
-unmerge_need sharing = cost_from sharing 0 (length sharing.pages)
+unmerge_need sharing = members sharing - length sharing.groups + zero_pages sharing
+
+-- no page shares a frame
+pub record SharesNothing (sharing : Sharing) : Type 0 where
+  pub groups : sharing.groups ≡ []
+  pub pages : (i : ℕ) → is_shared_page (state_at sharing i) ≡ false
+
+-- when not everything is unmerged: there are fewer frames than that takes
+abbrev pub RefusesUnmerge : Sharing → ℕ → Fault → Type 0
+RefusesUnmerge sharing frames (NoFrames need have) = (need ≡ unmerge_need sharing) × (have ≡ frames) × (have < need)
+RefusesUnmerge sharing frames _ = ⊥
 
 -- the options with another value of one of them
 abbrev pub with_option : Options → Opt → ℕ → Options

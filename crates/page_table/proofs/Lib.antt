@@ -1,6 +1,7 @@
 pub mod Entries
 pub mod Adding
 pub mod Unused
+pub mod Unmerging
 pub mod Putting
 pub mod Maps
 pub mod Reading

@@ -49,7 +49,7 @@ fits-after old new entry long lone grouped is =
     lies Zero e = e
 
 -- no more pages lie on a frame than there are places
-pages_on-le : (f : ℕ) (xs : List (Option Entry)) → pages_on f xs ≤ length xs
+pub pages_on-le : (f : ℕ) (xs : List (Option Entry)) → pages_on f xs ≤ length xs
 unfolding pages_on
 pages_on-le f [] = omega arith
 pages_on-le f (x ∷ xs) =

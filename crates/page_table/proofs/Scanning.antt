@@ -1,5 +1,5 @@
 -- What a memory tells of pages by their places, of open groups and of waiting pages.
-use Rattle.std.proofs.Common.{◌≡◌, ◌≢◌, ◌∙◌, ◌⊎◌, ⊎_elim, ℕ, zero, suc, ◌+◌, ◌-◌, ◌*◌, ◌/◌, ◌%◌, ◌<◌, ◌≤◌, ◌==◌, ◌&&◌, ◌||◌, nat_lt, bytes_eq, Bool, true, false, if◌then◌else◌, List, [], ◌∷◌, length, map, find, slice_index_or, slice_set, Option, Some, None, IfSome, option_map, is_some, refl, sym, ap, subst, arith, length-take}
+use Rattle.std.proofs.Common.{◌≡◌, ◌∙◌, ◌⊎◌, ⊎_elim, ℕ, zero, suc, ◌+◌, ◌*◌, ◌/◌, ◌%◌, ◌<◌, ◌≤◌, ◌==◌, ◌&&◌, ◌||◌, nat_lt, bytes_eq, Bool, true, false, if◌then◌else◌, List, [], ◌∷◌, length, map, find, slice_index_or, slice_set, Option, Some, None, option_map, is_some, refl, sym, ap, subst, arith}
 use Rattle.std.specs.List.{concat, list_any}
 use Rattle.std.proofs.lemmas.List.{length-take-le}
 use Rattle.std.proofs.lemmas.List.Sums.{sum_by-cons}
@@ -9,7 +9,7 @@ use Rattle.host_types.specs.declared.shape.Page.{Page}
 use Rattle.host_types.specs.declared.status.Status.TheVariants.{Grouped}
 use Rattle.host_types.specs.declared.shape.Shape.{Shape}
 use Rattle.host_types.specs.Bytes.{part_of}
-use Rattle.host_types.specs.Memory.{FlatMap, map_at}
+use Rattle.host_types.specs.Memory.{map_at}
 use Rattle.host_types.specs.Pages.{map_place, page_place, page_bytes}
 use Rattle.host_types.specs.Shapes.{byte_len_of}
 use Rattle.host_types.specs.Sharing.{joined_by, with_status}
@@ -20,13 +20,13 @@ use Rattle.page_table.specs.declared.pass.Pass.{Pass}
 use Rattle.page_table.specs.declared.tenant.Tenant.{Tenant}
 use Rattle.page_table.specs.Limits.{page_count}
 use Rattle.page_table.specs.State.{MemoryState, part, bytes_of_map, frame_at}
-use Rattle.page_table.specs.Changes.{IsPageOf, frame_of_group, open_frame, contents_now}
+use Rattle.page_table.specs.Changes.{IsPageOf, frame_of_group, open_frame}
 use Rattle.page_table.specs.Table.{TableState, IsTable, IsPageAt, ArePages, ArePagesOf, maps_of, flat_of, contents_of, entry_at, groups_of, sharing_of, states_of, frames_of, times, is_on, places_on, pages_on, is_open_frame, joined_on}
 use Rattle.page_table.specs.View.{view_of, IsMemory}
 use Rattle.page_table.proofs.Maps.{map_at-maps_of, length-concat}
 use Rattle.page_table.proofs.Reading.{map_at-part, bytes_in, content_in, content_is}
 use Rattle.page_table.proofs.Creating.{length-contents}
-use Rattle.page_table.proofs.Entries.{one_when, on_one, on_one-false, times-head, times-tail, inside}
+use Rattle.page_table.proofs.Entries.{one_when, on_one, on_one-false, times-head, times-tail}
 use Rattle.page_table.proofs.Groups.{length-places}
 use Rattle.page_table.proofs.Putting.{page_inside, content_at, entry_fits}
 use Rattle.page_table.proofs.Joining.{group_of}

@@ -6,7 +6,7 @@ ghost use Rattle.host_types.specs.Pages.{map_place, page_place, page_bytes, zero
 ghost use Rattle.host_types.specs.Shapes.{IsShape};
 ghost use Rattle.host_types.specs.Sharing.{new_page, state_at, is_shared, broken, break_cost, cost_from, paired, zeroed};
 ghost use Rattle.host_types.specs.Tenant.{IsFlatMap};
-ghost use Rattle.host_types.specs.Unmerging.{with_option, MaySet};
+ghost use Rattle.host_types.specs.Unmerging.{with_option, MaySet, unmerged, unmerge_need, SharesNothing};
 ghost use Rattle.host_types.specs.Visits.{page_to_visit, is_mergeable, flushed, moved_on, changed, waits, has_open, joined};
 ghost use Rattle.frame_arena.specs.Pages.{page_at};
 ghost use Rattle.page_table.specs.Limits.{AreLimits, page_count, shape_of};
@@ -37,6 +37,9 @@ const MAX_MAPS: usize = 8;
 
 /// How many page numbers a map has.
 const MAX_PAGES: usize = 256;
+
+/// The value of the option `run` after everything was unmerged.
+const UNMERGED: u32 = 2;
 
 /// The array maps of all tenants, in frames that several pages may share. Contracts see each
 /// tenant's part, which pages share frames, the frames' pages, and the frame of each page.
@@ -585,6 +588,36 @@ impl Memory {
     {
         self.table.facts();
         self.table.join(place_of(page), group);
+    }
+}
+
+impl Memory {
+    /// How many frames it takes to give each page that shares a frame one of its own: one for each
+    /// page of a group but its last one, which keeps the group's frame, and one for each page on the
+    /// zero frame. So many the breaks of all pages take, one after another. The call looks at the
+    /// groups, and at no page.
+    pub fn unmerge_need(&self) -> u32
+        ensures need { result ≡ unmerge_need self.now.sharing }
+        ensures breaks { result ≡ cost_from self.now.sharing 0 (length self.now.sharing.pages) }
+    {
+        self.table.facts();
+        self.table.unmerge_need()
+    }
+
+    /// Gives each page that shares a frame one of its own, in the order of the pages, and stops the
+    /// scanner: `run` is 2 then. No page shares a frame then. The call looks at each page's place.
+    pub fn unmerge(&mut self)
+        requires { unmerge_need self.old.sharing ≤ have_of self.old }
+        ensures maps { self.new.maps ≡ self.old.maps }
+        ensures kept { AreKept self.old self.new }
+        ensures sharing { self.new.sharing ≡ unmerged self.old.sharing }
+        ensures none { SharesNothing self.new.sharing }
+        ensures free { free_of self.new + unmerge_need self.old.sharing ≡ free_of self.old }
+        ensures have { have_of self.new + unmerge_need self.old.sharing ≡ have_of self.old }
+        ensures settings { KeepsSettings self.old self.new }
+    {
+        self.table.take_out_all();
+        self.pass.set(Opt::Run, UNMERGED);
     }
 }
 

@@ -1,8 +1,9 @@
-ghost use Rattle.std.specs.Prelude.{◌≡◌, ◌≢◌, ◌+◌, ◌<◌, ◌≤◌, nat_lt, true, false, [], ◌∷◌, ◌++◌, All, drop, find, map, option_map, length, replicate, slice_index_or, slice_set, Option, Some, None, IfOk, IfSome, ℕ};
+ghost use Rattle.std.specs.Prelude.{◌≡◌, ◌≢◌, ◌+◌, ◌-◌, ◌<◌, ◌≤◌, nat_lt, true, false, [], ◌∷◌, ◌++◌, All, drop, find, map, option_map, length, replicate, slice_index_or, slice_set, Option, Some, None, IfOk, IfSome, ℕ};
 ghost use Rattle.host_types.specs.Bytes.{with_part};
 ghost use Rattle.page_table.specs.declared.pass.Pass.{Pass};
 ghost use Rattle.host_types.specs.declared.status.Status.TheVariants.{Grouped};
 ghost use Rattle.host_types.specs.Sharing.{new_page, is_shared, broken, break_cost, broken_from, cost_from, paired, zeroed, with_status};
+ghost use Rattle.host_types.specs.Unmerging.{unmerge_need, SharesNothing};
 ghost use Rattle.host_types.specs.Visits.{first_mergeable, is_mergeable, with_page};
 ghost use Rattle.host_types.specs.Pages.{zero_page};
 ghost use Rattle.frame_arena.specs.Pages.{IsPage, page_at};
@@ -394,6 +395,85 @@ impl Table {
             last: Some(last),
             ..entry
         });
+    }
+}
+
+impl Table {
+    /// How many frames it takes to give each page that shares one a frame of its own: of each group's
+    /// pages all but one, and all pages on the zero frame.
+    pub(crate) fn unmerge_need(&self) -> u32
+        ensures { (pass : Pass) → result ≡ unmerge_need (sharing_of self.now pass) }
+    {
+        self.facts();
+        let mut need = self.zero_pages();
+        for group in &self.groups {
+            need += self.pages_but_one(*group);
+        }
+        need
+    }
+
+    /// How many pages lie on the zero frame.
+    fn zero_pages(&self) -> u32
+        ensures pages { result ≡ pages_on 0 self.now.entries }
+        ensures few { result ≤ 32768 }
+    {
+        self.counts.count(ZERO_FRAME) - 1
+    }
+
+    /// How many pages a group has beside one.
+    fn pages_but_one(&self, group: u32) -> u32
+        requires { 1 ≤ times group self.now.groups }
+        ensures pages { result ≡ pages_on group self.now.entries - 1 }
+        ensures few { result ≤ 32768 }
+    {
+        self.counts.count(group) - 1
+    }
+
+    /// How many places there are.
+    fn places(&self) -> usize
+        ensures { result ≡ length self.now.entries }
+    {
+        self.entries.len()
+    }
+
+    /// Gives each page that shares a frame one of its own, in the order of their places.
+    pub(crate) fn take_out_all(&mut self)
+        requires { (pass : Pass) →
+            used_by self.old + unmerge_need (sharing_of self.old pass) ≤ length self.old.arena }
+        ensures contents { contents_of self.new ≡ contents_of self.old }
+        ensures sharing { (pass : Pass) → sharing_of self.new pass
+            ≡ broken_from (sharing_of self.old pass) 0 (length self.old.entries) }
+        ensures none { (pass : Pass) →
+            SharesNothing (broken_from (sharing_of self.old pass) 0 (length self.old.entries)) }
+        ensures kept { AreOwnKept self.old self.new }
+        ensures used { (pass : Pass) →
+            used_by self.new ≡ used_by self.old + unmerge_need (sharing_of self.old pass) }
+        ensures arena { length self.new.arena ≡ length self.old.arena }
+    {
+        self.facts();
+        for place in 0..self.places() {
+            self.take_out_at(place);
+        }
+    }
+
+    /// Takes the page at a place out, if one is there.
+    fn take_out_at(&mut self, place: usize)
+        requires there { place < length self.old.entries }
+        requires room { (pass : Pass) →
+            used_by self.old + break_cost (sharing_of self.old pass) place ≤ length self.old.arena }
+        ensures contents { contents_of self.new ≡ contents_of self.old }
+        ensures sharing { (pass : Pass) →
+            sharing_of self.new pass ≡ broken (sharing_of self.old pass) place }
+        ensures kept { AreOwnKept self.old self.new }
+        ensures used { (pass : Pass) →
+            used_by self.new ≡ used_by self.old + break_cost (sharing_of self.old pass) place }
+        ensures arena { length self.new.arena ≡ length self.old.arena }
+    {
+        self.facts();
+        self.costs_are_told();
+        if self.entry(place).is_some() {
+            self.take_out(place);
+        }
     }
 }
 

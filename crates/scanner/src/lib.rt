@@ -6,6 +6,8 @@ mod options;
 mod scan;
 #[cfg(test)]
 mod tests;
+mod unmerging;
 
 pub use options::set;
 pub use scan::visit;
+pub use unmerging::unmerge_all;

@@ -1,7 +1,7 @@
 ghost use Rattle.std.specs.Prelude.{◌≡◌, length};
 ghost use Rattle.page_table.specs.State.{part, map_bytes};
 
-use crate::{set, visit};
+use crate::{set, unmerge_all, visit};
 use host_types::{Fault, Opt, Options, Visited};
 use page_table::Memory;
 use std::alloc::Global;
@@ -85,10 +85,12 @@ fn pages_of_zeros_go_to_the_zero_frame(rt: HostRuntime) -> Result<(), Fail> {
     let mut memory = memory_of(rt.alloc(), 8, 4, options)?;
     visits(&mut memory, 8);
     assert_eq!(rt; memory.free(), 7);
+    unmerge_all(&mut memory)?;
+    assert_eq!(rt; memory.free(), 3);
     Ok(())
 }
 
-/// Four pages live in three frames, the zero frame among them; an option that can't be set stays.
+/// Four pages live in three frames, the zero frame among them; what is refused changes nothing.
 #[test]
 fn merging_makes_room_for_further_maps(rt: HostRuntime) -> Result<(), Fail> {
     let mut memory = memory_of(rt.alloc(), 3, 2, Options::standard())?;
@@ -107,8 +109,25 @@ fn merging_makes_room_for_further_maps(rt: HostRuntime) -> Result<(), Fail> {
         Err(Fault::BadOption)
     );
     assert_eq!(rt; set(&mut memory, Opt::Run, 2), Err(Fault::BadOption));
+    let refused = Err(Fault::NoFrames { need: 3, have: 1 });
+    assert_eq!(rt; unmerge_all(&mut memory), refused);
     assert_eq!(rt; memory.options(), Options::standard());
     assert_eq!(rt; (memory.free(), memory.full_scans()), (1, 6));
+    Ok(())
+}
+
+/// A group of four pages and their unmerging, which takes three frames; the scanner stands still until
+/// it is set to run, and visits each page as if for the first time then.
+#[test]
+fn unmerging_gives_each_page_a_frame(rt: HostRuntime) -> Result<(), Fail> {
+    let mut memory = memory_of(rt.alloc(), 5, 4, Options::standard())?;
+    visits(&mut memory, 12);
+    assert_eq!(rt; memory.free(), 3);
+    unmerge_all(&mut memory)?;
+    assert_eq!(rt; (memory.free(), memory.options().run), (0, 2));
+    assert_eq!(rt; visit(&mut memory), Visited::Idle);
+    set(&mut memory, Opt::Run, 1)?;
+    assert_eq!(rt; visit(&mut memory), Visited::Changed);
     Ok(())
 }
 

@@ -1,4 +1,4 @@
-use Rattle.std.proofs.Common.{◌≡◌, ◌∙◌, ◌+◌, ◌<◌, ℕ, [], true, false, drop, length, map, is_some, None, Some, sym, ap, subst, arith, option_map}
+use Rattle.std.proofs.Common.{◌≡◌, ◌∙◌, ◌+◌, ◌<◌, [], false, drop, map, is_some, None, Some, sym, ap, arith, option_map}
 use Rattle.std.proofs.lemmas.List.{length-map}
 use Rattle.host_types.specs.Pages.{page_place}
 use Rattle.host_types.specs.Visits.{first_mergeable, look_from}

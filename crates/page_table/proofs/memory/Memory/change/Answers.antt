@@ -1,8 +1,5 @@
-use Rattle.std.proofs.Common.{◌≡◌, ◌∙◌, length, ap, arith}
-use Rattle.host_types.specs.Pages.{page_place}
-use Rattle.host_types.specs.Sharing.{is_shared}
+use Rattle.std.proofs.Common.{◌≡◌, length, ap, arith}
 use Rattle.host_types.specs.Visits.{changed}
-use Rattle.page_table.specs.State.{MemoryState}
 use Rattle.page_table.specs.Changes.{IsPageOf, MayMerge, IsNotWaiting}
 use Rattle.page_table.specs.View.{view_of}
 use Rattle.page_table.proofs.Reading.{is_page_at}

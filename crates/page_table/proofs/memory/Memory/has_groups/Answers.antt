@@ -1,4 +1,4 @@
-use Rattle.std.proofs.Common.{◌≡◌, ◌∙◌, ℕ, nat_lt, Bool, length, sym, ap}
+use Rattle.std.proofs.Common.{◌∙◌, ℕ, nat_lt, sym, ap}
 use Rattle.std.proofs.lemmas.List.{length-map}
 use Rattle.page_table.specs.Table.{groups_of, places_on}
 use Rattle.page_table.specs.View.{view_of}

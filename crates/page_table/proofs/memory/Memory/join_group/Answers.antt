@@ -1,11 +1,7 @@
-use Rattle.std.proofs.Common.{◌≡◌, ◌∙◌, ◌≤◌, true, [], find, length, slice_index_or, Some, ap, sym, arith}
-use Rattle.std.proofs.lemmas.Slice.Eq.{bytes_eq-Decides}
-use Rattle.host_types.specs.Pages.{page_place, page_bytes}
-use Rattle.host_types.specs.Visits.{joined}
-use Rattle.frame_arena.specs.Pages.{page_at}
-use Rattle.page_table.specs.State.{MemoryState, bytes_of_map}
+use Rattle.std.proofs.Common.{◌≡◌, ◌∙◌, ◌≤◌, true, find, Some, sym, arith}
+use Rattle.host_types.specs.Pages.{page_place}
 use Rattle.page_table.specs.Changes.{IsPageOf, MayMerge, IsNotWaiting, contents_now, open_frame}
-use Rattle.page_table.specs.Table.{TableState, is_open_frame, contents_of, times, sharing_of}
+use Rattle.page_table.specs.Table.{is_open_frame, times}
 use Rattle.page_table.specs.View.{view_of}
 use Rattle.page_table.proofs.Reading.{is_page_at, content_is}
 use Rattle.page_table.proofs.Writing.{own_entry}

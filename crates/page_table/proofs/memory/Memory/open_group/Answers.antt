@@ -1,4 +1,4 @@
-use Rattle.std.proofs.Common.{◌≡◌, ◌∙◌, ◌<◌, length, find, is_some, ap, sym}
+use Rattle.std.proofs.Common.{◌≡◌, ◌∙◌, find, is_some, ap, sym}
 use Rattle.host_types.specs.Pages.{page_place, page_bytes}
 use Rattle.frame_arena.specs.Pages.{page_at}
 use Rattle.page_table.specs.State.{bytes_of_map}

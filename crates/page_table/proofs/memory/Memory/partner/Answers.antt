@@ -1,4 +1,4 @@
-use Rattle.std.proofs.Common.{◌≡◌, ◌∙◌, ◌<◌, List, ℕ, Bool, true, false, find, length, None, Some, option_map, sym, ap, subst, arith}
+use Rattle.std.proofs.Common.{◌≡◌, ◌∙◌, ◌<◌, List, ℕ, true, false, find, Some, option_map, sym, ap, subst, arith}
 use Rattle.host_types.specs.declared.shape.Page.{Page}
 use Rattle.host_types.specs.Pages.{page_place, page_bytes}
 use Rattle.frame_arena.specs.Pages.{page_at}

@@ -1,12 +1,10 @@
-use Rattle.std.proofs.Common.{◌≡◌, ◌∙◌, ◌≤◌, IfSome, Bool, true, false, refl, length, ap, arith}
+use Rattle.std.proofs.Common.{◌≡◌, ◌∙◌, ◌≤◌, IfSome, true, false, refl, length, ap, arith}
 use Rattle.host_types.specs.declared.status.Status.TheVariants.{Waiting}
 use Rattle.host_types.specs.Pages.{page_place}
 use Rattle.host_types.specs.Visits.{waits}
 use Rattle.unstable_tree.specs.WaitingList.{WaitingList}
-use Rattle.page_table.specs.declared.entry.Entry.{Entry}
-use Rattle.page_table.specs.State.{MemoryState}
 use Rattle.page_table.specs.Changes.{IsPageOf, MayMerge, IsNotWaiting, HadFingerprint}
-use Rattle.page_table.specs.Table.{entry_at, sharing_of}
+use Rattle.page_table.specs.Table.{sharing_of}
 use Rattle.page_table.specs.View.{view_of, is_behind, is_listed}
 use Rattle.page_table.proofs.Reading.{is_page_at}
 use Rattle.page_table.proofs.Writing.{own_entry}

@@ -1,4 +1,3 @@
-use Rattle.std.proofs.lemmas.List.{get_or-set_other}
 use Rattle.page_table.specs.Table.{TableState}
 use Rattle.page_table.proofs.Marking.{IsMarking, marking-from, contents-marked, sharing-marked, used-marked, sound-marked}
 use Rattle.page_table.proofs.table.Table.mark.Goals as goal

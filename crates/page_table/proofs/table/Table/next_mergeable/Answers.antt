@@ -1,9 +1,8 @@
-use Rattle.std.proofs.Common.{◌≡◌, ◌∙◌, ◌<◌, ◌≤◌, length, slice_index_or, Option, Some, None, Bool, true, false, option_map, sym, ap, arith}
+use Rattle.std.proofs.Common.{◌≡◌, ◌∙◌, ◌<◌, ◌≤◌, length, slice_index_or, None, option_map, sym, ap, arith}
 use Rattle.std.proofs.lemmas.List.{get_or_default, length-map}
 use Rattle.std.proofs.Math.ListN.{get_or-map}
 use Rattle.host_types.specs.Visits.{is_mergeable}
-use Rattle.page_table.specs.declared.entry.Entry.{Entry}
-use Rattle.page_table.specs.Table.{entry_at, state_of, states_of}
+use Rattle.page_table.specs.Table.{state_of, states_of}
 use Rattle.page_table.proofs.Next.{next-after, next-here, next-none}
 use Rattle.page_table.proofs.table.Table.next_mergeable.Goals as goal
 use Rattle.page_table.proofs.table.Table.next_mergeable.Goals.{After-may_merge}

@@ -1,4 +1,4 @@
-use Rattle.std.proofs.Common.{◌≡◌, List, ℕ, subst, sym, ◌≤◌, slice_index_or, rules}
+use Rattle.std.proofs.Common.{◌≡◌, List, ℕ, subst, ◌≤◌, slice_index_or}
 use Rattle.page_table.specs.Table.{times}
 use Rattle.page_table.proofs.Joining.{times-at}
 use Rattle.page_table.proofs.table.Table.open_group.Goals as goal

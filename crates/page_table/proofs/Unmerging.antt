@@ -1,0 +1,307 @@
+-- What unmerging takes, told by the pages on the groups' frames.
+use Rattle.std.proofs.Common.{◌≡◌, ◌∙◌, ⊎_elim, ℕ, zero, suc, ◌+◌, ◌-◌, ◌<◌, ◌≤◌, ◌==◌, Bool, true, false, if◌then◌else◌, List, [], ◌∷◌, length, map, sum_by, slice_index_or, Option, Some, None, option_map, is_some, refl, sym, ap, subst, arith}
+use Rattle.std.proofs.lemmas.List.Sums.{sum_by-cons}
+use Rattle.host_types.specs.declared.status.Status.{Status}
+use Rattle.host_types.specs.declared.status.Status.TheVariants.{New, Volatile, Waiting, Grouped, Zero}
+use Rattle.host_types.specs.Sharing.{Sharing, state_at, is_shared_page, broken, break_cost, broken_from, cost_from}
+use Rattle.host_types.specs.Unmerging.{unmerged, members, zeros_at, one_if_zeros, zero_pages, unmerge_need, SharesNothing}
+use Rattle.host_types.proofs.Unmerging as law
+use Rattle.page_table.specs.declared.entry.Entry.{Entry}
+use Rattle.page_table.specs.declared.pass.Pass.{Pass}
+use Rattle.page_table.specs.declared.tenant.Tenant.{Tenant}
+use Rattle.page_table.specs.State.{have_of}
+use Rattle.page_table.specs.View.{view_of, IsMemory, IsPass}
+use Rattle.host_types.specs.declared.shape.Shape.{Shape}
+use Rattle.page_table.proofs.Free.{free_is}
+use Rattle.page_table.specs.Table.{TableState, CountsState, IsTable, IsSound, IsEntry, IsGroup, IsPageAt, LiesRight, times, entry_at, is_on, state_of, states_of, groups_of, sharing_of, used_by, new_pass, pages_on, places_on}
+use Rattle.page_table.proofs.Breaks.{cost_from-last, broken_from-last}
+use Rattle.page_table.proofs.Counting.{same_either_way}
+use Rattle.page_table.proofs.Creating.{length-states}
+use Rattle.page_table.proofs.Costs.{state-at}
+use Rattle.page_table.proofs.Entries.{one_when, on_one, not_equal, equal, times-head, times-tail}
+use Rattle.page_table.proofs.Groups.{length-places}
+use Rattle.page_table.proofs.Joining.{group-inside}
+use Rattle.page_table.proofs.Moving.{pages_on-le, no_holder}
+use Rattle.page_table.proofs.Putting.{entry_fits, content_at}
+
+-- a place before the first one doesn't stand among those on a frame
+before-places : (n f : ℕ) (xs : List (Option Entry)) (i : ℕ) → i < n → law.times i (places_on n f xs) ≡ 0
+unfolding places_on
+before-places n f [] i h = refl
+before-places n f (x ∷ xs) i h = by_head (is_on f x) (before-places (n + 1) f xs i (omega arith))
+  where
+    by_head : (b : Bool) → law.times i (places_on (n + 1) f xs) ≡ 0 → law.times i (if b then n ∷ places_on (n + 1) f xs else places_on (n + 1) f xs) ≡ 0
+    by_head true rest =
+        let split = sum_by-cons (λ (j : ℕ). law.one_when (j == i)) n (places_on (n + 1) f xs) in
+        let none = ap law.one_when (not_equal i n (λ e. omega arith)) in
+        omega (arith, split, none, rest)
+    by_head false rest = rest
+
+-- a place stands once among those on the frame of its page
+times-places : (n f : ℕ) (xs : List (Option Entry)) (i : ℕ) → law.times (n + i) (places_on n f xs) ≡ on_one f (entry_at xs i)
+unfolding places_on
+times-places n f [] i = refl
+times-places n f (x ∷ xs) zero =
+    let here : n + 0 ≡ n = omega arith in
+    rw here (by_head (is_on f x) (before-places (n + 1) f xs n (omega arith)))
+  where
+    by_head : (b : Bool) → law.times n (places_on (n + 1) f xs) ≡ 0 → law.times n (if b then n ∷ places_on (n + 1) f xs else places_on (n + 1) f xs) ≡ one_when b
+    by_head true rest =
+        let split = sum_by-cons (λ (j : ℕ). law.one_when (j == n)) n (places_on (n + 1) f xs) in
+        let one = ap law.one_when (equal n) in
+        omega (arith, split, one, rest)
+    by_head false rest = rest
+times-places n f (x ∷ xs) (suc i) =
+    let next : n + suc i ≡ n + 1 + i = omega arith in
+    by_head (is_on f x) (ap (λ (m : ℕ). law.times m (places_on (n + 1) f xs)) next ∙ times-places (n + 1) f xs i)
+  where
+    by_head : (b : Bool) → law.times (n + suc i) (places_on (n + 1) f xs) ≡ on_one f (entry_at xs i)
+        → law.times (n + suc i) (if b then n ∷ places_on (n + 1) f xs else places_on (n + 1) f xs) ≡ on_one f (entry_at xs i)
+    by_head true rest =
+        let split = sum_by-cons (λ (j : ℕ). law.one_when (j == n + suc i)) n (places_on (n + 1) f xs) in
+        let none = ap law.one_when (not_equal (n + suc i) n (λ e. omega arith)) in
+        omega (arith, split, none, rest)
+    by_head false rest = rest
+
+times-at_frame : (g : ℕ) (xs : List (Option Entry)) (i : ℕ) → law.times i (places_on 0 g xs) ≡ on_one g (entry_at xs i)
+times-at_frame g xs i = let start : i ≡ 0 + i = omega arith in ap (λ (n : ℕ). law.times n (places_on 0 g xs)) start ∙ times-places 0 g xs i
+
+-- how often the frame of a page is a group's
+held : Option Entry → List ℕ → ℕ
+held None groups = 0
+held (Some entry) groups = times entry.frame groups
+
+listed-frames : (xs : List (Option Entry)) (groups : List ℕ) (i : ℕ) → law.listed i (map (λ g. places_on 0 g xs) groups) ≡ held (entry_at xs i) groups
+unfolding held
+listed-frames xs [] i = by_entry (entry_at xs i)
+  where
+    by_entry : (x : Option Entry) → 0 ≡ held x []
+    by_entry None = refl
+    by_entry (Some entry) = refl
+listed-frames xs (g ∷ gs) i =
+    let split = sum_by-cons (law.times i) (places_on 0 g xs) (map (λ g. places_on 0 g xs) gs) in
+    let here = times-at_frame g xs i in
+    let rest = listed-frames xs gs i in
+    let more = by_entry (entry_at xs i) in
+    omega (arith, split, here, rest, more)
+  where
+    by_entry : (x : Option Entry) → held x (g ∷ gs) ≡ on_one g x + held x gs
+    by_entry None = refl
+    by_entry (Some entry) =
+        let split = sum_by-cons (λ (x : ℕ). one_when (x == entry.frame)) g gs in
+        let same = ap one_when (same_either_way g entry.frame) in
+        omega (arith, split, same)
+
+-- what holds of each group's pages holds where one is left out
+some-groups : (xs : List (Option Entry)) (groups : List ℕ) → ((g : ℕ) → 1 ≤ times g groups → 1 ≤ pages_on g xs) → law.AreSome (map (λ g. places_on 0 g xs) groups)
+some-groups xs [] h = tt
+some-groups xs (g ∷ gs) h =
+    let long = length-places 0 g xs in
+    let pages = h g (times-head g gs) in
+    (omega (arith, long, pages), some-groups xs gs (λ f le. let more = times-tail f g gs in h f (omega (arith, le, more))))
+
+members-frames : (xs : List (Option Entry)) (groups : List ℕ) → ((g : ℕ) → 1 ≤ times g groups → 1 ≤ pages_on g xs)
+    → sum_by (λ (group : List ℕ). length group) (map (λ g. places_on 0 g xs) groups) ≡ length groups + sum_by (λ (g : ℕ). pages_on g xs - 1) groups
+members-frames xs [] h = refl
+members-frames xs (g ∷ gs) h =
+    let split = sum_by-cons (λ (group : List ℕ). length group) (places_on 0 g xs) (map (λ g. places_on 0 g xs) gs) in
+    let whole = sum_by-cons (λ (g : ℕ). pages_on g xs - 1) g gs in
+    let long = length-places 0 g xs in
+    let pages = h g (times-head g gs) in
+    let rest = members-frames xs gs (λ f le. let more = times-tail f g gs in h f (omega (arith, le, more))) in
+    omega (arith, split, whole, long, pages, rest)
+
+zeros-frames : (xs : List (Option Entry)) → ((i : ℕ) → zeros_at (option_map state_of (entry_at xs i)) ≡ on_one 0 (entry_at xs i)) → sum_by zeros_at (states_of xs) ≡ pages_on 0 xs
+unfolding pages_on
+zeros-frames [] h = refl
+zeros-frames (x ∷ xs) h =
+    let split = sum_by-cons zeros_at (option_map state_of x) (states_of xs) in
+    let whole = sum_by-cons (on_one 0) x xs in
+    let first = h 0 in
+    let rest = zeros-frames xs (λ i. h (suc i)) in
+    omega (arith, split, whole, first, rest)
+
+length-map_groups : (xs : List (Option Entry)) (groups : List ℕ) → length (map (λ g. places_on 0 g xs) groups) ≡ length groups
+length-map_groups xs [] = refl
+length-map_groups xs (g ∷ gs) = ap suc (length-map_groups xs gs)
+
+module _ (table : TableState) (is : IsTable table) where
+  group_pages : (g : ℕ) → 1 ≤ times g table.groups → 1 ≤ pages_on g table.entries
+  group_pages g some = ⊎_elim (λ none. absurd (omega (arith, none, some))) (λ group. IsGroup.some group) (is.groups g)
+
+  no_zero_group : (f : ℕ) → f ≡ 0 → times f table.groups ≡ 0
+  no_zero_group f e = ⊎_elim (λ none. none) (λ group. absurd (let above = IsGroup.above group in omega (arith, above, e))) (is.groups f)
+
+  -- a page stands in as many groups as its status says
+  grouped : (i : ℕ) → held (entry_at table.entries i) table.groups ≡ law.grouped_at (option_map state_of (entry_at table.entries i))
+  unfolding held
+  grouped i = by_entry (entry_at table.entries i) refl
+    where
+      by_status : (f : ℕ) (status : Status) → LiesRight table f status → times f table.groups ≡ law.one_if_grouped status
+      by_status f New a = a.no_group
+      by_status f Volatile a = a.no_group
+      by_status f Waiting a = a.no_group
+      by_status f Grouped e = e
+      by_status f Zero e = no_zero_group f e
+
+      by_entry : (x : Option Entry) → entry_at table.entries i ≡ x → held x table.groups ≡ law.grouped_at (option_map state_of x)
+      by_entry None e = refl
+      by_entry (Some entry) e = by_status entry.frame entry.status (IsEntry.right (entry_fits table i entry is e))
+
+  -- the groups are those of the pages that are told to be grouped
+  pub are_listed : (pass : Pass) → law.AreListed (sharing_of table pass)
+  unfolding groups_of
+  are_listed pass =
+      record {
+        some = some-groups table.entries table.groups group_pages;
+        once = λ i. listed-frames table.entries table.groups i ∙ grouped i ∙ sym (ap law.grouped_at (state-at table pass i));
+      }
+
+  zeros : (i : ℕ) → zeros_at (option_map state_of (entry_at table.entries i)) ≡ on_one 0 (entry_at table.entries i)
+  zeros i = by_entry (entry_at table.entries i) refl
+    where
+      apart : (f : ℕ) → 0 < f → 0 ≡ one_when (f == 0)
+      apart f above = sym (ap one_when (not_equal 0 f (λ e. omega (arith, above, e))))
+
+      by_status : (f : ℕ) (status : Status) → LiesRight table f status → one_if_zeros status ≡ one_when (f == 0)
+      by_status f New a = apart f a.above
+      by_status f Volatile a = apart f a.above
+      by_status f Waiting a = apart f a.above
+      by_status f Grouped e = apart f (⊎_elim (λ none. absurd (omega (arith, none, e))) (λ group. IsGroup.above group) (is.groups f))
+      by_status f Zero e = sym (ap one_when (ap (λ (n : ℕ). n == 0) e ∙ equal 0))
+
+      by_entry : (x : Option Entry) → entry_at table.entries i ≡ x → zeros_at (option_map state_of x) ≡ on_one 0 x
+      by_entry None e = refl
+      by_entry (Some entry) e = by_status entry.frame entry.status (IsEntry.right (entry_fits table i entry is e))
+
+  -- the need, told by the pages on the groups' frames and on the zero frame
+  pub need-told : (pass : Pass) → pages_on 0 table.entries + sum_by (λ (g : ℕ). pages_on g table.entries - 1) table.groups ≡ unmerge_need (sharing_of table pass)
+  unfolding unmerge_need members zero_pages groups_of
+  need-told pass =
+      let pages = members-frames table.entries table.groups group_pages in
+      let few = length-map_groups table.entries table.groups in
+      let zero = zeros-frames table.entries zeros in
+      omega (arith, pages, few, zero)
+
+  -- a page is there where an entry is
+  pub page_of_entry : (i : ℕ) (entry : Entry) → entry_at table.entries i ≡ Some entry → IsPageAt table i
+  page_of_entry i entry e = ap length (content_at table i entry e) ∙ is.pages entry.frame (IsEntry.frame (entry_fits table i entry is e))
+
+  pub page_of_some : (i : ℕ) (x : Option Entry) → x ≡ entry_at table.entries i → is_some x ≡ true → IsPageAt table i
+  page_of_some i None e some = absurd (cc)
+  page_of_some i (Some entry) e some = page_of_entry i entry (sym e)
+
+module _ (table : TableState) (counts : CountsState) (is : IsSound table counts) where
+  -- the zero frame has one holder more than its pages
+  pub zero-counted : (slice_index_or counts.counts 0 0 ≡ 1 + pages_on 0 table.entries) × (pages_on 0 table.entries ≤ 32768)
+  zero-counted =
+      let bound = pages_on-le 0 table.entries in
+      (is.counted.counted 0 is.fits.some, omega (arith, bound, is.fits.few))
+
+  -- a group's frame has its pages, of which there are some
+  pub group-counted : (g : ℕ) → 1 ≤ times g table.groups
+      → (slice_index_or counts.counts g 0 ≡ pages_on g table.entries) × (1 ≤ pages_on g table.entries) × (pages_on g table.entries ≤ 32768)
+  group-counted g some =
+      let counted = is.counted.counted g (group-inside table g is.fits some) in
+      let bound = pages_on-le g table.entries in
+      ⊎_elim (λ none. absurd (omega (arith, none, some)))
+      (λ group. let above = no_holder g (IsGroup.above group) in let pages = IsGroup.some group in
+      (omega (arith, counted, above), pages, omega (arith, bound, is.fits.few)))
+      (is.fits.groups g)
+
+-- a pass, where a law holds for any
+pub some_pass : Pass
+some_pass = new_pass 0 (record { pages_to_scan = 0; run = 0; use_zero_pages = 0; max_page_sharing = 0 })
+
+-- a place without a page stays as it is
+broken-none : (s : Sharing) (i : ℕ) → state_at s i ≡ None → (broken s i ≡ s) × (break_cost s i ≡ 0)
+broken-none s i none = (law.broken-own s i (ap is_shared_page none), law.cost-none s i none)
+
+pub no_page : (table : TableState) (i : ℕ) (x : Option Entry) (pass : Pass) → x ≡ entry_at table.entries i → is_some x ≡ false
+    → (broken (sharing_of table pass) i ≡ sharing_of table pass) × (break_cost (sharing_of table pass) i ≡ 0)
+no_page table i None pass e none = broken-none (sharing_of table pass) i (state-at table pass i ∙ ap (option_map state_of) (sym e))
+no_page table i (Some entry) pass e none = absurd (cc)
+
+-- the breaks of the first places, and of one more
+pub broken_next : (s : Sharing) (n : ℕ) → broken_from s 0 (n + 1) ≡ broken (broken_from s 0 n) n
+broken_next s n =
+    let next : n + 1 ≡ suc n = omega arith in
+    let here : 0 + n ≡ n = omega arith in
+    ap (broken_from s 0) next ∙ broken_from-last s 0 n ∙ ap (broken (broken_from s 0 n)) here
+
+pub cost_next : (s : Sharing) (n : ℕ) → cost_from s 0 (n + 1) ≡ cost_from s 0 n + break_cost (broken_from s 0 n) n
+cost_next s n =
+    let next : n + 1 ≡ suc n = omega arith in
+    let here : 0 + n ≡ n = omega arith in
+    ap (cost_from s 0) next ∙ cost_from-last s 0 n ∙ ap (λ (i : ℕ). cost_from s 0 n + break_cost (broken_from s 0 n) i) here
+
+-- fewer breaks take less
+cost_from-less : (s : Sharing) (n m : ℕ) → cost_from s 0 n ≤ cost_from s 0 (n + m)
+cost_from-less s n zero = let same : n + 0 ≡ n = omega arith in rw same (omega arith)
+cost_from-less s n (suc m) =
+    let next : n + suc m ≡ n + m + 1 = omega arith in
+    let more = cost_from-less s n m in
+    let last = cost_next s (n + m) in
+    rw next (omega (arith, more, last))
+
+module _ (table : TableState) (is : IsTable table) (pass : Pass) where
+  -- what the breaks of all pages take
+  pub all_cost : (n : ℕ) → n ≡ length table.entries → cost_from (sharing_of table pass) 0 n ≡ unmerge_need (sharing_of table pass)
+  all_cost n e =
+      let long : n ≡ length (states_of table.entries) = e ∙ sym (length-states table.entries) in
+      ap (cost_from (sharing_of table pass) 0) long ∙ law.unmerging_costs (sharing_of table pass) (are_listed table is pass)
+
+  pub nothing_shared : SharesNothing (broken_from (sharing_of table pass) 0 (length table.entries))
+  nothing_shared =
+      subst (λ (n : ℕ). SharesNothing (broken_from (sharing_of table pass) 0 n)) (length-states table.entries) (law.broken_share_nothing (sharing_of table pass) (are_listed table is pass))
+
+  -- there is room for the next break where there is room for all
+  pub next_fits : (now : Sharing) (n used used_now frames : ℕ) → n < length table.entries → now ≡ broken_from (sharing_of table pass) 0 n
+      → used_now ≡ used + cost_from (sharing_of table pass) 0 n → used + unmerge_need (sharing_of table pass) ≤ frames → used_now + break_cost now n ≤ frames
+  next_fits now n used used_now frames there broken taken room =
+      let last = cost_next (sharing_of table pass) n in
+      let here = ap (λ (s : Sharing). break_cost s n) broken in
+      let m : ℕ = length table.entries - (n + 1) in
+      let less = cost_from-less (sharing_of table pass) (n + 1) m in
+      let all = all_cost (n + 1 + m) (omega (arith, there)) in
+      omega (arith, last, here, less, all, taken, room)
+
+-- the need hangs on the table alone
+need_of_table : (table : TableState) (pass now : Pass) → unmerge_need (sharing_of table now) ≡ unmerge_need (sharing_of table pass)
+unfolding unmerge_need members zero_pages
+need_of_table table pass now = refl
+
+-- where the frames that unmerging takes may be had, there is room for it
+module _ (table : TableState) (shapes : List (Option Shape)) (tenants : List Tenant) (pass : Pass) (reserved : ℕ) (is : IsMemory table shapes tenants reserved)
+    (enough : unmerge_need (view_of table shapes tenants pass).sharing ≤ have_of (view_of table shapes tenants pass)) where
+  pub need_reserved : reserved + (used_by table + unmerge_need (view_of table shapes tenants pass).sharing) ≤ length table.arena
+  unfolding view_of
+  need_reserved =
+      let free = free_is table shapes tenants pass (omega (arith, is.room)) in
+      omega (arith, enough, free, is.room, is.sum)
+
+  pub need_fits : (now : Pass) → used_by table + unmerge_need (sharing_of table now) ≤ length table.arena
+  unfolding view_of
+  need_fits now =
+      let same = need_of_table table pass now in
+      let room = need_reserved in
+      omega (arith, same, room)
+
+-- the state of sharing after all pages were taken out and the scanner was stopped
+module _ (old new : TableState) (pass now : Pass) (stopped : now ≡ record pass { options = record pass.options { run = 2 } })
+    (broken : (p : Pass) → sharing_of new p ≡ broken_from (sharing_of old p) 0 (length old.entries)) where
+  pub unmerged_is : sharing_of new now ≡ unmerged (sharing_of old pass)
+  unfolding unmerged
+  unmerged_is = ap (sharing_of new) stopped ∙ ap stop (broken pass ∙ ap (broken_from (sharing_of old pass) 0) (sym (length-states old.entries)))
+    where
+      stop : Sharing → Sharing
+      stop s = record s { options = record s.options { run = 2 } }
+
+  pub unmerged_apart : SharesNothing (broken_from (sharing_of old pass) 0 (length old.entries)) → SharesNothing (sharing_of new now)
+  unmerged_apart none =
+      let here : SharesNothing (sharing_of new pass) = subst SharesNothing (sym (broken pass)) none in
+      record { groups = here.groups; pages = here.pages }
+
+-- stopping the scanner leaves the waiting pages
+pub pass_stopped : (table : TableState) (pass now : Pass) → now ≡ record pass { options = record pass.options { run = 2 } } → IsPass table pass → IsPass table now
+pass_stopped table pass now stopped is = subst (IsPass table) (sym stopped) (record { waiters = is.waiters; room = is.room; cursor = is.cursor })

@@ -1,0 +1,15 @@
+use Rattle.std.proofs.Common.{◌∙◌, sym}
+use Rattle.page_table.specs.View.{view_of}
+use Rattle.page_table.proofs.Creating.{length-states}
+use Rattle.page_table.proofs.Unmerging.{all_cost}
+use Rattle.page_table.proofs.memory.Memory.unmerge_need.Goals as goal
+
+pub returns-clause-need : goal.returns-clause-need
+unfolding view_of
+returns-clause-need c = rw (← c.self.view_is) (c.unmerge_need.ensures c.self.inside.pass)
+
+pub returns-clause-breaks : goal.returns-clause-breaks
+unfolding view_of
+returns-clause-breaks c =
+    rw (← c.self.view_is)
+    (c.unmerge_need.ensures c.self.inside.pass ∙ sym (all_cost c.self.inside.table c.facts.ensures.1.fits c.self.inside.pass _ (length-states c.self.inside.table.entries)))

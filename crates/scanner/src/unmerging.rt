@@ -1,0 +1,32 @@
+ghost use Rattle.std.specs.Prelude.{◌≡◌, ◌+◌, ◌≤◌, OnOk, IfErr, OnErr};
+ghost use Rattle.host_types.specs.Unmerging.{unmerged, unmerge_need, RefusesUnmerge, SharesNothing};
+ghost use Rattle.page_table.specs.State.{free_of, have_of};
+ghost use Rattle.page_table.specs.Changes.{AreKept, KeepsSettings};
+
+use host_types::Fault;
+use page_table::Memory;
+
+/// Gives each page that shares a frame one of its own, in the order of the pages, and stops the
+/// scanner: `run` is 2 then, until it is set again. The kernel's manual calls it unmerging.
+///
+/// 31 where that takes more frames than `have()`; it tells both numbers, and changes nothing.
+pub fn unmerge_all(memory: &mut Memory) -> Result<(), Fault>
+    ensures enough { OnOk result (unmerge_need memory.old.sharing ≤ have_of memory.old) }
+    ensures unmerged { OnOk result (memory.new.sharing ≡ unmerged memory.old.sharing) }
+    ensures none { OnOk result (SharesNothing memory.new.sharing) }
+    ensures free { OnOk result (free_of memory.new + unmerge_need memory.old.sharing ≡ free_of memory.old) }
+    ensures maps { memory.new.maps ≡ memory.old.maps }
+    ensures kept { AreKept memory.old memory.new }
+    ensures settings { KeepsSettings memory.old memory.new }
+
+    ensures err { IfErr result (RefusesUnmerge memory.old.sharing (have_of memory.old)) }
+    ensures unchanged { OnErr result (memory.new ≡ memory.old) }
+{
+    let need = memory.unmerge_need();
+    let have = memory.have();
+    if have < need {
+        return Err(Fault::NoFrames { need, have });
+    }
+    memory.unmerge();
+    Ok(())
+}
