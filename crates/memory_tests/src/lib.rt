@@ -8,4 +8,8 @@ mod arena;
 #[cfg(test)]
 mod breaks;
 #[cfg(test)]
+mod maps;
+#[cfg(test)]
+mod scans;
+#[cfg(test)]
 mod trees;

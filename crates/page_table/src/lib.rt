@@ -9,8 +9,6 @@ mod memory;
 mod pass;
 mod table;
 mod tenant;
-#[cfg(test)]
-mod tests;
 
 pub use entry::Entry;
 pub use memory::Memory;

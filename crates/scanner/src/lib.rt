@@ -4,8 +4,6 @@
 
 mod options;
 mod scan;
-#[cfg(test)]
-mod tests;
 mod unmerging;
 
 pub use options::set;
