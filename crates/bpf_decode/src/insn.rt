@@ -1,5 +1,6 @@
 use crate::operation::{Distance, Operation};
 use crate::slot::{i16_at, i32_at, next_imm_at};
+use host_types::rule::{BAD_FIELD, BAD_REGISTER, UNKNOWN_OPCODE};
 
 /// An instruction's fields (RFC 9669, sections 3.1 and 3.2). `next_imm` is the second immediate of
 /// a wide instruction, and 0 in a basic one.
@@ -18,15 +19,6 @@ pub(crate) const WIDE: u8 = 0x18;
 
 // The last register, the frame pointer.
 const LAST_REGISTER: u8 = 10;
-
-// The number of an opcode that isn't in the table.
-const UNKNOWN_OPCODE: u32 = 2;
-
-// The number of a field with a number that means nothing there.
-pub(crate) const BAD_FIELD: u32 = 3;
-
-// The number of a register above R10.
-const BAD_REGISTER: u32 = 4;
 
 impl Insn {
     ghost use Rattle.std.specs.Prelude.{◌≡◌, ◌<◌, ◌%◌, ◌==◌, if◌then◌else◌, length, IsSome, Some};

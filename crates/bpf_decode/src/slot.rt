@@ -4,11 +4,9 @@ ghost use Rattle.host_types.specs.Bytes.{number_of, part_of};
 ghost use Rattle.bpf_decode.specs.Opcodes.{wide_opcode};
 ghost use Rattle.bpf_decode.specs.Text.{slots_of, opcode_at, second_slot_fault};
 
-use crate::insn::{BAD_FIELD, WIDE};
+use crate::insn::WIDE;
 use byteorder::{ByteOrder, LittleEndian};
-
-// The number of a wide instruction in the last slot.
-const CUT_WIDE: u32 = 5;
+use host_types::rule::{BAD_FIELD, CUT_WIDE};
 
 // The second immediate of the instruction at a slot: 0 in a basic instruction, and where the text
 // ends before it.

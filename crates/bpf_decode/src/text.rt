@@ -4,12 +4,10 @@ ghost use Rattle.bpf_decode.specs.Text.{slots_of, insn_at, fault_at, HasLength, 
 use crate::insn::Insn;
 use crate::slot::second_slot_fault;
 use host_types::Refused;
+use host_types::rule::BAD_LENGTH;
 
 // The most bytes of a text: 4096 slots of eight bytes.
 const MAX_LENGTH: usize = 32768;
-
-// The number of a text that isn't 1 to 4096 whole slots.
-const BAD_LENGTH: u32 = 1;
 
 // What is refused of a text that isn't well formed.
 pub(crate) fn first_fault(text: &[u8]) -> Option<Refused>
