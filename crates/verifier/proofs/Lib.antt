@@ -2,6 +2,7 @@ pub mod Registers
 pub mod Counts
 pub mod Shapes
 pub mod Places
+pub mod Ways
 pub mod Tables
 pub mod Uniqueness
 pub mod Flows
