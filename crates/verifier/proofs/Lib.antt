@@ -7,5 +7,6 @@ pub mod Tables
 pub mod Uniqueness
 pub mod Flows
 pub mod Lawful
+pub mod Tight
 pub mod Passes
 pub mod WithoutMaps

@@ -1,6 +1,6 @@
 -- Where an instruction leads, as the pass has it: the description is changed in place, and a conditional
 -- jump tells a range of dst on each of its ways.
-use Rattle.std.specs.Prelude.{ℕ, ◌≤◌, List, [], ◌++◌, Option, Some, option_map, Result, Ok, Err}
+use Rattle.std.specs.Prelude.{◌≡◌, ℕ, ◌<◌, ◌≤◌, List, [], ◌++◌, Option, Some, option_map, Result, Ok, Err}
 use Rattle.verifier_kinds.specs.declared.kind.Range.{Range}
 use Rattle.verifier_kinds.specs.declared.kind.Kind.TheVariants.{Scalar}
 use Rattle.verifier_kinds.specs.declared.description.Description.{Description}
@@ -25,6 +25,18 @@ ways_of (Forks fork) d = target fork.next (told fork fork.fallen d) ++ target fo
 abbrev pub HasDst : Way → Type 0
 HasDst (Forks fork) = fork.dst ≤ 10
 HasDst way = Unit {0}
+
+-- if it falls through, then to this slot
+abbrev pub FallsTo : ℕ → Way → Type 0
+FallsTo next (Falls to) = to ≡ next
+FallsTo next (Forks fork) = fork.next ≡ next
+FallsTo next way = Unit {0}
+
+-- the slots to which it leads are below a number
+abbrev pub LeadsBelow : ℕ → Way → Type 0
+LeadsBelow slots (Jumps to) = to < slots
+LeadsBelow slots (Forks fork) = (fork.next < slots) × (fork.jump < slots)
+LeadsBelow slots way = Unit {0}
 
 -- the answer of an instruction that left a description
 abbrev pub flow_of_way : Result Way ℕ → Description → Result (List (ℕ × Description)) ℕ

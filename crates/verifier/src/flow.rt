@@ -1,15 +1,15 @@
 //! What flows on from an instruction, or which rule it breaks.
 
-ghost use Rattle.std.specs.Prelude.{◌≡◌, ◌≤◌, ℕ, IfOk, OnOk, Some};
+ghost use Rattle.std.specs.Prelude.{◌≡◌, ◌+◌, ◌≤◌, ℕ, IfOk, OnOk, Some};
 ghost use Rattle.bpf_decode.specs.declared.operation.Operation.TheVariants.{Alu};
 ghost use Rattle.bpf_decode.specs.Opcodes.{operation_of};
-ghost use Rattle.bpf_decode.specs.Text.{IsInstruction};
+ghost use Rattle.bpf_decode.specs.Text.{slots_of, width_at, IsInstruction};
 ghost use Rattle.verifier_kinds.specs.Kinds.{IsKind};
 ghost use Rattle.verifier_kinds.specs.Descriptions.{IsDescription};
 ghost use Rattle.verifier.specs.Flow.{dst_is_known, computed_kind, after_alu, is_returned, falls_on, flow_of_exit, flow};
 ghost use Rattle.verifier_kinds.specs.declared.description.Description.{Description};
 ghost use Rattle.verifier.specs.declared.way.Way.TheVariants.{Ends, Falls};
-ghost use Rattle.verifier.specs.Way.{HasDst, done, flow_of_way, ways_of};
+ghost use Rattle.verifier.specs.Way.{HasDst, FallsTo, LeadsBelow, done, flow_of_way, ways_of};
 ghost use Rattle.verifier.specs.Pass.{AreDescribed, targets_in, flow_in};
 
 use crate::access::{after_load, after_load_immediate, after_store};
@@ -113,7 +113,7 @@ impl Candidate {
     fn falls_on(&self, slot: u32, after: Result<(), u32>) -> Result<Way, u32>
         requires { IsInstruction self.now.text slot }
         ensures flow { (d : Description) → flow_of_way result d ≡ falls_on self.now slot (done after d) }
-        ensures falls { IfOk result (λ way. (to : ℕ) × (way ≡ Falls to)) }
+        ensures falls { IfOk result (λ way. (to : ℕ) × (way ≡ Falls to) × (to ≡ slot + width_at self.now.text slot)) }
     {
         let ((), to) = both(after, self.falls_to(slot))?;
         Ok(Way::Falls(to))
@@ -128,6 +128,8 @@ impl Candidate {
         ensures flow { flow_of_way result d.new ≡ flow self.now slot d.old }
         ensures described { IfOk result (λ way. AreDescribed (ways_of way d.new)) }
         ensures dst { IfOk result HasDst }
+        ensures falls { IfOk result (FallsTo (slot + width_at self.now.text slot)) }
+        ensures within { IfOk result (LeadsBelow (slots_of self.now.text)) }
     {
         let insn = self.insn(slot);
         let after = match insn.operation() {

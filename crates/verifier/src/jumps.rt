@@ -1,13 +1,13 @@
 //! Jumps: where they lead, and what the comparison of a conditional jump tells on each of its ways.
 
-ghost use Rattle.std.specs.Prelude.{◌≡◌, ◌≤◌, ℕ, IfOk};
-ghost use Rattle.bpf_decode.specs.Text.{IsInstruction};
+ghost use Rattle.std.specs.Prelude.{◌≡◌, ◌+◌, ◌<◌, ◌≤◌, ℕ, IfOk};
+ghost use Rattle.bpf_decode.specs.Text.{slots_of, width_at, IsInstruction};
 ghost use Rattle.verifier_kinds.specs.Kinds.{IsKind, IsNormal};
 ghost use Rattle.verifier_kinds.specs.Descriptions.{IsDescription};
 ghost use Rattle.verifier_kinds.specs.declared.description.Description.{Description};
 ghost use Rattle.verifier.specs.declared.way.Way.TheVariants.{Jumps};
 ghost use Rattle.verifier.specs.Flow.{are_numbers, compared_ranges, flow_of_branch, flow_of_jump};
-ghost use Rattle.verifier.specs.Way.{HasDst, flow_of_way, ways_of};
+ghost use Rattle.verifier.specs.Way.{HasDst, FallsTo, LeadsBelow, flow_of_way, ways_of};
 ghost use Rattle.verifier.specs.Pass.{AreDescribed};
 
 use crate::candidate::Candidate;
@@ -54,7 +54,7 @@ impl Candidate {
     pub(crate) fn jumps(&self, distance: Distance, slot: u32, insn: &Insn) -> Result<Way, u32>
         requires instruction { IsInstruction self.now.text slot }
         ensures flow { (d : Description) → flow_of_way result d ≡ flow_of_jump self.now distance insn.now slot d }
-        ensures jumps { IfOk result (λ way. (to : ℕ) × (way ≡ Jumps to)) }
+        ensures jumps { IfOk result (λ way. (to : ℕ) × (way ≡ Jumps to) × (to < slots_of self.now.text)) }
     {
         let to = self.jumps_to(slot, insn.distance(distance))?;
         Ok(Way::Jumps(to))
@@ -78,6 +78,8 @@ impl Candidate {
         ensures flow { flow_of_way result d.now ≡ flow_of_branch self.now comparison width source insn.now slot d.now }
         ensures described { IfOk result (λ way. AreDescribed (ways_of way d.now)) }
         ensures dst { IfOk result HasDst }
+        ensures falls { IfOk result (FallsTo (slot + width_at self.now.text slot)) }
+        ensures within { IfOk result (LeadsBelow (slots_of self.now.text)) }
     {
         let compared = compared_ranges(width, source, insn, d);
         let targets = both(
