@@ -1,6 +1,5 @@
 -- What is known on the ways of an instruction.
-use Rattle.std.proofs.Common.{◌≡◌, ◌≢◌, ℕ, zero, suc, ◌<◌, ◌≤◌, List, [], ◌∷◌, ◌++◌, get_or, length, slice_set, IfSome, Option, Some, None, option_map, refl, sym, ap, subst, ◌∙◌, ◌⊎◌, inl, inr, arith}
-use Rattle.std.proofs.lemmas.Bool.Decides.{eqb_tells}
+use Rattle.std.proofs.Common.{◌≡◌, ◌≢◌, ℕ, zero, suc, ◌<◌, ◌≤◌, List, [], ◌∷◌, ◌++◌, get_or, length, slice_set, IfSome, Option, Some, None, refl, sym, ap, subst, ◌∙◌, ◌⊎◌, inl, inr, arith}
 use Rattle.std.proofs.lemmas.List.{get_or-set_same, get_or-set_other, length-set}
 use Rattle.std.proofs.lemmas.List.Elements.{All-nil, All-cons, All-append}
 use Rattle.verifier_kinds.specs.declared.kind.Range.{Range}
@@ -12,7 +11,6 @@ use Rattle.verifier_kinds.specs.Descriptions.{IsDescription, with_kind}
 use Rattle.verifier.specs.declared.way.Fork.{Fork}
 use Rattle.verifier.specs.Flow.{target}
 use Rattle.verifier.specs.Way.{told}
-use Rattle.verifier.specs.Table.{arrived}
 use Rattle.verifier.specs.Pass.{AreDescribed}
 
 same_or_other : (k i : ℕ) → (k ≡ i) ⊎ (k ≢ i)
@@ -60,26 +58,3 @@ set_twice (z ∷ zs) (suc i) x y = ap (λ l. z ∷ l) (set_twice zs i x y)
 -- of a register that is written twice the second kind is known
 pub written_twice : (d : Description) (i : ℕ) (first kind : Kind) → with_kind (with_kind d i first) i kind ≡ with_kind d i kind
 written_twice d i first kind = ap (λ registers. record d { registers = registers }) (set_twice d.registers i (Some first) (Some kind))
-
--- what the comparison tells asks nothing of what was known of dst
-pub told_alike : (d e : Description) (i : ℕ) (range : Option Range) → ((kind : Kind) → with_kind e i kind ≡ with_kind d i kind) → (let at : Description → Option Description = λ d. option_map (λ range. with_kind d i (Scalar range)) range in at e ≡ at d)
-told_alike d e i None same = refl
-told_alike d e i (Some range) same = ap Some (same (Scalar range))
-
--- what arrives from two targets in the one order and in the other, where they are two slots
-pub arrived_apart : (s next jump : ℕ) (known fallen jumped : Option Description) → next ≢ jump → arrived s (arrived s known (target jump jumped)) (target next fallen) ≡ arrived s known (target next fallen ++ target jump jumped)
-arrived_apart s next jump known None jumped apart = refl
-arrived_apart s next jump known (Some d) None apart = refl
-arrived_apart s next jump known (Some d) (Some e) apart =
-    elim (eqb_tells next s) [
-      | inl falls ↦ elim (eqb_tells jump s) [
-        | inl jumps ↦ absurd (apart (falls.1 ∙ sym jumps.1))
-        | inr past ↦ rw (falls.0, past.0) refl
-      ]
-      | inr past ↦ rw past.0 refl
-    ]
-
--- what arrives from two targets in their order
-pub arrived_both : (s next jump : ℕ) (known fallen jumped : Option Description) → arrived s (arrived s known (target next fallen)) (target jump jumped) ≡ arrived s known (target next fallen ++ target jump jumped)
-arrived_both s next jump known None jumped = refl
-arrived_both s next jump known (Some d) jumped = refl
