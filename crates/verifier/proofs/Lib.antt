@@ -2,9 +2,11 @@ pub mod Registers
 pub mod Counts
 pub mod Shapes
 pub mod Places
+pub mod Ways
 pub mod Tables
 pub mod Uniqueness
 pub mod Flows
 pub mod Lawful
+pub mod Tight
 pub mod Passes
 pub mod WithoutMaps

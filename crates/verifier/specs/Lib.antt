@@ -1,5 +1,6 @@
 pub mod Subject
 pub mod Flow
+pub mod Way
 pub mod Table
 pub mod Verified
 pub mod Pass

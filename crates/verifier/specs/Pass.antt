@@ -1,12 +1,16 @@
 -- One pass over the slots of a program, in order: what has been found out before a slot.
-use Rattle.std.specs.Prelude.{◌≡◌, ℕ, ◌<◌, ◌≤◌, List, [], ◌∷◌, ◌++◌, length, All, Option, Some, None, Result, Ok, Err}
-use Rattle.bpf_decode.specs.Text.{slots_of}
+use Rattle.std.specs.Prelude.{◌≡◌, ℕ, suc, ◌<◌, ◌≤◌, Bool, if◌then◌else◌, List, [], ◌∷◌, ◌++◌, length, map, slice_index_or, All, Option, Some, None, option_map, Result, Ok, Err}
+use Rattle.std.specs.Global.{Box}
+use Rattle.bpf_decode.specs.Text.{slots_of, is_instruction}
+use Rattle.verifier_kinds.specs.declared.kind.Kind.{Kind}
 use Rattle.verifier_kinds.specs.declared.description.Description.{Description}
 use Rattle.verifier_kinds.specs.Descriptions.{IsDescription}
 use Rattle.verifier.specs.declared.flow.Target.{Target}
 use Rattle.verifier.specs.declared.flow.Onward.{Onward}
+use Rattle.verifier.specs.declared.table.Pass.{Pass}
 use Rattle.verifier.specs.Subject.{Subject}
-use Rattle.verifier.specs.Table.{Table, described, flows_from, incoming, IsCleanBefore}
+use Rattle.verifier.specs.Flow.{target}
+use Rattle.verifier.specs.Table.{Table, flows_from, joined, arrived, incoming, tight_up_to, tight_table, IsCleanBefore}
 
 -- the target of an instruction that may lead to a slot
 abbrev pub target_in : Option Target → List (ℕ × Description)
@@ -30,11 +34,41 @@ AreDescribed targets = All (λ t. IsDescription t.1) targets
 abbrev pub FlowDescribed : Subject → Table → ℕ → Type 0
 FlowDescribed p table n = (s : ℕ) → s < n → AreDescribed (flows_from p table s)
 
--- Before a slot the table says just what flows, and no rule is broken; from the slot on it says what
--- flows there from the slots before.
-pub record IsPassed (p : Subject) (table : Table) (slot : ℕ) : Type 0 where
-  pub whole : length table ≡ slots_of p.text
-  pub tight : (s : ℕ) → s < slot → described table s ≡ incoming p table s s
-  pub ahead : (s : ℕ) → slot ≤ s → s < slots_of p.text → described table s ≡ incoming p table s slot
-  pub clean : IsCleanBefore p table slot
-  pub flows : FlowDescribed p table slot
+-- the kinds of the registers at each of some slots, where they are reached
+abbrev pub Kept : Type 0
+Kept = List (Option (List (Option Kind)))
+
+-- the kinds of the registers that are known
+abbrev pub kinds_in : Option Description → Option (List (Option Kind))
+kinds_in known = option_map (λ d. d.registers) known
+
+-- what is known at a slot to which jumps led
+abbrev pub pending_at : List (Option (Box Description)) → ℕ → Option Description
+pending_at pending slot = option_map (λ b. b.value) (slice_index_or pending slot None)
+
+-- what falls through to the next instruction, if anything does
+abbrev pub falling : Bool → Description → Option Description
+falling falls d = if falls then Some d else None
+
+-- what is known, joined with what falls through
+abbrev pub met : Option Description → Option Description → Option Description
+met known None = known
+met known (Some d) = Some (joined known d)
+
+-- the slot of the first instruction from a slot on
+abbrev pub next_at : List ℕ → ℕ → ℕ
+next_at text slot = if is_instruction text slot then slot else suc slot
+
+-- Before a slot the kinds that the tight table has are kept, and no rule is broken; of the slots from
+-- there on it is known what flows there from the slots before.
+pub record IsPassed (p : Subject) (kept : Kept) (pending : List (Option (Box Description))) (coming : Option Description) (slot : ℕ) : Type 0 where
+  pub whole : length pending ≡ slots_of p.text
+  pub kinds : kept ≡ map kinds_in (tight_up_to p slot)
+  pub ahead : (s : ℕ) → slot ≤ s → s < slots_of p.text
+      → arrived s (pending_at pending s) (target (next_at p.text slot) coming) ≡ incoming p (tight_table p) s slot
+  pub clean : IsCleanBefore p (tight_table p) slot
+  pub flows : FlowDescribed p (tight_table p) slot
+
+-- the same of a pass
+abbrev pub HasPassed : Subject → Pass → ℕ → Type 0
+HasPassed p pass slot = IsPassed p pass.kept.items pass.pending.items (falling pass.falls pass.current) slot

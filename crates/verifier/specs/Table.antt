@@ -1,5 +1,5 @@
 -- Tables: what is known at each slot of a program (this project's own profile).
-use Rattle.std.specs.Prelude.{◌≡◌, ℕ, zero, suc, ◌<◌, ◌≤◌, ◌==◌, if◌then◌else◌, List, [], ◌∷◌, length, slice_index_or, All, IfSome, Option, Some, None, Result, Ok, Err}
+use Rattle.std.specs.Prelude.{◌≡◌, ℕ, zero, suc, ◌<◌, ◌≤◌, ◌==◌, if◌then◌else◌, List, [], ◌∷◌, ◌++◌, length, slice_index_or, All, IfSome, Option, Some, None, Result, Ok, Err}
 use Rattle.host_types.specs.declared.fault.Refused.{Refused}
 use Rattle.bpf_decode.specs.Text.{slots_of, IsInstruction}
 use Rattle.verifier_kinds.specs.declared.description.Description.{Description}
@@ -44,6 +44,15 @@ arrived slot known (t ∷ targets) = arrived slot (if t.0 == slot then Some (joi
 unfoldable pub incoming : Subject → Table → ℕ → ℕ → Option Description
 incoming p table slot zero = if slot == 0 then Some start_description else None
 incoming p table slot (suc n) = arrived slot (incoming p table slot n) (flows_from p table n)
+
+-- The table of the first n slots that says just what flows: a text without a refusal has it, and no other.
+unfoldable pub tight_up_to : Subject → ℕ → Table
+tight_up_to p zero = []
+tight_up_to p (suc n) = tight_up_to p n ++ (incoming p (tight_up_to p n) n n ∷ [])
+
+-- the same of a whole text
+abbrev pub tight_table : Subject → Table
+tight_table p = tight_up_to p (slots_of p.text)
 
 -- up to a slot the table says just what flows from the slots before
 abbrev pub IsTightUpTo : Subject → Table → ℕ → Type 0

@@ -1,10 +1,11 @@
 //! Loads and stores: where they go, and what is known of what they load and of the stack after them.
 
-ghost use Rattle.std.specs.Prelude.{◌≡◌, ◌+◌, ◌-◌, ◌%◌, ◌^◌, ◌<◌, ◌≤◌, pos, ◌+ℤ◌, ◌≤ℤ◌, IfOk};
+ghost use Rattle.std.specs.Prelude.{◌≡◌, ◌+◌, ◌-◌, ◌%◌, ◌^◌, ◌<◌, ◌≤◌, pos, ◌+ℤ◌, ◌≤ℤ◌, IfOk, OnOk};
 ghost use Rattle.bpf_decode.specs.Opcodes.{byte_count};
 ghost use Rattle.verifier_kinds.specs.Kinds.{IsKind, IsNormal};
 ghost use Rattle.verifier_kinds.specs.Descriptions.{IsDescription, IsSlot, places_of};
 ghost use Rattle.verifier.specs.Flow.{lies_below, aligned, context_place, stack_place, loaded_range, places, slot_kind, load_kind, loaded_kind, after_load, wide_kind, after_load_immediate, store_place, stored_place, written_slot, after_store};
+ghost use Rattle.verifier.specs.Way.{done};
 
 use crate::candidate::Candidate;
 use crate::rules::{both, operand_kind, read_kind, write_kind};
@@ -189,13 +190,13 @@ pub(crate) fn after_load(
     size: Size,
     extension: Extension,
     insn: &Insn,
-    d: &Description,
-) -> Result<Description, u32>
+    d: &mut Description,
+) -> Result<(), u32>
     requires dst { insn.now.dst ≤ 10 }
     requires src { insn.now.src ≤ 10 }
-    requires description { IsDescription d.now }
-    ensures description { result ≡ after_load candidate.now size extension insn.now d.now }
-    ensures meets { IfOk result IsDescription }
+    requires description { IsDescription d.old }
+    ensures description { done result d.new ≡ after_load candidate.now size extension insn.now d.old }
+    ensures meets { OnOk result (IsDescription d.new) }
 {
     let kind = loaded_kind(candidate, size, extension, insn, d);
     write_kind(d, insn.dst, kind)
@@ -216,11 +217,11 @@ fn wide_kind(insn: &Insn) -> Result<Kind, u32>
 
 /// What is known after a load of both immediates.
 #[tactic(auto, unfolding(crate::specs::Flow::after_load_immediate))]
-pub(crate) fn after_load_immediate(insn: &Insn, d: &Description) -> Result<Description, u32>
+pub(crate) fn after_load_immediate(insn: &Insn, d: &mut Description) -> Result<(), u32>
     requires dst { insn.now.dst ≤ 10 }
-    requires description { IsDescription d.now }
-    ensures description { result ≡ after_load_immediate insn.now d.now }
-    ensures meets { IfOk result IsDescription }
+    requires description { IsDescription d.old }
+    ensures description { done result d.new ≡ after_load_immediate insn.now d.old }
+    ensures meets { OnOk result (IsDescription d.new) }
 {
     write_kind(d, insn.dst, wide_kind(insn))
 }
@@ -281,19 +282,18 @@ pub(crate) fn after_store(
     size: Size,
     source: Source,
     insn: &Insn,
-    d: &Description,
-) -> Result<Description, u32>
+    d: &mut Description,
+) -> Result<(), u32>
     requires dst { insn.now.dst ≤ 10 }
     requires src { insn.now.src ≤ 10 }
-    requires description { IsDescription d.now }
-    ensures description { result ≡ after_store size source insn.now d.now }
-    ensures meets { IfOk result IsDescription }
+    requires description { IsDescription d.old }
+    ensures description { done result d.new ≡ after_store size source insn.now d.old }
+    ensures meets { OnOk result (IsDescription d.new) }
 {
     let stored = operand_kind(Width::Bits64, source, insn, d);
     let (kind, at) = both(stored, stored_place(size, insn, d))?;
     let slot = (at / SLOT_SIZE) as usize;
     let written = written_slot(size, d.slot(slot), at, kind)?;
-    let mut after = *d;
-    after.set_slot(slot, written);
-    Ok(after)
+    d.set_slot(slot, written);
+    Ok(())
 }

@@ -1,8 +1,9 @@
 //! Calls of helpers.
 
-ghost use Rattle.std.specs.Prelude.{◌≡◌, IfOk};
+ghost use Rattle.std.specs.Prelude.{◌≡◌};
 ghost use Rattle.verifier_kinds.specs.Descriptions.{IsDescription};
 ghost use Rattle.verifier.specs.Flow.{arguments_are_known, after_call};
+ghost use Rattle.verifier.specs.Way.{done};
 
 use crate::rules::{both, read_kind};
 use bpf_decode::Insn;
@@ -30,10 +31,9 @@ fn arguments_are_known(number: i32, d: &Description) -> Result<(), u32>
 
 /// What is known after a call of a helper. Its first argument is the name of a map, of which there
 /// is none yet.
-pub(crate) fn after_call(insn: &Insn, d: &Description) -> Result<Description, u32>
-    requires description { IsDescription d.now }
-    ensures description { result ≡ after_call insn.now d.now }
-    ensures meets { IfOk result IsDescription }
+pub(crate) fn after_call(insn: &Insn, d: &Description) -> Result<(), u32>
+    requires { IsDescription d.now }
+    ensures { done result d.now ≡ after_call insn.now d.now }
 {
     match insn.imm {
         LOOKUP | UPDATE | DELETE => {

@@ -1,18 +1,22 @@
 //! What flows on from an instruction, or which rule it breaks.
 
-ghost use Rattle.std.specs.Prelude.{◌≡◌, ◌≤◌, IfOk, Some};
+ghost use Rattle.std.specs.Prelude.{◌≡◌, ◌+◌, ◌≤◌, ℕ, IfOk, OnOk, Some};
 ghost use Rattle.bpf_decode.specs.declared.operation.Operation.TheVariants.{Alu};
 ghost use Rattle.bpf_decode.specs.Opcodes.{operation_of};
-ghost use Rattle.bpf_decode.specs.Text.{IsInstruction};
+ghost use Rattle.bpf_decode.specs.Text.{slots_of, width_at, IsInstruction};
 ghost use Rattle.verifier_kinds.specs.Kinds.{IsKind};
 ghost use Rattle.verifier_kinds.specs.Descriptions.{IsDescription};
 ghost use Rattle.verifier.specs.Flow.{dst_is_known, computed_kind, after_alu, is_returned, falls_on, flow_of_exit, flow};
+ghost use Rattle.verifier_kinds.specs.declared.description.Description.{Description};
+ghost use Rattle.verifier.specs.declared.way.Way.TheVariants.{Ends, Falls};
+ghost use Rattle.verifier.specs.Way.{HasDst, FallsTo, LeadsBelow, done, flow_of_way, ways_of};
 ghost use Rattle.verifier.specs.Pass.{AreDescribed, targets_in, flow_in};
 
 use crate::access::{after_load, after_load_immediate, after_store};
 use crate::calls::after_call;
 use crate::candidate::Candidate;
 use crate::rules::{both, operand_kind, read_kind, write_kind};
+use crate::way::Way;
 use bpf_decode::{AluCode, Insn, Operation, Source, Width};
 use host_types::rule::POINTER_LEAKS;
 use verifier_kinds::{Description, Kind, arith};
@@ -63,21 +67,21 @@ fn computed_kind(
     arith(insn, d.register(insn.dst), operand)
 }
 
-/// What is known after arithmetic.
+/// Makes of the description what is known after arithmetic.
 #[tactic(auto, unfolding(crate::specs::Flow::after_alu))]
 fn after_alu(
     code: AluCode,
     width: Width,
     source: Source,
     insn: &Insn,
-    d: &Description,
-) -> Result<Description, u32>
+    d: &mut Description,
+) -> Result<(), u32>
     requires operation { operation_of insn.now.opcode ≡ Some (Alu code width source) }
     requires dst { insn.now.dst ≤ 10 }
     requires src { insn.now.src ≤ 10 }
-    requires description { IsDescription d.now }
-    ensures description { result ≡ after_alu code width source insn.now d.now }
-    ensures meets { IfOk result IsDescription }
+    requires description { IsDescription d.old }
+    ensures description { done result d.new ≡ after_alu code width source insn.now d.old }
+    ensures meets { OnOk result (IsDescription d.new) }
 {
     let kind = computed_kind(code, width, source, insn, d);
     write_kind(d, insn.dst, kind)
@@ -94,42 +98,38 @@ fn is_returned(kind: Kind) -> Result<(), u32>
 }
 
 /// Nothing flows on from the end, where R0 is returned.
-fn returned(d: &Description) -> Result<Onward, u32>
+fn returned(d: &Description) -> Result<Way, u32>
     requires { IsDescription d.now }
-    ensures flow { flow_in result ≡ flow_of_exit d.now }
-    ensures none { IfOk result (λ onward. AreDescribed (targets_in onward)) }
+    ensures flow { flow_of_way result d.now ≡ flow_of_exit d.now }
+    ensures none { IfOk result (λ way. way ≡ Ends) }
 {
     let kind = read_kind(d, 0)?;
     is_returned(kind)?;
-    Ok(Onward {
-        next: None,
-        jump: None,
-    })
+    Ok(Way::Ends)
 }
 
 impl Candidate {
-    /// Where the instruction at a slot leads that falls through.
-    fn falls_on(&self, slot: u32, after: Result<Description, u32>) -> Result<Onward, u32>
-        requires instruction { IsInstruction self.now.text slot }
-        requires description { IfOk after IsDescription }
-        ensures flow { flow_in result ≡ falls_on self.now slot after }
-        ensures described { IfOk result (λ onward. AreDescribed (targets_in onward)) }
+    /// Where the instruction at a slot leads that falls through, whatever is known after it.
+    fn falls_on(&self, slot: u32, after: Result<(), u32>) -> Result<Way, u32>
+        requires { IsInstruction self.now.text slot }
+        ensures flow { (d : Description) → flow_of_way result d ≡ falls_on self.now slot (done after d) }
+        ensures falls { IfOk result (λ way. (to : ℕ) × (way ≡ Falls to) × (to ≡ slot + width_at self.now.text slot)) }
     {
-        let (description, slot) = both(after, self.falls_to(slot))?;
-        Ok(Onward {
-            next: Some(Target { slot, description }),
-            jump: None,
-        })
+        let ((), to) = both(after, self.falls_to(slot))?;
+        Ok(Way::Falls(to))
     }
 
-    /// Where the instruction at a slot leads from a description. The error is the smallest number of
-    /// the rules that it breaks, 11 to 25.
+    /// Makes of a description what is known after the instruction at a slot, and tells where it leads.
+    /// The error is the smallest number of the rules that it breaks, 11 to 25.
     #[tactic(auto, unfolding(crate::specs::Flow::flow_by))]
-    pub fn flow(&self, slot: u32, d: &Description) -> Result<Onward, u32>
+    pub(crate) fn flow_in_place(&self, slot: u32, d: &mut Description) -> Result<Way, u32>
         requires instruction { IsInstruction self.now.text slot }
-        requires description { IsDescription d.now }
-        ensures flow { flow_in result ≡ flow self.now slot d.now }
-        ensures described { IfOk result (λ onward. AreDescribed (targets_in onward)) }
+        requires description { IsDescription d.old }
+        ensures flow { flow_of_way result d.new ≡ flow self.now slot d.old }
+        ensures described { IfOk result (λ way. AreDescribed (ways_of way d.new)) }
+        ensures dst { IfOk result HasDst }
+        ensures falls { IfOk result (FallsTo (slot + width_at self.now.text slot)) }
+        ensures within { IfOk result (LeadsBelow (slots_of self.now.text)) }
     {
         let insn = self.insn(slot);
         let after = match insn.operation() {
@@ -142,7 +142,7 @@ impl Candidate {
             Operation::Store { size, source } => after_store(size, source, &insn, d),
             Operation::LoadImmediate => after_load_immediate(&insn, d),
             Operation::Call => after_call(&insn, d),
-            Operation::Jump { distance } => return self.jumps(distance, slot, &insn, d),
+            Operation::Jump { distance } => return self.jumps(distance, slot, &insn),
             Operation::Branch {
                 comparison,
                 width,
@@ -151,5 +151,18 @@ impl Candidate {
             Operation::Exit => return returned(d),
         };
         self.falls_on(slot, after)
+    }
+
+    /// Where the instruction at a slot leads from a description. The error is the smallest number of
+    /// the rules that it breaks, 11 to 25.
+    pub fn flow(&self, slot: u32, d: &Description) -> Result<Onward, u32>
+        requires instruction { IsInstruction self.now.text slot }
+        requires description { IsDescription d.now }
+        ensures flow { flow_in result ≡ flow self.now slot d.now }
+        ensures described { IfOk result (λ onward. AreDescribed (targets_in onward)) }
+    {
+        let mut after = *d;
+        let way = self.flow_in_place(slot, &mut after)?;
+        Ok(way.onward(&after))
     }
 }

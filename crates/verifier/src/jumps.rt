@@ -1,28 +1,21 @@
 //! Jumps: where they lead, and what the comparison of a conditional jump tells on each of its ways.
 
-ghost use Rattle.std.specs.Prelude.{◌≡◌, ◌≤◌, IfOk, IfSome};
-ghost use Rattle.bpf_decode.specs.Text.{insn_at, IsInstruction};
+ghost use Rattle.std.specs.Prelude.{◌≡◌, ◌+◌, ◌<◌, ◌≤◌, ℕ, IfOk};
+ghost use Rattle.bpf_decode.specs.Text.{slots_of, width_at, IsInstruction};
 ghost use Rattle.verifier_kinds.specs.Kinds.{IsKind, IsNormal};
 ghost use Rattle.verifier_kinds.specs.Descriptions.{IsDescription};
-ghost use Rattle.verifier.specs.Flow.{target, are_numbers, compared_ranges, on_way, flow_of_branch, flow_of_jump};
-ghost use Rattle.verifier.specs.Pass.{AreDescribed, target_in, targets_in, flow_in};
+ghost use Rattle.verifier_kinds.specs.declared.description.Description.{Description};
+ghost use Rattle.verifier.specs.declared.way.Way.TheVariants.{Jumps};
+ghost use Rattle.verifier.specs.Flow.{are_numbers, compared_ranges, flow_of_branch, flow_of_jump};
+ghost use Rattle.verifier.specs.Way.{HasDst, FallsTo, LeadsBelow, flow_of_way, ways_of};
+ghost use Rattle.verifier.specs.Pass.{AreDescribed};
 
 use crate::candidate::Candidate;
-use crate::flow::{Onward, Target};
 use crate::rules::{both, operand_kind, read_kind};
+use crate::way::{Fork, Way};
 use bpf_decode::{Comparison, Distance, Insn, Source, Width};
 use host_types::rule::WRONG_KIND;
 use verifier_kinds::{Description, Kind, Range, refined};
-
-/// A target that is reached where something is known there.
-fn target(slot: u32, description: Option<Description>) -> Option<Target>
-    requires { IfSome description IsDescription }
-    ensures target { target_in result ≡ target slot description }
-    ensures described { AreDescribed (target_in result) }
-{
-    let description = description?;
-    Some(Target { slot, description })
-}
 
 /// Only numbers are compared.
 fn are_numbers(dst: Kind, operand: Kind) -> Result<(Range, Range), u32>
@@ -56,51 +49,15 @@ fn compared_ranges(
     are_numbers(dst, operand)
 }
 
-/// What is known on one way of a conditional jump: the comparison tells of dst alone.
-fn on_way(
-    comparison: Comparison,
-    width: Width,
-    taken: bool,
-    insn: &Insn,
-    d: &Description,
-    ranges: (Range, Range),
-) -> Option<Description>
-    requires dst { insn.now.dst ≤ 10 }
-    requires description { IsDescription d.now }
-    requires left { IsNormal ranges.0 }
-    requires right { IsNormal ranges.1 }
-    ensures description { result ≡ on_way comparison width taken insn.now d.now ranges }
-    ensures meets { IfSome result IsDescription }
-{
-    let (a, b) = ranges;
-    let range = refined(comparison, width, taken, a, b)?;
-    let mut after = *d;
-    after.set_register(insn.dst, Kind::Scalar(range));
-    Some(after)
-}
-
 impl Candidate {
-    /// Where a jump at a slot leads that is always taken.
-    pub(crate) fn jumps(
-        &self,
-        distance: Distance,
-        slot: u32,
-        insn: &Insn,
-        d: &Description,
-    ) -> Result<Onward, u32>
+    /// Where a jump at a slot leads that is always taken, whatever is known there.
+    pub(crate) fn jumps(&self, distance: Distance, slot: u32, insn: &Insn) -> Result<Way, u32>
         requires instruction { IsInstruction self.now.text slot }
-        requires description { IsDescription d.now }
-        ensures flow { flow_in result ≡ flow_of_jump self.now distance insn.now slot d.now }
-        ensures described { IfOk result (λ onward. AreDescribed (targets_in onward)) }
+        ensures flow { (d : Description) → flow_of_way result d ≡ flow_of_jump self.now distance insn.now slot d }
+        ensures jumps { IfOk result (λ way. (to : ℕ) × (way ≡ Jumps to) × (to < slots_of self.now.text)) }
     {
-        let slot = self.jumps_to(slot, insn.distance(distance))?;
-        Ok(Onward {
-            next: None,
-            jump: Some(Target {
-                slot,
-                description: *d,
-            }),
-        })
+        let to = self.jumps_to(slot, insn.distance(distance))?;
+        Ok(Way::Jumps(to))
     }
 
     /// Where a conditional jump at a slot leads. Both targets are judged, also where nothing goes one
@@ -113,23 +70,29 @@ impl Candidate {
         slot: u32,
         insn: &Insn,
         d: &Description,
-    ) -> Result<Onward, u32>
+    ) -> Result<Way, u32>
         requires instruction { IsInstruction self.now.text slot }
         requires dst { insn.now.dst ≤ 10 }
         requires src { insn.now.src ≤ 10 }
         requires description { IsDescription d.now }
-        ensures flow { flow_in result ≡ flow_of_branch self.now comparison width source insn.now slot d.now }
-        ensures described { IfOk result (λ onward. AreDescribed (targets_in onward)) }
+        ensures flow { flow_of_way result d.now ≡ flow_of_branch self.now comparison width source insn.now slot d.now }
+        ensures described { IfOk result (λ way. AreDescribed (ways_of way d.now)) }
+        ensures dst { IfOk result HasDst }
+        ensures falls { IfOk result (FallsTo (slot + width_at self.now.text slot)) }
+        ensures within { IfOk result (LeadsBelow (slots_of self.now.text)) }
     {
         let compared = compared_ranges(width, source, insn, d);
         let targets = both(
             self.falls_to(slot),
             self.jumps_to(slot, i32::from(insn.offset)),
         );
-        let (ranges, (next, jump)) = both(compared, targets)?;
-        Ok(Onward {
-            next: target(next, on_way(comparison, width, false, insn, d, ranges)),
-            jump: target(jump, on_way(comparison, width, true, insn, d, ranges)),
-        })
+        let ((a, b), (next, jump)) = both(compared, targets)?;
+        Ok(Way::Forks(Fork {
+            dst: insn.dst,
+            next,
+            fallen: refined(comparison, width, false, a, b),
+            jump,
+            jumped: refined(comparison, width, true, a, b),
+        }))
     }
 }

@@ -15,6 +15,7 @@ mod targets;
 #[cfg(test)]
 mod tests;
 mod verified;
+mod way;
 
 pub use candidate::Candidate;
 pub use flow::{Onward, Target};

@@ -1,9 +1,10 @@
 //! The questions that several operations ask.
 
-ghost use Rattle.std.specs.Prelude.{◌≡◌, ◌≤◌, IfOk};
+ghost use Rattle.std.specs.Prelude.{◌≡◌, ◌≤◌, IfOk, OnOk};
 ghost use Rattle.verifier_kinds.specs.Kinds.{IsKind};
 ghost use Rattle.verifier_kinds.specs.Descriptions.{IsDescription};
 ghost use Rattle.verifier.specs.Flow.{both, read_kind, writable, write_kind, immediate_kind, operand_kind};
+ghost use Rattle.verifier.specs.Way.{done};
 
 use bpf_decode::{Insn, Source, Width};
 use host_types::rule::{FRAME_WRITTEN, UNSET_REGISTER};
@@ -51,22 +52,21 @@ fn writable(register: u8) -> Result<(), u32>
     }
 }
 
-/// The description with a kind written to a register.
+/// Writes a kind to a register of the description.
 pub(crate) fn write_kind(
-    d: &Description,
+    d: &mut Description,
     register: u8,
     kind: Result<Kind, u32>,
-) -> Result<Description, u32>
+) -> Result<(), u32>
     requires register { register ≤ 10 }
-    requires description { IsDescription d.now }
+    requires description { IsDescription d.old }
     requires kind { IfOk kind IsKind }
-    ensures description { result ≡ write_kind d.now register kind }
-    ensures meets { IfOk result IsDescription }
+    ensures description { done result d.new ≡ write_kind d.old register kind }
+    ensures meets { OnOk result (IsDescription d.new) }
 {
     let (kind, ()) = both(kind, writable(register))?;
-    let mut after = *d;
-    after.set_register(register, kind);
-    Ok(after)
+    d.set_register(register, kind);
+    Ok(())
 }
 
 /// The kind of the number of an immediate, as a width takes it.

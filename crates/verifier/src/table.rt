@@ -1,88 +1,295 @@
-//! The table of a program, made in one pass over its slots.
+//! The pass over the slots of a program, which makes its table.
 
-ghost use Rattle.std.specs.Prelude.{◌≡◌, ℕ, ◌+◌, ◌<◌, length, IfSome, IfOk, IfErr, OnOk, ◌⊎◌};
+ghost use Rattle.std.specs.Prelude.{◌≡◌, ◌≢◌, ℕ, ◌+◌, ◌<◌, ◌≤◌, ◌++◌, ◌∷◌, [], true, length, map, slice_set, option_map, Some, None, IfOk, IfErr, OnOk, ◌⊎◌};
 ghost use Rattle.host_types.specs.declared.fault.Refused.{Refused};
-ghost use Rattle.bpf_decode.specs.Text.{slots_of, IsWellFormed, out_of_memory};
-ghost use Rattle.verifier.specs.Table.{described, joined, arrived, IsRefusal};
-ghost use Rattle.verifier.specs.Pass.{target_in, IsPassed};
+ghost use Rattle.bpf_decode.specs.Text.{slots_of, IsInstruction, IsWellFormed, out_of_memory};
+ghost use Rattle.verifier_kinds.specs.declared.kind.Kind.{Kind};
+ghost use Rattle.verifier_kinds.specs.declared.kind.Kind.TheVariants.{Scalar};
+ghost use Rattle.verifier_kinds.specs.Descriptions.{with_kind};
+ghost use Rattle.verifier.specs.declared.way.Way.TheVariants.{Forks};
+ghost use Rattle.verifier.specs.Flow.{target};
+ghost use Rattle.verifier.specs.Table.{arrived, joined, tight_table, IsCleanBefore, IsRefusal};
+ghost use Rattle.verifier.specs.Way.{HasDst, FallsTo, LeadsBelow, ways_of};
+ghost use Rattle.verifier.specs.Pass.{FlowDescribed, falling, kinds_in, met, pending_at, HasPassed};
 
 use crate::candidate::Candidate;
-use crate::flow::Target;
+use crate::way::{Fork, Way};
 use host_types::Refused;
 use std::alloc::{AllocError, Global};
-use verifier_kinds::Description;
+use verifier_kinds::{Description, Kind, Range};
 
-/// Lets a description flow to a slot, if there is one: what is known there is joined with it.
-fn enter(table: &mut Vec<Option<Description>>, target: Option<Target>)
-    requires within { IfSome target (λ t. t.slot < length table.old.items) }
-    ensures len { length table.new.items ≡ length table.old.items }
-    ensures arrived { (s : ℕ) → described table.new.items s ≡ arrived s (described table.old.items s) (target_in target) }
+/// The kinds of the registers at a slot.
+pub(crate) type Registers = [Option<Kind>; 11];
+
+/// What is known at the slots to which jumps lead.
+type Pending = Vec<Option<Box<Description>>>;
+
+/// What a pass has found before a slot: the kinds of the registers at each slot behind, what is known
+/// at the slots ahead to which jumps lead, and what falls through to the next instruction, if it `falls`.
+#[derive(Drop)]
+struct Pass {
+    kept: Vec<Option<Registers>>,
+    pending: Pending,
+    current: Description,
+    falls: bool,
+}
+
+/// Of no slot anything is known.
+fn none_pending(alloc: Global, slots: u32) -> Result<Pending, AllocError>
+    ensures len { IfOk result (λ pending. length pending.items ≡ slots) }
+    ensures none { IfOk result (λ pending. (s : ℕ) → pending_at pending.items s ≡ None) }
 {
-    let Some(target) = target else {
-        return;
-    };
-    let known = &mut table[target.slot as usize];
-    *known = Some(joined(known, target.description));
+    let mut pending = Vec::with_capacity(alloc, slots as usize)?;
+    for _slot in 0..slots {
+        pending.push(None)?;
+    }
+    Ok(pending)
 }
 
 /// What is known, joined with what comes.
-fn joined(known: &Option<Description>, coming: Description) -> Description
-    ensures { result ≡ joined known.now coming }
+fn joined(
+    alloc: Global,
+    known: Option<Box<Description>>,
+    coming: &Description,
+) -> Result<Box<Description>, AllocError>
+    ensures { IfOk result (λ after. after.value ≡ joined (option_map (λ b. b.value) known) coming.now) }
 {
-    match known {
-        Some(known) => known.join(&coming),
-        None => coming,
-    }
+    let Some(mut known) = known else {
+        return Ok(Box::new(alloc, *coming)?);
+    };
+    *known = known.join(coming);
+    Ok(known)
 }
 
-/// Lets flow on what is known at a slot. The error is the number of the rule that the slot breaks.
-fn pass_slot(
-    candidate: &Candidate,
-    table: &mut Vec<Option<Description>>,
+/// Lets a description flow to a slot: what is known there is joined with it.
+fn enter(
+    alloc: Global,
+    pending: &mut Pending,
     slot: u32,
-) -> Result<(), u32>
-    requires text { IsWellFormed candidate.now.text }
-    requires slot { slot < slots_of candidate.now.text }
-    requires passed { IsPassed candidate.now table.old.items slot }
-    ensures passed { OnOk result (IsPassed candidate.now table.new.items (slot + 1)) }
-    ensures refused { IfErr result (λ number. IsRefusal candidate.now (record { number = number; slot = slot })) }
+    coming: &Description,
+) -> Result<(), AllocError>
+    requires { slot < length pending.old.items }
+    ensures len { length pending.new.items ≡ length pending.old.items }
+    ensures arrived { OnOk result ((s : ℕ) → pending_at pending.new.items s ≡ arrived s (pending_at pending.old.items s) (target slot (Some coming.now))) }
 {
-    let Some(known) = &table[slot as usize] else {
-        return Ok(());
-    };
-    let onward = candidate.flow(slot, known)?;
-    enter(table, onward.next);
-    enter(table, onward.jump);
+    let known = pending[slot as usize].take();
+    pending[slot as usize] = Some(joined(alloc, known, coming)?);
     Ok(())
 }
 
-/// The table with which a pass begins: at slot 0 it is known what a program begins with.
-fn start_table(alloc: Global, candidate: &Candidate) -> Result<Vec<Option<Description>>, AllocError>
-    ensures { IfOk result (λ table. IsPassed candidate.now table.items 0) }
+/// Makes of a description what is known on a way of a conditional jump; the answer is whether that way
+/// may be gone.
+fn tell(d: &mut Description, dst: u8, range: Option<Range>) -> bool
+    requires { dst ≤ 10 }
+    ensures told { falling result d.new ≡ option_map (λ range. with_kind d.old dst (Scalar range)) range }
+    ensures same { (kind : Kind) → with_kind d.new dst kind ≡ with_kind d.old dst kind }
 {
-    let slots = candidate.slots() as usize;
-    let mut table = Vec::new(alloc);
-    table.resize(slots, None)?;
-    table[0] = Some(Description::start());
-    Ok(table)
+    let Some(range) = range else {
+        return false;
+    };
+    d.set_register(dst, Kind::Scalar(range));
+    true
 }
 
-/// The table of a text in which no slot breaks a rule, or else the refusal of the text. Want of
-/// memory is 41 at slot 0.
-pub(crate) fn make_table(
+/// Lets flow to a slot what is known on a way of a conditional jump, if that may be gone.
+fn send(
+    alloc: Global,
+    pending: &mut Pending,
+    slot: u32,
+    d: &mut Description,
+    dst: u8,
+    range: Option<Range>,
+) -> Result<(), AllocError>
+    requires slot { slot < length pending.old.items }
+    requires dst { dst ≤ 10 }
+    ensures len { length pending.new.items ≡ length pending.old.items }
+    ensures arrived { OnOk result ((s : ℕ) → pending_at pending.new.items s
+        ≡ arrived s (pending_at pending.old.items s) (target slot (option_map (λ range. with_kind d.old dst (Scalar range)) range))) }
+    ensures same { (kind : Kind) → with_kind d.new dst kind ≡ with_kind d.old dst kind }
+{
+    if tell(d, dst, range) {
+        enter(alloc, pending, slot, d)?;
+    }
+    Ok(())
+}
+
+impl Pass {
+    /// Before the first slot the start's description falls to it, and nothing else is known.
+    fn begin(alloc: Global, candidate: &Candidate) -> Result<Pass, AllocError>
+        ensures { IfOk result (λ pass. HasPassed candidate.now pass 0) }
+    {
+        let slots = candidate.slots();
+        Ok(Pass {
+            kept: Vec::with_capacity(alloc, slots as usize)?,
+            pending: none_pending(alloc, slots)?,
+            current: Description::start(),
+            falls: true,
+        })
+    }
+
+    /// Makes `current` what is known at a slot: what jumps led there, joined with what falls there.
+    fn arrive(&mut self, slot: u32)
+        requires { slot < length self.old.pending.items }
+        ensures kept { self.new.kept ≡ self.old.kept }
+        ensures len { length self.new.pending.items ≡ length self.old.pending.items }
+        ensures known { falling self.new.falls self.new.current ≡ met (pending_at self.old.pending.items slot) (falling self.old.falls self.old.current) }
+        ensures others { (s : ℕ) → s ≢ slot → pending_at self.new.pending.items s ≡ pending_at self.old.pending.items s }
+    {
+        let Some(known) = self.pending[slot as usize].take() else {
+            return;
+        };
+        self.current = if self.falls {
+            known.join(&self.current)
+        } else {
+            *known
+        };
+        self.falls = true;
+    }
+
+    /// Lets `current` flow on both ways of a conditional jump. Where both lead to one slot, what falls
+    /// through is joined first.
+    fn part(&mut self, alloc: Global, fork: Fork) -> Result<(), AllocError>
+        requires dst { fork.dst ≤ 10 }
+        requires next { fork.next < length self.old.pending.items }
+        requires jump { fork.jump < length self.old.pending.items }
+        ensures kept { self.new.kept ≡ self.old.kept }
+        ensures len { length self.new.pending.items ≡ length self.old.pending.items }
+        ensures arrived { OnOk result ((s : ℕ) → arrived s (pending_at self.new.pending.items s) (target fork.next (falling self.new.falls self.new.current))
+            ≡ arrived s (pending_at self.old.pending.items s) (ways_of (Forks fork) self.old.current)) }
+    {
+        let Fork {
+            dst,
+            next,
+            fallen,
+            jump,
+            jumped,
+        } = fork;
+        if next == jump {
+            send(
+                alloc,
+                &mut self.pending,
+                next,
+                &mut self.current,
+                dst,
+                fallen,
+            )?;
+            send(
+                alloc,
+                &mut self.pending,
+                jump,
+                &mut self.current,
+                dst,
+                jumped,
+            )?;
+            self.falls = false;
+        } else {
+            send(
+                alloc,
+                &mut self.pending,
+                jump,
+                &mut self.current,
+                dst,
+                jumped,
+            )?;
+            self.falls = tell(&mut self.current, dst, fallen);
+        }
+        Ok(())
+    }
+
+    /// Lets `current` flow where an instruction leads.
+    fn follow(&mut self, alloc: Global, way: Way) -> Result<(), AllocError>
+        requires dst { HasDst way }
+        requires within { LeadsBelow (length self.old.pending.items) way }
+        requires falls { self.old.falls ≡ true }
+        ensures kept { self.new.kept ≡ self.old.kept }
+        ensures len { length self.new.pending.items ≡ length self.old.pending.items }
+        ensures arrived { OnOk result ((next s : ℕ) → FallsTo next way → arrived s (pending_at self.new.pending.items s) (target next (falling self.new.falls self.new.current))
+            ≡ arrived s (pending_at self.old.pending.items s) (ways_of way self.old.current)) }
+    {
+        match way {
+            Way::Ends => self.falls = false,
+            Way::Falls(_) => {}
+            Way::Jumps(to) => {
+                enter(alloc, &mut self.pending, to, &self.current)?;
+                self.falls = false;
+            }
+            Way::Forks(fork) => self.part(alloc, fork)?,
+        }
+        Ok(())
+    }
+
+    /// Judges the instruction at a slot by what is known there, if it is reached. The error is the
+    /// refusal of the text, or want of memory.
+    fn judge(&mut self, alloc: Global, candidate: &Candidate, slot: u32) -> Result<(), Refused>
+        requires text { IsWellFormed candidate.now.text }
+        requires instruction { IsInstruction candidate.now.text slot }
+        requires passed { HasPassed candidate.now self.old slot }
+        ensures passed { OnOk result (HasPassed candidate.now self.new (slot + 1)) }
+        ensures refused { IfErr result (λ refused. (refused ≡ out_of_memory) ⊎ IsRefusal candidate.now refused) }
+    {
+        self.arrive(slot);
+        if !self.falls {
+            self.keep(None)?;
+            return Ok(());
+        }
+        self.keep(Some(self.current.registers))?;
+        let way = match candidate.flow_in_place(slot, &mut self.current) {
+            Ok(way) => way,
+            Err(number) => return Err(Refused { number, slot }),
+        };
+        let Ok(()) = self.follow(alloc, way) else {
+            return Err(Refused::OUT_OF_MEMORY);
+        };
+        Ok(())
+    }
+
+    /// Keeps the kinds of the registers at the next slot.
+    fn keep(&mut self, registers: Option<Registers>) -> Result<(), Refused>
+        ensures kept { OnOk result (self.new.kept.items ≡ self.old.kept.items ++ registers ∷ []) }
+        ensures pending { self.new.pending ≡ self.old.pending }
+        ensures current { self.new.current ≡ self.old.current }
+        ensures falls { self.new.falls ≡ self.old.falls }
+        ensures memory { IfErr result (λ refused. refused ≡ out_of_memory) }
+    {
+        match self.kept.push(registers) {
+            Ok(()) => Ok(()),
+            Err(_) => Err(Refused::OUT_OF_MEMORY),
+        }
+    }
+
+    /// Passes over a slot. The error is the refusal of the text, or want of memory.
+    fn pass_slot(&mut self, alloc: Global, candidate: &Candidate, slot: u32) -> Result<(), Refused>
+        requires text { IsWellFormed candidate.now.text }
+        requires slot { slot < slots_of candidate.now.text }
+        requires passed { HasPassed candidate.now self.old slot }
+        ensures passed { OnOk result (HasPassed candidate.now self.new (slot + 1)) }
+        ensures refused { IfErr result (λ refused. (refused ≡ out_of_memory) ⊎ IsRefusal candidate.now refused) }
+    {
+        if candidate.begins(slot) {
+            self.judge(alloc, candidate, slot)?;
+        } else {
+            self.keep(None)?;
+        }
+        Ok(())
+    }
+}
+
+/// The kinds of the registers at each slot of a text in which no slot breaks a rule, or else the refusal
+/// of the text. Want of memory is 41 at slot 0.
+pub(crate) fn kept_kinds(
     alloc: Global,
     candidate: &Candidate,
-) -> Result<Vec<Option<Description>>, Refused>
-    ensures passed { IfOk result (λ table. IsPassed candidate.now table.items (slots_of candidate.now.text)) }
+) -> Result<Vec<Option<Registers>>, Refused>
+    ensures kept { IfOk result (λ kept. kept.items ≡ map kinds_in (tight_table candidate.now)) }
+    ensures clean { IfOk result (λ kept. IsCleanBefore candidate.now (tight_table candidate.now) (slots_of candidate.now.text)) }
+    ensures flows { IfOk result (λ kept. FlowDescribed candidate.now (tight_table candidate.now) (slots_of candidate.now.text)) }
     ensures refused { IfErr result (λ refused. (refused ≡ out_of_memory) ⊎ IsRefusal candidate.now refused) }
 {
-    let Ok(mut table) = start_table(alloc, candidate) else {
+    let Ok(mut pass) = Pass::begin(alloc, candidate) else {
         return Err(Refused::OUT_OF_MEMORY);
     };
     for slot in 0..candidate.slots() {
-        if let Err(number) = pass_slot(candidate, &mut table, slot) {
-            return Err(Refused { number, slot });
-        }
+        pass.pass_slot(alloc, candidate, slot)?;
     }
-    Ok(table)
+    Ok(pass.kept)
 }

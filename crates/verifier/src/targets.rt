@@ -1,7 +1,7 @@
 //! The slots to which an instruction may lead.
 
-ghost use Rattle.std.specs.Prelude.{◌≡◌};
-ghost use Rattle.bpf_decode.specs.Text.{IsInstruction};
+ghost use Rattle.std.specs.Prelude.{◌≡◌, ◌+◌, ◌<◌, IfOk};
+ghost use Rattle.bpf_decode.specs.Text.{slots_of, width_at, IsInstruction};
 ghost use Rattle.verifier.specs.Flow.{falls_to, lands_on, jumps_to};
 
 use crate::candidate::Candidate;
@@ -12,7 +12,9 @@ impl Candidate {
     #[tactic(auto, unfolding(bpf_decode::specs::Text::insn_at))]
     pub(crate) fn falls_to(&self, slot: u32) -> Result<u32, u32>
         requires { IsInstruction self.now.text slot }
-        ensures { result ≡ falls_to self.now.text slot }
+        ensures to { result ≡ falls_to self.now.text slot }
+        ensures behind { IfOk result (λ to. to ≡ slot + width_at self.now.text slot) }
+        ensures within { IfOk result (λ to. to < slots_of self.now.text) }
     {
         let slots = self.slots();
         let to = slot + self.insn(slot).slots();
@@ -24,7 +26,8 @@ impl Candidate {
     #[tactic(auto, unfolding(bpf_decode::specs::Text::insn_at))]
     pub(crate) fn jumps_to(&self, slot: u32, distance: i32) -> Result<u32, u32>
         requires { IsInstruction self.now.text slot }
-        ensures { result ≡ jumps_to self.now.text slot distance }
+        ensures to { result ≡ jumps_to self.now.text slot distance }
+        ensures within { IfOk result (λ to. to < slots_of self.now.text) }
     {
         let _slots = self.slots();
         let next = slot + self.insn(slot).slots();
@@ -34,7 +37,8 @@ impl Candidate {
     /// A slot to which the instruction at a slot may jump: one behind it, at which an instruction
     /// begins.
     fn lands_on(&self, slot: u32, to: i64) -> Result<u32, u32>
-        ensures { result ≡ lands_on self.now.text slot to }
+        ensures to { result ≡ lands_on self.now.text slot to }
+        ensures within { IfOk result (λ to. to < slots_of self.now.text) }
     {
         let Ok(to) = u64::try_from(to) else {
             return Err(BACK_JUMP);

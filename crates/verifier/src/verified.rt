@@ -6,33 +6,36 @@ ghost use Rattle.verifier.specs.Table.{IsRefusal};
 ghost use Rattle.verifier.specs.Verified.{AreShapes, IsVerified, kind_at};
 
 use crate::candidate::Candidate;
-use crate::table::make_table;
+use crate::table::{Registers, kept_kinds};
 use bpf_decode::{Insn, Program};
 use host_types::{Refused, Shape};
 use std::alloc::Global;
 use std::marker::Model;
-use verifier_kinds::{Description, Kind};
+use verifier_kinds::Kind;
 
 /// An accepted program, with the shapes of the maps that it may use, the size of its context, and
 /// what is known at each of its slots. Contracts see these.
 #[derive(Drop)]
 pub struct Verified {
     candidate: Candidate,
-    table: Vec<Option<Description>>,
+    kept: Vec<Option<Registers>>,
     instructions: u32,
 }
 
 impl Model for Verified {
-    ghost use Rattle.std.specs.Prelude.{◌≡◌};
+    ghost use Rattle.std.specs.Prelude.{◌≡◌, map};
     ghost use Rattle.bpf_decode.specs.Text.{instructions_of};
+    ghost use Rattle.verifier.specs.Table.{tight_table};
+    ghost use Rattle.verifier.specs.Pass.{kinds_in};
     ghost use Rattle.verifier.specs.Verified.{Accepted, IsVerified};
 
     ghost Value = { Accepted };
 
-    ghost view = { λ v. record { subject = v.candidate; table = v.table.items } };
+    ghost view = { λ v. record { subject = v.candidate; table = tight_table v.candidate } };
 
     ghost invariant = { λ v. record {
-      verified : IsVerified (record { subject = v.candidate; table = v.table.items });
+      verified : IsVerified (record { subject = v.candidate; table = tight_table v.candidate });
+      kept : v.kept.items ≡ map kinds_in (tight_table v.candidate);
       counted : v.instructions ≡ instructions_of v.candidate.text;
     } };
 }
@@ -78,8 +81,8 @@ impl Verified {
         requires { register ≤ 10 }
         ensures { result ≡ kind_at self.now.table slot register }
     {
-        let known = self.table.get(slot as usize)?.as_ref()?;
-        known.register(register)
+        let known = self.kept.get(slot as usize)?.as_ref()?;
+        known[usize::from(register)]
     }
 
     /// The shapes of the maps that the program may use, by number.
@@ -100,7 +103,7 @@ impl Verified {
     pub fn facts(&self)
         ensures { IsVerified self.now }
     {
-        let _opened = &self.table;
+        let _opened = &self.kept;
     }
 }
 
@@ -123,11 +126,11 @@ pub fn verify(
     let Ok(candidate) = Candidate::new(alloc, program, shapes, ctx_size) else {
         return Err(Refused::OUT_OF_MEMORY);
     };
-    let table = make_table(alloc, &candidate)?;
+    let kept = kept_kinds(alloc, &candidate)?;
     let instructions = candidate.count_instructions();
     Ok(Verified {
         candidate,
-        table,
+        kept,
         instructions,
     })
 }

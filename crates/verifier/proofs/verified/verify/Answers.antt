@@ -5,10 +5,11 @@ use Rattle.verifier.proofs.verified.verify.Goals as goal
 
 pub invariant_of-result : goal.invariant_of-result
 invariant_of-result c = record {
-  verified = passed_verified c.in-Ok.candidate c.in_ok-table.table.items (subst IsSubject c.candidate.view_is c.candidate.invariant) c.in_ok-table.ensures.passed;
+  verified = passed_verified c.in-Ok.candidate (subst IsSubject c.candidate.view_is c.candidate.invariant) c.in_ok-kept.ensures.clean c.in_ok-kept.ensures.flows;
+  kept = c.in_ok-kept.ensures.kept;
   counted = c.count_instructions-instructions.ensures;
 }
 
 pub returns-clause-verified : goal.returns-clause-verified
 returns-clause-verified c =
-    passed_verified c.in-Ok.candidate c.in_ok-table.table.items (subst IsSubject c.candidate.view_is c.candidate.invariant) c.in_ok-table.ensures.passed
+    passed_verified c.in-Ok.candidate (subst IsSubject c.candidate.view_is c.candidate.invariant) c.in_ok-kept.ensures.clean c.in_ok-kept.ensures.flows

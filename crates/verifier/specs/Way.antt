@@ -1,0 +1,49 @@
+-- Where an instruction leads, as the pass has it: the description is changed in place, and a conditional
+-- jump tells a range of dst on each of its ways.
+use Rattle.std.specs.Prelude.{◌≡◌, ℕ, ◌<◌, ◌≤◌, List, [], ◌++◌, Option, Some, option_map, Result, Ok, Err}
+use Rattle.verifier_kinds.specs.declared.kind.Range.{Range}
+use Rattle.verifier_kinds.specs.declared.kind.Kind.TheVariants.{Scalar}
+use Rattle.verifier_kinds.specs.declared.description.Description.{Description}
+use Rattle.verifier_kinds.specs.Descriptions.{with_kind}
+use Rattle.verifier.specs.declared.way.Fork.{Fork}
+use Rattle.verifier.specs.declared.way.Way.{Way}
+use Rattle.verifier.specs.declared.way.Way.TheVariants.{Ends, Falls, Jumps, Forks}
+use Rattle.verifier.specs.Flow.{target}
+
+-- what is known on a way of a conditional jump: a range of dst alone, if any number goes that way
+abbrev pub told : Fork → Option Range → Description → Option Description
+told fork range d = option_map (λ range. with_kind d fork.dst (Scalar range)) range
+
+-- the targets, from what is known after the instruction
+abbrev pub ways_of : Way → Description → List (ℕ × Description)
+ways_of Ends d = []
+ways_of (Falls to) d = target to (Some d)
+ways_of (Jumps to) d = target to (Some d)
+ways_of (Forks fork) d = target fork.next (told fork fork.fallen d) ++ target fork.jump (told fork fork.jumped d)
+
+-- a conditional jump tells of one of the registers
+abbrev pub HasDst : Way → Type 0
+HasDst (Forks fork) = fork.dst ≤ 10
+HasDst way = Unit {0}
+
+-- if it falls through, then to this slot
+abbrev pub FallsTo : ℕ → Way → Type 0
+FallsTo next (Falls to) = to ≡ next
+FallsTo next (Forks fork) = fork.next ≡ next
+FallsTo next way = Unit {0}
+
+-- the slots to which it leads are below a number
+abbrev pub LeadsBelow : ℕ → Way → Type 0
+LeadsBelow slots (Jumps to) = to < slots
+LeadsBelow slots (Forks fork) = (fork.next < slots) × (fork.jump < slots)
+LeadsBelow slots way = Unit {0}
+
+-- the answer of an instruction that left a description
+abbrev pub flow_of_way : Result Way ℕ → Description → Result (List (ℕ × Description)) ℕ
+flow_of_way (Ok way) d = Ok (ways_of way d)
+flow_of_way (Err rule) d = Err rule
+
+-- a description that was changed in place, if no rule is broken
+abbrev pub done : Result (Unit {0}) ℕ → Description → Result Description ℕ
+done (Ok x) d = Ok d
+done (Err rule) d = Err rule
