@@ -1,28 +1,37 @@
+ghost use Rattle.verifier.specs.Subject.{IsContextSize};
+
 use bpf_decode::decode;
 use host_types::Refused;
 use plain_verifier::{Judged, Table, judge_backward, judge_forward};
 use std::alloc::Global;
 use verifier::Verified;
 
-/// Whether both passes of the plain verifier answer of a text what `verify` answered: the same number
-/// and slot of a refusal, or the same kinds.
-pub(crate) fn judge_alike(
+/// Whether both passes of the plain verifier answer of a well-formed text with a context of a size what
+/// `verify` answered: the same number and slot of a refusal, or the same kinds.
+pub fn judge_alike(
     alloc: Global,
     text: &[u8],
+    size: u32,
     verified: &Result<Verified, Refused>,
-) -> bool {
-    forward(alloc, text).is_some_and(|judged| is_as(&judged, verified))
-        && backward(alloc, text).is_some_and(|judged| is_as(&judged, verified))
+) -> bool
+    requires { IsContextSize size }
+{
+    forward(alloc, text, size).is_some_and(|judged| is_as(&judged, verified))
+        && backward(alloc, text, size).is_some_and(|judged| is_as(&judged, verified))
 }
 
 // What the pass answers that joins in order; `None` where the decoder refuses, or for want of memory.
-fn forward(alloc: Global, text: &[u8]) -> Option<Judged> {
-    judge_forward(alloc, decode(alloc, text).ok()?, 0).ok()
+fn forward(alloc: Global, text: &[u8], size: u32) -> Option<Judged>
+    requires { IsContextSize size }
+{
+    judge_forward(alloc, decode(alloc, text).ok()?, size).ok()
 }
 
 // What the pass answers that joins in the opposite order.
-fn backward(alloc: Global, text: &[u8]) -> Option<Judged> {
-    judge_backward(alloc, decode(alloc, text).ok()?, 0).ok()
+fn backward(alloc: Global, text: &[u8], size: u32) -> Option<Judged>
+    requires { IsContextSize size }
+{
+    judge_backward(alloc, decode(alloc, text).ok()?, size).ok()
 }
 
 // Whether a text was judged as `verify` judged it.

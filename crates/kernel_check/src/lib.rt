@@ -13,6 +13,7 @@ mod row;
 mod runs;
 
 use changes::all_agree;
+pub use judges::judge_alike;
 use row::Row;
 use runs::{Outcome, on_the_host, on_the_plain_machine};
 use std::alloc::{AllocError, Global};

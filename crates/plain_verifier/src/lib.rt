@@ -8,8 +8,6 @@ mod laws;
 mod orders;
 mod pass;
 mod table;
-#[cfg(test)]
-mod tests;
 
 pub use laws::orders_agree;
 pub use pass::{judge_backward, judge_forward};

@@ -10,3 +10,5 @@ mod arithmetic;
 mod plain_machine;
 #[cfg(test)]
 mod text;
+#[cfg(test)]
+mod verified;

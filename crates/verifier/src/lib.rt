@@ -12,8 +12,6 @@ mod laws;
 mod rules;
 mod table;
 mod targets;
-#[cfg(test)]
-mod tests;
 mod verified;
 mod way;
 
