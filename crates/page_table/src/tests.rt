@@ -3,7 +3,7 @@ ghost use Rattle.page_table.specs.State.{bytes_of_map, new_memory};
 ghost use Rattle.page_table.specs.Changes.{AreKept, IsPageOf};
 
 use crate::Memory;
-use host_types::{Fault, Options, Page, Shape, Status};
+use host_types::{Fault, Options, Page, Shape};
 use std::alloc::Global;
 use std::process::Abort;
 use std::test::Fail;
@@ -91,19 +91,6 @@ fn take_out(rt: &impl Abort, memory: &mut Memory, page: Page)
 }
 
 #[test]
-fn each_map_takes_its_pages(rt: HostRuntime) -> Result<(), Fail> {
-    let mut memory = memory_of(rt.alloc(), 4, 2, Options::standard())?;
-    assert_eq!(rt; memory.free(), 3);
-    assert_eq!(rt; memory.create_map(0, 8, 1, true)?, 0);
-    assert_eq!(rt; memory.create_map(1, 8, 1, true)?, 0);
-    assert_eq!(rt; memory.free(), 1);
-    assert_eq!(rt; memory.have(), 1);
-    assert_eq!(rt; memory.create_map(0, 4096, 1, false)?, 1);
-    assert_eq!(rt; memory.free(), 0);
-    Ok(())
-}
-
-#[test]
 fn bytes_reach_their_page_alone(rt: HostRuntime) -> Result<(), Fail> {
     let Two {
         mut memory,
@@ -121,7 +108,7 @@ fn bytes_reach_their_page_alone(rt: HostRuntime) -> Result<(), Fail> {
 }
 
 #[test]
-fn the_first_refusal_is_named(rt: HostRuntime) -> Result<(), Fail> {
+fn the_first_refusal_of_a_memory_is_named(rt: HostRuntime) -> Result<(), Fail> {
     let odd = Options {
         max_page_sharing: 1,
         ..Options::standard()
@@ -129,7 +116,11 @@ fn the_first_refusal_is_named(rt: HostRuntime) -> Result<(), Fail> {
     assert!(rt; matches!(Memory::new(rt.alloc(), 1, 1, odd), Err(Fault::BadShape)));
     assert!(rt; matches!(Memory::new(rt.alloc(), 2, 17, odd), Err(Fault::BadShape)));
     assert!(rt; matches!(Memory::new(rt.alloc(), 2, 1, odd), Err(Fault::BadOption)));
+    Ok(())
+}
 
+#[test]
+fn the_first_refusal_of_a_map_is_named(rt: HostRuntime) -> Result<(), Fail> {
     let mut memory = memory_of(rt.alloc(), 10, 1, Options::standard())?;
     assert_eq!(rt; memory.create_map(1, 0, 0, true), Err(Fault::BadTenant));
     assert_eq!(rt; memory.create_map(0, 0, 1, true), Err(Fault::BadShape));
@@ -157,16 +148,6 @@ fn shapes_and_settings_are_told(rt: HostRuntime) -> Result<(), Fail> {
     assert_eq!(rt; memory.shape(2, map), None);
     assert_eq!(rt; memory.tenants(), 2);
     assert_eq!(rt; memory.options(), options);
-    Ok(())
-}
-
-#[test]
-fn pages_tell_what_is_kept(rt: HostRuntime) -> Result<(), Fail> {
-    let Two { memory, first, .. } = two_pages(rt.alloc())?;
-    let entry = memory.entry(first);
-    assert!(rt; entry.mergeable && entry.last.is_none());
-    assert_eq!(rt; entry.status, Status::New);
-    assert!(rt; !entry.protected);
     Ok(())
 }
 
