@@ -5,7 +5,6 @@ ghost use Rattle.host_file.specs.Faults.{IsBad};
 ghost use Rattle.host_file.specs.HostFile.{IsFileText};
 ghost use Rattle.host_file.specs.declared.file.HostFile.{HostFile};
 
-
 use crate::explanation::explain_host;
 use crate::fault::written;
 use crate::lines::write_refusal;

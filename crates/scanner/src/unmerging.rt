@@ -18,7 +18,6 @@ pub fn unmerge_all(memory: &mut Memory) -> Result<(), Fault>
     ensures maps { memory.new.maps ≡ memory.old.maps }
     ensures kept { AreKept memory.old memory.new }
     ensures settings { KeepsSettings memory.old memory.new }
-
     ensures err { IfErr result (RefusesUnmerge memory.old.sharing (have_of memory.old)) }
     ensures unchanged { OnErr result (memory.new ≡ memory.old) }
 {
