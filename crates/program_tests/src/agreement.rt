@@ -3,6 +3,8 @@
 
 ghost use Rattle.std.specs.Prelude.{◌≡◌, [], IfOk};
 ghost use Rattle.verifier.specs.Subject.{all_there};
+ghost use Rattle.interp.specs.Machine.{MachineState};
+ghost use Rattle.interp.specs.StandsFor.{StandsFor};
 
 use crate::plain_machine::run_on;
 use crate::text::{EXIT, context_of, text_of};
@@ -25,18 +27,26 @@ fn accepted(alloc: Global, slots: &[u64]) -> Result<Verified, Refused>
     verify(alloc, program, &[], 16)
 }
 
-/// How a program goes on the fast interpreter.
-fn run_fast(alloc: Global, context: [u64; 2], slots: &[u64]) -> Result<Ending, Fault> {
-    let program = match accepted(alloc, slots) {
-        Ok(program) => program,
-        Err(refused) => return Err(Fault::Program(refused)),
-    };
-    let mut run = Run::begin(alloc, &program, &context_of(context))?;
-    let number = run.finish(&program);
-    Ok(Ending::Exited {
+/// How a run goes.
+fn ended(mut run: Run, program: &Verified) -> Ending
+    requires { (s : MachineState) × StandsFor program.now run s }
+{
+    let number = run.finish(program);
+    Ending::Exited {
         number,
         steps: run.steps(),
-    })
+    }
+}
+
+/// How a program goes on the fast interpreter.
+fn run_fast(alloc: Global, context: &[u8], slots: &[u64]) -> Result<Ending, Fault> {
+    match accepted(alloc, slots) {
+        Ok(program) => {
+            let run = Run::begin(alloc, &program, context)?;
+            Ok(ended(run, &program))
+        }
+        Err(refused) => Err(Fault::Program(refused)),
+    }
 }
 
 const PROGRAMS: [&[u64]; 5] = [
@@ -74,7 +84,7 @@ const PROGRAMS: [&[u64]; 5] = [
 /// Whether a program ends on the fast interpreter and on the plain machine alike.
 fn ends_alike(alloc: Global, context: [u64; 2], slots: &[u64]) -> Result<bool, Fail> {
     let plain = run_on(alloc, context, slots)?;
-    Ok(run_fast(alloc, context, slots)? == plain)
+    Ok(run_fast(alloc, &context_of(context), slots)? == plain)
 }
 
 #[test]
@@ -97,7 +107,7 @@ fn longest(alloc: Global) -> Result<[Ending; 2], Fail> {
         return Err(Fail::from("the text has no whole slots"));
     }
     let mut machine = Machine::start(Vec::new(alloc), Vec::new(alloc));
-    Ok([machine.run(&text, 4096), run_fast(alloc, [0, 0], &slots)?])
+    Ok([machine.run(&text, 4096), run_fast(alloc, &[0; 16], &slots)?])
 }
 
 #[test]

@@ -52,7 +52,7 @@ struct Answer {
 }
 
 /// The answer to a text of a row. A text that isn't hex is empty, and a size that no context has is 0.
-fn answer(alloc: Global, hex: &str, size: &str) -> Answer {
+fn answer_of(alloc: Global, hex: &str, size: &str) -> Answer {
     let size = match size.parse() {
         Ok(size) if size <= 256 && size % 8 == 0 => size,
         _ => 0,
@@ -72,7 +72,7 @@ fn print_answer(rt: &(impl AllocGlobal + Print), row: &str) -> io::Result<()> {
     let name = fields.next().unwrap_or("");
     let hex = fields.next().unwrap_or("");
     let size = fields.next().unwrap_or("");
-    let Answer { outcome, is_alike } = answer(rt.alloc(), hex, size);
+    let Answer { outcome, is_alike } = answer_of(rt.alloc(), hex, size);
     match outcome {
         Err(Refused { number, slot }) => print!(rt; "{name}\trefused {number} at {slot}")?,
         Ok(program) => {

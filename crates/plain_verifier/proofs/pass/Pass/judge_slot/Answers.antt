@@ -1,4 +1,4 @@
-use Rattle.std.proofs.Common.{suc, ◌++◌, Some, None, sym, ap, subst, ◌∙◌, append_assoc}
+use Rattle.std.proofs.Common.{suc, ◌++◌, Some, sym, ap, subst, ◌∙◌, append_assoc}
 use Rattle.verifier.specs.Pass.{target_in, targets_in}
 use Rattle.plain_verifier.specs.Orders.{pairs_of}
 use Rattle.plain_verifier.specs.Pass.{IsPulled}

@@ -1,6 +1,6 @@
 use Rattle.std.proofs.Common.{refl}
 use Rattle.verifier.proofs.WithoutMaps.{accepted_without_maps}
-use Rattle.plain_machine.proofs.tests.comparison.accepted.Goals as goal
+use Rattle.program_tests.proofs.agreement.accepted.Goals as goal
 
 pub returns : goal.returns
 returns c = accepted_without_maps c.verify.result _ refl c.verify.ensures.subject
