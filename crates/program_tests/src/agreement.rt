@@ -6,7 +6,7 @@ ghost use Rattle.verifier.specs.Subject.{all_there};
 ghost use Rattle.interp.specs.Machine.{MachineState};
 ghost use Rattle.interp.specs.StandsFor.{StandsFor};
 
-use crate::plain_machine::run_on;
+use crate::machine::run_on;
 use crate::text::{EXIT, context_of, text_of};
 use bpf_decode::decode;
 use host_types::{Fault, Refused};

@@ -7,7 +7,7 @@ mod agreement;
 #[cfg(test)]
 mod arithmetic;
 #[cfg(test)]
-mod plain_machine;
+mod machine;
 #[cfg(test)]
 mod text;
 #[cfg(test)]
