@@ -22,7 +22,7 @@ use verifier::Verified;
 use verifier_kinds::Kind;
 
 /// How often the fastest time is looked for.
-const TRIES: u32 = 20;
+const TRIES: u32 = 100;
 
 /// How often a program is run in each try.
 const RUNS: u32 = 100;
