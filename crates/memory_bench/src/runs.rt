@@ -1,9 +1,36 @@
-ghost use Rattle.std.specs.Prelude.{◌<◌};
+//! Loads, stores and visits, one after another.
 
-use crate::pages::byte_len;
+ghost use Rattle.std.specs.Prelude.{◌≡◌, ◌<◌, length};
+ghost use Rattle.page_table.specs.State.{part, map_bytes};
+
 use frame_arena::PAGE_SIZE;
+use host_types::{Page, Shape, Visited};
+use map_helpers::{lookup, update, update_needs};
 use page_table::Memory;
+use scanner::visit;
 use write_break::{load, needs, store};
+
+/// How many values a page has, of the size of all maps' values.
+pub(crate) const VALUES: u32 = PAGE_SIZE / VALUE_SIZE;
+
+/// How many bytes a value has.
+pub(crate) const VALUE_SIZE: u32 = 16;
+
+/// The shape of a map of six pages.
+const SIX_PAGES: Shape = Shape {
+    value_size: VALUE_SIZE,
+    entries: 6 * VALUES,
+};
+
+/// The bytes of a tenant's map 0; none where there is no such map.
+fn byte_len(memory: &Memory, tenant: u32) -> u32
+    ensures { result ≡ length (map_bytes (part memory.now tenant) 0) }
+{
+    match memory.shape(tenant, 0) {
+        Some(shape) => shape.byte_len(),
+        None => 0,
+    }
+}
 
 /// How many numbers of eight bytes a page has.
 const NUMBERS: u32 = 512;
@@ -20,7 +47,7 @@ fn next_page(page: u32, pages: u32) -> u32
 /// Loads from one page after another, again and again; their sum.
 pub(crate) fn loads(memory: &Memory, count: u32) -> u64 {
     let mut sum: u64 = 0;
-    let pages = byte_len(memory) / PAGE_SIZE;
+    let pages = byte_len(memory, 0) / PAGE_SIZE;
     if pages == 0 {
         return sum;
     }
@@ -36,7 +63,7 @@ pub(crate) fn loads(memory: &Memory, count: u32) -> u64 {
 /// What stores to one page after another would take, again and again; their sum.
 pub(crate) fn costs(memory: &Memory, count: u32) -> u64 {
     let mut sum: u64 = 0;
-    let pages = byte_len(memory) / PAGE_SIZE;
+    let pages = byte_len(memory, 0) / PAGE_SIZE;
     if pages == 0 {
         return sum;
     }
@@ -49,25 +76,56 @@ pub(crate) fn costs(memory: &Memory, count: u32) -> u64 {
     sum
 }
 
-/// Stores to the first page, again and again. The page has its own frame from the first store on.
+/// Stores zeros to the first page, again and again. The page has its own frame from the first store on.
 pub(crate) fn stores(memory: &mut Memory, count: u32) {
-    if byte_len(memory) < PAGE_SIZE || needs(memory, 0, 0, 0, 8) > memory.have() {
+    if byte_len(memory, 0) < PAGE_SIZE || needs(memory, 0, 0, 0, 8) > memory.have() {
         return;
     }
-    store(memory, 0, 0, 0, 8, 1);
+    store(memory, 0, 0, 0, 8, 0);
     for turn in 0..count {
-        store(memory, 0, 0, turn % NUMBERS * 8, 8, u64::from(turn));
+        store(memory, 0, 0, turn % NUMBERS * 8, 8, 0);
     }
 }
 
-/// Stores a zero to each page of a run, while frames are there for that; whether all were stored.
-pub(crate) fn store_in_each(memory: &mut Memory, first: u32, end: u32) -> bool {
-    let pages = byte_len(memory) / PAGE_SIZE;
-    for number in first..end {
-        if number >= pages || memory.have() == 0 {
-            return false;
-        }
-        store(memory, 0, 0, number * PAGE_SIZE, 8, 0);
+/// The addresses of elements of a map of six pages, again and again; their sum.
+pub(crate) fn lookups(count: u32) -> u64 {
+    let mut sum: u64 = 0;
+    for turn in 0..count {
+        sum = sum.wrapping_add(lookup(SIX_PAGES, 0, turn % SIX_PAGES.entries));
     }
+    sum
+}
+
+/// Stores a number at the start of a page, while a frame is there for that; whether it was stored.
+pub(crate) fn stored(memory: &mut Memory, page: Page, number: u64) -> bool {
+    let pages = byte_len(memory, page.tenant) / PAGE_SIZE;
+    if page.number >= pages || memory.have() == 0 {
+        return false;
+    }
+    store(memory, page.tenant, 0, page.number * PAGE_SIZE, 8, number);
     true
+}
+
+/// Updates the first element of a page to zeros, after the question what that needs; whether it was
+/// updated.
+pub(crate) fn updated(memory: &mut Memory, page: Page) -> bool {
+    let key = page.number.wrapping_mul(VALUES);
+    let Some(shape) = memory.shape(page.tenant, 0) else {
+        return false;
+    };
+    if shape.value_size != VALUE_SIZE
+        || update_needs(memory, page.tenant, 0, key, 0) > memory.have()
+    {
+        return false;
+    }
+    update(memory, page.tenant, 0, key, &[0; 16], 0) == 0
+}
+
+/// Visits so many pages; whether each visit did what it should.
+pub(crate) fn visits(memory: &mut Memory, count: usize, expected: Visited) -> bool {
+    let mut all = true;
+    for _ in 0..count {
+        all &= visit(memory) == expected;
+    }
+    all
 }

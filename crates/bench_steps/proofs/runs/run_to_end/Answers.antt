@@ -1,6 +1,6 @@
 use Rattle.std.proofs.Common.{[]}
 use Rattle.interp.proofs.Beginning.{begun_without_maps}
-use Rattle.bench_steps.proofs.run_to_end.Goals as goal
+use Rattle.bench_steps.proofs.runs.run_to_end.Goals as goal
 
 pub advanced-requires : goal.advanced-requires
 advanced-requires c = begun_without_maps _ [] _ c.requires c.in_ok-run.ensures.begun

@@ -2,7 +2,7 @@ use Rattle.std.proofs.Common.{◌≡◌, [], ◌∙◌, ap, refl, Result, Ok, Er
 use Rattle.host_types.specs.declared.fault.Refused.{Refused}
 use Rattle.verifier.specs.Subject.{Subject, all_there}
 use Rattle.verifier.specs.Verified.{Accepted}
-use Rattle.bench_steps.proofs.accepted.Goals as goal
+use Rattle.bench_steps.proofs.runs.accepted.Goals as goal
 
 -- where what is accepted has no maps
 without_maps : (answer : Result Accepted Refused) (p : Subject) → p.shapes ≡ all_there [] → IfOk answer (λ v. v.subject ≡ p) → IfOk answer (λ v. v.subject.shapes ≡ all_there [])

@@ -1,4 +1,4 @@
-use Rattle.bench_steps.proofs.stepped.Goals as goal
+use Rattle.bench_steps.proofs.runs.stepped.Goals as goal
 
 pub steps-preserved : goal.steps-preserved
 steps-preserved c =
