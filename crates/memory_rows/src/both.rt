@@ -171,7 +171,10 @@ impl Both {
         entries: u32,
         mergeable: bool,
     ) -> Result<bool, AllocError> {
-        let map = match self.memory.create_map(tenant, value_size, entries, mergeable) {
+        let map = match self
+            .memory
+            .create_map(tenant, value_size, entries, mergeable)
+        {
             Ok(map) => map,
             Err(Fault::NoFrames { have, .. }) => {
                 return Ok(have as usize == self.plain.frames_free(self.frames as usize));
@@ -276,9 +279,11 @@ impl Both {
             return Ok(false);
         }
         let mut marks = vec![in alloc; false; self.frames as usize]?;
-        Ok(self.groups_agree(&mut marks)
-            && self.pages_agree(&mut marks)
-            && unmarked(&marks) == self.memory.free() as usize + 1)
+        Ok(
+            self.groups_agree(&mut marks)
+                && self.pages_agree(&mut marks)
+                && unmarked(&marks) == self.memory.free() as usize + 1,
+        )
     }
 
     /// Whether the pages of each of the plain program's groups lie on one frame, that no other group has.
