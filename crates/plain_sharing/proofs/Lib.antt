@@ -1,1 +1,4 @@
 pub mod Lists
+pub mod Joins
+pub mod Next
+pub mod Visits

@@ -1,11 +1,13 @@
 -- Lists under a map, and a page's content.
-use Rattle.std.proofs.Common.{◌≡◌, ℕ, zero, suc, ◌+◌, ◌-◌, ◌*◌, ◌<◌, ◌≤◌, min, Bool, true, false, cond, ◌||◌, List, [], ◌∷◌, ◌++◌, length, map, take, drop, replicate, filter, slice_index_or, slice_set, sum_by, Option, None, option_map, refl, sym, ap, ◌∙◌, arith}
+use Rattle.std.proofs.Common.{◌≡◌, ℕ, zero, suc, ◌+◌, ◌-◌, ◌*◌, ◌<◌, ◌≤◌, min, Bool, true, false, cond, ◌||◌, List, [], ◌∷◌, ◌++◌, length, map, take, drop, replicate, filter, slice_index_or, slice_set, slice_get, sum_by, Option, None, Some, option_map, refl, sym, ap, ◌∙◌, arith}
 use Rattle.std.specs.List.{list_any}
 use Rattle.std.proofs.lemmas.List.{take_min, drop_min, take_all, take-replicate, drop-replicate, length-drop, length-map}
 use Rattle.std.proofs.Math.ListN.{get_or-map}
 use Rattle.std.proofs.lemmas.List.Sums.{sum_by_more}
-use Rattle.host_types.specs.Pages.{page_bytes}
+use Rattle.host_types.specs.Pages.{page_bytes, zero_page}
 use Rattle.host_types.specs.Sharing.{own_frame}
+use Rattle.host_types.specs.Unmerging.{zeros_at}
+use Rattle.host_types.specs.Visits.{Contents, group_bytes}
 use Rattle.plain_sharing.specs.View.{page_of, pages_of}
 use Rattle.plain_sharing.specs.declared.sharing.PlainPage.{PlainPage}
 
@@ -49,6 +51,30 @@ own_more pages i own h e =
     sym (sum_by_more own_frame (pages_of pages) i None (omega (arith, h, long))
     ∙ ap (λ (n : ℕ). n + own_frame (slice_index_or (pages_of pages) i None)) (sym e)
     ∙ ap (λ page. own + own_frame page) (get_or-map (option_map page_of) pages i None))
+
+-- one more page of zeros is counted
+pub zeros_more : (pages : List (Option PlainPage)) (i zeros : ℕ) → i < length pages → zeros ≡ sum_by zeros_at (take i (pages_of pages))
+    → zeros + zeros_at (option_map page_of (slice_index_or pages i None)) ≡ sum_by zeros_at (take (i + 1) (pages_of pages))
+zeros_more pages i zeros h e =
+    let long = length-map pages (option_map page_of) in
+    sym (sum_by_more zeros_at (pages_of pages) i None (omega (arith, h, long))
+    ∙ ap (λ (n : ℕ). n + zeros_at (slice_index_or (pages_of pages) i None)) (sym e)
+    ∙ ap (λ page. zeros + zeros_at page) (get_or-map (option_map page_of) pages i None))
+
+-- the bytes of a group are those of its first page
+pub first_bytes : (contents : Contents) (places : List ℕ) (i : ℕ) → slice_get places 0 ≡ Some i → group_bytes contents places ≡ contents i
+unfolding group_bytes
+first_bytes contents [] i e = absurd (cc)
+first_bytes contents (j ∷ places) i e = let same : j ≡ i = cc in ap contents same
+
+pub no_bytes : (contents : Contents) (places : List ℕ) → slice_get places 0 ≡ None → group_bytes contents places ≡ []
+unfolding group_bytes
+no_bytes contents [] e = refl
+no_bytes contents (j ∷ places) e = absurd (cc)
+
+pub replicate-zero_page : (n : ℕ) → n ≡ 4096 → replicate n 0 ≡ zero_page
+unfolding zero_page
+replicate-zero_page n e = ap (λ (m : ℕ). replicate m 0) e
 
 -- as much of a list of zeros as is missing
 filled_up : (n k : ℕ) (xs : List ℕ) → n ≤ k → take n (xs ++ replicate k 0) ≡ take n xs ++ replicate (n - length xs) 0

@@ -1,8 +1,9 @@
 -- How the plain program's lists read as a state of sharing.
-use Rattle.std.specs.Prelude.{ℕ, List, [], map, Option, None, option_map, Vec}
+use Rattle.std.specs.Prelude.{ℕ, Bool, ◌&&◌, nat_lt, bytes_eq, List, [], length, map, slice_index_or, Option, None, option_map, Vec}
 use Rattle.std.specs.declared.alloc.Global.{Global}
 use Rattle.host_types.specs.declared.options.Options.{Options}
 use Rattle.host_types.specs.Sharing.{Sharing, PageState}
+use Rattle.host_types.specs.Visits.{Contents, group_bytes}
 use Rattle.plain_sharing.specs.declared.sharing.PlainPage.{PlainPage}
 
 -- a page
@@ -21,3 +22,11 @@ places_of groups = map (λ group. group.items) groups
 abbrev pub sharing_of : List (Option PageState) → List (List ℕ) → Options → Sharing
 sharing_of pages groups options =
     record { pages = pages; groups = groups; waiting = []; cursor = None; options = options; full_scans = 0 }
+
+-- the bytes of the page at each place, none past the list's end
+abbrev pub contents_of : List (Vec ℕ Global) → Contents
+contents_of pages i = slice_index_or (map (λ page. page.items) pages) i []
+
+-- the group has these bytes, and fewer pages than the limit
+abbrev pub is_open_below : ℕ → Contents → List ℕ → List ℕ → Bool
+is_open_below limit contents bytes group = bytes_eq (group_bytes contents group) bytes && nat_lt (length group) limit

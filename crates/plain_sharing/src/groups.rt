@@ -1,9 +1,11 @@
 // Groups of pages, each a list of places.
-ghost use Rattle.std.specs.Prelude.{◌≡◌, ◌&&◌, nat_lt, map, length, [], ◌∷◌, IfOk};
+ghost use Rattle.std.specs.Prelude.{◌≡◌, ◌&&◌, ◌<◌, ◌≤◌, ◌^◌, nat_lt, map, length, [], ◌∷◌, IfOk, insert, sum_by};
 ghost use Rattle.std.specs.List.{list_any};
 ghost use Rattle.host_types.specs.Sharing.{is_among, without, left_by, joined_by};
-ghost use Rattle.plain_sharing.specs.View.{places_of};
+ghost use Rattle.host_types.specs.Visits.{group_bytes, join_first};
+ghost use Rattle.plain_sharing.specs.View.{places_of, contents_of, is_open_below};
 
+use crate::contents;
 use std::alloc::{AllocError, Global};
 
 // The group of two places, in their order.
@@ -59,4 +61,76 @@ fn take_out(group: &mut Vec<usize>, place: usize)
     ensures { group.new.items ≡ without place group.old.items }
 {
     group.retain(|other| *other != place);
+}
+
+// Puts a place into the first group that has its page's bytes, and fewer pages than the limit. It
+// answers whether there is one.
+pub(crate) fn join_first(
+    groups: &mut [Vec<usize>],
+    contents: &[Vec<u8>],
+    place: usize,
+    limit: usize,
+) -> Result<bool, AllocError>
+    ensures told { IfOk result (λ is_joined. is_joined
+        ≡ list_any (is_open_below limit (contents_of contents.now) (contents_of contents.now place)) (places_of groups.old)) }
+    ensures joined { IfOk result (λ _. places_of groups.new
+        ≡ join_first (is_open_below limit (contents_of contents.now) (contents_of contents.now place)) place (places_of groups.old)) }
+{
+    for group in groups.iter_mut() {
+        if is_open(group, contents, place, limit) {
+            join(group, place)?;
+            return Ok(true);
+        }
+    }
+    Ok(false)
+}
+
+// Whether a group has the bytes of the page at a place, and fewer pages than the limit.
+fn is_open(group: &[usize], contents: &[Vec<u8>], place: usize, limit: usize) -> bool
+    ensures { result ≡ is_open_below limit (contents_of contents.now) (contents_of contents.now place) group.now }
+{
+    let bytes = contents::bytes_at(contents, place);
+    contents::are_same(contents::group_bytes(contents, group), bytes) && group.len() < limit
+}
+
+// Puts a place into a group, in its order.
+pub(crate) fn join(group: &mut Vec<usize>, place: usize) -> Result<(), AllocError>
+    ensures { IfOk result (λ _. group.new.items ≡ joined_by place group.old.items) }
+{
+    let index = index_for(group, place);
+    group.insert(index, place)?;
+    Ok(())
+}
+
+// Where a place goes in a group.
+fn index_for(group: &[usize], place: usize) -> usize
+    ensures value { insert group.now result place ≡ joined_by place group.now }
+    ensures inside { result ≤ length group.now }
+{
+    for index in 0..group.len() {
+        if place < group[index] {
+            return index;
+        }
+    }
+    group.len()
+}
+
+// How many places all groups have together.
+pub(crate) fn members(groups: &[Vec<usize>]) -> u128
+    ensures sum { result ≡ sum_by (λ group. length group) (places_of groups.now) }
+    ensures small { result < 2 ^ 127 }
+{
+    let mut members = 0;
+    for group in groups {
+        members += size(group);
+    }
+    members
+}
+
+// How many places a group has.
+fn size(group: &[usize]) -> u128
+    ensures value { result ≡ length group.now }
+    ensures small { result < 2 ^ 64 }
+{
+    group.len() as u128
 }

@@ -1,12 +1,14 @@
 //! Which pages share frames, as a slow program over plain lists: statuses, groups of places, breaks and
-//! what they take. Its contracts are the definitions themselves, so tests compare the memory with it.
+//! what they take, visits and unmergings. Its contracts are the definitions themselves, so tests compare the memory with it.
 #![tactic(auto)]
 
+mod contents;
 mod groups;
 mod pages;
 mod sharing;
 #[cfg(test)]
 mod tests;
+mod waiting;
 
 pub use pages::page_content;
 pub use sharing::{PlainPage, PlainSharing};

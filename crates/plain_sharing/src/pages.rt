@@ -1,5 +1,7 @@
 // Pages by place.
-ghost use Rattle.std.specs.Prelude.{◌≡◌, ◌<◌, ◌≤◌, length, slice_index_or, slice_set, sum_by, option_map, None};
+ghost use Rattle.std.specs.Prelude.{◌≡◌, ◌+◌, ◌<◌, ◌≤◌, length, slice_index_or, slice_set, sum_by, option_map, None, drop};
+ghost use Rattle.host_types.specs.Unmerging.{zeros_at};
+ghost use Rattle.host_types.specs.Visits.{first_mergeable, is_mergeable};
 ghost use Rattle.host_types.specs.Sharing.{own_frame, with_status};
 ghost use Rattle.host_types.specs.Pages.{page_bytes};
 ghost use Rattle.plain_sharing.specs.View.{page_of, pages_of};
@@ -56,6 +58,62 @@ fn own_frame(page: Option<PlainPage>) -> usize
     match page {
         Some(page) if !page.status.is_shared() => 1,
         _ => 0,
+    }
+}
+
+// How many pages lie on the frame of zeros.
+pub(crate) fn zero_pages(pages: &[Option<PlainPage>]) -> usize
+    ensures count { result ≡ sum_by zeros_at (pages_of pages.now) }
+    ensures few { result ≤ length pages.now }
+{
+    let mut zeros = 0;
+    for page in pages {
+        zeros += zeros_at(*page);
+    }
+    zeros
+}
+
+// One for a page on the frame of zeros.
+fn zeros_at(page: Option<PlainPage>) -> usize
+    ensures value { result ≡ zeros_at (option_map page_of page) }
+    ensures small { result ≤ 1 }
+{
+    match page {
+        Some(page) if page.status == Status::Zero => 1,
+        _ => 0,
+    }
+}
+
+// The place of the first page from a place on that may be merged.
+pub(crate) fn next_from(pages: &[Option<PlainPage>], from: usize) -> Option<usize>
+    ensures { result ≡ first_mergeable from (drop from (pages_of pages.now)) }
+{
+    for place in from..pages.len() {
+        if is_mergeable(pages[place]) {
+            return Some(place);
+        }
+    }
+    None
+}
+
+// The place of the first page behind a place that may be merged.
+pub(crate) fn next_behind(pages: &[Option<PlainPage>], place: usize) -> Option<usize>
+    ensures { result ≡ first_mergeable (place + 1) (drop (place + 1) (pages_of pages.now)) }
+{
+    if place < pages.len() {
+        next_from(pages, place + 1)
+    } else {
+        None
+    }
+}
+
+// Whether a page is there and may be merged.
+fn is_mergeable(page: Option<PlainPage>) -> bool
+    ensures { result ≡ is_mergeable (option_map page_of page) }
+{
+    match page {
+        Some(page) => page.mergeable,
+        None => false,
     }
 }
 

@@ -1,11 +1,24 @@
-ghost use Rattle.std.specs.Prelude.{◌≡◌, ◌+◌, ◌^◌, ◌<◌, ◌≤◌, [], replicate, slice_set, option_map, Some, None, IfOk, OnErr};
+ghost use Rattle.std.specs.Prelude.{◌≡◌, ◌+◌, ◌^◌, ◌<◌, ◌≤◌, [], replicate, slice_set, option_map, Some, None, IfOk, OnOk, IfErr, OnErr, ◌↔◌, IsTrue, if◌then◌else◌, ℕ, length, ◌==◌, ◌&&◌, bytes_eq};
+ghost use Rattle.host_types.specs.Pages.{zero_page};
+ghost use Rattle.host_types.specs.OptionTable.{MayBe};
 ghost use Rattle.host_types.specs.Sharing.{new_page, state_at, is_in_company, break_cost, broken, broken_from, cost_from, paired, zeroed, frames_free};
-ghost use Rattle.plain_sharing.specs.View.{page_of, sharing_of};
+ghost use Rattle.host_types.specs.Unmerging.{unmerged, unmerge_need, with_option, MaySet, RefusesSet};
+ghost use Rattle.host_types.specs.Visits.{visit, page_to_visit, begun, decided, looked_at, had, met, find_partner, changed, waits, joined, has_open};
+ghost use Rattle.plain_sharing.specs.View.{page_of, places_of, contents_of, sharing_of};
 
-use crate::{groups, pages};
-use host_types::{Options, Status};
+use crate::{contents, groups, pages, waiting};
+use host_types::{Fault, Opt, Options, Status, Visited};
 use std::alloc::{AllocError, Global};
 use std::marker::Model;
+
+/// The value of the option `run` at which the scanner runs.
+const RUN: u32 = 1;
+
+/// The value of the option `run` after everything was unmerged.
+const UNMERGED: u32 = 2;
+
+/// The value of the option `use_zero_pages` at which pages of zeros go to the frame of zeros.
+const USE_ZERO_PAGES: u32 = 1;
 
 /// What is kept of a page.
 #[derive(Clone, Copy, Debug, PartialEq, Eq)]
@@ -16,23 +29,36 @@ pub struct PlainPage {
     pub last: Option<u64>,
 }
 
-/// Which pages share frames: the pages by place, and the groups as lists of places in order of
-/// creation.
+/// Which pages share frames: the pages by place, the groups as lists of places in order of creation,
+/// and how far the scanner has come.
 #[derive(Drop)]
 pub struct PlainSharing {
     pages: Vec<Option<PlainPage>>,
     groups: Vec<Vec<usize>>,
+    // places and recorded fingerprints, in order of insertion
+    waiting: Vec<(usize, u64)>,
+    // the place of the page visited last in this pass
+    cursor: Option<usize>,
     options: Options,
+    // how many passes ended
+    full_scans: u64,
 }
 
 impl Model for PlainSharing {
     ghost use Rattle.std.specs.Prelude.{map};
     ghost use Rattle.host_types.specs.Sharing.{Sharing};
-    ghost use Rattle.plain_sharing.specs.View.{pages_of, places_of, sharing_of};
+    ghost use Rattle.plain_sharing.specs.View.{pages_of, places_of};
 
     ghost Value = { Sharing };
 
-    ghost view = { λ s. sharing_of (pages_of s.pages.items) (places_of s.groups.items) s.options };
+    ghost view = { λ s. record {
+      pages = pages_of s.pages.items;
+      groups = places_of s.groups.items;
+      waiting = s.waiting.items;
+      cursor = s.cursor;
+      options = s.options;
+      full_scans = s.full_scans;
+    } };
 }
 
 impl PlainSharing {
@@ -44,7 +70,10 @@ impl PlainSharing {
         Ok(PlainSharing {
             pages,
             groups: Vec::new(alloc),
+            waiting: Vec::new(alloc),
+            cursor: None,
             options,
+            full_scans: 0,
         })
     }
 
@@ -137,6 +166,8 @@ impl PlainSharing {
         self.groups.push(group)?;
         pages::set_status(&mut self.pages, first, Status::Grouped);
         pages::set_status(&mut self.pages, second, Status::Grouped);
+        waiting::forget(&mut self.waiting, second);
+        waiting::forget(&mut self.waiting, first);
         Ok(())
     }
 
@@ -146,6 +177,7 @@ impl PlainSharing {
         ensures { self.new ≡ zeroed self.old place }
     {
         pages::set_status(&mut self.pages, place, Status::Zero);
+        waiting::forget(&mut self.waiting, place);
     }
 
     /// How many of so many frames are free: all but the frame of zeros, one for each group, and one for
@@ -158,5 +190,294 @@ impl PlainSharing {
             .saturating_sub(1)
             .saturating_sub(self.groups.len())
             .saturating_sub(pages::own_frames(&self.pages))
+    }
+}
+
+impl PlainSharing {
+    /// The options.
+    pub fn options(&self) -> Options
+        ensures { result ≡ self.now.options }
+    {
+        self.options
+    }
+
+    /// How many passes ended, at most `2^64 - 1`.
+    pub fn full_scans(&self) -> u64
+        ensures { result ≡ self.now.full_scans }
+    {
+        self.full_scans
+    }
+
+    /// The groups in order of creation, each the list of its pages' places in their order.
+    pub fn groups(&self) -> &[Vec<usize>]
+        ensures { places_of result.now ≡ self.now.groups }
+    {
+        &self.groups
+    }
+
+    /// One visit: of the next page that may be merged, where the scanner runs and there is one. The
+    /// contents are the bytes of the page at each place, none past the list's end. It is refused only
+    /// where memory ran out; what is left then isn't told.
+    pub fn visit(&mut self, alloc: Global, contents: &[Vec<u8>]) -> Result<Visited, AllocError>
+        ensures { IfOk result (λ visited. visit (contents_of contents.now) self.old ≡ (visited, self.new)) }
+    {
+        if self.options().run != RUN {
+            return Ok(Visited::Idle);
+        }
+        let Some(place) = self.page_to_visit() else {
+            return Ok(Visited::Idle);
+        };
+        self.begin(place);
+        let visited = self.decide(alloc, contents, place)?;
+        Ok(visited)
+    }
+
+    // The place of the page that is visited next.
+    fn page_to_visit(&self) -> Option<usize>
+        ensures { result ≡ page_to_visit self.now }
+    {
+        match self.cursor {
+            Some(place) => pages::next_behind(&self.pages, place),
+            None => pages::next_from(&self.pages, 0),
+        }
+    }
+
+    // What a visit of the page at a place begins with: a new pass begins without waiting pages, and
+    // behind the last page that may be merged the pass ends.
+    #[tactic(auto, unfolding(host_types::specs::Visits::begun, host_types::specs::Visits::moved_on))]
+    fn begin(&mut self, place: usize)
+        ensures { self.new ≡ begun self.old place }
+    {
+        if self.cursor.is_none() {
+            self.waiting.clear();
+        }
+        if pages::next_behind(&self.pages, place).is_some() {
+            self.cursor = Some(place);
+        } else {
+            self.cursor = None;
+            self.full_scans = self.full_scans.saturating_add(1);
+        }
+    }
+
+    // What becomes of the visited page.
+    fn decide(
+        &mut self,
+        alloc: Global,
+        contents: &[Vec<u8>],
+        place: usize,
+    ) -> Result<Visited, AllocError>
+        ensures { IfOk result (λ visited. decided (contents_of contents.now) self.old place
+            (state_at self.old place) ≡ (visited, self.new)) }
+    {
+        let Some(page) = self.page(place) else {
+            return Ok(Visited::Idle);
+        };
+        let is_shared = page.status.is_shared();
+        if is_shared {
+            return Ok(Visited::Already);
+        }
+        let visited = self.look_at(alloc, contents, place, page.last)?;
+        Ok(visited)
+    }
+
+    // What becomes of a page with a frame of its own: the first case that holds decides.
+    fn look_at(
+        &mut self,
+        alloc: Global,
+        contents: &[Vec<u8>],
+        place: usize,
+        last: Option<u64>,
+    ) -> Result<Visited, AllocError>
+        ensures { IfOk result (λ visited. looked_at (contents_of contents.now) self.old place last
+            ≡ (visited, self.new)) }
+    {
+        let is_joined = self.join(contents, place)?;
+        if is_joined {
+            return Ok(Visited::Joined);
+        }
+        let bytes = contents::bytes_at(contents, place);
+        let fingerprint = contents::fingerprint(bytes);
+        if !had(last, fingerprint) {
+            self.change(place, fingerprint);
+            return Ok(Visited::Changed);
+        }
+        if self.goes_to_zeros(bytes) {
+            self.zero(place);
+            return Ok(Visited::Zeroed);
+        }
+        let visited = self.meet(alloc, contents, place, fingerprint)?;
+        Ok(visited)
+    }
+
+    // Whether a page of some bytes goes to the frame of zeros.
+    fn goes_to_zeros(&self, bytes: &[u8]) -> bool
+        ensures { result ≡ (self.now.options.use_zero_pages == 1 && bytes_eq bytes.now zero_page) }
+    {
+        self.options.use_zero_pages == USE_ZERO_PAGES && contents::is_zeros(bytes)
+    }
+
+    // Puts a page into the earliest open group of its bytes. It answers whether there is one.
+    fn join(&mut self, contents: &[Vec<u8>], place: usize) -> Result<bool, AllocError>
+        ensures told { IfOk result (λ is_joined. is_joined ≡ has_open (contents_of contents.now) self.old place) }
+        ensures joined { IfOk result (λ is_joined. self.new ≡
+            (if is_joined then joined (contents_of contents.now) self.old place else self.old)) }
+    {
+        let limit = self.options.max_page_sharing as usize;
+        let is_joined = groups::join_first(&mut self.groups, contents, place, limit)?;
+        if is_joined {
+            pages::set_status(&mut self.pages, place, Status::Grouped);
+        }
+        Ok(is_joined)
+    }
+
+    // Keeps a page's fingerprint, which is another one than at its last visit.
+    #[tactic(auto, unfolding(host_types::specs::Visits::changed))]
+    fn change(&mut self, place: usize, fingerprint: u64)
+        ensures { self.new ≡ changed self.old place fingerprint }
+    {
+        let page = match self.page(place) {
+            Some(page) => Some(PlainPage {
+                status: Status::Volatile,
+                last: Some(fingerprint),
+                ..page
+            }),
+            None => None,
+        };
+        pages::put(&mut self.pages, place, page);
+    }
+
+    // Makes a page and the one that waits longest for its bytes a new group, or lets it wait.
+    fn meet(
+        &mut self,
+        alloc: Global,
+        contents: &[Vec<u8>],
+        place: usize,
+        fingerprint: u64,
+    ) -> Result<Visited, AllocError>
+        ensures { IfOk result (λ visited. met self.old place fingerprint
+            (find_partner (contents_of contents.now) self.old place fingerprint) ≡ (visited, self.new)) }
+    {
+        match self.partner(contents, place, fingerprint) {
+            Some(other) => {
+                self.pair(alloc, other, place)?;
+                Ok(Visited::Paired)
+            }
+            None => {
+                self.wait(place, fingerprint)?;
+                Ok(Visited::Waiting)
+            }
+        }
+    }
+
+    // The place of the page that waits longest for a page's bytes.
+    fn partner(&self, contents: &[Vec<u8>], place: usize, fingerprint: u64) -> Option<usize>
+        ensures { result ≡ option_map (λ (entry : ℕ × ℕ). entry.0)
+            (find_partner (contents_of contents.now) self.now place fingerprint) }
+    {
+        let bytes = contents::bytes_at(contents, place);
+        match waiting::find_partner(&self.waiting, contents, fingerprint, bytes) {
+            Some(entry) => Some(entry.0),
+            None => None,
+        }
+    }
+
+    // Lets a page wait for another one of its bytes.
+    #[tactic(auto, unfolding(host_types::specs::Visits::waits))]
+    fn wait(&mut self, place: usize, fingerprint: u64) -> Result<(), AllocError>
+        ensures { IfOk result (λ _. self.new ≡ waits self.old place fingerprint) }
+    {
+        waiting::insert(&mut self.waiting, place, fingerprint)?;
+        pages::set_status(&mut self.pages, place, Status::Waiting);
+        Ok(())
+    }
+}
+
+impl PlainSharing {
+    /// How many frames it takes to give each page that shares a frame one of its own: one for each page
+    /// of a group but one, and one for each page on the frame of zeros.
+    #[tactic(auto, unfolding(host_types::specs::Unmerging::unmerge_need, host_types::specs::Unmerging::members, host_types::specs::Unmerging::zero_pages))]
+    pub fn unmerge_need(&self) -> u128
+        ensures { result ≡ unmerge_need self.now }
+    {
+        groups::members(&self.groups).saturating_sub(self.groups.len() as u128)
+            + pages::zero_pages(&self.pages) as u128
+    }
+
+    /// Breaks all pages, one after another from the first place on, and stops the scanner: `run` is 2
+    /// then.
+    #[tactic(auto, unfolding(host_types::specs::Unmerging::unmerged))]
+    pub fn unmerge(&mut self)
+        ensures { self.new ≡ unmerged self.old }
+    {
+        self.break_all();
+        self.stop();
+    }
+
+    // Breaks all pages, one after another from the first place on.
+    fn break_all(&mut self)
+        ensures { self.new ≡ broken_from self.old 0 (length self.old.pages) }
+    {
+        for place in 0..self.places() {
+            self.break_page(place);
+        }
+    }
+
+    // Stops the scanner.
+    fn stop(&mut self)
+        ensures { self.new ≡ record self.old { options = record self.old.options { run = 2 } } }
+    {
+        self.options.run = UNMERGED;
+    }
+
+    // How many places there are.
+    fn places(&self) -> usize
+        ensures { result ≡ length self.now.pages }
+    {
+        self.pages.len()
+    }
+
+    /// Sets one option to a value that it may be set to.
+    ///
+    /// Refusals in their order: 40 where the option can't have the value, 44 where `max_page_sharing` is
+    /// to be set while there is a group. A refusal changes nothing.
+    pub fn set(&mut self, option: Opt, value: u32) -> Result<(), Fault>
+        ensures may { OnOk result (MayBe option value × MaySet self.old option) }
+        ensures set { OnOk result (self.new ≡ record self.old { options = with_option self.old.options option value }) }
+        ensures err { IfErr result (RefusesSet self.old option value) }
+        ensures unchanged { OnErr result (self.new ≡ self.old) }
+    {
+        if !option.allows(value) {
+            return Err(Fault::BadOption);
+        }
+        if !self.may_set(option) {
+            return Err(Fault::PagesShared);
+        }
+        match option {
+            Opt::PagesToScan => self.options.pages_to_scan = value,
+            Opt::Run => self.options.run = value,
+            Opt::UseZeroPages => self.options.use_zero_pages = value,
+            Opt::MaxPageSharing => self.options.max_page_sharing = value,
+        }
+        Ok(())
+    }
+
+    // Whether an option may be set now.
+    fn may_set(&self, option: Opt) -> bool
+        ensures { IsTrue result ↔ MaySet self.now option }
+    {
+        match option {
+            Opt::PagesToScan | Opt::Run | Opt::UseZeroPages => true,
+            Opt::MaxPageSharing => self.groups.is_empty(),
+        }
+    }
+}
+
+// Whether a page had a fingerprint at its last visit.
+fn had(last: Option<u64>, fingerprint: u64) -> bool
+    ensures { result ≡ had last fingerprint }
+{
+    match last {
+        Some(last) => last == fingerprint,
+        None => false,
     }
 }

@@ -6,4 +6,4 @@ use Rattle.plain_sharing.proofs.sharing.PlainSharing.new.Goals as goal
 pub returns : goal.returns
 returns c =
     let pages : c.in_ok-pages.pages.items ≡ replicate c.args.places None = search rules in
-    rw (pages, c.new.ensures.items) (ap (λ pages. sharing_of pages [] c.args.options) (map-replicate (option_map page_of) c.args.places None))
+    rw (pages, c.new.ensures.items, c.new-2.ensures.items) (ap (λ pages. sharing_of pages [] c.args.options) (map-replicate (option_map page_of) c.args.places None))

@@ -1,0 +1,377 @@
+//! A memory and the plain program, to which the same is done.
+
+ghost use Rattle.std.specs.Prelude.{◌≡◌, ◌+◌, ◌<◌, ◌≤◌, IsTrue, length};
+ghost use Rattle.page_table.specs.Changes.{IsPageOf};
+ghost use Rattle.page_table.specs.State.{part, map_bytes};
+
+use host_types::{Fault, MapNo, Opt, Options, Page, Status, Visited};
+use page_table::{Entry, Memory};
+use plain_sharing::{PlainPage, PlainSharing};
+use scanner::{set, unmerge_all, visit};
+use std::alloc::{AllocError, Global};
+use write_break::{needs, store, store_bytes};
+
+/// How many tenants there are.
+pub(crate) const TENANTS: u32 = 2;
+
+/// How many map numbers a tenant has.
+pub(crate) const MAPS: u32 = 8;
+
+/// How many places a map's pages have.
+const MAP_PLACES: usize = 256;
+
+/// How many places there are.
+const PLACES: usize = 4096;
+
+/// The bytes of a page.
+const PAGE_SIZE: usize = 4096;
+
+/// A memory, the plain program's view of it, and the bytes of the page at each place.
+#[derive(Drop)]
+pub(crate) struct Both {
+    memory: Memory,
+    plain: PlainSharing,
+    contents: Vec<Vec<u8>>,
+    frames: u32,
+}
+
+/// The page at a place.
+fn page_at(place: usize) -> Page
+    requires { place < 4096 }
+{
+    let map = place / MAP_PLACES;
+    Page {
+        tenant: (map / 8) as u32,
+        map: (map % 8) as u32,
+        number: (place % MAP_PLACES) as u32,
+    }
+}
+
+/// The place of the first page of a tenant's map.
+fn first_place(tenant: u32, map: MapNo) -> usize
+    requires tenant { tenant < 4294967296 }
+    requires map { map < 4294967296 }
+    ensures { result ≤ 17592186044416 }
+{
+    (tenant as usize * 8 + map as usize) * MAP_PLACES
+}
+
+/// The bytes of a tenant's map; none where there is no such map.
+fn byte_len(memory: &Memory, tenant: u32, map: MapNo) -> u32
+    ensures { result ≡ length (map_bytes (part memory.now tenant) map) }
+{
+    match memory.shape(tenant, map) {
+        Some(shape) => shape.byte_len(),
+        None => 0,
+    }
+}
+
+/// Whether some bytes are in a tenant's map.
+fn has(memory: &Memory, tenant: u32, map: MapNo, at: u32, len: u32) -> bool
+    ensures { IsTrue result → at + len ≤ length (map_bytes (part memory.now tenant) map) }
+{
+    let whole = byte_len(memory, tenant, map);
+    at <= whole && len <= whole - at
+}
+
+/// Whether the page is there.
+fn is_there(memory: &Memory, page: Page) -> bool
+    ensures { IsTrue result → IsPageOf memory.now page }
+{
+    page.number < byte_len(memory, page.tenant, page.map).div_ceil(4096)
+}
+
+/// What the memory keeps of the page at a place.
+fn entry_at(memory: &Memory, place: usize) -> Option<Entry> {
+    if place >= PLACES {
+        return None;
+    }
+    let page = page_at(place);
+    if !is_there(memory, page) {
+        return None;
+    }
+    Some(memory.entry(page))
+}
+
+/// Whether the memory and the plain program tell the same of a page.
+fn is_same_page(entry: Option<Entry>, page: Option<PlainPage>) -> bool {
+    match (entry, page) {
+        (None, None) => true,
+        (Some(entry), Some(page)) => {
+            entry.protected == page.status.is_shared()
+                && entry.mergeable == page.mergeable
+                && entry.status == page.status
+                && entry.last == page.last
+        }
+        _ => false,
+    }
+}
+
+/// Writes a byte at a place's page.
+fn put(contents: &mut [Vec<u8>], place: usize, at: usize, byte: u8) {
+    if let Some(page) = contents.get_mut(place) {
+        if let Some(old) = page.get_mut(at) {
+            *old = byte;
+        }
+    }
+}
+
+/// Marks a frame that was not marked before. It answers whether there is such a frame.
+fn mark(marks: &mut [bool], frame: u32) -> bool {
+    match marks.get_mut(frame as usize) {
+        Some(marked) if !*marked => {
+            *marked = true;
+            true
+        }
+        _ => false,
+    }
+}
+
+/// How many frames aren't marked.
+fn unmarked(marks: &[bool]) -> usize {
+    let mut count = 0usize;
+    for marked in marks {
+        if !*marked {
+            count = count.saturating_add(1);
+        }
+    }
+    count
+}
+
+impl Both {
+    /// Both without maps; none where there is no memory of so many frames.
+    pub(crate) fn new(
+        alloc: Global,
+        frames: u32,
+        options: Options,
+    ) -> Result<Option<Both>, AllocError> {
+        let plain = PlainSharing::new(alloc, PLACES, options)?;
+        let mut contents = Vec::new(alloc);
+        for _ in 0..PLACES {
+            contents.push(Vec::new(alloc))?;
+        }
+        let Ok(memory) = Memory::new(alloc, frames, TENANTS, options) else {
+            return Ok(None);
+        };
+        Ok(Some(Both {
+            memory,
+            plain,
+            contents,
+            frames,
+        }))
+    }
+
+    /// Makes a map of zeros. It answers whether a refusal for want of frames tells as many as the plain
+    /// program.
+    pub(crate) fn create_map(
+        &mut self,
+        alloc: Global,
+        tenant: u32,
+        value_size: u32,
+        entries: u32,
+        mergeable: bool,
+    ) -> Result<bool, AllocError> {
+        let map = match self
+            .memory
+            .create_map(tenant, value_size, entries, mergeable)
+        {
+            Ok(map) => map,
+            Err(Fault::NoFrames { have, .. }) => {
+                return Ok(have as usize == self.plain.frames_free(self.frames as usize));
+            }
+            Err(_) => return Ok(true),
+        };
+        let pages = byte_len(&self.memory, tenant, map).div_ceil(4096);
+        for number in 0..pages {
+            let place = first_place(tenant, map) + number as usize;
+            self.plain.add(place, mergeable);
+            if let Some(content) = self.contents.get_mut(place) {
+                *content = vec![in alloc; 0; PAGE_SIZE]?;
+            }
+        }
+        Ok(true)
+    }
+
+    /// Visits a page. It answers whether both did the same.
+    pub(crate) fn visit(&mut self, alloc: Global) -> Result<(Visited, bool), AllocError> {
+        let told = visit(&mut self.memory);
+        let plain = self.plain.visit(alloc, &self.contents)?;
+        Ok((told, told == plain))
+    }
+
+    /// Sets an option. It answers whether both did, or gave the same refusal.
+    pub(crate) fn set(&mut self, option: Opt, value: u32) -> bool {
+        set(&mut self.memory, option, value) == self.plain.set(option, value)
+    }
+
+    /// Gives each page a frame. It answers whether both did, or wanted for the same.
+    pub(crate) fn unmerge(&mut self) -> bool {
+        let plain_need = self.plain.unmerge_need();
+        let plain_have = self.plain.frames_free(self.frames as usize) as u128;
+        match unmerge_all(&mut self.memory) {
+            Ok(()) => {
+                self.plain.unmerge();
+                plain_need <= plain_have
+            }
+            Err(Fault::NoFrames { need, have }) => {
+                have < need && u128::from(need) == plain_need && u128::from(have) == plain_have
+            }
+            Err(_) => false,
+        }
+    }
+
+    /// Stores bytes from a byte of a page on, where they are in the map and there are frames for them.
+    /// It answers whether that took as many frames as the plain program says.
+    pub(crate) fn store(&mut self, tenant: u32, map: MapNo, at: u32, bytes: &[u8]) -> bool
+        requires some { 0 < length bytes.now }
+        requires few { length bytes.now ≤ 16 }
+    {
+        let len = bytes.len() as u32;
+        if !has(&self.memory, tenant, map, at, len) {
+            return true;
+        }
+        let cost = needs(&self.memory, tenant, map, at, len);
+        if cost > self.memory.have() {
+            return true;
+        }
+        store_bytes(&mut self.memory, tenant, map, at, bytes);
+        self.stored(tenant, map, at, bytes) == cost
+    }
+
+    /// Stores a number of one byte as eight bytes, as `store` does.
+    pub(crate) fn store_number(&mut self, tenant: u32, map: MapNo, at: u32, byte: u8) -> bool {
+        if at % 8 != 0 || !has(&self.memory, tenant, map, at, 8) {
+            return true;
+        }
+        let cost = needs(&self.memory, tenant, map, at, 8);
+        if cost > self.memory.have() {
+            return true;
+        }
+        store(&mut self.memory, tenant, map, at, 8, u64::from(byte));
+        self.stored(tenant, map, at, &[byte, 0, 0, 0, 0, 0, 0, 0]) == cost
+    }
+
+    /// Breaks the pages of some bytes in the plain program, and writes the bytes. It answers how many
+    /// frames that took.
+    fn stored(&mut self, tenant: u32, map: MapNo, at: u32, bytes: &[u8]) -> u32
+        requires some { 0 < length bytes.now }
+        requires few { length bytes.now ≤ 16 }
+    {
+        let first = first_place(tenant, map);
+        let mut byte_place = at as usize;
+        for byte in bytes {
+            let place = first + byte_place / PAGE_SIZE;
+            put(&mut self.contents, place, byte_place % PAGE_SIZE, *byte);
+            byte_place = byte_place.saturating_add(1);
+        }
+        let last = (at as usize + bytes.len() - 1) / PAGE_SIZE;
+        let number = at as usize / PAGE_SIZE;
+        let count = if last == number { 1 } else { 2 };
+        self.plain.break_pages(first + number, count)
+    }
+
+    /// Whether both tell the same: the settings, the free frames, each page, and which pages share frames.
+    pub(crate) fn agree(&self, alloc: Global) -> Result<bool, AllocError> {
+        let is_alike = self.memory.options() == self.plain.options()
+            && self.memory.full_scans() == self.plain.full_scans()
+            && self.memory.free() as usize == self.plain.frames_free(self.frames as usize);
+        if !is_alike {
+            return Ok(false);
+        }
+        let mut marks = vec![in alloc; false; self.frames as usize]?;
+        Ok(
+            self.groups_agree(&mut marks)
+                && self.pages_agree(&mut marks)
+                && unmarked(&marks) == self.memory.free() as usize + 1,
+        )
+    }
+
+    /// Whether the pages of each of the plain program's groups lie on one frame, that no other group has.
+    fn groups_agree(&self, marks: &mut [bool]) -> bool {
+        for group in self.plain.groups() {
+            let Some(first) = group.first() else {
+                return false;
+            };
+            let Some(first) = entry_at(&self.memory, *first) else {
+                return false;
+            };
+            let is_one = group.iter().all(|place| match entry_at(&self.memory, *place) {
+                Some(entry) => entry.frame == first.frame,
+                None => false,
+            });
+            if !is_one || !mark(marks, first.frame) {
+                return false;
+            }
+        }
+        true
+    }
+
+    /// Whether both tell the same of each page, the pages of zeros lie on the zero frame, and each page
+    /// that shares no frame lies on one that no other page or group has.
+    fn pages_agree(&self, marks: &mut [bool]) -> bool {
+        for tenant in 0..TENANTS {
+            for map in 0..MAPS {
+                if !self.map_agrees(tenant, map, marks) {
+                    return false;
+                }
+            }
+        }
+        true
+    }
+
+    /// The same of the pages of a tenant's map.
+    fn map_agrees(&self, tenant: u32, map: MapNo, marks: &mut [bool]) -> bool {
+        let pages = byte_len(&self.memory, tenant, map).div_ceil(4096);
+        for number in 0..pages {
+            let place = first_place(tenant, map) + number as usize;
+            let entry = entry_at(&self.memory, place);
+            if !is_same_page(entry, self.plain.page(place)) {
+                return false;
+            }
+            let Some(entry) = entry else {
+                return false;
+            };
+            if !has_own_place(entry, marks) {
+                return false;
+            }
+        }
+        true
+    }
+
+    /// Whether each page has the bytes that were written.
+    pub(crate) fn bytes_agree(&self) -> bool {
+        for (place, content) in self.contents.iter().enumerate() {
+            if !content.is_empty() && !self.has_bytes(place, content) {
+                return false;
+            }
+        }
+        true
+    }
+
+    /// Whether there is a page at a place, and has some bytes.
+    fn has_bytes(&self, place: usize, content: &[u8]) -> bool {
+        if place >= PLACES {
+            return false;
+        }
+        let page = page_at(place);
+        if !is_there(&self.memory, page) {
+            return false;
+        }
+        let entry = self.memory.entry(page);
+        let mut bytes = [0; PAGE_SIZE];
+        self.memory
+            .arena()
+            .get(entry.frame, 0, bytes.as_mut_slice());
+        bytes.as_slice() == content
+    }
+}
+
+/// Whether a page lies on the frame that its status asks for; the frame of a page that shares none is
+/// marked, and wasn't before.
+fn has_own_place(entry: Entry, marks: &mut [bool]) -> bool {
+    match entry.status {
+        Status::Grouped => entry.frame != 0,
+        Status::Zero => entry.frame == 0,
+        _ => mark(marks, entry.frame),
+    }
+}

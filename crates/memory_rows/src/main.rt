@@ -1,0 +1,112 @@
+//! The memory beside the plain program of pages that share frames, over operations that a fixed
+//! generator draws: new maps, stores, visits, options and unmergings. After each one both have to tell the
+//! same, and each 50th time all bytes are compared with a plain copy. The file `stdout` says what is wanted.
+#![tactic(auto)]
+
+ghost use Rattle.std.specs.Prelude.{◌<◌, ◌≤◌};
+
+mod both;
+mod draws;
+
+use both::{Both, MAPS, TENANTS};
+use draws::Draws;
+use host_types::{Opt, Options};
+use std::alloc::{AllocError, Global};
+use std::io;
+
+/// How many operations are drawn for each number of frames.
+const OPERATIONS: u32 = 2500;
+
+/// After how many operations all bytes are compared.
+const BYTES_EACH: u32 = 50;
+
+/// Draws a map and makes it, by a tenant that may not be there: of one short value, or of some pages.
+fn map(alloc: Global, both: &mut Both, draws: &mut Draws, pages: u32) -> Result<bool, AllocError>
+    requires { 0 < pages }
+{
+    let tenant = draws.below(TENANTS + 1);
+    let mergeable = draws.below(8) > 0;
+    if draws.below(4) == 0 {
+        both.create_map(alloc, tenant, 8, 1, mergeable)
+    } else {
+        let entries = draws.below(pages) + 1;
+        both.create_map(alloc, tenant, 4096, entries, mergeable)
+    }
+}
+
+/// Draws a store to the first or the last bytes of a page, or over the end of it.
+fn store(both: &mut Both, draws: &mut Draws, pages: u32) -> bool
+    requires some { 0 < pages }
+    requires few { pages ≤ 256 }
+{
+    let tenant = draws.below(TENANTS);
+    let map = draws.below(MAPS);
+    let first = draws.below(pages) * 4096;
+    let byte = draws.below(2) as u8;
+    match draws.below(3) {
+        0 => both.store_number(tenant, map, first, byte),
+        1 => both.store_number(tenant, map, first + 4088, byte),
+        _ => both.store(tenant, map, first + 4092, &[byte; 8]),
+    }
+}
+
+/// Draws an option and a value, mostly so that the scanner runs.
+fn set(both: &mut Both, draws: &mut Draws) -> bool {
+    let value = draws.below(5);
+    match draws.below(8) {
+        0 => both.set(Opt::PagesToScan, value),
+        1 => both.set(Opt::Run, value),
+        2 => both.set(Opt::UseZeroPages, value),
+        3 => both.set(Opt::MaxPageSharing, value),
+        _ => both.set(Opt::Run, 1),
+    }
+}
+
+/// Draws an operation and does it to both. It answers whether both answered the same.
+fn operate(
+    alloc: Global,
+    both: &mut Both,
+    draws: &mut Draws,
+    pages: u32,
+) -> Result<bool, AllocError>
+    requires some { 0 < pages }
+    requires few { pages ≤ 256 }
+{
+    match draws.below(64) {
+        0 => Ok(both.unmerge()),
+        1..=6 => map(alloc, both, draws, pages),
+        7..=12 => Ok(set(both, draws)),
+        13..=20 => Ok(store(both, draws, pages)),
+        _ => Ok(both.visit(alloc)?.1),
+    }
+}
+
+/// The number of the first operation after which both don't tell the same.
+fn first_wrong(alloc: Global, frames: u32) -> Result<Option<u32>, AllocError> {
+    let pages = frames / 8 % 128 + 2;
+    let mut draws = Draws::new(u64::from(frames));
+    let Some(mut both) = Both::new(alloc, frames, Options::standard())? else {
+        return Ok(Some(0));
+    };
+    for number in 0..OPERATIONS {
+        let is_told = operate(alloc, &mut both, &mut draws, pages)?;
+        if !is_told || !both.agree(alloc)? {
+            return Ok(Some(number));
+        }
+        if number % BYTES_EACH == 0 && !both.bytes_agree() {
+            return Ok(Some(number));
+        }
+    }
+    Ok(None)
+}
+
+fn main(rt: HostRuntime) -> io::Result<()> {
+    for frames in [3, 4, 16, 256] {
+        match first_wrong(rt.alloc(), frames) {
+            Ok(None) => println!(rt; "{frames} frames: {OPERATIONS} operations agree")?,
+            Ok(Some(number)) => println!(rt; "{frames} frames: operation {number} differs")?,
+            Err(AllocError) => println!(rt; "{frames} frames: no memory")?,
+        }
+    }
+    Ok(())
+}

@@ -1,0 +1,69 @@
+use Rattle.std.proofs.Common.{◌≡◌, ◌∙◌, ℕ, ◌+◌, ◌<◌, Bool, true, false, ◌||◌, List, Vec, length, take, slice_index_or, slice_set, sym, ap, arith}
+use Rattle.std.specs.declared.alloc.Global.{Global}
+use Rattle.std.specs.List.{list_any}
+use Rattle.std.proofs.lemmas.List.{take_all, map-set, length-map}
+use Rattle.std.proofs.lemmas.List.Folds.{list_any_more, list_any_at}
+use Rattle.std.proofs.Math.ListN.{get_or-map}
+use Rattle.host_types.specs.Sharing.{joined_by}
+use Rattle.plain_sharing.specs.View.{places_of, contents_of, is_open_below}
+use Rattle.plain_sharing.proofs.Joins.{first_joined, none_joined, set_again}
+use Rattle.plain_sharing.proofs.groups.join_first.Goals as goal
+use Rattle.plain_sharing.proofs.groups.join_first.Goals.{In_ok-join, Else-is_open, After-loop-group}
+
+abbrev items : Vec ℕ Global → List ℕ
+items group = group.items
+
+module _ (c : In_ok-join) where
+  abbrev test : List ℕ → Bool
+  test = is_open_below c.args.limit (contents_of c.args.contents.now) (contents_of c.args.contents.now c.args.place)
+
+  inside : c.loop-group.group-index < length (places_of c.args.groups.now)
+  inside = let long = length-map c.args.groups.now items in omega (arith, long, c.loop-group-test.true)
+
+  told : items (slice_index_or c.loop-group.groups c.loop-group.group-index c.group-item.result) ≡ slice_index_or (places_of c.args.groups.now) c.loop-group.group-index c.group-item.result.items
+  told = ap (λ (groups : List (Vec ℕ Global)). items (slice_index_or groups c.loop-group.group-index c.group-item.result)) c.loop-group.invariant.same
+      ∙ sym (get_or-map items c.args.groups.now c.loop-group.group-index c.group-item.result)
+
+  passes : test (slice_index_or (places_of c.args.groups.now) c.loop-group.group-index c.group-item.result.items) ≡ true
+  passes = ap test (sym (c.deref.ensures.value ∙ told)) ∙ sym c.is_open.ensures ∙ c.if-is_open.true
+
+  before : list_any test (take c.loop-group.group-index (places_of c.args.groups.now)) ≡ false
+  before = ap (λ groups. list_any test (take c.loop-group.group-index (places_of groups))) (sym c.loop-group.invariant.same) ∙ c.loop-group.invariant.before
+
+pub returns-then-is_open-clause-told : goal.returns-then-is_open-clause-told
+returns-then-is_open-clause-told c =
+    let d = (goal.at.returns-then-is_open-clause-told c).In_ok-join in
+    sym (list_any_at (test d) (places_of c.args.groups.now) c.loop-group.group-index c.group-item.result.items (inside d) (passes d))
+
+pub returns-then-is_open-clause-joined : goal.returns-then-is_open-clause-joined
+returns-then-is_open-clause-joined c =
+    let d = (goal.at.returns-then-is_open-clause-joined c).In_ok-join in
+    map-set items c.loop-group.groups c.loop-group.group-index c.join.new.group
+    ∙ ap (λ groups. slice_set (places_of groups) c.loop-group.group-index c.join.new.group.items) c.loop-group.invariant.same
+    ∙ ap (slice_set (places_of c.args.groups.now) c.loop-group.group-index) (c.in_ok-join.ensures ∙ ap (joined_by c.args.place) (told d))
+    ∙ sym (first_joined (test d) c.args.place (places_of c.args.groups.now) c.loop-group.group-index c.group-item.result.items (inside d) (passes d) (before d))
+
+pub loop-group-preserved : goal.loop-group-preserved
+loop-group-preserved c =
+    let again = set_again c.loop-group.groups c.loop-group.group-index c.group-item.result ∙ c.loop-group.invariant.same in
+    let long = length-map c.args.groups.now items in
+    let open_here : List ℕ → Bool = is_open_below c.args.limit (contents_of c.args.contents.now) (contents_of c.args.contents.now c.args.place) in
+    let here = ap (λ (groups : List (Vec ℕ Global)). items (slice_index_or groups c.loop-group.group-index c.group-item.result)) c.loop-group.invariant.same
+    ∙ sym (get_or-map items c.args.groups.now c.loop-group.group-index c.group-item.result) in
+    let apart = ap open_here (sym (c.deref.ensures.value ∙ here)) ∙ sym c.is_open.ensures ∙ c.if-is_open.false in
+    let earlier = ap (λ groups. list_any open_here (take c.loop-group.group-index (places_of groups))) (sym c.loop-group.invariant.same) ∙ c.loop-group.invariant.before in
+    record {
+      same = again;
+      before = ap (λ groups. list_any open_here (take (c.loop-group.group-index + 1) (places_of groups))) again
+          ∙ list_any_more open_here (places_of c.args.groups.now) c.loop-group.group-index c.group-item.result.items (omega (arith, long, c.loop-group-test.true))
+          ∙ ap (λ (b : Bool). b || open_here (slice_index_or (places_of c.args.groups.now) c.loop-group.group-index c.group-item.result.items)) earlier
+          ∙ apart;
+    }
+
+pub returns-clause-joined : goal.returns-clause-joined
+returns-clause-joined c =
+    let long = length-map c.args.groups.now items in
+    let open_here : List ℕ → Bool = is_open_below c.args.limit (contents_of c.args.contents.now) (contents_of c.args.contents.now c.args.place) in
+    let all = take_all c.loop-group.group-index (places_of c.args.groups.now) (omega (arith, long, c.loop-group-test.false)) in
+    let earlier = ap (λ groups. list_any open_here (take c.loop-group.group-index (places_of groups))) (sym c.loop-group.invariant.same) ∙ c.loop-group.invariant.before in
+    ap places_of c.loop-group.invariant.same ∙ sym (none_joined open_here c.args.place (places_of c.args.groups.now) (ap (list_any open_here) (sym all) ∙ earlier))

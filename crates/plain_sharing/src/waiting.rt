@@ -1,0 +1,51 @@
+// The pages that wait, each by its place and its recorded fingerprint.
+ghost use Rattle.std.specs.Prelude.{◌≡◌, ◌++◌, ◌∷◌, [], find, IfOk};
+ghost use Rattle.host_types.specs.Sharing.{waiting_without};
+ghost use Rattle.host_types.specs.Visits.{is_partner};
+ghost use Rattle.plain_sharing.specs.View.{contents_of};
+
+use crate::contents;
+use std::alloc::AllocError;
+
+// Puts a page behind all others.
+pub(crate) fn insert(
+    waiting: &mut Vec<(usize, u64)>,
+    place: usize,
+    fingerprint: u64,
+) -> Result<(), AllocError>
+    ensures { IfOk result (λ _. waiting.new.items ≡ waiting.old.items ++ (place, fingerprint) ∷ []) }
+{
+    waiting.push((place, fingerprint))?;
+    Ok(())
+}
+
+// Takes a page off the list, if it waits.
+pub(crate) fn forget(waiting: &mut Vec<(usize, u64)>, place: usize)
+    ensures { waiting.new.items ≡ waiting_without place waiting.old.items }
+{
+    waiting.retain(|entry| entry.0 != place);
+}
+
+// The page that waits longest of those that had a fingerprint, and have some bytes now.
+pub(crate) fn find_partner(
+    waiting: &[(usize, u64)],
+    contents: &[Vec<u8>],
+    fingerprint: u64,
+    bytes: &[u8],
+) -> Option<(usize, u64)>
+    ensures { result ≡ find (is_partner (contents_of contents.now) fingerprint bytes.now) waiting.now }
+{
+    for entry in waiting {
+        if is_partner(*entry, contents, fingerprint, bytes) {
+            return Some(*entry);
+        }
+    }
+    None
+}
+
+// Whether a waiting page had a fingerprint, and has some bytes now.
+fn is_partner(entry: (usize, u64), contents: &[Vec<u8>], fingerprint: u64, bytes: &[u8]) -> bool
+    ensures { result ≡ is_partner (contents_of contents.now) fingerprint bytes.now entry }
+{
+    entry.1 == fingerprint && contents::bytes_at(contents, entry.0) == bytes
+}
