@@ -1,7 +1,7 @@
 -- What arithmetic makes of kinds (this project's own profile; the numbers are those of its refusals).
 use Rattle.std.specs.Prelude.{ℕ, ◌+◌, ◌-◌, ◌*◌, ◌/◌, ◌^◌, min, max, nat_lt, nat_le, ◌==◌, ℤ, pos, negsuc, ◌+ℤ◌, ◌-ℤ◌, int_le, ◌&&◌, if◌then◌else◌, Option, Some, None, Result, Ok, Err}
 use Rattle.std.specs.Int.{cast_signed, leading_zeros, w64}
-use Rattle.host_types.specs.Rules.{unset_register, wrong_kind, outside_context, outside_stack}
+use Rattle.host_types.specs.Rules.{unset_register, wrong_kind, outside_context, outside_stack, outside_map, null_not_checked}
 use Rattle.bpf_decode.specs.declared.insn.Insn.{Insn}
 use Rattle.bpf_decode.specs.declared.operation.Width.{Width}
 use Rattle.bpf_decode.specs.declared.operation.Width.TheVariants.{Bits32, Bits64}
@@ -14,9 +14,10 @@ use Rattle.insn_alu.specs.Arithmetic.{alu, modulus, count, reads_dst}
 use Rattle.verifier_kinds.specs.declared.kind.Align.{Align}
 use Rattle.verifier_kinds.specs.declared.kind.Align.TheVariants.{One}
 use Rattle.verifier_kinds.specs.declared.kind.Range.{Range}
+use Rattle.verifier_kinds.specs.declared.kind.Offsets.{Offsets}
 use Rattle.verifier_kinds.specs.declared.kind.Kind.{Kind}
-use Rattle.verifier_kinds.specs.declared.kind.Kind.TheVariants.{Scalar, Context, Stack}
-use Rattle.verifier_kinds.specs.Kinds.{rank, constant, is_constant, least_align, greatest_align, raised, normal}
+use Rattle.verifier_kinds.specs.declared.kind.Kind.TheVariants.{Scalar, Context, Stack, MapValue, MaybeValue, MapName}
+use Rattle.verifier_kinds.specs.Kinds.{rank, constant, is_constant, least_align, greatest_align, raised, normal, offsets_in}
 
 -- the numbers between two ends that an alignment divides
 abbrev pub between : ℕ → ℕ → Align → Range
@@ -145,16 +146,41 @@ displaced kind rule Add Bits64 offset by = moved kind rule offset by
 displaced kind rule Sub Bits64 offset by = moved_back kind rule offset by
 displaced kind rule code width offset by = Err wrong_kind
 
--- what an operation makes of the kinds of dst and of the second operand; a pointer is moved as dst alone
+-- a number as an offset: of a constant 2^63 or more stands for itself less 2^64
+abbrev pub signed : Range → ℕ → ℤ
+signed by n = if is_constant by then cast_signed w64 n else pos n
+
+-- a pointer to a map's value at the offsets between two ends, if a pointer may have them; each is 65536
+-- more than it is
+abbrev pub within_value : ℕ → Align → ℤ → ℤ → Result Kind ℕ
+within_value m align (pos low) (pos high) = if nat_le high 131072 then Ok (MapValue m (offsets_in (normal low high align))) else Err outside_map
+within_value m align low high = Err outside_map
+
+-- a pointer to a map's value is moved by any number, and moved back by a constant
+abbrev pub displaced_value : ℕ → AluCode → Width → Offsets → Range → Result Kind ℕ
+displaced_value m Add Bits64 offsets by =
+    within_value m (least_align offsets.align by.align) (pos offsets.low +ℤ signed by by.low) (pos offsets.high +ℤ signed by by.high)
+displaced_value m Sub Bits64 offsets by =
+    if is_constant by
+    then within_value m (least_align offsets.align by.align) (pos offsets.low -ℤ cast_signed w64 by.low) (pos offsets.high -ℤ cast_signed w64 by.low)
+    else Err wrong_kind
+displaced_value m code width offsets by = Err wrong_kind
+
+-- What an operation makes of the kinds of dst and of the second operand. A pointer is moved as dst alone,
+-- and the answer of a lookup not before it is checked.
 abbrev pub kind_of : AluCode → Width → ℤ → Kind → Kind → Result Kind ℕ
+kind_of code width offset (MaybeValue m id) b = Err null_not_checked
+kind_of code width offset a (MaybeValue m id) = Err null_not_checked
 kind_of code width offset (Scalar a) (Scalar b) = Ok (Scalar (range_of code width offset a b))
 kind_of code width offset (Context k) (Scalar by) = displaced Context outside_context code width k by
 kind_of code width offset (Stack k) (Scalar by) = displaced Stack outside_stack code width k by
+kind_of code width offset (MapValue m offsets) (Scalar by) = displaced_value m code width offsets by
 kind_of code width offset a b = Err wrong_kind
 
 -- what a move of a number makes of its kind
 abbrev pub moved_number : Width → ℤ → Kind → Result Kind ℕ
 moved_number width offset (Scalar b) = Ok (Scalar (range_of Mov width offset b b))
+moved_number width offset (MaybeValue m id) = Err null_not_checked
 moved_number width offset pointer = Err wrong_kind
 
 -- a move of all 64 bits copies any kind

@@ -1,13 +1,13 @@
 -- Descriptions: what is known of all registers and of the stack (this project's own profile).
-use Rattle.std.specs.Prelude.{◌≡◌, ℕ, ◌*◌, ◌<◌, bit_and, List, [], ◌∷◌, length, replicate, slice_index_or, slice_set, IsSome, IfSome, IsBitSet, Option, Some, None, pos}
+use Rattle.std.specs.Prelude.{◌≡◌, ℕ, ◌*◌, ◌<◌, bit_and, List, [], ◌∷◌, length, map, replicate, slice_index_or, slice_set, ◌==◌, if◌then◌else◌, IsSome, IfSome, IsBitSet, Option, Some, None, option_map, pos}
 use Rattle.host_types.specs.Bytes.{number_of, part_of}
 use Rattle.host_types.specs.Memory.{all_set}
 use Rattle.verifier_kinds.specs.declared.kind.Kind.{Kind}
-use Rattle.verifier_kinds.specs.declared.kind.Kind.TheVariants.{Scalar, Context, Stack}
+use Rattle.verifier_kinds.specs.declared.kind.Kind.TheVariants.{Scalar, Context, Stack, MaybeValue}
 use Rattle.verifier_kinds.specs.declared.description.StackSlot.{StackSlot}
 use Rattle.verifier_kinds.specs.declared.description.StackSlot.TheVariants.{Kept, Bytes}
 use Rattle.verifier_kinds.specs.declared.description.Description.{Description}
-use Rattle.verifier_kinds.specs.Kinds.{Describes, IsOfKind, IsKind, IsBelow, IsKindBelow, join_of_kinds}
+use Rattle.verifier_kinds.specs.Kinds.{Setting, Describes, IsOfKind, IsKind, IsNormalKind, IsOfCallBelow, IsBelow, IsKindBelow, join_of_kinds}
 
 -- the kind of a register; nothing is known of what is past R10
 abbrev pub register_of : Description → ℕ → Option Kind
@@ -25,6 +25,26 @@ with_kind d i kind = record d { registers = slice_set d.registers i (Some kind) 
 abbrev pub with_slot : Description → ℕ → StackSlot → Description
 with_slot d k slot = record d { stack = slice_set d.stack k slot }
 
+-- the description with nothing known of one register
+abbrev pub with_unset : Description → ℕ → Description
+with_unset d i = record d { registers = slice_set d.registers i None }
+
+-- the kind once it is known what kind the answer of a call is of
+abbrev pub settled_kind : ℕ → Kind → Kind → Kind
+settled_kind call to (MaybeValue m id) = if id == call then to else MaybeValue m id
+settled_kind call to kind = kind
+
+-- the same of a slot of the stack
+abbrev pub settled_slot : ℕ → Kind → StackSlot → StackSlot
+settled_slot call to (Kept kind) = Kept (settled_kind call to kind)
+settled_slot call to (Bytes set) = Bytes set
+
+-- the description once it is known what kind the answer of a call is of: of each register and each slot
+-- that keeps it
+unfoldable pub settled : ℕ → Kind → Description → Description
+settled call to d =
+    record { registers = map (option_map (settled_kind call to)) d.registers; stack = map (settled_slot call to) d.stack }
+
 -- at the start R1 is the context's address and R10 the stack's end, and nothing else is known
 abbrev pub start_description : Description
 start_description = record {
@@ -33,17 +53,17 @@ start_description = record {
 }
 
 -- a slot of the stack describes its eight bytes
-abbrev pub DescribesSlot : StackSlot → List (Option ℕ) → Type 0
-DescribesSlot (Kept kind) bytes = (given : List ℕ) × (all_set bytes ≡ Some given) × IsOfKind kind (number_of given)
-DescribesSlot (Bytes set) bytes = (i : ℕ) → i < 8 → IsBitSet set i → IsSome (slice_index_or bytes i None)
+abbrev pub DescribesSlot : Setting → StackSlot → List (Option ℕ) → Type 0
+DescribesSlot setting (Kept kind) bytes = (given : List ℕ) × (all_set bytes ≡ Some given) × IsOfKind setting kind (number_of given)
+DescribesSlot setting (Bytes set) bytes = (i : ℕ) → i < 8 → IsBitSet set i → IsSome (slice_index_or bytes i None)
 
 -- each kind describes its register
-abbrev pub DescribesRegisters : Description → List (Option ℕ) → Type 0
-DescribesRegisters d registers = (i : ℕ) → Describes (register_of d i) (slice_index_or registers i None)
+abbrev pub DescribesRegisters : Setting → Description → List (Option ℕ) → Type 0
+DescribesRegisters setting d registers = (i : ℕ) → Describes setting (register_of d i) (slice_index_or registers i None)
 
 -- each slot describes its eight bytes of the stack
-abbrev pub DescribesStack : Description → List (Option ℕ) → Type 0
-DescribesStack d stack = (k : ℕ) → DescribesSlot (slot_of d k) (part_of stack (8 * k) 8)
+abbrev pub DescribesStack : Setting → Description → List (Option ℕ) → Type 0
+DescribesStack setting d stack = (k : ℕ) → DescribesSlot setting (slot_of d k) (part_of stack (8 * k) 8)
 
 -- what each slot of the verifier meets
 abbrev pub IsSlot : StackSlot → Type 0
@@ -56,6 +76,30 @@ pub record IsDescription (d : Description) : Type 0 where
   pub stack : length d.stack ≡ 64
   pub kinds : (i : ℕ) → IfSome (register_of d i) IsKind
   pub slots : (k : ℕ) → IsSlot (slot_of d k)
+
+-- the same for a slot of the stack: its ranges are normal
+abbrev pub IsNormalSlot : StackSlot → Type 0
+IsNormalSlot (Kept kind) = IsNormalKind kind
+IsNormalSlot (Bytes set) = set < 256
+
+-- the same: it names calls below a slot of the program alone
+abbrev pub IsSlotOfCallBelow : ℕ → StackSlot → Type 0
+IsSlotOfCallBelow slot (Kept kind) = IsOfCallBelow slot kind
+IsSlotOfCallBelow slot (Bytes set) = Unit {0}
+
+-- a description names calls below a slot of the program alone
+pub record IsOfCallsBelow (slot : ℕ) (d : Description) : Type 0 where
+  pub registers : (i : ℕ) → IfSome (register_of d i) (IsOfCallBelow slot)
+  pub stack : (k : ℕ) → IsSlotOfCallBelow slot (slot_of d k)
+
+-- What the description of a slot of the program meets in a lawful table: eleven registers and 64 slots
+-- of the stack, normal ranges, and calls before the slot.
+pub record IsLawfulAt (slot : ℕ) (d : Description) : Type 0 where
+  pub registers : length d.registers ≡ 11
+  pub stack : length d.stack ≡ 64
+  pub kinds : (i : ℕ) → IfSome (register_of d i) IsNormalKind
+  pub slots : (k : ℕ) → IsNormalSlot (slot_of d k)
+  pub calls : IsOfCallsBelow slot d
 
 -- the bytes of a slot that are known to hold numbers, by the bits of a number: of a kept pointer none
 abbrev pub places_of : StackSlot → ℕ

@@ -1,12 +1,15 @@
 -- Kinds: what they stand for, and which of two says more (this project's own profile).
-use Rattle.std.specs.Prelude.{◌≡◌, ℕ, ◌+◌, ◌-◌, ◌*◌, ◌/◌, ◌%◌, ◌^◌, ◌<◌, ◌≤◌, ℤ, pos, negsuc, ◌+ℤ◌, ◌≤ℤ◌, int_le, min, max, Bool, nat_le, ◌==◌, ◌&&◌, if◌then◌else◌, Option, Some, None}
-use Rattle.host_types.specs.Layout.{context_base, stack_end}
+use Rattle.std.specs.Prelude.{◌≡◌, ◌⊎◌, ℕ, ◌+◌, ◌-◌, ◌*◌, ◌/◌, ◌%◌, ◌^◌, ◌<◌, ◌≤◌, ℤ, pos, negsuc, ◌+ℤ◌, ◌≤ℤ◌, int_le, min, max, Bool, nat_le, ◌==◌, ◌&&◌, if◌then◌else◌, List, slice_index_or, Option, Some, None, IsSome, IsSomeAnd}
+use Rattle.host_types.specs.declared.shape.Shape.{Shape}
+use Rattle.host_types.specs.Layout.{context_base, stack_end, map_name, map_values}
+use Rattle.host_types.specs.Helpers.{element_at}
 use Rattle.host_types.specs.Memory.{only_if}
 use Rattle.verifier_kinds.specs.declared.kind.Align.{Align}
 use Rattle.verifier_kinds.specs.declared.kind.Align.TheVariants.{One, Two, Four, Eight}
 use Rattle.verifier_kinds.specs.declared.kind.Range.{Range}
+use Rattle.verifier_kinds.specs.declared.kind.Offsets.{Offsets}
 use Rattle.verifier_kinds.specs.declared.kind.Kind.{Kind}
-use Rattle.verifier_kinds.specs.declared.kind.Kind.TheVariants.{Scalar, Context, Stack}
+use Rattle.verifier_kinds.specs.declared.kind.Kind.TheVariants.{Scalar, Context, Stack, MapValue, MaybeValue, MapName}
 
 -- the power of 2 that an alignment names
 abbrev pub factor : Align → ℕ
@@ -74,17 +77,52 @@ pub record IsIn (range : Range) (n : ℕ) : Type 0 where
   pub high : n ≤ range.high
   pub aligned : n % factor range.align ≡ 0
 
+-- What kinds speak of: the shapes of the maps by number, and what each call of a lookup answered, by
+-- the slot of the call.
+pub record Setting : Type 0 where
+  pub shapes : List (Option Shape)
+  pub answers : ℕ → ℕ
+
+-- the shape of the map with a number
+abbrev pub shape_at : List (Option Shape) → ℕ → Option Shape
+shape_at shapes m = slice_index_or shapes m None
+
+-- the offsets as a range of numbers, each 65536 more than the offset is
+abbrev pub range_in : Offsets → Range
+range_in offsets = record { low = offsets.low; high = offsets.high; align = offsets.align }
+
+-- the address at which an element of the map m begins
+pub record IsElement (shape : Shape) (m n : ℕ) : Type 0 where
+  pub element : ℕ
+  pub there : element < shape.entries
+  pub address : n ≡ map_values m + element_at shape element
+
+-- an address at one of the offsets from the beginning of an element of the map m
+pub record IsByElement (offsets : Offsets) (shape : Shape) (m n : ℕ) : Type 0 where
+  pub first : ℕ
+  pub element : IsElement shape m first
+  pub offset : ℕ
+  pub within : IsIn (range_in offsets) offset
+  pub address : n + 65536 ≡ first + offset
+
+-- what a lookup answered: nothing, or where an element of the map m begins
+abbrev pub IsAnswer : Shape → ℕ → ℕ → Type 0
+IsAnswer shape m n = (n ≡ 0) ⊎ IsElement shape m n
+
 -- the number is of the kind
-abbrev pub IsOfKind : Kind → ℕ → Type 0
-IsOfKind (Scalar range) n = IsIn range n
-IsOfKind (Context offset) n = pos n ≡ pos context_base +ℤ offset
-IsOfKind (Stack offset) n = pos n ≡ pos stack_end +ℤ offset
+abbrev pub IsOfKind : Setting → Kind → ℕ → Type 0
+IsOfKind setting (Scalar range) n = IsIn range n
+IsOfKind setting (Context offset) n = pos n ≡ pos context_base +ℤ offset
+IsOfKind setting (Stack offset) n = pos n ≡ pos stack_end +ℤ offset
+IsOfKind setting (MapValue m offsets) n = IsSomeAnd (shape_at setting.shapes m) (λ shape. IsByElement offsets shape m n)
+IsOfKind setting (MaybeValue m id) n = IsSomeAnd (shape_at setting.shapes m) (λ shape. IsAnswer shape m n) × (n ≡ setting.answers id)
+IsOfKind setting (MapName m) n = IsSome (shape_at setting.shapes m) × (n ≡ map_name m)
 
 -- a kind, where there is one, describes a number that is set
-abbrev pub Describes : Option Kind → Option ℕ → Type 0
-Describes None x = Unit {0}
-Describes (Some kind) None = ⊥
-Describes (Some kind) (Some n) = IsOfKind kind n
+abbrev pub Describes : Setting → Option Kind → Option ℕ → Type 0
+Describes setting None x = Unit {0}
+Describes setting (Some kind) None = ⊥
+Describes setting (Some kind) (Some n) = IsOfKind setting kind n
 
 -- an offset that a pointer may have
 pub record IsOffset (offset : ℤ) : Type 0 where
@@ -99,11 +137,30 @@ pub record IsNormal (range : Range) : Type 0 where
   pub high : range.high % factor range.align ≡ 0
   pub single : range.low ≡ range.high → range.align ≡ align_of range.low
 
+-- The ranges of a kind are normal: this is asked of each kind in a lawful table.
+abbrev pub IsNormalKind : Kind → Type 0
+IsNormalKind (Scalar range) = IsNormal range
+IsNormalKind (MapValue m offsets) = IsNormal (range_in offsets)
+IsNormalKind kind = Unit {0}
+
+-- offsets within 65536 bytes of the beginning of an element
+pub record AreOffsets (offsets : Offsets) : Type 0 where
+  pub normal : IsNormal (range_in offsets)
+  pub below : offsets.high ≤ 131072
+
 -- what each kind of the verifier meets
 abbrev pub IsKind : Kind → Type 0
 IsKind (Scalar range) = IsNormal range
 IsKind (Context offset) = IsOffset offset
 IsKind (Stack offset) = IsOffset offset
+IsKind (MapValue m offsets) = AreOffsets offsets
+IsKind (MaybeValue m id) = Unit {0}
+IsKind (MapName m) = Unit {0}
+
+-- of the calls of a lookup the kind names one below a slot alone
+abbrev pub IsOfCallBelow : ℕ → Kind → Type 0
+IsOfCallBelow slot (MaybeValue m id) = id < slot
+IsOfCallBelow slot kind = Unit {0}
 
 -- one range lies within another
 pub record IsWithin (inner outer : Range) : Type 0 where
@@ -116,11 +173,18 @@ abbrev pub IsKindBelow : Kind → Kind → Type 0
 IsKindBelow kind (Scalar outer) = (inner : Range) × (kind ≡ Scalar inner) × IsWithin inner outer
 IsKindBelow kind (Context offset) = kind ≡ Context offset
 IsKindBelow kind (Stack offset) = kind ≡ Stack offset
+IsKindBelow kind (MapValue m outer) = (inner : Offsets) × (kind ≡ MapValue m inner) × IsWithin (range_in inner) (range_in outer)
+IsKindBelow kind (MaybeValue m id) = kind ≡ MaybeValue m id
+IsKindBelow kind (MapName m) = kind ≡ MapName m
 
 -- the same where nothing may be known: every kind is below that
 abbrev pub IsBelow : Option Kind → Option Kind → Type 0
 IsBelow kind None = Unit {0}
 IsBelow kind (Some outer) = (inner : Kind) × (kind ≡ Some inner) × IsKindBelow inner outer
+
+-- the offsets of a range of numbers that are each 65536 more
+abbrev pub offsets_in : Range → Offsets
+offsets_in range = record { low = range.low; high = range.high; align = range.align }
 
 -- the least range above two
 abbrev pub join_of_ranges : Range → Range → Range
@@ -135,4 +199,7 @@ abbrev pub join_of_kinds : Kind → Kind → Option Kind
 join_of_kinds (Scalar a) (Scalar b) = Some (Scalar (join_of_ranges a b))
 join_of_kinds (Context a) (Context b) = only_if (is_same a b) (Context a)
 join_of_kinds (Stack a) (Stack b) = only_if (is_same a b) (Stack a)
+join_of_kinds (MapValue m a) (MapValue n b) = only_if (m == n) (MapValue m (offsets_in (join_of_ranges (range_in a) (range_in b))))
+join_of_kinds (MaybeValue m i) (MaybeValue n j) = only_if ((m == n) && (i == j)) (MaybeValue m i)
+join_of_kinds (MapName m) (MapName n) = only_if (m == n) (MapName m)
 join_of_kinds a b = None

@@ -1,20 +1,25 @@
 //! What arithmetic makes of kinds, and which uses of a pointer it refuses.
 
 ghost use Rattle.std.specs.Prelude.{◌≡◌, ◌⊎◌, ℤ, IfOk, IfSome, MatchResult, Ok, Err};
+ghost use Rattle.bpf_decode.specs.declared.operation.Width.TheVariants.{Bits64};
+ghost use Rattle.bpf_decode.specs.declared.operation.AluCode.TheVariants.{Add, Sub};
 ghost use Rattle.insn_alu.specs.Arithmetic.{IsArithmetic};
-ghost use Rattle.verifier_kinds.specs.Arithmetic.{arith_of, copied, displaced, kind_of, moved, moved_back, moved_number, within_offsets};
-ghost use Rattle.verifier_kinds.specs.Kinds.{IsKind, IsNormal, IsOffset};
+ghost use Rattle.verifier_kinds.specs.Arithmetic.{arith_of, copied, displaced, displaced_value, kind_of, moved, moved_back, moved_number, signed, within_offsets, within_value};
+ghost use Rattle.verifier_kinds.specs.Kinds.{AreOffsets, IsKind, IsNormal, IsOffset, factor};
 
-use crate::kind::{Kind, Range};
+use crate::kind::{Align, Kind, Offsets, Range};
 use crate::rows::range_of;
 use bpf_decode::{AluCode, Insn, Operation, Width};
-use host_types::rule::{OUTSIDE_CONTEXT, OUTSIDE_STACK, UNSET_REGISTER, WRONG_KIND};
+use host_types::rule::{
+    NULL_NOT_CHECKED, OUTSIDE_CONTEXT, OUTSIDE_MAP, OUTSIDE_STACK, UNSET_REGISTER, WRONG_KIND,
+};
 
 /// The kind that an arithmetic instruction leaves in dst, of which `a` is known before; `b` is the
 /// kind of the second operand. The error is the number of the rule that it breaks: 14 where it
 /// reads a dst of which nothing is known, 15 for any use of a pointer but a copy and the addition
-/// or subtraction of a constant, 16 or 17 where that moves a pointer of the context or of the stack
-/// more than 65536 bytes away.
+/// or subtraction of a constant, or to a pointer into a map's value the addition of any number, 16,
+/// 17 or 19 where that moves a pointer of the context, of the stack or of a map more than 65536 bytes
+/// away, and 21 for any use of a lookup's answer but a copy.
 pub fn arith(insn: &Insn, a: Option<Kind>, b: Kind) -> Result<Kind, u32>
     requires arithmetic { IsArithmetic insn.now }
     requires destination { IfSome a IsKind }
@@ -56,6 +61,7 @@ fn moved_number(width: Width, offset: i16, kind: Kind) -> Result<Kind, u32>
 {
     match kind {
         Kind::Scalar(b) => Ok(Kind::Scalar(range_of(AluCode::Mov, width, offset, b, b))),
+        Kind::MaybeValue { .. } => Err(NULL_NOT_CHECKED),
         _ => Err(WRONG_KIND),
     }
 }
@@ -69,12 +75,16 @@ fn kind_of(code: AluCode, width: Width, offset: i16, a: Kind, b: Kind) -> Result
     ensures kind { IfOk result IsKind }
 {
     match (a, b) {
+        (Kind::MaybeValue { .. }, _) | (_, Kind::MaybeValue { .. }) => Err(NULL_NOT_CHECKED),
         (Kind::Scalar(a), Kind::Scalar(b)) => Ok(Kind::Scalar(range_of(code, width, offset, a, b))),
         (Kind::Context(offset), Kind::Scalar(by)) => {
             Ok(Kind::Context(displaced(code, width, offset, by, OUTSIDE_CONTEXT)?))
         }
         (Kind::Stack(offset), Kind::Scalar(by)) => {
             Ok(Kind::Stack(displaced(code, width, offset, by, OUTSIDE_STACK)?))
+        }
+        (Kind::MapValue { map, offsets }, Kind::Scalar(by)) => {
+            displaced_value(map, code, width, offsets, by)
         }
         _ => Err(WRONG_KIND),
     }
@@ -144,6 +154,89 @@ fn within_offsets(offset: i64, rule: u32) -> Result<i32, u32>
     } else {
         Err(rule)
     }
+}
+
+/// What an operation makes of a pointer to a map's value. Any number moves it, and a constant moves it
+/// back.
+fn displaced_value(
+    map: u32,
+    code: AluCode,
+    width: Width,
+    offsets: Offsets,
+    by: Range,
+) -> Result<Kind, u32>
+    requires offsets { AreOffsets offsets }
+    requires by { IsNormal by }
+    ensures result { result ≡ displaced_value map code width offsets by }
+    ensures kind { IfOk result IsKind }
+{
+    match (code, width) {
+        (AluCode::Add, Width::Bits64) => moved_value(map, offsets, by),
+        (AluCode::Sub, Width::Bits64) => moved_back_value(map, offsets, by),
+        _ => Err(WRONG_KIND),
+    }
+}
+
+/// A number of a range as an offset: of a constant 2^63 or more stands for itself less 2^64.
+fn signed(by: Range, n: u64) -> i128
+    ensures { result ≡ signed by n }
+{
+    if by.is_constant() {
+        i128::from(n.cast_signed())
+    } else {
+        i128::from(n)
+    }
+}
+
+/// A pointer to a map's value that a number moves.
+fn moved_value(map: u32, offsets: Offsets, by: Range) -> Result<Kind, u32>
+    requires offsets { AreOffsets offsets }
+    requires by { IsNormal by }
+    ensures result { result ≡ displaced_value map Add Bits64 offsets by }
+    ensures kind { IfOk result IsKind }
+{
+    within_value(
+        map,
+        offsets.align.least(by.align),
+        i128::from(offsets.low) + signed(by, by.low),
+        i128::from(offsets.high) + signed(by, by.high),
+    )
+}
+
+/// A pointer to a map's value that a constant moves back.
+fn moved_back_value(map: u32, offsets: Offsets, by: Range) -> Result<Kind, u32>
+    requires offsets { AreOffsets offsets }
+    requires by { IsNormal by }
+    ensures result { result ≡ displaced_value map Sub Bits64 offsets by }
+    ensures kind { IfOk result IsKind }
+{
+    if !by.is_constant() {
+        return Err(WRONG_KIND);
+    }
+    let back = i128::from(by.low.cast_signed());
+    within_value(
+        map,
+        offsets.align.least(by.align),
+        i128::from(offsets.low) - back,
+        i128::from(offsets.high) - back,
+    )
+}
+
+/// A pointer to a map's value at the offsets between two ends, if a pointer may have them.
+fn within_value(map: u32, align: Align, low: i128, high: i128) -> Result<Kind, u32>
+    ensures result { result ≡ within_value map align low high }
+{
+    let (Ok(low), Ok(high)) = (u64::try_from(low), u64::try_from(high)) else {
+        return Err(OUTSIDE_MAP);
+    };
+    if high > 131072 {
+        return Err(OUTSIDE_MAP);
+    }
+    let range = Range { low, high, align }.normalized();
+    Ok(Kind::MapValue {
+        map,
+        offsets: Offsets::of(range),
+    })
 }
 
 #[cfg(test)]

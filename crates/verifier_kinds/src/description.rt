@@ -1,6 +1,6 @@
-ghost use Rattle.std.specs.Prelude.{◌≡◌, ◌↔◌, ℕ, IsTrue, slice_index_or};
+ghost use Rattle.std.specs.Prelude.{◌≡◌, ◌↔◌, ℕ, IsTrue, map, option_map, slice_index_or};
 ghost use Rattle.verifier_kinds.specs.Kinds.{IsBelow};
-ghost use Rattle.verifier_kinds.specs.Descriptions.{IsDescriptionBelow, IsSlotBelow, join_of, join_of_registers, join_of_slots, merged};
+ghost use Rattle.verifier_kinds.specs.Descriptions.{IsDescriptionBelow, IsSlotBelow, join_of, join_of_registers, join_of_slots, merged, settled_kind, settled_slot};
 
 use crate::kind::Kind;
 
@@ -65,7 +65,7 @@ pub struct Description {
 impl Description {
     ghost use Rattle.std.specs.Prelude.{◌<◌, ◌≤◌};
     ghost use Rattle.verifier_kinds.specs.Kinds.{IsKind};
-    ghost use Rattle.verifier_kinds.specs.Descriptions.{IsDescription, IsSlot, register_of, slot_of, start_description, with_kind, with_slot};
+    ghost use Rattle.verifier_kinds.specs.Descriptions.{IsDescription, IsSlot, register_of, settled, slot_of, start_description, with_kind, with_slot, with_unset};
 
     /// What is known where a program begins: R1 is the context's address, R10 the stack's end.
     pub fn start() -> Description
@@ -96,6 +96,25 @@ impl Description {
         ensures description { IsDescription self.old → IsKind kind → IsDescription self.new }
     {
         self.registers[usize::from(i)] = Some(kind);
+    }
+
+    /// Forgets what is known of a register.
+    pub fn unset_register(&mut self, i: u8)
+        requires { i ≤ 10 }
+        ensures set { self.new ≡ with_unset self.old i }
+        ensures description { IsDescription self.old → IsDescription self.new }
+    {
+        self.registers[usize::from(i)] = None;
+    }
+
+    /// Makes it known of what kind the answer of a call is: of each register and each slot of the
+    /// stack that keeps it.
+    pub fn settle(&mut self, call: u32, kind: Kind)
+        ensures settled { self.new ≡ settled call kind self.old }
+        ensures description { IsDescription self.old → IsKind kind → IsDescription self.new }
+    {
+        self.registers = settled_registers(&self.registers, call, kind);
+        self.stack = settled_stack(&self.stack, call, kind);
     }
 
     /// What is known of a slot of the stack, the lowest address first.
@@ -132,6 +151,55 @@ impl Description {
         are_registers_below(&self.registers, &other.registers)
             && is_stack_below(&self.stack, &other.stack)
     }
+}
+
+impl Kind {
+    /// The kind once it is known of what kind the answer of a call is.
+    fn settled(self, call: u32, kind: Kind) -> Kind
+        ensures { result ≡ settled_kind call kind self }
+    {
+        match self {
+            Kind::MaybeValue { call: c, .. } if c == call => kind,
+            _ => self,
+        }
+    }
+}
+
+/// The same of a register of which something may be known.
+fn settled_register(known: Option<Kind>, call: u32, kind: Kind) -> Option<Kind>
+    ensures { result ≡ option_map (settled_kind call kind) known }
+{
+    Some(known?.settled(call, kind))
+}
+
+/// The same of a slot of the stack.
+fn settled_slot(slot: StackSlot, call: u32, kind: Kind) -> StackSlot
+    ensures { result ≡ settled_slot call kind slot }
+{
+    match slot {
+        StackSlot::Kept(kept) => StackSlot::Kept(kept.settled(call, kind)),
+        StackSlot::Bytes(set) => StackSlot::Bytes(set),
+    }
+}
+
+fn settled_registers(a: &[Option<Kind>; 11], call: u32, kind: Kind) -> [Option<Kind>; 11]
+    ensures { result ≡ map (option_map (settled_kind call kind)) a.now }
+{
+    let mut registers = [None; 11];
+    for i in 0..11 {
+        registers[i] = settled_register(a[i], call, kind);
+    }
+    registers
+}
+
+fn settled_stack(a: &[StackSlot; 64], call: u32, kind: Kind) -> [StackSlot; 64]
+    ensures { result ≡ map (settled_slot call kind) a.now }
+{
+    let mut stack = [StackSlot::Bytes(0); 64];
+    for k in 0..64 {
+        stack[k] = settled_slot(a[k], call, kind);
+    }
+    stack
 }
 
 /// The least knowledge of a register above two.

@@ -183,6 +183,69 @@ impl Range {
     }
 }
 
+/// The offsets from `low` to `high`, from the beginning of a map's element, that `align` divides. Each
+/// is 65536 more than it is, so that none is negative.
+#[derive(Clone, Copy, Debug, PartialEq, Eq)]
+pub struct Offsets {
+    pub low: u32,
+    pub high: u32,
+    pub align: Align,
+}
+
+impl Offsets {
+    ghost use Rattle.std.specs.Prelude.{◌≡◌, ◌≤◌, ◌↔◌, IsTrue};
+    ghost use Rattle.verifier_kinds.specs.Kinds.{AreOffsets, IsNormal, IsWithin, join_of_ranges, offsets_in, range_in};
+
+    /// The beginning of an element alone.
+    pub const BEGINNING: Offsets = Offsets {
+        low: 65536,
+        high: 65536,
+        align: Align::Eight,
+    };
+
+    /// The offsets as a range of numbers, each 65536 more than the offset is.
+    pub fn range(self) -> Range
+        ensures { result ≡ range_in self }
+    {
+        Range {
+            low: u64::from(self.low),
+            high: u64::from(self.high),
+            align: self.align,
+        }
+    }
+
+    /// The offsets of a range of numbers that are each 65536 more.
+    pub(crate) fn of(range: Range) -> Offsets
+        requires low { range.low ≤ 131072 }
+        requires high { range.high ≤ 131072 }
+        ensures { result ≡ offsets_in range }
+    {
+        Offsets {
+            low: range.low as u32,
+            high: range.high as u32,
+            align: range.align,
+        }
+    }
+
+    /// The least offsets above two.
+    fn join(self, other: Offsets) -> Offsets
+        ensures { result ≡ offsets_in (join_of_ranges (range_in self) (range_in other)) }
+    {
+        Offsets {
+            low: self.low.min(other.low),
+            high: self.high.max(other.high),
+            align: self.align.least(other.align),
+        }
+    }
+
+    /// Whether the offsets lie within others.
+    fn are_within(self, outer: Offsets) -> bool
+        ensures { IsTrue result ↔ IsWithin (range_in self) (range_in outer) }
+    {
+        self.range().is_within(outer.range())
+    }
+}
+
 /// What is known of a value that is set. Of a value of which nothing is known there is no kind:
 /// the verifier writes `None`.
 #[derive(Clone, Copy, Debug, PartialEq, Eq)]
@@ -193,6 +256,13 @@ pub enum Kind {
     Context(i32),
     /// The address that lies this many bytes above the stack's end.
     Stack(i32),
+    /// An address at one of the offsets from the beginning of some element of a map.
+    MapValue { map: u32, offsets: Offsets },
+    /// What a lookup in a map answered at the slot `call`: 0, or where an element begins. All of one
+    /// call are one number.
+    MaybeValue { map: u32, call: u32 },
+    /// The name of a map: the number that stands for it.
+    MapName(u32),
 }
 
 impl Kind {
@@ -207,6 +277,16 @@ impl Kind {
             (Kind::Scalar(a), Kind::Scalar(b)) => Some(Kind::Scalar(a.join(b))),
             (Kind::Context(a), Kind::Context(b)) => (a == b).then_some(self),
             (Kind::Stack(a), Kind::Stack(b)) => (a == b).then_some(self),
+            (Kind::MapValue { map, offsets: a }, Kind::MapValue { map: m, offsets: b }) => {
+                (map == m).then_some(Kind::MapValue {
+                    map,
+                    offsets: a.join(b),
+                })
+            }
+            (Kind::MaybeValue { map, call }, Kind::MaybeValue { map: m, call: c }) => {
+                (map == m && call == c).then_some(self)
+            }
+            (Kind::MapName(a), Kind::MapName(b)) => (a == b).then_some(self),
             _ => None,
         }
     }
@@ -219,6 +299,13 @@ impl Kind {
             (Kind::Scalar(inner), Kind::Scalar(outer)) => inner.is_within(outer),
             (Kind::Context(a), Kind::Context(b)) => a == b,
             (Kind::Stack(a), Kind::Stack(b)) => a == b,
+            (Kind::MapValue { map, offsets: a }, Kind::MapValue { map: m, offsets: b }) => {
+                map == m && a.are_within(b)
+            }
+            (Kind::MaybeValue { map, call }, Kind::MaybeValue { map: m, call: c }) => {
+                map == m && call == c
+            }
+            (Kind::MapName(a), Kind::MapName(b)) => a == b,
             _ => false,
         }
     }
