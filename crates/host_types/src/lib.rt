@@ -4,6 +4,7 @@
 #![tactic(auto)]
 
 mod fault;
+mod helper;
 mod options;
 pub mod rule;
 mod shape;
@@ -11,6 +12,7 @@ mod status;
 mod visited;
 
 pub use fault::{Fault, Refused};
+pub use helper::MapHelper;
 pub use options::{Opt, Options};
 pub use shape::{MapNo, Page, Shape};
 pub use status::Status;

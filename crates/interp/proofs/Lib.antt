@@ -6,6 +6,7 @@ pub mod KnownLess
 pub mod Bits
 pub mod Sizes
 pub mod Accesses
+pub mod Lookups
 pub mod Passes
 pub mod Writes
 pub mod Parts

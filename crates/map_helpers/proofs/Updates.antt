@@ -2,7 +2,8 @@
 use Rattle.std.proofs.Common.{◌≡◌, ◌∙◌, ℕ, ◌==◌, ◌≤◌, Bool, true, false, List, slice_set, Option, Some, None, option_map, IfSome, IsSomeAnd, refl, sym, ap, subst, arith}
 use Rattle.std.proofs.lemmas.List.{set-get_or}
 use Rattle.host_types.specs.declared.shape.Shape.{Shape}
-use Rattle.host_types.specs.Helpers.{Update, helper, element_at, update_answer, update_charge, map_updated, maps_updated}
+use Rattle.host_types.specs.declared.helper.MapHelper.TheVariants.{Update}
+use Rattle.host_types.specs.Helpers.{helper, element_at, update_answer, update_charge, map_updated, maps_updated}
 use Rattle.host_types.specs.Memory.{FlatMap, FlatMaps, map_at}
 use Rattle.host_types.specs.Shapes.{IsShape}
 use Rattle.host_types.specs.Sharing.{Sharing}

@@ -1,5 +1,6 @@
 ghost use Rattle.std.specs.Prelude.{◌≡◌, ◌≢◌, ◌+◌, ◌<◌, ◌≤◌, length, Some, IfSome, IsSomeAnd};
-ghost use Rattle.host_types.specs.Helpers.{Update, helper, element_at, lookup_answer, delete_answer, update_charge};
+ghost use Rattle.host_types.specs.declared.helper.MapHelper.TheVariants.{Update};
+ghost use Rattle.host_types.specs.Helpers.{helper, element_at, lookup_answer, delete_answer, update_charge};
 ghost use Rattle.host_types.specs.Memory.{map_at};
 ghost use Rattle.host_types.specs.Shapes.{IsShape, byte_len_of};
 ghost use Rattle.page_table.specs.State.{part, have_of};

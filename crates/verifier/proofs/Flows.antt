@@ -12,10 +12,10 @@ use Rattle.bpf_decode.specs.declared.operation.Operation.{Operation}
 use Rattle.bpf_decode.specs.declared.operation.Operation.TheVariants.{Alu, Load, Store, LoadImmediate, Jump, Branch, Call, Exit}
 use Rattle.bpf_decode.specs.Opcodes.{wide_opcode, operation_of, distance_of}
 use Rattle.bpf_decode.specs.Text.{insn_at, opcode_at, slots_of, width_at, is_instruction, IsInstruction}
-use Rattle.verifier_kinds.specs.declared.kind.Range.{Range}
 use Rattle.verifier_kinds.specs.declared.description.Description.{Description}
+use Rattle.verifier.specs.declared.jumps.Compared.{Compared}
 use Rattle.verifier.specs.Subject.{Subject}
-use Rattle.verifier.specs.Flow.{◌>>=◌, both, known_or, read_kind, is_returned, falls_to, lands_on, jumps_to, target, compared_ranges, on_way, flow_of_branch, flow_of_jump, falls_on, after, flow_by, flow}
+use Rattle.verifier.specs.Flow.{◌>>=◌, both, known_or, read_kind, is_number, falls_to, lands_on, jumps_to, target, comparands, on_way, flow_of_branch, flow_of_jump, falls_on, after, flow_by, flow}
 
 -- two questions that break no rule have both an answer
 pub both_ok : {A B : Type 0} (a : Result A ℕ) (b : Result B ℕ) (x : A × B) → both a b ≡ Ok x → (a ≡ Ok x.0) × (b ≡ Ok x.1)
@@ -139,10 +139,10 @@ jump_ahead p distance insn slot d targets e =
 -- where a conditional jump leads
 branch_ahead : (p : Subject) (comparison : Comparison) (width : Width) (source : Source) (insn : Insn) (slot : ℕ) (d : Description) (targets : List (ℕ × Description)) → is_instruction p.text slot ≡ true → flow_of_branch p comparison width source insn slot d ≡ Ok targets → All (IsAhead p slot) targets
 branch_ahead p comparison width source insn slot d targets begins e =
-    let compared = compared_ranges width source insn d in
+    let compared = comparands comparison width source insn d in
     let falls = falls_to p.text slot in
     let jumps = jumps_to p.text slot insn.offset in
-    let way : Bool → Range × Range → Option Description = λ taken ranges. on_way comparison width taken insn d ranges in
+    let way : Bool → Compared → Option Description = λ taken compared. on_way comparison width taken insn d compared in
     let found = then_ok (both compared (both falls jumps)) (λ x. Ok (target x.1.0 (way false x.0) ++ target x.1.1 (way true x.0))) targets e in
     let asked = both_ok compared (both falls jumps) found.0 found.1 in
     let led = both_ok falls jumps found.0.1 asked.1 in
@@ -157,16 +157,16 @@ branch_ahead p comparison width source insn slot d targets begins e =
 -- where an operation leads, there are instructions
 ahead_by : (p : Subject) (operation : Operation) (slot : ℕ) (d : Description) (targets : List (ℕ × Description)) → is_instruction p.text slot ≡ true → flow_by p operation slot d ≡ Ok targets → All (IsAhead p slot) targets
 unfolding flow_by
-ahead_by p (Alu code width source) slot d targets i e = on_ahead p slot (after p (Alu code width source) (insn_at p.text slot) d) targets i e
-ahead_by p (Load size extension) slot d targets i e = on_ahead p slot (after p (Load size extension) (insn_at p.text slot) d) targets i e
-ahead_by p (Store size source) slot d targets i e = on_ahead p slot (after p (Store size source) (insn_at p.text slot) d) targets i e
-ahead_by p LoadImmediate slot d targets i e = on_ahead p slot (after p LoadImmediate (insn_at p.text slot) d) targets i e
-ahead_by p Call slot d targets i e = on_ahead p slot (after p Call (insn_at p.text slot) d) targets i e
+ahead_by p (Alu code width source) slot d targets i e = on_ahead p slot (after p slot (Alu code width source) (insn_at p.text slot) d) targets i e
+ahead_by p (Load size extension) slot d targets i e = on_ahead p slot (after p slot (Load size extension) (insn_at p.text slot) d) targets i e
+ahead_by p (Store size source) slot d targets i e = on_ahead p slot (after p slot (Store size source) (insn_at p.text slot) d) targets i e
+ahead_by p LoadImmediate slot d targets i e = on_ahead p slot (after p slot LoadImmediate (insn_at p.text slot) d) targets i e
+ahead_by p Call slot d targets i e = on_ahead p slot (after p slot Call (insn_at p.text slot) d) targets i e
 ahead_by p (Jump distance) slot d targets i e = jump_ahead p distance (insn_at p.text slot) slot d targets e
 ahead_by p (Branch comparison width source) slot d targets i e = branch_ahead p comparison width source (insn_at p.text slot) slot d targets i e
 ahead_by p Exit slot d targets i e =
-    let found = then_ok (read_kind d 0) (λ kind. is_returned kind >>= λ returned. Ok []) targets e in
-    let returned = then_ok (is_returned found.0) (λ returned. Ok []) targets found.2 in
+    let found = then_ok (read_kind d 0) (λ kind. is_number kind >>= λ returned. Ok []) targets e in
+    let returned = then_ok (is_number found.0) (λ returned. Ok []) targets found.2 in
     let none : [] ≡ targets = cc (returned.2) in
     subst (λ xs. All (IsAhead p slot) xs) none (All-nil (IsAhead p slot))
 

@@ -1,8 +1,12 @@
 -- What flows on from an instruction, or which rule it breaks (this project's own profile, docs/VERIFIER.md;
 -- the numbers are those of the refusals).
-use Rattle.std.specs.Prelude.{ℕ, ◌+◌, ◌-◌, ◌*◌, ◌/◌, ◌%◌, ◌^◌, bit_and, bit_or, nat_lt, nat_le, ◌==◌, ℤ, pos, negsuc, ◌+ℤ◌, Bool, true, false, not, ◌&&◌, ◌||◌, if◌then◌else◌, List, [], ◌∷◌, ◌++◌, Option, Some, None, option_map, Result, Ok, Err}
-use Rattle.host_types.specs.Rules.{unknown_opcode, back_jump, jump_out, falls_off, unset_register, wrong_kind, outside_context, outside_stack, unset_stack, misaligned, frame_written, unknown_helper, unknown_map, pointer_leaks}
+use Rattle.std.specs.Prelude.{ℕ, zero, suc, ◌+◌, ◌-◌, ◌*◌, ◌/◌, ◌%◌, ◌^◌, bit_and, bit_or, nat_lt, nat_le, ◌==◌, ℤ, pos, negsuc, ◌+ℤ◌, int_le, Bool, true, false, not, ◌&&◌, if◌then◌else◌, List, [], ◌∷◌, ◌++◌, Option, Some, None, option_map, unwrap_or, is_some, Result, Ok, Err}
+use Rattle.host_types.specs.declared.helper.MapHelper.{MapHelper}
+use Rattle.host_types.specs.declared.helper.MapHelper.TheVariants.{Lookup, Update, Delete}
+use Rattle.host_types.specs.declared.shape.Shape.{Shape}
+use Rattle.host_types.specs.Rules.{unknown_opcode, back_jump, jump_out, falls_off, unset_register, wrong_kind, outside_context, outside_stack, unset_stack, outside_map, misaligned, null_not_checked, frame_written, unknown_helper, unknown_map, pointer_leaks}
 use Rattle.host_types.specs.Layout.{stack_size}
+use Rattle.host_types.specs.Helpers.{helper_of}
 use Rattle.bpf_decode.specs.declared.insn.Insn.{Insn}
 use Rattle.bpf_decode.specs.declared.operation.Source.{Source}
 use Rattle.bpf_decode.specs.declared.operation.Source.TheVariants.{Immediate, Register}
@@ -14,23 +18,27 @@ use Rattle.bpf_decode.specs.declared.operation.Extension.{Extension}
 use Rattle.bpf_decode.specs.declared.operation.Extension.TheVariants.{Zero, Sign}
 use Rattle.bpf_decode.specs.declared.operation.Distance.{Distance}
 use Rattle.bpf_decode.specs.declared.operation.Comparison.{Comparison}
+use Rattle.bpf_decode.specs.declared.operation.Comparison.TheVariants.{Equal, NotEqual}
 use Rattle.bpf_decode.specs.declared.operation.AluCode.{AluCode}
 use Rattle.bpf_decode.specs.declared.operation.Operation.{Operation}
 use Rattle.bpf_decode.specs.declared.operation.Operation.TheVariants.{Alu, Load, Store, LoadImmediate, Jump, Branch, Call, Exit}
 use Rattle.bpf_decode.specs.Opcodes.{operation_of, is, byte_count, distance_of, sign_extended, wide_immediate}
 use Rattle.bpf_decode.specs.Text.{insn_at, is_instruction, slots_of, width_at}
 use Rattle.insn_alu.specs.Arithmetic.{low, reads_dst}
-use Rattle.verifier_kinds.specs.declared.kind.Align.TheVariants.{One}
+use Rattle.verifier_kinds.specs.declared.kind.Align.TheVariants.{One, Eight}
 use Rattle.verifier_kinds.specs.declared.kind.Range.{Range}
+use Rattle.verifier_kinds.specs.declared.kind.Offsets.{Offsets}
 use Rattle.verifier_kinds.specs.declared.kind.Kind.{Kind}
-use Rattle.verifier_kinds.specs.declared.kind.Kind.TheVariants.{Scalar, Context, Stack}
+use Rattle.verifier_kinds.specs.declared.kind.Kind.TheVariants.{Scalar, Context, Stack, MapValue, MaybeValue, MapName}
 use Rattle.verifier_kinds.specs.declared.description.StackSlot.{StackSlot}
 use Rattle.verifier_kinds.specs.declared.description.StackSlot.TheVariants.{Kept, Bytes}
 use Rattle.verifier_kinds.specs.declared.description.Description.{Description}
-use Rattle.verifier_kinds.specs.Kinds.{constant, full, normal}
-use Rattle.verifier_kinds.specs.Descriptions.{register_of, slot_of, with_kind, with_slot, places_of}
+use Rattle.verifier_kinds.specs.Kinds.{constant, factor, full, normal, shape_at}
+use Rattle.verifier_kinds.specs.Descriptions.{register_of, settled, slot_of, with_kind, with_slot, with_unset, places_of}
 use Rattle.verifier_kinds.specs.Arithmetic.{arith_by}
 use Rattle.verifier_kinds.specs.Refinement.{refined}
+use Rattle.verifier.specs.declared.jumps.Compared.{Compared}
+use Rattle.verifier.specs.declared.jumps.Compared.TheVariants.{Numbers, Answer}
 use Rattle.verifier.specs.Subject.{Subject}
 
 infixl 10 ◌>>=◌
@@ -45,6 +53,10 @@ both (Ok x) (Ok y) = Ok (x, y)
 both (Ok x) (Err n) = Err n
 both (Err m) (Ok y) = Err m
 both (Err m) (Err n) = Err (if nat_lt n m then n else m)
+
+-- the same of questions that tell nothing but whether a rule is broken
+abbrev pub first_of : Result (Unit {0}) ℕ → Result (Unit {0}) ℕ → Result (Unit {0}) ℕ
+first_of a b = both a b >>= λ x. Ok tt
 
 -- the test holds, or the rule is broken
 abbrev pub holds_or : Bool → ℕ → Result (Unit {0}) ℕ
@@ -127,13 +139,39 @@ slot_kind size extension (Kept pointer) at = Err pointer_leaks
 slot_kind size extension (Bytes set) at =
     if bit_and set (places at size) == places at size then Ok (Scalar (loaded_range size extension)) else Err unset_stack
 
+-- the bytes of a value of the map m; a map that isn't there has none
+abbrev pub value_size_of : Subject → ℕ → ℕ
+value_size_of p m = unwrap_or (option_map (λ (shape : Shape). shape.value_size) (shape_at p.shapes m)) 0
+
+-- an access lies whole in a value, at whichever of its offsets the pointer is; these are 65536 more than
+-- they are
+abbrev pub lies_in_value : ℕ → Offsets → ℤ → ℕ → Result (Unit {0}) ℕ
+lies_in_value value_size offsets by size =
+    holds_or (int_le (pos 65536) (pos offsets.low +ℤ by) && int_le (pos (offsets.high + size) +ℤ by) (pos (65536 + value_size))) outside_map
+
+-- an access is aligned to its size, at whichever of its offsets the pointer is
+abbrev pub is_aligned_in_value : Offsets → ℤ → ℕ → Bool
+is_aligned_in_value offsets by size =
+    if offsets.low == offsets.high
+    then (offsets.low + sign_extended by) % size == 0
+    else (factor offsets.align % size == 0) && (sign_extended by % size == 0)
+
+-- an access through a pointer to a value
+abbrev pub value_access : ℕ → Offsets → ℤ → ℕ → Result (Unit {0}) ℕ
+value_access value_size offsets by size =
+    lies_in_value value_size offsets by size >>= λ within. holds_or (is_aligned_in_value offsets by size) misaligned
+
 -- what is known of a number that is loaded through a base
 abbrev pub load_kind : Subject → Size → Extension → Insn → Description → Kind → Result Kind ℕ
 load_kind p size extension insn d (Context k) =
     context_place p.context_size (k +ℤ insn.offset) (byte_count size) >>= λ at. Ok (Scalar (loaded_range size extension))
 load_kind p size extension insn d (Stack k) =
     stack_place (k +ℤ insn.offset) (byte_count size) >>= λ at. slot_kind size extension (slot_of d (at / 8)) at
+load_kind p size extension insn d (MapValue m offsets) =
+    value_access (value_size_of p m) offsets insn.offset (byte_count size) >>= λ within. Ok (Scalar (loaded_range size extension))
+load_kind p size extension insn d (MaybeValue m call) = Err null_not_checked
 load_kind p size extension insn d (Scalar range) = Err wrong_kind
+load_kind p size extension insn d (MapName m) = Err wrong_kind
 
 -- what is known of a number that is loaded
 abbrev pub loaded_kind : Subject → Size → Extension → Insn → Description → Result Kind ℕ
@@ -143,23 +181,18 @@ loaded_kind p size extension insn d = read_kind d insn.src >>= λ base. load_kin
 unfoldable pub after_load : Subject → Size → Extension → Insn → Description → Result Description ℕ
 after_load p size extension insn d = write_kind d insn.dst (loaded_kind p size extension insn d)
 
--- what is known of what the wide instruction loads: a number, or the name of a map, and no program has
--- maps yet
-abbrev pub wide_kind : Insn → Result Kind ℕ
-wide_kind insn = if insn.src == 0 then Ok (Scalar (constant (wide_immediate insn))) else Err unknown_map
+-- the name of a map that the program may use
+abbrev pub name_kind : Subject → ℤ → Result Kind ℕ
+name_kind p (pos m) = holds_or (is_some (shape_at p.shapes m)) unknown_map >>= λ there. Ok (MapName m)
+name_kind p (negsuc n) = Err unknown_map
+
+-- what is known of what the wide instruction loads: a number, or the name of a map
+abbrev pub wide_kind : Subject → Insn → Result Kind ℕ
+wide_kind p insn = if insn.src == 0 then Ok (Scalar (constant (wide_immediate insn))) else name_kind p insn.imm
 
 -- the load of both immediates
-unfoldable pub after_load_immediate : Insn → Description → Result Description ℕ
-after_load_immediate insn d = write_kind d insn.dst (wide_kind insn)
-
--- where a store through a base goes; the context is read-only
-abbrev pub store_place : Size → Insn → Kind → Result ℕ ℕ
-store_place size insn (Stack k) = stack_place (k +ℤ insn.offset) (byte_count size)
-store_place size insn base = Err wrong_kind
-
--- where a store goes
-abbrev pub stored_place : Size → Insn → Description → Result ℕ ℕ
-stored_place size insn d = read_kind d insn.dst >>= λ base. store_place size insn base
+unfoldable pub after_load_immediate : Subject → Insn → Description → Result Description ℕ
+after_load_immediate p insn d = write_kind d insn.dst (wide_kind p insn)
 
 -- a slot of the stack with some of its bytes written: a double word is kept, and a pointer is stored whole
 -- alone
@@ -168,17 +201,33 @@ written_slot DoubleWord slot at kind = Ok (Kept kind)
 written_slot size slot at (Scalar range) = Ok (Bytes (bit_or (places_of slot) (places at size)))
 written_slot size slot at pointer = Err pointer_leaks
 
--- a store
-unfoldable pub after_store : Size → Source → Insn → Description → Result Description ℕ
-after_store size source insn d = do
-  x ← both (operand_kind Bits64 source insn d) (stored_place size insn d)
-  slot ← written_slot size (slot_of d (x.1 / 8)) x.1 x.0
-  Ok (with_slot d (x.1 / 8) slot)
+-- no pointer is given away: not to a map, and not as what the program returns
+abbrev pub is_number : Kind → Result (Unit {0}) ℕ
+is_number (Scalar range) = Ok tt
+is_number pointer = Err pointer_leaks
 
--- R0 is returned, and no pointer is
-abbrev pub is_returned : Kind → Result (Unit {0}) ℕ
-is_returned (Scalar range) = Ok tt
-is_returned pointer = Err pointer_leaks
+-- what is known after a store to the stack at an offset from its end
+abbrev pub after_stack_store : Size → ℤ → Kind → Description → Result Description ℕ
+after_stack_store size offset kind d = do
+  at ← stack_place offset (byte_count size)
+  slot ← written_slot size (slot_of d (at / 8)) at kind
+  Ok (with_slot d (at / 8) slot)
+
+-- What is known after a store of a kind through a base. Nothing is known of what maps hold, and the
+-- context is read-only.
+abbrev pub stored : Subject → Size → Insn → Description → Kind → Kind → Result Description ℕ
+stored p size insn d (Stack k) kind = after_stack_store size (k +ℤ insn.offset) kind d
+stored p size insn d (MapValue m offsets) kind =
+    value_access (value_size_of p m) offsets insn.offset (byte_count size) >>= λ within. is_number kind >>= λ number. Ok d
+stored p size insn d (MaybeValue m call) kind = Err null_not_checked
+stored p size insn d (Scalar range) kind = Err wrong_kind
+stored p size insn d (Context k) kind = Err wrong_kind
+stored p size insn d (MapName m) kind = Err wrong_kind
+
+-- a store
+unfoldable pub after_store : Subject → Size → Source → Insn → Description → Result Description ℕ
+after_store p size source insn d =
+    both (read_kind d insn.dst) (operand_kind Bits64 source insn d) >>= λ x. stored p size insn d x.0 x.1
 
 -- the slot to which an instruction falls through
 abbrev pub falls_to : List ℕ → ℕ → Result ℕ ℕ
@@ -200,49 +249,146 @@ abbrev pub target : ℕ → Option Description → List (ℕ × Description)
 target to None = []
 target to (Some d) = (to, d) ∷ []
 
--- only numbers are compared
-abbrev pub are_numbers : Kind × Kind → Result (Range × Range) ℕ
-are_numbers (Scalar a, Scalar b) = Ok (a, b)
-are_numbers kinds = Err wrong_kind
+-- a comparison that tells whether a lookup's answer is 0
+abbrev pub is_null_check : Comparison → Width → Source → Insn → Bool
+is_null_check Equal Bits64 Immediate insn = is insn.imm 0
+is_null_check NotEqual Bits64 Immediate insn = is insn.imm 0
+is_null_check comparison width source insn = false
 
--- the ranges of the numbers that a conditional jump compares
-abbrev pub compared_ranges : Width → Source → Insn → Description → Result (Range × Range) ℕ
-compared_ranges width source insn d = both (read_kind d insn.dst) (operand_kind width source insn d) >>= are_numbers
+-- numbers are compared, and a lookup's answer with 0
+abbrev pub compared_kinds : Bool → Kind × Kind → Result Compared ℕ
+compared_kinds null_check (MaybeValue m call, b) = if null_check then Ok (Answer m call) else Err null_not_checked
+compared_kinds null_check (a, MaybeValue m call) = Err null_not_checked
+compared_kinds null_check (Scalar a, Scalar b) = Ok (Numbers a b)
+compared_kinds null_check kinds = Err wrong_kind
 
--- what is known on one way of a conditional jump: the comparison tells of dst alone
-abbrev pub on_way : Comparison → Width → Bool → Insn → Description → Range × Range → Option Description
-on_way comparison width taken insn d ranges =
-    option_map (λ range. with_kind d insn.dst (Scalar range)) (refined comparison width taken ranges.0 ranges.1)
+-- what a conditional jump compares
+abbrev pub comparands : Comparison → Width → Source → Insn → Description → Result Compared ℕ
+comparands comparison width source insn d =
+    both (read_kind d insn.dst) (operand_kind width source insn d) >>= compared_kinds (is_null_check comparison width source insn)
+
+-- a comparison with 0 holds of 0
+abbrev pub holds_of_null : Comparison → Bool
+holds_of_null Equal = true
+holds_of_null comparison = false
+
+-- the beginning of an element; offsets are 65536 more than they are
+abbrev pub beginning : Offsets
+beginning = record { low = 65536; high = 65536; align = Eight }
+
+-- what a lookup's answer is once it is known whether it is 0
+abbrev pub checked_kind : ℕ → Bool → Kind
+checked_kind m true = Scalar (constant 0)
+checked_kind m false = MapValue m beginning
+
+-- What is known on one way of a conditional jump: a comparison of numbers tells of dst alone, and one of
+-- a lookup's answer with 0 of all that keep this answer.
+abbrev pub on_way : Comparison → Width → Bool → Insn → Description → Compared → Option Description
+on_way comparison width taken insn d (Numbers a b) =
+    option_map (λ range. with_kind d insn.dst (Scalar range)) (refined comparison width taken a b)
+on_way comparison width true insn d (Answer m call) = Some (settled call (checked_kind m (holds_of_null comparison)) d)
+on_way comparison width false insn d (Answer m call) = Some (settled call (checked_kind m (not (holds_of_null comparison))) d)
 
 -- Where a conditional jump leads. Both targets are judged, also where nothing goes one way.
 abbrev pub flow_of_branch : Subject → Comparison → Width → Source → Insn → ℕ → Description → Result (List (ℕ × Description)) ℕ
 flow_of_branch p comparison width source insn slot d = do
-  x ← both (compared_ranges width source insn d) (both (falls_to p.text slot) (jumps_to p.text slot insn.offset))
+  x ← both (comparands comparison width source insn d) (both (falls_to p.text slot) (jumps_to p.text slot insn.offset))
   Ok (target x.1.0 (on_way comparison width false insn d x.0) ++ target x.1.1 (on_way comparison width true insn d x.0))
 
 -- where a jump leads that is always taken
 abbrev pub flow_of_jump : Subject → Distance → Insn → ℕ → Description → Result (List (ℕ × Description)) ℕ
 flow_of_jump p distance insn slot d = jumps_to p.text slot (distance_of distance insn) >>= λ to. Ok (target to (Some d))
 
--- the registers that a helper reads are known
-abbrev pub arguments_are_known : ℤ → Description → Result (Unit {0}) ℕ
-arguments_are_known number d =
-    both (read_kind d 1) (read_kind d 2) >>= λ x.
-    if is number 2 then (both (read_kind d 3) (read_kind d 4) >>= λ y. Ok tt) else Ok tt
+-- a byte of the stack is known to hold a number's part
+abbrev pub byte_in_slot : StackSlot → ℕ → Result (Unit {0}) ℕ
+byte_in_slot (Kept (Scalar range)) i = Ok tt
+byte_in_slot (Kept pointer) i = Err pointer_leaks
+byte_in_slot (Bytes set) i = holds_or (bit_and set (2 ^ i) == 2 ^ i) unset_stack
 
--- A call of a helper: its first argument is the name of a map, of which there is none yet.
-abbrev pub after_call : Insn → Description → Result Description ℕ
-after_call insn d =
-    if is insn.imm 1 || (is insn.imm 2 || is insn.imm 3) then (arguments_are_known insn.imm d >>= λ known. Err wrong_kind) else Err unknown_helper
+-- so are the bytes of the stack from a place on
+abbrev pub bytes_known : Description → ℕ → ℕ → Result (Unit {0}) ℕ
+bytes_known d at zero = Ok tt
+bytes_known d at (suc n) = first_of (bytes_known d at n) (byte_in_slot (slot_of d ((at + n) / 8)) ((at + n) % 8))
+
+-- Bytes that a helper reads: they lie whole in the context or in the stack, at a multiple of `align`, and
+-- those of the stack are known to hold numbers.
+abbrev pub argument : Subject → Description → ℕ → ℕ → Kind → Result (Unit {0}) ℕ
+argument p d size align (Context k) =
+    lies_below k size p.context_size outside_context >>= λ at. aligned at align >>= λ place. Ok tt
+argument p d size align (Stack k) =
+    lies_below (k +ℤ pos stack_size) size stack_size outside_stack >>= λ at. both (aligned at align) (bytes_known d at size) >>= λ known. Ok tt
+argument p d size align (MaybeValue m call) = Err null_not_checked
+argument p d size align other = Err wrong_kind
+
+-- the same of bytes whose number isn't known
+abbrev pub points : Kind → Result (Unit {0}) ℕ
+points (Context k) = Ok tt
+points (Stack k) = Ok tt
+points (MaybeValue m call) = Err null_not_checked
+points other = Err wrong_kind
+
+-- the map whose name a kind is
+abbrev pub name_in : Kind → Result ℕ ℕ
+name_in (MapName m) = Ok m
+name_in (MaybeValue m call) = Err null_not_checked
+name_in other = Err wrong_kind
+
+-- the flags of an update are a number
+abbrev pub flags_in : Kind → Result (Unit {0}) ℕ
+flags_in (Scalar range) = Ok tt
+flags_in (MaybeValue m call) = Err null_not_checked
+flags_in other = Err wrong_kind
+
+-- R1 of a helper is the name of a map
+abbrev pub named_map : Description → Result ℕ ℕ
+named_map d = read_kind d 1 >>= name_in
+
+-- R2 is where the four bytes of the key are
+abbrev pub key_argument : Subject → Description → Result (Unit {0}) ℕ
+key_argument p d = read_kind d 2 >>= argument p d 4 4
+
+-- R3 of an update is where the value is, of as many bytes as the map's values have
+abbrev pub value_argument : Subject → Description → Result ℕ ℕ → Result (Unit {0}) ℕ
+value_argument p d (Ok m) = read_kind d 3 >>= argument p d (value_size_of p m) 1
+value_argument p d (Err rule) = read_kind d 3 >>= points
+
+-- R4 of an update holds its flags
+abbrev pub flags_argument : Description → Result (Unit {0}) ℕ
+flags_argument d = read_kind d 4 >>= flags_in
+
+-- the arguments behind the key, which an update has alone
+abbrev pub update_arguments : Subject → MapHelper → Description → Result (Unit {0}) ℕ
+update_arguments p Update d = first_of (value_argument p d (named_map d)) (flags_argument d)
+update_arguments p other d = Ok tt
+
+-- the map that a helper is called for, if it may be called
+abbrev pub called : Subject → MapHelper → Description → Result ℕ ℕ
+called p helper d = both (named_map d) (both (key_argument p d) (update_arguments p helper d)) >>= λ x. Ok x.0
+
+-- what a helper leaves in R0
+abbrev pub answer_kind : MapHelper → ℕ → ℕ → Kind
+answer_kind Lookup slot m = MaybeValue m slot
+answer_kind other slot m = Scalar (full One)
+
+-- after a call nothing is known of R1 to R5
+abbrev pub without_arguments : Description → Description
+without_arguments d = with_unset (with_unset (with_unset (with_unset (with_unset d 1) 2) 3) 4) 5
+
+-- a call of a helper
+unfoldable pub after_call : Subject → ℕ → Insn → Description → Result Description ℕ
+after_call p slot insn d = do
+  helper ← known_or (helper_of (sign_extended insn.imm)) unknown_helper
+  m ← called p helper d
+  Ok (with_kind (without_arguments d) 0 (answer_kind helper slot m))
 
 -- what is known after an instruction that falls through
-abbrev pub after : Subject → Operation → Insn → Description → Result Description ℕ
-after p (Alu code width source) insn d = after_alu code width source insn d
-after p (Load size extension) insn d = after_load p size extension insn d
-after p (Store size source) insn d = after_store size source insn d
-after p LoadImmediate insn d = after_load_immediate insn d
-after p Call insn d = after_call insn d
-after p other insn d = Ok d
+abbrev pub after : Subject → ℕ → Operation → Insn → Description → Result Description ℕ
+after p slot (Alu code width source) insn d = after_alu code width source insn d
+after p slot (Load size extension) insn d = after_load p size extension insn d
+after p slot (Store size source) insn d = after_store p size source insn d
+after p slot LoadImmediate insn d = after_load_immediate p insn d
+after p slot Call insn d = after_call p slot insn d
+after p slot other insn d = Ok d
 
 -- where an instruction leads that falls through, from what is known after it
 abbrev pub falls_on : Subject → ℕ → Result Description ℕ → Result (List (ℕ × Description)) ℕ
@@ -250,7 +396,7 @@ falls_on p slot after = both after (falls_to p.text slot) >>= λ x. Ok (target x
 
 -- where EXIT leads: nowhere, if R0 may be returned
 abbrev pub flow_of_exit : Description → Result (List (ℕ × Description)) ℕ
-flow_of_exit d = read_kind d 0 >>= λ kind. is_returned kind >>= λ returned. Ok []
+flow_of_exit d = read_kind d 0 >>= λ kind. is_number kind >>= λ returned. Ok []
 
 -- Where an operation leads and what is known there: a list of targets, the slot to which it falls
 -- through before the one to which it jumps.
@@ -258,7 +404,7 @@ unfoldable pub flow_by : Subject → Operation → ℕ → Description → Resul
 flow_by p Exit slot d = flow_of_exit d
 flow_by p (Jump distance) slot d = flow_of_jump p distance (insn_at p.text slot) slot d
 flow_by p (Branch comparison width source) slot d = flow_of_branch p comparison width source (insn_at p.text slot) slot d
-flow_by p operation slot d = falls_on p slot (after p operation (insn_at p.text slot) d)
+flow_by p operation slot d = falls_on p slot (after p slot operation (insn_at p.text slot) d)
 
 -- where the instruction at a slot leads from a description, or the rule that it breaks
 abbrev pub flow : Subject → ℕ → Description → Result (List (ℕ × Description)) ℕ

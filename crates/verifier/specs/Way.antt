@@ -1,18 +1,26 @@
 -- Where an instruction leads, as the pass has it: the description is changed in place, and a conditional
 -- jump tells a range of dst on each of its ways.
-use Rattle.std.specs.Prelude.{◌≡◌, ℕ, ◌<◌, ◌≤◌, List, [], ◌++◌, Option, Some, option_map, Result, Ok, Err}
+use Rattle.std.specs.Prelude.{◌≡◌, ℕ, ◌<◌, ◌≤◌, Bool, not, List, [], ◌++◌, Option, Some, option_map, Result, Ok, Err}
 use Rattle.verifier_kinds.specs.declared.kind.Range.{Range}
 use Rattle.verifier_kinds.specs.declared.kind.Kind.TheVariants.{Scalar}
 use Rattle.verifier_kinds.specs.declared.description.Description.{Description}
-use Rattle.verifier_kinds.specs.Descriptions.{with_kind}
+use Rattle.verifier_kinds.specs.Descriptions.{settled, with_kind}
+use Rattle.verifier_kinds.specs.Kinds.{IsNormal}
+use Rattle.verifier.specs.declared.jumps.Compared.{Compared}
+use Rattle.verifier.specs.declared.jumps.Compared.TheVariants.{Numbers, Answer}
 use Rattle.verifier.specs.declared.way.Fork.{Fork}
+use Rattle.verifier.specs.declared.way.Check.{Check}
 use Rattle.verifier.specs.declared.way.Way.{Way}
-use Rattle.verifier.specs.declared.way.Way.TheVariants.{Ends, Falls, Jumps, Forks}
-use Rattle.verifier.specs.Flow.{target}
+use Rattle.verifier.specs.declared.way.Way.TheVariants.{Ends, Falls, Jumps, Forks, Checks}
+use Rattle.verifier.specs.Flow.{target, checked_kind}
 
 -- what is known on a way of a conditional jump: a range of dst alone, if any number goes that way
 abbrev pub told : Fork → Option Range → Description → Option Description
 told fork range d = option_map (λ range. with_kind d fork.dst (Scalar range)) range
+
+-- what is known of a lookup's answer on the way where it is 0, or isn't
+abbrev pub checked : Check → Bool → Description → Description
+checked check null d = settled check.call (checked_kind check.map null) d
 
 -- the targets, from what is known after the instruction
 abbrev pub ways_of : Way → Description → List (ℕ × Description)
@@ -20,6 +28,13 @@ ways_of Ends d = []
 ways_of (Falls to) d = target to (Some d)
 ways_of (Jumps to) d = target to (Some d)
 ways_of (Forks fork) d = target fork.next (told fork fork.fallen d) ++ target fork.jump (told fork fork.jumped d)
+ways_of (Checks check) d =
+    target check.next (Some (checked check (not check.null_jumps) d)) ++ target check.jump (Some (checked check check.null_jumps d))
+
+-- the ranges that are compared are normal
+abbrev pub AreNormal : Compared → Type 0
+AreNormal (Numbers a b) = IsNormal a × IsNormal b
+AreNormal (Answer m call) = Unit {0}
 
 -- a conditional jump tells of one of the registers
 abbrev pub HasDst : Way → Type 0
@@ -30,12 +45,14 @@ HasDst way = Unit {0}
 abbrev pub FallsTo : ℕ → Way → Type 0
 FallsTo next (Falls to) = to ≡ next
 FallsTo next (Forks fork) = fork.next ≡ next
+FallsTo next (Checks check) = check.next ≡ next
 FallsTo next way = Unit {0}
 
 -- the slots to which it leads are below a number
 abbrev pub LeadsBelow : ℕ → Way → Type 0
 LeadsBelow slots (Jumps to) = to < slots
 LeadsBelow slots (Forks fork) = (fork.next < slots) × (fork.jump < slots)
+LeadsBelow slots (Checks check) = (check.next < slots) × (check.jump < slots)
 LeadsBelow slots way = Unit {0}
 
 -- the answer of an instruction that left a description

@@ -4,26 +4,27 @@ ghost use Rattle.std.specs.Prelude.{◌≡◌, ◌+◌, ◌-◌, ◌%◌, ◌^�
 ghost use Rattle.bpf_decode.specs.Opcodes.{byte_count};
 ghost use Rattle.verifier_kinds.specs.Kinds.{IsKind, IsNormal};
 ghost use Rattle.verifier_kinds.specs.Descriptions.{IsDescription, IsSlot, places_of};
-ghost use Rattle.verifier.specs.Flow.{lies_below, aligned, context_place, stack_place, loaded_range, places, slot_kind, load_kind, loaded_kind, after_load, wide_kind, after_load_immediate, store_place, stored_place, written_slot, after_store};
+ghost use Rattle.verifier.specs.Flow.{lies_below, aligned, context_place, stack_place, lies_in_value, is_aligned_in_value, value_access, loaded_range, places, slot_kind, load_kind, loaded_kind, after_load, name_kind, wide_kind, after_load_immediate, is_number, written_slot, after_stack_store, stored, after_store};
 ghost use Rattle.verifier.specs.Way.{done};
 
 use crate::candidate::Candidate;
 use crate::rules::{both, operand_kind, read_kind, write_kind};
 use bpf_decode::{Extension, Insn, Size, Source, Width};
 use host_types::rule::{
-    MISALIGNED, OUTSIDE_CONTEXT, OUTSIDE_STACK, POINTER_LEAKS, UNKNOWN_MAP, UNSET_STACK, WRONG_KIND,
+    MISALIGNED, NULL_NOT_CHECKED, OUTSIDE_CONTEXT, OUTSIDE_MAP, OUTSIDE_STACK, POINTER_LEAKS,
+    UNKNOWN_MAP, UNSET_STACK, WRONG_KIND,
 };
-use verifier_kinds::{Align, Description, Kind, Range, StackSlot};
+use verifier_kinds::{Align, Description, Kind, Offsets, Range, StackSlot};
 
 /// The bytes of the stack.
-const STACK_SIZE: u64 = 512;
+pub(crate) const STACK_SIZE: u64 = 512;
 
 /// The bytes of a slot of the stack.
-const SLOT_SIZE: u64 = 8;
+pub(crate) const SLOT_SIZE: u64 = 8;
 
 /// The place of `size` bytes that lie whole between 0 and an end.
-fn lies_below(at: i64, size: u64, end: u64, rule: u32) -> Result<u64, u32>
-    requires { size ≤ 8 }
+pub(crate) fn lies_below(at: i64, size: u64, end: u64, rule: u32) -> Result<u64, u32>
+    requires { size ≤ 4096 }
     ensures place { result ≡ lies_below at size end rule }
     ensures within { IfOk result (λ place. place + size ≤ end) }
 {
@@ -34,7 +35,7 @@ fn lies_below(at: i64, size: u64, end: u64, rule: u32) -> Result<u64, u32>
 }
 
 /// The place of an access that is aligned to its size.
-fn aligned(at: u64, size: u64) -> Result<u64, u32>
+pub(crate) fn aligned(at: u64, size: u64) -> Result<u64, u32>
     requires { 0 < size }
     ensures place { result ≡ aligned at size }
     ensures aligned { IfOk result (λ at. at % size ≡ 0) }
@@ -75,6 +76,50 @@ fn displaced(offset: i32, by: i16) -> i64
     ensures near { result ≤ℤ pos 4294967296 }
 {
     i64::from(offset) + i64::from(by)
+}
+
+/// How much more an offset from the beginning of an element is than it says.
+const OFFSET_BASE: i64 = 65536;
+
+/// An access lies whole in a value, at whichever of its offsets the pointer is.
+fn lies_in_value(value_size: u32, offsets: Offsets, by: i16, size: u64) -> Result<(), u32>
+    requires { size ≤ 8 }
+    ensures { result ≡ lies_in_value value_size offsets by size }
+{
+    let low = i64::from(offsets.low) + i64::from(by);
+    let end = i64::from(offsets.high) + size as i64 + i64::from(by);
+    if OFFSET_BASE <= low && end <= OFFSET_BASE + i64::from(value_size) {
+        Ok(())
+    } else {
+        Err(OUTSIDE_MAP)
+    }
+}
+
+/// An access is aligned to its size, at whichever of its offsets the pointer is.
+fn is_aligned_in_value(offsets: Offsets, by: i16, size: u64) -> bool
+    requires { 0 < size }
+    ensures { result ≡ is_aligned_in_value offsets by size }
+{
+    let by = i64::from(by).cast_unsigned();
+    if offsets.low == offsets.high {
+        u64::from(offsets.low).wrapping_add(by) % size == 0
+    } else {
+        offsets.align.factor() % size == 0 && by % size == 0
+    }
+}
+
+/// An access through a pointer to a value.
+fn value_access(value_size: u32, offsets: Offsets, by: i16, size: u64) -> Result<(), u32>
+    requires some { 0 < size }
+    requires word { size ≤ 8 }
+    ensures { result ≡ value_access value_size offsets by size }
+{
+    lies_in_value(value_size, offsets, by, size)?;
+    if is_aligned_in_value(offsets, by, size) {
+        Ok(())
+    } else {
+        Err(MISALIGNED)
+    }
 }
 
 /// The numbers that are loaded: with sign extension they are all numbers.
@@ -127,7 +172,7 @@ fn slot_kind(size: Size, extension: Extension, slot: StackSlot, at: u64) -> Resu
     match (size, slot) {
         (Size::DoubleWord, StackSlot::Kept(kind)) => Ok(kind),
         (_, StackSlot::Kept(Kind::Scalar(_))) => Ok(Kind::Scalar(loaded_range(size, extension))),
-        (_, StackSlot::Kept(Kind::Context(_) | Kind::Stack(_))) => Err(POINTER_LEAKS),
+        (_, StackSlot::Kept(_)) => Err(POINTER_LEAKS),
         (_, StackSlot::Bytes(set)) => {
             let asked = places(at, size);
             if set & asked == asked {
@@ -162,7 +207,12 @@ fn load_kind(
             let at = stack_place(displaced(k, insn.offset), bytes)?;
             slot_kind(size, extension, d.slot((at / SLOT_SIZE) as usize), at)
         }
-        Kind::Scalar(_) => Err(WRONG_KIND),
+        Kind::MapValue { map, offsets } => {
+            value_access(candidate.value_size(map), offsets, insn.offset, bytes)?;
+            Ok(Kind::Scalar(loaded_range(size, extension)))
+        }
+        Kind::MaybeValue { .. } => Err(NULL_NOT_CHECKED),
+        Kind::Scalar(_) | Kind::MapName(_) => Err(WRONG_KIND),
     }
 }
 
@@ -202,52 +252,52 @@ pub(crate) fn after_load(
     write_kind(d, insn.dst, kind)
 }
 
-/// What is known of what the wide instruction loads: a number, or the name of a map, and no program
-/// has maps yet.
-fn wide_kind(insn: &Insn) -> Result<Kind, u32>
-    ensures kind { result ≡ wide_kind insn.now }
+/// The name of a map that the program may use.
+fn name_kind(candidate: &Candidate, number: i32) -> Result<Kind, u32>
+    ensures kind { result ≡ name_kind candidate.now number }
+    ensures meets { IfOk result IsKind }
+{
+    match u32::try_from(number) {
+        Ok(map) if candidate.has_map(map) => Ok(Kind::MapName(map)),
+        _ => Err(UNKNOWN_MAP),
+    }
+}
+
+/// What is known of what the wide instruction loads: a number, or the name of a map.
+fn wide_kind(candidate: &Candidate, insn: &Insn) -> Result<Kind, u32>
+    ensures kind { result ≡ wide_kind candidate.now insn.now }
     ensures meets { IfOk result IsKind }
 {
     if insn.src == 0 {
         Ok(Kind::Scalar(Range::constant(insn.wide_immediate())))
     } else {
-        Err(UNKNOWN_MAP)
+        name_kind(candidate, insn.imm)
     }
 }
 
 /// What is known after a load of both immediates.
 #[tactic(auto, unfolding(crate::specs::Flow::after_load_immediate))]
-pub(crate) fn after_load_immediate(insn: &Insn, d: &mut Description) -> Result<(), u32>
+pub(crate) fn after_load_immediate(
+    candidate: &Candidate,
+    insn: &Insn,
+    d: &mut Description,
+) -> Result<(), u32>
     requires dst { insn.now.dst ≤ 10 }
     requires description { IsDescription d.old }
-    ensures description { done result d.new ≡ after_load_immediate insn.now d.old }
+    ensures description { done result d.new ≡ after_load_immediate candidate.now insn.now d.old }
     ensures meets { OnOk result (IsDescription d.new) }
 {
-    write_kind(d, insn.dst, wide_kind(insn))
+    write_kind(d, insn.dst, wide_kind(candidate, insn))
 }
 
-/// Where a store through a base goes. The context is read-only.
-fn store_place(size: Size, insn: &Insn, base: Kind) -> Result<u64, u32>
-    ensures place { result ≡ store_place size insn.now base }
-    ensures within { IfOk result (λ at. at < 512) }
-    ensures aligned { IfOk result (λ at. at % byte_count size ≡ 0) }
+/// No pointer is given away: not to a map, and not as what the program returns.
+pub(crate) fn is_number(kind: Kind) -> Result<(), u32>
+    ensures { result ≡ is_number kind }
 {
-    match base {
-        Kind::Stack(k) => stack_place(displaced(k, insn.offset), u64::from(size.bytes())),
-        Kind::Scalar(_) | Kind::Context(_) => Err(WRONG_KIND),
+    match kind {
+        Kind::Scalar(_) => Ok(()),
+        _ => Err(POINTER_LEAKS),
     }
-}
-
-/// Where an instruction stores.
-fn stored_place(size: Size, insn: &Insn, d: &Description) -> Result<u64, u32>
-    requires dst { insn.now.dst ≤ 10 }
-    requires description { IsDescription d.now }
-    ensures place { result ≡ stored_place size insn.now d.now }
-    ensures within { IfOk result (λ at. at < 512) }
-    ensures aligned { IfOk result (λ at. at % byte_count size ≡ 0) }
-{
-    let base = read_kind(d, insn.dst)?;
-    store_place(size, insn, base)
 }
 
 /// The bytes of a slot that are known to hold numbers, by the bits of a number: of a kept pointer
@@ -257,7 +307,7 @@ fn known_places(slot: StackSlot) -> u8
 {
     match slot {
         StackSlot::Kept(Kind::Scalar(_)) => u8::MAX,
-        StackSlot::Kept(Kind::Context(_) | Kind::Stack(_)) => 0,
+        StackSlot::Kept(_) => 0,
         StackSlot::Bytes(set) => set,
     }
 }
@@ -272,13 +322,61 @@ fn written_slot(size: Size, slot: StackSlot, at: u64, kind: Kind) -> Result<Stac
     match (size, kind) {
         (Size::DoubleWord, kind) => Ok(StackSlot::Kept(kind)),
         (_, Kind::Scalar(_)) => Ok(StackSlot::Bytes(known_places(slot) | places(at, size))),
-        (_, Kind::Context(_) | Kind::Stack(_)) => Err(POINTER_LEAKS),
+        _ => Err(POINTER_LEAKS),
+    }
+}
+
+/// What is known after a store to the stack at an offset from its end.
+fn after_stack_store(
+    size: Size,
+    offset: i64,
+    kind: Kind,
+    d: &mut Description,
+) -> Result<(), u32>
+    requires near { offset ≤ℤ pos 4294967296 }
+    requires kind { IsKind kind }
+    requires description { IsDescription d.old }
+    ensures description { done result d.new ≡ after_stack_store size offset kind d.old }
+    ensures meets { OnOk result (IsDescription d.new) }
+{
+    let at = stack_place(offset, u64::from(size.bytes()))?;
+    let slot = (at / SLOT_SIZE) as usize;
+    let written = written_slot(size, d.slot(slot), at, kind)?;
+    d.set_slot(slot, written);
+    Ok(())
+}
+
+/// What is known after a store of a kind through a base. Nothing is known of what maps hold, and the
+/// context is read-only.
+fn stored(
+    candidate: &Candidate,
+    size: Size,
+    insn: &Insn,
+    d: &mut Description,
+    base: Kind,
+    kind: Kind,
+) -> Result<(), u32>
+    requires kind { IsKind kind }
+    requires description { IsDescription d.old }
+    ensures description { done result d.new ≡ stored candidate.now size insn.now d.old base kind }
+    ensures meets { OnOk result (IsDescription d.new) }
+{
+    match base {
+        Kind::Stack(k) => after_stack_store(size, displaced(k, insn.offset), kind, d),
+        Kind::MapValue { map, offsets } => {
+            let bytes = u64::from(size.bytes());
+            value_access(candidate.value_size(map), offsets, insn.offset, bytes)?;
+            is_number(kind)
+        }
+        Kind::MaybeValue { .. } => Err(NULL_NOT_CHECKED),
+        Kind::Scalar(_) | Kind::Context(_) | Kind::MapName(_) => Err(WRONG_KIND),
     }
 }
 
 /// What is known after a store.
 #[tactic(auto, unfolding(crate::specs::Flow::after_store))]
 pub(crate) fn after_store(
+    candidate: &Candidate,
     size: Size,
     source: Source,
     insn: &Insn,
@@ -287,13 +385,10 @@ pub(crate) fn after_store(
     requires dst { insn.now.dst ≤ 10 }
     requires src { insn.now.src ≤ 10 }
     requires description { IsDescription d.old }
-    ensures description { done result d.new ≡ after_store size source insn.now d.old }
+    ensures description { done result d.new ≡ after_store candidate.now size source insn.now d.old }
     ensures meets { OnOk result (IsDescription d.new) }
 {
-    let stored = operand_kind(Width::Bits64, source, insn, d);
-    let (kind, at) = both(stored, stored_place(size, insn, d))?;
-    let slot = (at / SLOT_SIZE) as usize;
-    let written = written_slot(size, d.slot(slot), at, kind)?;
-    d.set_slot(slot, written);
-    Ok(())
+    let operand = operand_kind(Width::Bits64, source, insn, d);
+    let (base, kind) = both(read_kind(d, insn.dst), operand)?;
+    stored(candidate, size, insn, d, base, kind)
 }

@@ -25,7 +25,9 @@ impl Model for Candidate {
 }
 
 impl Candidate {
-    ghost use Rattle.std.specs.Prelude.{◌≡◌, ◌<◌, ◌≤◌, IfOk, IsSome};
+    ghost use Rattle.std.specs.Prelude.{◌≡◌, ◌<◌, ◌≤◌, IfOk, IsSome, is_some};
+    ghost use Rattle.verifier_kinds.specs.Kinds.{shape_at};
+    ghost use Rattle.verifier.specs.Flow.{value_size_of};
     ghost use Rattle.bpf_decode.specs.Opcodes.{operation_of};
     ghost use Rattle.bpf_decode.specs.Text.{slots_of, insn_at, is_instruction, instructions_of, IsInstruction};
     ghost use Rattle.verifier.specs.Subject.{IsContextSize, all_there};
@@ -92,6 +94,24 @@ impl Candidate {
         ensures { all_there result.now ≡ self.now.shapes }
     {
         self.shapes.as_slice()
+    }
+
+    /// Whether the program may use a map.
+    pub(crate) fn has_map(&self, map: u32) -> bool
+        ensures { result ≡ is_some (shape_at self.now.shapes map) }
+    {
+        (map as usize) < self.shapes.len()
+    }
+
+    /// The bytes of a value of a map; a map that isn't there has none.
+    pub(crate) fn value_size(&self, map: u32) -> u32
+        ensures size { result ≡ value_size_of self.now map }
+        ensures small { result ≤ 4096 }
+    {
+        match self.shapes.get(map as usize) {
+            Some(shape) => shape.value_size,
+            None => 0,
+        }
     }
 
     /// The bytes of the context.

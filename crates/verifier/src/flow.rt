@@ -6,19 +6,18 @@ ghost use Rattle.bpf_decode.specs.Opcodes.{operation_of};
 ghost use Rattle.bpf_decode.specs.Text.{slots_of, width_at, IsInstruction};
 ghost use Rattle.verifier_kinds.specs.Kinds.{IsKind};
 ghost use Rattle.verifier_kinds.specs.Descriptions.{IsDescription};
-ghost use Rattle.verifier.specs.Flow.{dst_is_known, computed_kind, after_alu, is_returned, falls_on, flow_of_exit, flow};
+ghost use Rattle.verifier.specs.Flow.{dst_is_known, computed_kind, after_alu, falls_on, flow_of_exit, flow};
 ghost use Rattle.verifier_kinds.specs.declared.description.Description.{Description};
 ghost use Rattle.verifier.specs.declared.way.Way.TheVariants.{Ends, Falls};
 ghost use Rattle.verifier.specs.Way.{HasDst, FallsTo, LeadsBelow, done, flow_of_way, ways_of};
 ghost use Rattle.verifier.specs.Pass.{AreDescribed, targets_in, flow_in};
 
-use crate::access::{after_load, after_load_immediate, after_store};
+use crate::access::{after_load, after_load_immediate, after_store, is_number};
 use crate::calls::after_call;
 use crate::candidate::Candidate;
 use crate::rules::{both, operand_kind, read_kind, write_kind};
 use crate::way::Way;
 use bpf_decode::{AluCode, Insn, Operation, Source, Width};
-use host_types::rule::POINTER_LEAKS;
 use verifier_kinds::{Description, Kind, arith};
 
 /// A slot to which an instruction leads, and what is known there.
@@ -87,16 +86,6 @@ fn after_alu(
     write_kind(d, insn.dst, kind)
 }
 
-/// R0 is returned, and no pointer is.
-fn is_returned(kind: Kind) -> Result<(), u32>
-    ensures { result ≡ is_returned kind }
-{
-    match kind {
-        Kind::Scalar(_) => Ok(()),
-        Kind::Context(_) | Kind::Stack(_) => Err(POINTER_LEAKS),
-    }
-}
-
 /// Nothing flows on from the end, where R0 is returned.
 fn returned(d: &Description) -> Result<Way, u32>
     requires { IsDescription d.now }
@@ -104,7 +93,7 @@ fn returned(d: &Description) -> Result<Way, u32>
     ensures none { IfOk result (λ way. way ≡ Ends) }
 {
     let kind = read_kind(d, 0)?;
-    is_returned(kind)?;
+    is_number(kind)?;
     Ok(Way::Ends)
 }
 
@@ -139,9 +128,9 @@ impl Candidate {
                 source,
             } => after_alu(code, width, source, &insn, d),
             Operation::Load { size, extension } => after_load(self, size, extension, &insn, d),
-            Operation::Store { size, source } => after_store(size, source, &insn, d),
-            Operation::LoadImmediate => after_load_immediate(&insn, d),
-            Operation::Call => after_call(&insn, d),
+            Operation::Store { size, source } => after_store(self, size, source, &insn, d),
+            Operation::LoadImmediate => after_load_immediate(self, &insn, d),
+            Operation::Call => after_call(self, slot, &insn, d),
             Operation::Jump { distance } => return self.jumps(distance, slot, &insn),
             Operation::Branch {
                 comparison,

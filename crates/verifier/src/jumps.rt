@@ -6,47 +6,74 @@ ghost use Rattle.verifier_kinds.specs.Kinds.{IsKind, IsNormal};
 ghost use Rattle.verifier_kinds.specs.Descriptions.{IsDescription};
 ghost use Rattle.verifier_kinds.specs.declared.description.Description.{Description};
 ghost use Rattle.verifier.specs.declared.way.Way.TheVariants.{Jumps};
-ghost use Rattle.verifier.specs.Flow.{are_numbers, compared_ranges, flow_of_branch, flow_of_jump};
-ghost use Rattle.verifier.specs.Way.{HasDst, FallsTo, LeadsBelow, flow_of_way, ways_of};
+ghost use Rattle.verifier.specs.Flow.{comparands, compared_kinds, flow_of_branch, flow_of_jump, holds_of_null, is_null_check};
+ghost use Rattle.verifier.specs.Way.{AreNormal, HasDst, FallsTo, LeadsBelow, flow_of_way, ways_of};
 ghost use Rattle.verifier.specs.Pass.{AreDescribed};
 
 use crate::candidate::Candidate;
 use crate::rules::{both, operand_kind, read_kind};
-use crate::way::{Fork, Way};
+use crate::way::{Check, Fork, Way};
 use bpf_decode::{Comparison, Distance, Insn, Source, Width};
-use host_types::rule::WRONG_KIND;
+use host_types::rule::{NULL_NOT_CHECKED, WRONG_KIND};
 use verifier_kinds::{Description, Kind, Range, refined};
 
-/// Only numbers are compared.
-fn are_numbers(dst: Kind, operand: Kind) -> Result<(Range, Range), u32>
+/// What a conditional jump compares: two numbers, or a lookup's answer with 0.
+#[derive(Clone, Copy)]
+pub enum Compared {
+    Numbers(Range, Range),
+    Answer { map: u32, call: u32 },
+}
+
+/// A comparison that tells whether a lookup's answer is 0.
+fn is_null_check(comparison: Comparison, width: Width, source: Source, insn: &Insn) -> bool
+    ensures { result ≡ is_null_check comparison width source insn.now }
+{
+    match (comparison, width, source) {
+        (Comparison::Equal | Comparison::NotEqual, Width::Bits64, Source::Immediate) => {
+            insn.imm == 0
+        }
+        _ => false,
+    }
+}
+
+/// Numbers are compared, and a lookup's answer with 0.
+fn compared_kinds(null_check: bool, dst: Kind, operand: Kind) -> Result<Compared, u32>
     requires dst { IsKind dst }
     requires operand { IsKind operand }
-    ensures ranges { result ≡ are_numbers (dst, operand) }
-    ensures dst { IfOk result (λ ranges. IsNormal ranges.0) }
-    ensures operand { IfOk result (λ ranges. IsNormal ranges.1) }
+    ensures compared { result ≡ compared_kinds null_check (dst, operand) }
+    ensures normal { IfOk result AreNormal }
 {
     match (dst, operand) {
-        (Kind::Scalar(a), Kind::Scalar(b)) => Ok((a, b)),
+        (Kind::MaybeValue { map, call }, _) if null_check => Ok(Compared::Answer { map, call }),
+        (Kind::MaybeValue { .. }, _) | (_, Kind::MaybeValue { .. }) => Err(NULL_NOT_CHECKED),
+        (Kind::Scalar(a), Kind::Scalar(b)) => Ok(Compared::Numbers(a, b)),
         _ => Err(WRONG_KIND),
     }
 }
 
-/// The ranges of the numbers that a conditional jump compares.
-fn compared_ranges(
+/// What a conditional jump compares.
+fn comparands(
+    comparison: Comparison,
     width: Width,
     source: Source,
     insn: &Insn,
     d: &Description,
-) -> Result<(Range, Range), u32>
+) -> Result<Compared, u32>
     requires dst { insn.now.dst ≤ 10 }
     requires src { insn.now.src ≤ 10 }
     requires description { IsDescription d.now }
-    ensures ranges { result ≡ compared_ranges width source insn.now d.now }
-    ensures dst { IfOk result (λ ranges. IsNormal ranges.0) }
-    ensures operand { IfOk result (λ ranges. IsNormal ranges.1) }
+    ensures compared { result ≡ comparands comparison width source insn.now d.now }
+    ensures normal { IfOk result AreNormal }
 {
     let (dst, operand) = both(read_kind(d, insn.dst), operand_kind(width, source, insn, d))?;
-    are_numbers(dst, operand)
+    compared_kinds(is_null_check(comparison, width, source, insn), dst, operand)
+}
+
+/// A comparison with 0 holds of 0.
+fn holds_of_null(comparison: Comparison) -> bool
+    ensures { result ≡ holds_of_null comparison }
+{
+    comparison == Comparison::Equal
 }
 
 impl Candidate {
@@ -81,18 +108,27 @@ impl Candidate {
         ensures falls { IfOk result (FallsTo (slot + width_at self.now.text slot)) }
         ensures within { IfOk result (LeadsBelow (slots_of self.now.text)) }
     {
-        let compared = compared_ranges(width, source, insn, d);
+        let compared = comparands(comparison, width, source, insn, d);
         let targets = both(
             self.falls_to(slot),
             self.jumps_to(slot, i32::from(insn.offset)),
         );
-        let ((a, b), (next, jump)) = both(compared, targets)?;
-        Ok(Way::Forks(Fork {
-            dst: insn.dst,
-            next,
-            fallen: refined(comparison, width, false, a, b),
-            jump,
-            jumped: refined(comparison, width, true, a, b),
-        }))
+        let (compared, (next, jump)) = both(compared, targets)?;
+        Ok(match compared {
+            Compared::Numbers(a, b) => Way::Forks(Fork {
+                dst: insn.dst,
+                next,
+                fallen: refined(comparison, width, false, a, b),
+                jump,
+                jumped: refined(comparison, width, true, a, b),
+            }),
+            Compared::Answer { map, call } => Way::Checks(Check {
+                map,
+                call,
+                next,
+                jump,
+                null_jumps: holds_of_null(comparison),
+            }),
+        })
     }
 }

@@ -3,7 +3,7 @@
 ghost use Rattle.std.specs.Prelude.{◌≡◌, ◌≤◌, IfOk, OnOk};
 ghost use Rattle.verifier_kinds.specs.Kinds.{IsKind};
 ghost use Rattle.verifier_kinds.specs.Descriptions.{IsDescription};
-ghost use Rattle.verifier.specs.Flow.{both, read_kind, writable, write_kind, immediate_kind, operand_kind};
+ghost use Rattle.verifier.specs.Flow.{both, first_of, read_kind, writable, write_kind, immediate_kind, operand_kind};
 ghost use Rattle.verifier.specs.Way.{done};
 
 use bpf_decode::{Insn, Source, Width};
@@ -26,6 +26,14 @@ pub(crate) fn both<A: Drop, B: Drop>(a: Result<A, u32>, b: Result<B, u32>) -> Re
         (Err(m), Ok(_)) => Err(m),
         (Err(m), Err(n)) => Err(if n < m { n } else { m }),
     }
+}
+
+/// The same of questions that tell nothing but whether a rule is broken.
+pub(crate) fn first_of(a: Result<(), u32>, b: Result<(), u32>) -> Result<(), u32>
+    ensures { result ≡ first_of a b }
+{
+    both(a, b)?;
+    Ok(())
 }
 
 /// The kind of a register that is read.

@@ -6,14 +6,14 @@ ghost use Rattle.bpf_decode.specs.Text.{slots_of, IsInstruction, IsWellFormed, o
 ghost use Rattle.verifier_kinds.specs.declared.kind.Kind.{Kind};
 ghost use Rattle.verifier_kinds.specs.declared.kind.Kind.TheVariants.{Scalar};
 ghost use Rattle.verifier_kinds.specs.Descriptions.{with_kind};
-ghost use Rattle.verifier.specs.declared.way.Way.TheVariants.{Forks};
+ghost use Rattle.verifier.specs.declared.way.Way.TheVariants.{Checks, Forks};
 ghost use Rattle.verifier.specs.Flow.{target};
 ghost use Rattle.verifier.specs.Table.{arrived, joined, tight_table, IsCleanBefore, IsRefusal};
 ghost use Rattle.verifier.specs.Way.{HasDst, FallsTo, LeadsBelow, ways_of};
 ghost use Rattle.verifier.specs.Pass.{FlowDescribed, falling, kinds_in, met, pending_at, HasPassed};
 
 use crate::candidate::Candidate;
-use crate::way::{Fork, Way};
+use crate::way::{Check, Fork, Way};
 use host_types::Refused;
 use std::alloc::{AllocError, Global};
 use verifier_kinds::{Description, Kind, Range};
@@ -196,6 +196,27 @@ impl Pass {
         Ok(())
     }
 
+    /// Lets `current` flow on both ways of a conditional jump that tells whether a lookup's answer is
+    /// 0. Where both lead to one slot, what falls through is joined first.
+    fn part_by_answer(&mut self, alloc: Global, check: Check) -> Result<(), AllocError>
+        requires next { check.next < length self.old.pending.items }
+        requires jump { check.jump < length self.old.pending.items }
+        requires falls { self.old.falls ≡ true }
+        ensures kept { self.new.kept ≡ self.old.kept }
+        ensures len { length self.new.pending.items ≡ length self.old.pending.items }
+        ensures arrived { OnOk result ((s : ℕ) → arrived s (pending_at self.new.pending.items s) (target check.next (falling self.new.falls self.new.current))
+            ≡ arrived s (pending_at self.old.pending.items s) (ways_of (Checks check) self.old.current)) }
+    {
+        let mut jumped = self.current;
+        check.tell(check.null_jumps, &mut jumped);
+        check.tell(!check.null_jumps, &mut self.current);
+        if check.next == check.jump {
+            enter(alloc, &mut self.pending, check.next, &self.current)?;
+            self.falls = false;
+        }
+        enter(alloc, &mut self.pending, check.jump, &jumped)
+    }
+
     /// Lets `current` flow where an instruction leads.
     fn follow(&mut self, alloc: Global, way: Way) -> Result<(), AllocError>
         requires dst { HasDst way }
@@ -214,6 +235,7 @@ impl Pass {
                 self.falls = false;
             }
             Way::Forks(fork) => self.part(alloc, fork)?,
+            Way::Checks(check) => self.part_by_answer(alloc, check)?,
         }
         Ok(())
     }

@@ -2,10 +2,12 @@ ghost use Rattle.std.specs.Prelude.{◌≡◌, ◌≤◌, IfSome};
 ghost use Rattle.verifier_kinds.specs.Descriptions.{with_kind};
 ghost use Rattle.verifier.specs.Flow.{target};
 ghost use Rattle.verifier.specs.Pass.{target_in, targets_in};
-ghost use Rattle.verifier.specs.Way.{HasDst, told, ways_of};
+ghost use Rattle.verifier.specs.Way.{HasDst, checked, told, ways_of};
+ghost use Rattle.verifier.specs.Flow.{checked_kind};
+ghost use Rattle.verifier_kinds.specs.Kinds.{IsKind};
 
 use crate::flow::{Onward, Target};
-use verifier_kinds::{Description, Kind, Range};
+use verifier_kinds::{Description, Kind, Offsets, Range};
 
 /// The two ways of a conditional jump. Of `dst` the comparison tells a range on each way; `None`: no
 /// number goes that way.
@@ -18,6 +20,54 @@ pub(crate) struct Fork {
     pub jumped: Option<Range>,
 }
 
+/// The two ways of a conditional jump that tells whether the answer of a lookup is 0. Of all that keep
+/// this answer it is known on each way what it is.
+#[derive(Clone, Copy)]
+pub(crate) struct Check {
+    pub map: u32,
+    pub call: u32,
+    pub next: u32,
+    pub jump: u32,
+    /// The jump is taken where the answer is 0.
+    pub null_jumps: bool,
+}
+
+/// What a lookup's answer is once it is known whether it is 0.
+fn checked_kind(map: u32, null: bool) -> Kind
+    ensures kind { result ≡ checked_kind map null }
+    ensures meets { IsKind result }
+{
+    if null {
+        Kind::Scalar(Range::constant(0))
+    } else {
+        Kind::MapValue {
+            map,
+            offsets: Offsets::BEGINNING,
+        }
+    }
+}
+
+impl Check {
+    ghost use Rattle.verifier_kinds.specs.Descriptions.{IsDescription};
+
+    /// Makes of a description what is known on the way where the answer is 0, or on the other.
+    pub(crate) fn tell(&self, null: bool, d: &mut Description)
+        ensures told { d.new ≡ checked self.now null d.old }
+        ensures meets { IsDescription d.old → IsDescription d.new }
+    {
+        d.settle(self.call, checked_kind(self.map, null));
+    }
+
+    /// What is known on one of the ways.
+    fn told(&self, null: bool, d: &Description) -> Description
+        ensures { result ≡ checked self.now null d.now }
+    {
+        let mut after = *d;
+        self.tell(null, &mut after);
+        after
+    }
+}
+
 /// Where an instruction leads from what is known after it: nowhere from the end, to the slot to which it
 /// falls through, to the one to which it always jumps, or to either.
 #[derive(Clone, Copy)]
@@ -26,6 +76,7 @@ pub(crate) enum Way {
     Falls(u32),
     Jumps(u32),
     Forks(Fork),
+    Checks(Check),
 }
 
 /// What is known on a way of a conditional jump that may be gone.
@@ -69,6 +120,10 @@ impl Way {
             Way::Forks(fork) => Onward {
                 next: target(fork.next, told(&fork, fork.fallen, d)),
                 jump: target(fork.jump, told(&fork, fork.jumped, d)),
+            },
+            Way::Checks(check) => Onward {
+                next: target(check.next, Some(check.told(!check.null_jumps, d))),
+                jump: target(check.jump, Some(check.told(check.null_jumps, d))),
             },
         }
     }

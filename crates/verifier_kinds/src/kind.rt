@@ -12,7 +12,7 @@ impl Align {
     ghost use Rattle.verifier_kinds.specs.Kinds.{factor, rank, of_rank, raised, least_align, greatest_align, align_of};
 
     /// The power of 2 itself.
-    pub(crate) const fn factor(self) -> u64
+    pub const fn factor(self) -> u64
         ensures { result ≡ factor self }
     {
         match self {
