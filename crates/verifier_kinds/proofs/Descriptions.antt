@@ -1,9 +1,16 @@
 -- What each description of the verifier meets, and that it is kept.
-use Rattle.std.proofs.Common.{◌≡◌, ℕ, zero, suc, pos, get_or, replicate, IfSome, refl, sym, subst, arith}
+use Rattle.std.proofs.Common.{◌≡◌, ℕ, zero, suc, ◌<◌, ◌==◌, ◌∙◌, pos, List, [], ◌∷◌, length, map, get_or, replicate, Option, Some, None, IfSome, refl, sym, subst, arith}
+use Rattle.std.specs.Prelude.{option_map}
 use Rattle.std.proofs.lemmas.Int.{ints}
-use Rattle.verifier_kinds.specs.declared.description.StackSlot.TheVariants.{Bytes}
+use Rattle.std.proofs.lemmas.Bool.{cond_both}
+use Rattle.std.proofs.lemmas.List.{ext_get_or, length-map}
+use Rattle.verifier_kinds.specs.declared.kind.Kind.{Kind}
+use Rattle.verifier_kinds.specs.declared.kind.Kind.TheVariants.{MaybeValue}
+use Rattle.verifier_kinds.specs.declared.description.StackSlot.{StackSlot}
+use Rattle.verifier_kinds.specs.declared.description.Description.{Description}
+use Rattle.verifier_kinds.specs.declared.description.StackSlot.TheVariants.{Kept, Bytes}
 use Rattle.verifier_kinds.specs.Kinds.{IsKind, IsOffset}
-use Rattle.verifier_kinds.specs.Descriptions.{IsDescription, IsSlot, register_of, slot_of, start_description}
+use Rattle.verifier_kinds.specs.Descriptions.{IsDescription, IsSlot, register_of, slot_of, settled, settled_kind, settled_slot, start_description}
 
 -- a list of one value has that value at each place
 get_or-one : {X : Type 0} (n k : ℕ) (x : X) → get_or (replicate n x) k x ≡ x
@@ -34,3 +41,46 @@ start_slots k = subst IsSlot (sym (get_or-one 64 k (Bytes 0))) (omega arith)
 -- the description with which a program begins
 pub start_is_description : IsDescription start_description
 start_is_description = record { registers = refl; stack = refl; kinds = start_kinds; slots = start_slots }
+
+-- ---- once it is known of what kind the answer of a call is
+
+-- a list with each place changed has at each place what was there, changed
+pub get_or-mapped : {X : Type 0} (f : X → X) (d : X) → f d ≡ d → (xs : List X) (i : ℕ) → get_or (map f xs) i d ≡ f (get_or xs i d)
+get_or-mapped f d same [] i = sym same
+get_or-mapped f d same (x ∷ xs) zero = refl
+get_or-mapped f d same (x ∷ xs) (suc i) = get_or-mapped f d same xs i
+
+-- and is the list that has that at each place
+pub mapped_by_index : {X : Type 0} (f : X → X) (d : X) → f d ≡ d → (xs zs : List X) → length zs ≡ length xs → ((k : ℕ) → k < length zs → get_or zs k d ≡ f (get_or xs k d)) → zs ≡ map f xs
+mapped_by_index f d same xs zs n each =
+    ext_get_or d zs (map f xs) (n ∙ sym (length-map xs f)) (λ k h. each k h ∙ sym (get_or-mapped f d same xs k))
+
+pub register_of-settled : (call : ℕ) (to : Kind) (d : Description) (i : ℕ) → register_of (settled call to d) i ≡ option_map (settled_kind call to) (register_of d i)
+unfolding settled
+register_of-settled call to d i = get_or-mapped (option_map (settled_kind call to)) None refl d.registers i
+
+pub slot_of-settled : (call : ℕ) (to : Kind) (d : Description) (k : ℕ) → slot_of (settled call to d) k ≡ settled_slot call to (slot_of d k)
+unfolding settled
+slot_of-settled call to d k = get_or-mapped (settled_slot call to) (Bytes 0) refl d.stack k
+
+-- what is said of a kind, and of that of the answer, is said of the settled kind
+pub settled_kind_has : (P : Kind → Type 0) (call : ℕ) (to kind : Kind) → P to → P kind → P (settled_kind call to kind)
+settled_kind_has P call to (MaybeValue m id) p q = cond_both (id == call) to (MaybeValue m id) P (λ _. p) (λ _. q)
+settled_kind_has P call to kind p q = q
+
+pub settled_register_has : (P : Kind → Type 0) (call : ℕ) (to : Kind) (known : Option Kind) → P to → IfSome known P → IfSome (option_map (settled_kind call to) known) P
+settled_register_has P call to (Some kind) p q = settled_kind_has P call to kind p q
+settled_register_has P call to None p q = tt
+
+settled_is_slot : (call : ℕ) (to : Kind) (slot : StackSlot) → IsKind to → IsSlot slot → IsSlot (settled_slot call to slot)
+settled_is_slot call to (Kept kind) p q = settled_kind_has IsKind call to kind p q
+settled_is_slot call to (Bytes set) p q = q
+
+pub settled_is_description : (call : ℕ) (to : Kind) (d : Description) → IsKind to → IsDescription d → IsDescription (settled call to d)
+unfolding settled
+settled_is_description call to d p q = record {
+  registers = length-map d.registers (option_map (settled_kind call to)) ∙ q.registers;
+  stack = length-map d.stack (settled_slot call to) ∙ q.stack;
+  kinds = λ i. rw (get_or-mapped (option_map (settled_kind call to)) None refl d.registers i) (settled_register_has IsKind call to (register_of d i) p (q.kinds i));
+  slots = λ k. rw (get_or-mapped (settled_slot call to) (Bytes 0) refl d.stack k) (settled_is_slot call to (slot_of d k) p (q.slots k));
+}

@@ -1,21 +1,22 @@
 -- Joins: a join is above both, and keeps what each description meets.
-use Rattle.std.proofs.Common.{◌≡◌, ℕ, zero, suc, ◌%◌, ◌<◌, ◌≤◌, ◌∙◌, true, min, max, nat_le, bit_and, List, [], ◌∷◌, length, get_or, Option, Some, None, IfSome, ℤ, refl, sym, ap, arith}
+use Rattle.std.proofs.Common.{◌≡◌, ℕ, zero, suc, ◌%◌, ◌<◌, ◌≤◌, ◌∙◌, ◌==◌, ◌&&◌, true, min, max, nat_le, bit_and, List, [], ◌∷◌, length, get_or, Option, Some, None, IfSome, ℤ, refl, sym, ap, arith}
 use Rattle.std.specs.Prelude.{int_le}
 use Rattle.std.specs.Int.Bits.{and_self}
 use Rattle.std.proofs.lemmas.Nat.{and_assoc, and_comm, and_le_l, and_le_r}
 use Rattle.std.proofs.lemmas.Int.{ints}
-use Rattle.std.proofs.lemmas.Bool.{and_parts, cond_both, leb-false}
+use Rattle.std.proofs.lemmas.Bool.{and_parts, cond_both, eqb-true, leb-false}
 use Rattle.std.proofs.lemmas.List.{ext_get_or}
 use Rattle.std.proofs.lemmas.Option.{same_Some}
 use Rattle.verifier_kinds.specs.declared.kind.Align.{Align}
 use Rattle.verifier_kinds.specs.declared.kind.Align.TheVariants.{One, Two, Four, Eight}
 use Rattle.verifier_kinds.specs.declared.kind.Range.{Range}
+use Rattle.verifier_kinds.specs.declared.kind.Offsets.{Offsets}
 use Rattle.verifier_kinds.specs.declared.kind.Kind.{Kind}
-use Rattle.verifier_kinds.specs.declared.kind.Kind.TheVariants.{Scalar, Context, Stack}
+use Rattle.verifier_kinds.specs.declared.kind.Kind.TheVariants.{Scalar, Context, Stack, MapValue, MaybeValue, MapName}
 use Rattle.verifier_kinds.specs.declared.description.StackSlot.{StackSlot}
 use Rattle.verifier_kinds.specs.declared.description.StackSlot.TheVariants.{Kept, Bytes}
 use Rattle.verifier_kinds.specs.declared.description.Description.{Description}
-use Rattle.verifier_kinds.specs.Kinds.{IsWithin, IsBelow, IsKind, IsNormal, align_of, factor, rank, least_align, is_same, join_of_ranges, join_of_kinds}
+use Rattle.verifier_kinds.specs.Kinds.{IsWithin, IsBelow, IsKind, IsNormal, AreOffsets, align_of, factor, rank, least_align, is_same, range_in, offsets_in, join_of_ranges, join_of_kinds}
 use Rattle.verifier_kinds.specs.Descriptions.{IsDescription, IsSlot, IsSlotBelow, IsDescriptionBelow, places_of, register_of, slot_of, merged, kept_or_bytes, join_of_registers, join_of_slots, join_of}
 use Rattle.verifier_kinds.proofs.Moves.{true_int_le}
 use Rattle.verifier_kinds.proofs.Ranges.{divided_by_least_left, divided_by_least_right, least_align_comm}
@@ -84,38 +85,58 @@ same_offset a b t =
     let down = true_int_le b a parts.1 in
     omega (arith, ints)
 
+-- the least offsets above two
+abbrev joined_offsets : Offsets → Offsets → Offsets
+joined_offsets a b = offsets_in (join_of_ranges (range_in a) (range_in b))
+
+joined_are_offsets : (a b : Offsets) → AreOffsets a → AreOffsets b → AreOffsets (joined_offsets a b)
+joined_are_offsets a b p q =
+    let left = p.below in
+    let right = q.below in
+    record { normal = join_is_normal (range_in a) (range_in b) p.normal q.normal; below = omega arith }
+
+-- answers of one lookup in one map
+same_maybe : (m n i j : ℕ) → ((m == n) && (i == j)) ≡ true → MaybeValue n j ≡ MaybeValue m i
+same_maybe m n i j t =
+    let parts = and_parts (m == n) (i == j) t in
+    let map : m ≡ n = eqb-true m n parts.0 in
+    let call : i ≡ j = eqb-true i j parts.1 in
+    cc
+
 pub kind_below_join_left : (a b : Kind) → IsBelow (Some a) (join_of_kinds a b)
 kind_below_join_left (Scalar a) (Scalar b) = (Scalar a, refl, (a, refl, range_below_join_left a b))
 kind_below_join_left (Context a) (Context b) = cond_both (is_same a b) (Some (Context a)) None (IsBelow (Some (Context a))) (λ _. (Context a, refl, refl)) (λ _. tt)
 kind_below_join_left (Stack a) (Stack b) = cond_both (is_same a b) (Some (Stack a)) None (IsBelow (Some (Stack a))) (λ _. (Stack a, refl, refl)) (λ _. tt)
-kind_below_join_left (Scalar a) (Context b) = tt
-kind_below_join_left (Scalar a) (Stack b) = tt
-kind_below_join_left (Context a) (Scalar b) = tt
-kind_below_join_left (Context a) (Stack b) = tt
-kind_below_join_left (Stack a) (Scalar b) = tt
-kind_below_join_left (Stack a) (Context b) = tt
+kind_below_join_left (MapValue m a) (MapValue n b) =
+    cond_both (m == n) (Some (MapValue m (joined_offsets a b))) None (IsBelow (Some (MapValue m a)))
+    (λ _. (MapValue m a, refl, (a, refl, range_below_join_left (range_in a) (range_in b)))) (λ _. tt)
+kind_below_join_left (MaybeValue m i) (MaybeValue n j) =
+    cond_both ((m == n) && (i == j)) (Some (MaybeValue m i)) None (IsBelow (Some (MaybeValue m i))) (λ _. (MaybeValue m i, refl, refl)) (λ _. tt)
+kind_below_join_left (MapName m) (MapName n) = cond_both (m == n) (Some (MapName m)) None (IsBelow (Some (MapName m))) (λ _. (MapName m, refl, refl)) (λ _. tt)
+kind_below_join_left a b = tt
 
 pub kind_below_join_right : (a b : Kind) → IsBelow (Some b) (join_of_kinds a b)
 kind_below_join_right (Scalar a) (Scalar b) = (Scalar b, refl, (b, refl, range_below_join_right a b))
 kind_below_join_right (Context a) (Context b) = cond_both (is_same a b) (Some (Context a)) None (IsBelow (Some (Context b))) (λ t. (Context b, refl, ap Context (sym (same_offset a b t)))) (λ _. tt)
 kind_below_join_right (Stack a) (Stack b) = cond_both (is_same a b) (Some (Stack a)) None (IsBelow (Some (Stack b))) (λ t. (Stack b, refl, ap Stack (sym (same_offset a b t)))) (λ _. tt)
-kind_below_join_right (Scalar a) (Context b) = tt
-kind_below_join_right (Scalar a) (Stack b) = tt
-kind_below_join_right (Context a) (Scalar b) = tt
-kind_below_join_right (Context a) (Stack b) = tt
-kind_below_join_right (Stack a) (Scalar b) = tt
-kind_below_join_right (Stack a) (Context b) = tt
+kind_below_join_right (MapValue m a) (MapValue n b) =
+    cond_both (m == n) (Some (MapValue m (joined_offsets a b))) None (IsBelow (Some (MapValue n b)))
+    (λ t. (MapValue n b, refl, (b, ap (λ k. MapValue k b) (sym (eqb-true m n t)), range_below_join_right (range_in a) (range_in b)))) (λ _. tt)
+kind_below_join_right (MaybeValue m i) (MaybeValue n j) =
+    cond_both ((m == n) && (i == j)) (Some (MaybeValue m i)) None (IsBelow (Some (MaybeValue n j))) (λ t. (MaybeValue n j, refl, same_maybe m n i j t)) (λ _. tt)
+kind_below_join_right (MapName m) (MapName n) =
+    cond_both (m == n) (Some (MapName m)) None (IsBelow (Some (MapName n))) (λ t. (MapName n, refl, ap MapName (sym (eqb-true m n t)))) (λ _. tt)
+kind_below_join_right a b = tt
 
 pub join_is_kind : (a b : Kind) → IsKind a → IsKind b → IfSome (join_of_kinds a b) IsKind
 join_is_kind (Scalar a) (Scalar b) p q = join_is_normal a b p q
 join_is_kind (Context a) (Context b) p q = cond_both (is_same a b) (Some (Context a)) None (λ o. IfSome o IsKind) (λ _. p) (λ _. tt)
 join_is_kind (Stack a) (Stack b) p q = cond_both (is_same a b) (Some (Stack a)) None (λ o. IfSome o IsKind) (λ _. p) (λ _. tt)
-join_is_kind (Scalar a) (Context b) p q = tt
-join_is_kind (Scalar a) (Stack b) p q = tt
-join_is_kind (Context a) (Scalar b) p q = tt
-join_is_kind (Context a) (Stack b) p q = tt
-join_is_kind (Stack a) (Scalar b) p q = tt
-join_is_kind (Stack a) (Context b) p q = tt
+join_is_kind (MapValue m a) (MapValue n b) p q =
+    cond_both (m == n) (Some (MapValue m (joined_offsets a b))) None (λ o. IfSome o IsKind) (λ _. joined_are_offsets a b p q) (λ _. tt)
+join_is_kind (MaybeValue m i) (MaybeValue n j) p q = cond_both ((m == n) && (i == j)) (Some (MaybeValue m i)) None (λ o. IfSome o IsKind) (λ _. tt) (λ _. tt)
+join_is_kind (MapName m) (MapName n) p q = cond_both (m == n) (Some (MapName m)) None (λ o. IfSome o IsKind) (λ _. tt) (λ _. tt)
+join_is_kind a b p q = tt
 
 -- ---- registers
 
@@ -163,8 +184,7 @@ slot_below_join_right (Bytes set) (Bytes more) = and_again_right set more
 
 places_fit : (slot : StackSlot) → IsSlot slot → places_of slot < 256
 places_fit (Kept (Scalar range)) h = omega arith
-places_fit (Kept (Context offset)) h = omega arith
-places_fit (Kept (Stack offset)) h = omega arith
+places_fit (Kept pointer) h = omega arith
 places_fit (Bytes set) h = h
 
 joined_places_fit : (a b : StackSlot) → IsSlot a → bit_and (places_of a) (places_of b) < 256

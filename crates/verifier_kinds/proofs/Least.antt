@@ -1,17 +1,18 @@
 -- A join is the least above both: it is below all that is above both.
-use Rattle.std.proofs.Common.{◌≡◌, ℕ, ◌≤◌, ◌∙◌, true, nat_le, bit_and, Option, Some, None, ℤ, refl, ap, arith}
+use Rattle.std.proofs.Common.{◌≡◌, ℕ, ◌≤◌, ◌∙◌, ◌==◌, ◌&&◌, true, nat_le, bit_and, Option, Some, None, ℤ, refl, ap, arith}
 use Rattle.std.proofs.lemmas.Nat.{and_assoc}
 use Rattle.std.specs.Prelude.{int_le}
 use Rattle.std.proofs.lemmas.Int.{ints}
-use Rattle.std.proofs.lemmas.Bool.{and_from, cond_both, cond-true}
+use Rattle.std.proofs.lemmas.Bool.{and_from, cond_both, cond-true, eq-eqb}
 use Rattle.verifier_kinds.specs.declared.kind.Align.{Align}
 use Rattle.verifier_kinds.specs.declared.kind.Range.{Range}
+use Rattle.verifier_kinds.specs.declared.kind.Offsets.{Offsets}
 use Rattle.verifier_kinds.specs.declared.kind.Kind.{Kind}
-use Rattle.verifier_kinds.specs.declared.kind.Kind.TheVariants.{Scalar, Context, Stack}
+use Rattle.verifier_kinds.specs.declared.kind.Kind.TheVariants.{Scalar, Context, Stack, MapValue, MaybeValue, MapName}
 use Rattle.verifier_kinds.specs.declared.description.StackSlot.{StackSlot}
 use Rattle.verifier_kinds.specs.declared.description.StackSlot.TheVariants.{Kept, Bytes}
 use Rattle.verifier_kinds.specs.declared.description.Description.{Description}
-use Rattle.verifier_kinds.specs.Kinds.{IsWithin, IsKindBelow, IsBelow, rank, least_align, is_same, join_of_ranges, join_of_kinds}
+use Rattle.verifier_kinds.specs.Kinds.{IsWithin, IsKindBelow, IsBelow, rank, least_align, is_same, range_in, offsets_in, join_of_ranges, join_of_kinds}
 use Rattle.verifier_kinds.specs.Descriptions.{IsDescription, IsSlotBelow, IsDescriptionBelow, places_of, register_of, slot_of, kept_or_bytes, join_of_registers, join_of_slots, join_of}
 use Rattle.verifier_kinds.proofs.Moves.{int_le_true}
 use Rattle.verifier_kinds.proofs.Order.{within_self}
@@ -28,11 +29,22 @@ same_as_itself a =
     let same : int_le a a ≡ true = int_le_true a a (omega (arith, ints)) in
     and_from (int_le a a) (int_le a a) same same
 
+-- the join of two pointers to the values of one map
+join_of_values : (m : ℕ) (a b : Offsets) → join_of_kinds (MapValue m a) (MapValue m b) ≡ Some (MapValue m (offsets_in (join_of_ranges (range_in a) (range_in b))))
+join_of_values m a b = cond-true (m == m) (Some (MapValue m (offsets_in (join_of_ranges (range_in a) (range_in b))))) None (eq-eqb m m refl)
+
 -- the join of a kind with itself
 join_with_itself : (a : Kind) → IsBelow (join_of_kinds a a) (Some a)
 join_with_itself (Scalar a) = (Scalar (join_of_ranges a a), refl, (join_of_ranges a a, refl, join_within a a a (within_self a) (within_self a)))
 join_with_itself (Context k) = (Context k, cond-true (is_same k k) (Some (Context k)) None (same_as_itself k), refl)
 join_with_itself (Stack k) = (Stack k, cond-true (is_same k k) (Some (Stack k)) None (same_as_itself k), refl)
+join_with_itself (MapValue m a) =
+    let join : Range = join_of_ranges (range_in a) (range_in a) in
+    let within : IsWithin join (range_in a) = join_within (range_in a) (range_in a) (range_in a) (within_self (range_in a)) (within_self (range_in a)) in
+    (MapValue m (offsets_in join), join_of_values m a a, (offsets_in join, refl, within))
+join_with_itself (MaybeValue m i) =
+    (MaybeValue m i, cond-true ((m == m) && (i == i)) (Some (MaybeValue m i)) None (and_from (m == m) (i == i) (eq-eqb m m refl) (eq-eqb i i refl)), refl)
+join_with_itself (MapName m) = (MapName m, cond-true (m == m) (Some (MapName m)) None (eq-eqb m m refl), refl)
 
 pub kinds_join_below : (a b c : Kind) → IsKindBelow a c → IsKindBelow b c → IsBelow (join_of_kinds a b) (Some c)
 kinds_join_below a b (Scalar c) (x, left, within) (y, right, also) =
@@ -40,6 +52,12 @@ kinds_join_below a b (Scalar c) (x, left, within) (y, right, also) =
     (Scalar (join_of_ranges x y), join, (join_of_ranges x y, refl, join_within x y c within also))
 kinds_join_below a b (Context k) left right = rw (left, right) (join_with_itself (Context k))
 kinds_join_below a b (Stack k) left right = rw (left, right) (join_with_itself (Stack k))
+kinds_join_below a b (MapValue m c) (x, left, within) (y, right, also) =
+    let offsets : Offsets = offsets_in (join_of_ranges (range_in x) (range_in y)) in
+    let join : join_of_kinds a b ≡ Some (MapValue m offsets) = rw (left, right) (join_of_values m x y) in
+    (MapValue m offsets, join, (offsets, refl, join_within (range_in x) (range_in y) (range_in c) within also))
+kinds_join_below a b (MaybeValue m i) left right = rw (left, right) (join_with_itself (MaybeValue m i))
+kinds_join_below a b (MapName m) left right = rw (left, right) (join_with_itself (MapName m))
 
 pub registers_join_below : (a b c : Option Kind) → IsBelow a c → IsBelow b c → IsBelow (join_of_registers a b) c
 registers_join_below a b None p q = tt
@@ -48,14 +66,14 @@ registers_join_below a b (Some c) (x, left, within) (y, right, also) =
 
 kept_join_places : (a b : Kind) (set : ℕ) → bit_and (places_of (Kept a)) set ≡ set → bit_and (places_of (Kept b)) set ≡ set → bit_and (places_of (kept_or_bytes (join_of_kinds a b) 0)) set ≡ set
 kept_join_places (Scalar a) (Scalar b) set p q = p
-kept_join_places (Scalar a) (Context b) set p q = q
-kept_join_places (Scalar a) (Stack b) set p q = q
-kept_join_places (Context a) (Scalar b) set p q = p
+kept_join_places (Scalar a) pointer set p q = q
 kept_join_places (Context a) (Context b) set p q = cond_both (is_same a b) (Some (Context a)) None (λ o. bit_and (places_of (kept_or_bytes o 0)) set ≡ set) (λ _. p) (λ _. p)
-kept_join_places (Context a) (Stack b) set p q = p
-kept_join_places (Stack a) (Scalar b) set p q = p
-kept_join_places (Stack a) (Context b) set p q = p
 kept_join_places (Stack a) (Stack b) set p q = cond_both (is_same a b) (Some (Stack a)) None (λ o. bit_and (places_of (kept_or_bytes o 0)) set ≡ set) (λ _. p) (λ _. p)
+kept_join_places (MapValue m a) (MapValue n b) set p q =
+    cond_both (m == n) (Some (MapValue m (offsets_in (join_of_ranges (range_in a) (range_in b))))) None (λ o. bit_and (places_of (kept_or_bytes o 0)) set ≡ set) (λ _. p) (λ _. p)
+kept_join_places (MaybeValue m i) (MaybeValue n j) set p q = cond_both ((m == n) && (i == j)) (Some (MaybeValue m i)) None (λ o. bit_and (places_of (kept_or_bytes o 0)) set ≡ set) (λ _. p) (λ _. p)
+kept_join_places (MapName m) (MapName n) set p q = cond_both (m == n) (Some (MapName m)) None (λ o. bit_and (places_of (kept_or_bytes o 0)) set ≡ set) (λ _. p) (λ _. p)
+kept_join_places pointer b set p q = p
 
 places_join : (p q set : ℕ) → bit_and p set ≡ set → bit_and q set ≡ set → bit_and (bit_and p q) set ≡ set
 places_join p q set left right = and_assoc set p q ∙ ap (bit_and p) right ∙ left

@@ -4,6 +4,7 @@ pub mod Operands
 pub mod RowLaws
 pub mod Computed
 pub mod Moves
+pub mod Values
 pub mod Order
 pub mod Meaning
 pub mod Joins

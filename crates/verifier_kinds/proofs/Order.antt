@@ -5,11 +5,11 @@ use Rattle.std.specs.Int.Bits.{and_self}
 use Rattle.std.proofs.lemmas.Nat.{and_assoc}
 use Rattle.verifier_kinds.specs.declared.kind.Range.{Range}
 use Rattle.verifier_kinds.specs.declared.kind.Kind.{Kind}
-use Rattle.verifier_kinds.specs.declared.kind.Kind.TheVariants.{Scalar, Context, Stack}
+use Rattle.verifier_kinds.specs.declared.kind.Kind.TheVariants.{Scalar, Context, Stack, MapValue, MaybeValue, MapName}
 use Rattle.verifier_kinds.specs.declared.description.StackSlot.{StackSlot}
 use Rattle.verifier_kinds.specs.declared.description.StackSlot.TheVariants.{Kept, Bytes}
 use Rattle.verifier_kinds.specs.declared.description.Description.{Description}
-use Rattle.verifier_kinds.specs.Kinds.{IsWithin, IsKindBelow, IsBelow}
+use Rattle.verifier_kinds.specs.Kinds.{IsWithin, IsKindBelow, IsBelow, range_in}
 use Rattle.verifier_kinds.specs.Descriptions.{IsSlotBelow, IsDescriptionBelow, places_of, register_of, slot_of}
 
 pub within_self : (range : Range) → IsWithin range range
@@ -22,6 +22,9 @@ pub kind_below_self : (kind : Kind) → IsKindBelow kind kind
 kind_below_self (Scalar range) = (range, refl, within_self range)
 kind_below_self (Context offset) = refl
 kind_below_self (Stack offset) = refl
+kind_below_self (MapValue m offsets) = (offsets, refl, within_self (range_in offsets))
+kind_below_self (MaybeValue m id) = refl
+kind_below_self (MapName m) = refl
 
 pub kind_below_trans : (a b c : Kind) → IsKindBelow a b → IsKindBelow b c → IsKindBelow a c
 kind_below_trans a b (Scalar outer) p (middle, is, within) =
@@ -29,6 +32,11 @@ kind_below_trans a b (Scalar outer) p (middle, is, within) =
     (below.0, below.1, within_trans below.0 middle outer below.2 within)
 kind_below_trans a b (Context offset) p is = subst (IsKindBelow a) is p
 kind_below_trans a b (Stack offset) p is = subst (IsKindBelow a) is p
+kind_below_trans a b (MapValue m outer) p (middle, is, within) =
+    let below : IsKindBelow a (MapValue m middle) = subst (IsKindBelow a) is p in
+    (below.0, below.1, within_trans (range_in below.0) (range_in middle) (range_in outer) below.2 within)
+kind_below_trans a b (MaybeValue m id) p is = subst (IsKindBelow a) is p
+kind_below_trans a b (MapName m) p is = subst (IsKindBelow a) is p
 
 pub below_self : (kind : Option Kind) → IsBelow kind kind
 below_self None = tt
@@ -49,6 +57,9 @@ kept_places : (a b : Kind) → IsKindBelow a b → places_of (Kept a) ≡ places
 kept_places a (Scalar outer) (inner, is, within) = ap (λ k. places_of (Kept k)) is
 kept_places a (Context offset) is = ap (λ k. places_of (Kept k)) is
 kept_places a (Stack offset) is = ap (λ k. places_of (Kept k)) is
+kept_places a (MapValue m offsets) (inner, is, within) = ap (λ k. places_of (Kept k)) is
+kept_places a (MaybeValue m id) is = ap (λ k. places_of (Kept k)) is
+kept_places a (MapName m) is = ap (λ k. places_of (Kept k)) is
 
 pub slot_below_trans : (a b c : StackSlot) → IsSlotBelow a b → IsSlotBelow b c → IsSlotBelow a c
 slot_below_trans a b (Kept outer) p (middle, is, within) =

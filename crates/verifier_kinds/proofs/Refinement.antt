@@ -12,7 +12,7 @@ use Rattle.verifier_kinds.specs.declared.kind.Align.{Align}
 use Rattle.verifier_kinds.specs.declared.kind.Align.TheVariants.{One, Two, Four, Eight}
 use Rattle.verifier_kinds.specs.declared.kind.Range.{Range}
 use Rattle.verifier_kinds.specs.declared.kind.Kind.{Kind}
-use Rattle.verifier_kinds.specs.declared.kind.Kind.TheVariants.{Scalar, Context, Stack}
+use Rattle.verifier_kinds.specs.declared.kind.Kind.TheVariants.{Scalar}
 use Rattle.verifier_kinds.specs.Kinds.{factor, rank, greatest_align, is_constant, IsIn, IsNormal, IsKind}
 use Rattle.verifier_kinds.specs.Arithmetic.{between, normal_of}
 use Rattle.verifier_kinds.specs.Refinement.{some_of, without, negated, kept_by, is_told, refined, refined_kind}
@@ -224,7 +224,4 @@ refined_is_kind comparison width taken (Scalar a) (Scalar b) p q = mapped (refin
     mapped : (o : Option Range) → IfSome o IsNormal → IfSome (option_map Scalar o) IsKind
     mapped (Some r) h = h
     mapped None h = tt
-refined_is_kind comparison width taken (Scalar a) (Context k) p q = p
-refined_is_kind comparison width taken (Scalar a) (Stack k) p q = p
-refined_is_kind comparison width taken (Context k) b p q = p
-refined_is_kind comparison width taken (Stack k) b p q = p
+refined_is_kind comparison width taken a b p q = p

@@ -16,7 +16,7 @@ use Rattle.verifier_kinds.specs.declared.kind.Align.TheVariants.{One}
 use Rattle.verifier_kinds.specs.declared.kind.Range.{Range}
 use Rattle.verifier_kinds.specs.declared.kind.Offsets.{Offsets}
 use Rattle.verifier_kinds.specs.declared.kind.Kind.{Kind}
-use Rattle.verifier_kinds.specs.declared.kind.Kind.TheVariants.{Scalar, Context, Stack, MapValue, MaybeValue, MapName}
+use Rattle.verifier_kinds.specs.declared.kind.Kind.TheVariants.{Scalar, Context, Stack, MapValue, MaybeValue}
 use Rattle.verifier_kinds.specs.Kinds.{rank, constant, is_constant, least_align, greatest_align, raised, normal, offsets_in}
 
 -- the numbers between two ends that an alignment divides

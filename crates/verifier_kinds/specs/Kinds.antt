@@ -1,6 +1,7 @@
 -- Kinds: what they stand for, and which of two says more (this project's own profile).
-use Rattle.std.specs.Prelude.{◌≡◌, ◌⊎◌, ℕ, ◌+◌, ◌-◌, ◌*◌, ◌/◌, ◌%◌, ◌^◌, ◌<◌, ◌≤◌, ℤ, pos, negsuc, ◌+ℤ◌, ◌≤ℤ◌, int_le, min, max, Bool, nat_le, ◌==◌, ◌&&◌, if◌then◌else◌, List, slice_index_or, Option, Some, None, IsSome, IsSomeAnd}
+use Rattle.std.specs.Prelude.{◌≡◌, ◌⊎◌, ℕ, ◌+◌, ◌-◌, ◌*◌, ◌/◌, ◌%◌, ◌^◌, ◌<◌, ◌≤◌, ℤ, pos, negsuc, ◌+ℤ◌, ◌≤ℤ◌, int_le, min, max, Bool, nat_le, ◌==◌, ◌&&◌, if◌then◌else◌, List, length, slice_index_or, All, Option, Some, None, IsSome, IsSomeAnd, IfSome}
 use Rattle.host_types.specs.declared.shape.Shape.{Shape}
+use Rattle.host_types.specs.Shapes.{IsShape}
 use Rattle.host_types.specs.Layout.{context_base, stack_end, map_name, map_values}
 use Rattle.host_types.specs.Helpers.{element_at}
 use Rattle.host_types.specs.Memory.{only_if}
@@ -82,6 +83,11 @@ pub record IsIn (range : Range) (n : ℕ) : Type 0 where
 pub record Setting : Type 0 where
   pub shapes : List (Option Shape)
   pub answers : ℕ → ℕ
+
+-- at most eight shapes, each within the limits of a map or not there
+pub record IsSetting (setting : Setting) : Type 0 where
+  pub few : length setting.shapes ≤ 8
+  pub each : All (λ shape. IfSome shape IsShape) setting.shapes
 
 -- the shape of the map with a number
 abbrev pub shape_at : List (Option Shape) → ℕ → Option Shape

@@ -1,6 +1,6 @@
 //! What arithmetic makes of kinds, and which uses of a pointer it refuses.
 
-ghost use Rattle.std.specs.Prelude.{◌≡◌, ◌⊎◌, ℤ, IfOk, IfSome, MatchResult, Ok, Err};
+ghost use Rattle.std.specs.Prelude.{◌≡◌, ◌≤ℤ◌, ◌%◌, ◌⊎◌, ℕ, ℤ, pos, IfOk, IfSome, MatchResult, Ok, Err};
 ghost use Rattle.bpf_decode.specs.declared.operation.Width.TheVariants.{Bits64};
 ghost use Rattle.bpf_decode.specs.declared.operation.AluCode.TheVariants.{Add, Sub};
 ghost use Rattle.insn_alu.specs.Arithmetic.{IsArithmetic};
@@ -224,15 +224,20 @@ fn moved_back_value(map: u32, offsets: Offsets, by: Range) -> Result<Kind, u32>
 
 /// A pointer to a map's value at the offsets between two ends, if a pointer may have them.
 fn within_value(map: u32, align: Align, low: i128, high: i128) -> Result<Kind, u32>
+    requires ordered { low ≤ℤ high }
+    requires divided { (n : ℕ) → low ≡ pos n → n % factor align ≡ 0 }
     ensures result { result ≡ within_value map align low high }
+    ensures kind { IfOk result IsKind }
 {
-    let (Ok(low), Ok(high)) = (u64::try_from(low), u64::try_from(high)) else {
-        return Err(OUTSIDE_MAP);
-    };
-    if high > 131072 {
+    if low < 0 || high > 131072 {
         return Err(OUTSIDE_MAP);
     }
-    let range = Range { low, high, align }.normalized();
+    let range = Range {
+        low: low as u64,
+        high: high as u64,
+        align,
+    }
+    .normalized();
     Ok(Kind::MapValue {
         map,
         offsets: Offsets::of(range),
