@@ -1,5 +1,5 @@
 -- What is known on the ways of an instruction.
-use Rattle.std.proofs.Common.{◌≡◌, ◌≢◌, ℕ, zero, suc, ◌<◌, ◌≤◌, List, [], ◌∷◌, ◌++◌, get_or, length, slice_set, IfSome, Option, Some, None, refl, sym, ap, subst, ◌∙◌, ◌⊎◌, inl, inr, arith}
+use Rattle.std.proofs.Common.{◌≡◌, ◌≢◌, Bool, true, false, not, ℕ, zero, suc, ◌<◌, ◌≤◌, List, [], ◌∷◌, ◌++◌, get_or, length, slice_set, IfSome, Option, Some, None, refl, sym, ap, subst, ◌∙◌, ◌⊎◌, inl, inr, arith}
 use Rattle.std.proofs.lemmas.List.{get_or-set_same, get_or-set_other, length-set}
 use Rattle.std.proofs.lemmas.List.Elements.{All-nil, All-cons, All-append}
 use Rattle.verifier_kinds.specs.declared.kind.Range.{Range}
@@ -8,9 +8,13 @@ use Rattle.verifier_kinds.specs.declared.kind.Kind.TheVariants.{Scalar}
 use Rattle.verifier_kinds.specs.declared.description.Description.{Description}
 use Rattle.verifier_kinds.specs.Kinds.{IsKind, IsNormal}
 use Rattle.verifier_kinds.specs.Descriptions.{IsDescription, with_kind}
+use Rattle.verifier_kinds.proofs.Ranges.{constant_is_normal}
+use Rattle.verifier_kinds.proofs.Descriptions.{settled_is_description}
+use Rattle.verifier.specs.declared.way.Check.{Check}
 use Rattle.verifier.specs.declared.way.Fork.{Fork}
-use Rattle.verifier.specs.Flow.{target}
-use Rattle.verifier.specs.Way.{told}
+use Rattle.verifier.specs.declared.way.Way.TheVariants.{Checks}
+use Rattle.verifier.specs.Flow.{checked_kind, target}
+use Rattle.verifier.specs.Way.{checked, told, ways_of}
 use Rattle.verifier.specs.Pass.{AreDescribed}
 
 same_or_other : (k i : ℕ) → (k ≡ i) ⊎ (k ≢ i)
@@ -39,6 +43,14 @@ told_described : (fork : Fork) (range : Option Range) (d : Description) → fork
 told_described fork None d small h normal = tt
 told_described fork (Some range) d small h normal = written_described d fork.dst (Scalar range) small h normal
 
+-- what a lookup's answer is known to be is a kind of the verifier
+checked_is_kind : (m : ℕ) (null : Bool) → IsKind (checked_kind m null)
+checked_is_kind m true = constant_is_normal 0 (omega arith)
+checked_is_kind m false = record { normal = record { ordered = omega arith; fits = omega arith; low = refl; high = refl; single = λ e. refl }; below = omega arith }
+
+checked_described : (check : Check) (null : Bool) (d : Description) → IsDescription d → IsDescription (checked check null d)
+checked_described check null d h = settled_is_description check.call (checked_kind check.map null) d h (checked_is_kind check.map null)
+
 target_described : (to : ℕ) (known : Option Description) → IfSome known IsDescription → AreDescribed (target to known)
 target_described to None h = All-nil (λ t. IsDescription t.1)
 target_described to (Some d) h = All-cons (λ t. IsDescription t.1) (to, d) [] h (All-nil (λ t. IsDescription t.1))
@@ -49,6 +61,13 @@ fork_described fork d small h fallen jumped =
     All-append (λ t. IsDescription t.1) (target fork.next (told fork fork.fallen d)) (target fork.jump (told fork fork.jumped d))
     (target_described fork.next (told fork fork.fallen d) (told_described fork fork.fallen d small h fallen))
     (target_described fork.jump (told fork fork.jumped d) (told_described fork fork.jumped d small h jumped))
+
+-- so is what is known on both ways where a lookup's answer is compared with 0
+pub check_described : (check : Check) (d : Description) → IsDescription d → AreDescribed (ways_of (Checks check) d)
+check_described check d h =
+    All-append (λ t. IsDescription t.1) (target check.next (Some (checked check (not check.null_jumps) d))) (target check.jump (Some (checked check check.null_jumps d)))
+    (target_described check.next (Some (checked check (not check.null_jumps) d)) (checked_described check (not check.null_jumps) d h))
+    (target_described check.jump (Some (checked check check.null_jumps d)) (checked_described check check.null_jumps d h))
 
 set_twice : {X : Type 0} (xs : List X) (i : ℕ) (x y : X) → slice_set (slice_set xs i x) i y ≡ slice_set xs i y
 set_twice [] i x y = refl

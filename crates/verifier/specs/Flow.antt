@@ -153,7 +153,7 @@ lies_in_value value_size offsets by size =
 abbrev pub is_aligned_in_value : Offsets → ℤ → ℕ → Bool
 is_aligned_in_value offsets by size =
     if offsets.low == offsets.high
-    then (offsets.low + sign_extended by) % size == 0
+    then (offsets.low + sign_extended by % size) % size == 0
     else (factor offsets.align % size == 0) && (sign_extended by % size == 0)
 
 -- an access through a pointer to a value

@@ -97,14 +97,15 @@ fn lies_in_value(value_size: u32, offsets: Offsets, by: i16, size: u64) -> Resul
 
 /// An access is aligned to its size, at whichever of its offsets the pointer is.
 fn is_aligned_in_value(offsets: Offsets, by: i16, size: u64) -> bool
-    requires { 0 < size }
+    requires some { 0 < size }
+    requires word { size ≤ 8 }
     ensures { result ≡ is_aligned_in_value offsets by size }
 {
-    let by = i64::from(by).cast_unsigned();
+    let by = i64::from(by).cast_unsigned() % size;
     if offsets.low == offsets.high {
-        u64::from(offsets.low).wrapping_add(by) % size == 0
+        (u64::from(offsets.low) + by) % size == 0
     } else {
-        offsets.align.factor() % size == 0 && by % size == 0
+        offsets.align.factor() % size == 0 && by == 0
     }
 }
 
