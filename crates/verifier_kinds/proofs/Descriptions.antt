@@ -1,19 +1,19 @@
 -- What each description of the verifier meets, and that it is kept.
-use Rattle.std.proofs.Common.{◌≡◌, ℕ, zero, suc, ◌<◌, ◌==◌, ◌∙◌, pos, List, [], ◌∷◌, length, map, get_or, replicate, Option, Some, None, IfSome, refl, sym, subst, arith}
+use Rattle.std.proofs.Common.{◌≡◌, ℕ, zero, suc, ◌<◌, ◌==◌, ◌∙◌, pos, List, [], ◌∷◌, length, map, get_or, slice_set, replicate, Option, Some, None, IfSome, refl, sym, subst, arith}
 use Rattle.std.specs.Prelude.{option_map}
 use Rattle.std.proofs.lemmas.Int.{ints}
 use Rattle.std.proofs.lemmas.Bool.{cond_both}
-use Rattle.std.proofs.lemmas.List.{ext_get_or, length-map}
+use Rattle.std.proofs.lemmas.List.{ext_get_or, length-map, length-set}
 use Rattle.verifier_kinds.specs.declared.kind.Kind.{Kind}
 use Rattle.verifier_kinds.specs.declared.kind.Kind.TheVariants.{MaybeValue}
 use Rattle.verifier_kinds.specs.declared.description.StackSlot.{StackSlot}
 use Rattle.verifier_kinds.specs.declared.description.Description.{Description}
 use Rattle.verifier_kinds.specs.declared.description.StackSlot.TheVariants.{Kept, Bytes}
 use Rattle.verifier_kinds.specs.Kinds.{IsKind, IsOffset}
-use Rattle.verifier_kinds.specs.Descriptions.{IsDescription, IsSlot, register_of, slot_of, settled, settled_kind, settled_slot, start_description}
+use Rattle.verifier_kinds.specs.Descriptions.{IsDescription, IsSlot, register_of, slot_of, settled, settled_kind, settled_slot, start_description, with_kind, with_slot, with_unset}
 
 -- a list of one value has that value at each place
-get_or-one : {X : Type 0} (n k : ℕ) (x : X) → get_or (replicate n x) k x ≡ x
+pub get_or-one : {X : Type 0} (n k : ℕ) (x : X) → get_or (replicate n x) k x ≡ x
 get_or-one zero k x = refl
 get_or-one (suc n) zero x = refl
 get_or-one (suc n) (suc k) x = get_or-one n k x
@@ -41,6 +41,40 @@ start_slots k = subst IsSlot (sym (get_or-one 64 k (Bytes 0))) (omega arith)
 -- the description with which a program begins
 pub start_is_description : IsDescription start_description
 start_is_description = record { registers = refl; stack = refl; kinds = start_kinds; slots = start_slots }
+
+-- ---- what is known of one register or one slot of the stack
+
+-- a replaced place has what all places have
+pub set_has : {X : Type 0} (P : X → Type 0) (xs : List X) (i k : ℕ) (x d : X) → P x → P (get_or xs k d) → P (get_or (slice_set xs i x) k d)
+set_has P [] i k x d p h = h
+set_has P (y ∷ xs) zero zero x d p h = p
+set_has P (y ∷ xs) zero (suc k) x d p h = h
+set_has P (y ∷ xs) (suc i) zero x d p h = h
+set_has P (y ∷ xs) (suc i) (suc k) x d p h = set_has P xs i k x d p h
+
+pub with_kind_is_description : (d : Description) (i : ℕ) (kind : Kind) → IsKind kind → IsDescription d → IsDescription (with_kind d i kind)
+with_kind_is_description d i kind p q = record {
+  registers = length-set d.registers i (Some kind) ∙ q.registers;
+  stack = q.stack;
+  kinds = λ k. set_has (λ known. IfSome known IsKind) d.registers i k (Some kind) None p (q.kinds k);
+  slots = q.slots;
+}
+
+pub with_unset_is_description : (d : Description) (i : ℕ) → IsDescription d → IsDescription (with_unset d i)
+with_unset_is_description d i q = record {
+  registers = length-set d.registers i None ∙ q.registers;
+  stack = q.stack;
+  kinds = λ k. set_has (λ known. IfSome known IsKind) d.registers i k None None tt (q.kinds k);
+  slots = q.slots;
+}
+
+pub with_slot_is_description : (d : Description) (k : ℕ) (slot : StackSlot) → IsSlot slot → IsDescription d → IsDescription (with_slot d k slot)
+with_slot_is_description d k slot p q = record {
+  registers = q.registers;
+  stack = length-set d.stack k slot ∙ q.stack;
+  kinds = q.kinds;
+  slots = λ j. set_has IsSlot d.stack k j slot (Bytes 0) p (q.slots j);
+}
 
 -- ---- once it is known of what kind the answer of a call is
 

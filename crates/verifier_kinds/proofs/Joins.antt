@@ -96,7 +96,7 @@ joined_are_offsets a b p q =
     record { normal = join_is_normal (range_in a) (range_in b) p.normal q.normal; below = omega arith }
 
 -- answers of one lookup in one map
-same_maybe : (m n i j : ℕ) → ((m == n) && (i == j)) ≡ true → MaybeValue n j ≡ MaybeValue m i
+pub same_maybe : (m n i j : ℕ) → ((m == n) && (i == j)) ≡ true → MaybeValue n j ≡ MaybeValue m i
 same_maybe m n i j t =
     let parts = and_parts (m == n) (i == j) t in
     let map : m ≡ n = eqb-true m n parts.0 in

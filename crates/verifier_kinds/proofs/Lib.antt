@@ -9,5 +9,6 @@ pub mod Order
 pub mod Meaning
 pub mod Joins
 pub mod Least
+pub mod Calls
 pub mod Soundness
 pub mod Refinement
