@@ -4,7 +4,8 @@ use Rattle.std.proofs.lemmas.List.Elements.{All-nil, All-head, All-tail, All-wea
 use Rattle.std.proofs.lemmas.List.{get_or_past}
 use Rattle.bpf_decode.specs.Text.{slots_of, is_instruction, IsInstruction, IsWellFormed}
 use Rattle.verifier_kinds.specs.declared.description.Description.{Description}
-use Rattle.verifier_kinds.specs.Descriptions.{start_description, IsDescription}
+use Rattle.verifier_kinds.specs.Descriptions.{start_description, IsDescription, IsLawfulAt, IsOfCallsBelow}
+use Rattle.verifier_kinds.proofs.Calls.{description_is_lawful}
 use Rattle.verifier_kinds.proofs.Order.{description_below_self}
 use Rattle.verifier.specs.Subject.{Subject}
 use Rattle.verifier.specs.Flow.{flow}
@@ -12,6 +13,7 @@ use Rattle.verifier.specs.Table.{Table, described, flows_by, flows_from, targets
 use Rattle.verifier.specs.Pass.{FlowDescribed}
 use Rattle.verifier.proofs.Tables.{if_same, below_next, IsUnder, IsTightBefore, targets_arrived, IsDescription-incoming, under_incoming}
 use Rattle.verifier.proofs.Flows.{IsAhead, flow_ahead}
+use Rattle.verifier.proofs.Naming.{described_names}
 
 -- a text has a slot, and its first slot is an instruction's
 pub first_instruction : (text : List ℕ) → IsWellFormed text → IsInstruction text 0
@@ -73,12 +75,18 @@ within_table p table slot d whole e = elim (below_or_past slot (slots_of p.text)
   | inr past ↦ absurd (past_end table slot d (omega arith) e)
 ]
 
--- a tight table's descriptions are descriptions of the verifier
-described_kinds : (p : Subject) (table : Table) → IsTightTable p table → FlowDescribed p table (slots_of p.text) → (slot : ℕ) → IfSome (described table slot) IsDescription
+-- a tight table's descriptions are lawful ones
+described_kinds : (p : Subject) (table : Table) → IsTightTable p table → FlowDescribed p table (slots_of p.text) → (slot : ℕ) → IfSome (described table slot) (IsLawfulAt slot)
 described_kinds p table t f slot = elim (below_or_past slot (slots_of p.text)) [
-  | inl below ↦ subst (λ o. IfSome o IsDescription) (sym (t.tight slot below)) (IsDescription-incoming p table slot slot (λ s h. f s (omega arith)))
-  | inr past ↦ let none : described table slot ≡ None = get_or_past table slot None (omega (arith, t.whole)) in subst (λ o. IfSome o IsDescription) (sym none) tt
+  | inl below ↦
+      let kinds : IfSome (described table slot) IsDescription = subst (λ o. IfSome o IsDescription) (sym (t.tight slot below)) (IsDescription-incoming p table slot slot (λ s h. f s (omega arith))) in
+      both_known (described table slot) kinds (described_names p table (slots_of p.text) f t.tight slot below)
+  | inr past ↦ let none : described table slot ≡ None = get_or_past table slot None (omega (arith, t.whole)) in subst (λ o. IfSome o (IsLawfulAt slot)) (sym none) tt
 ]
+  where
+    both_known : (known : Option Description) → IfSome known IsDescription → IfSome known (IsOfCallsBelow slot) → IfSome known (IsLawfulAt slot)
+    both_known None kinds calls = tt
+    both_known (Some d) kinds calls = description_is_lawful slot d kinds calls
 
 -- what flows from a slot of a tight table is contained in it
 flows_contained : (p : Subject) (table : Table) → IsWellFormed p.text → IsTightTable p table → FlowDescribed p table (slots_of p.text) → (slot : ℕ) → slot < slots_of p.text → All (IsContained table) (flows_from p table slot)

@@ -6,6 +6,7 @@ pub mod Ways
 pub mod Tables
 pub mod Uniqueness
 pub mod Flows
+pub mod Naming
 pub mod Lawful
 pub mod Tight
 pub mod Passes

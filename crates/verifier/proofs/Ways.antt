@@ -49,7 +49,7 @@ checked_is_kind m true = constant_is_normal 0 (omega arith)
 checked_is_kind m false = record { normal = record { ordered = omega arith; fits = omega arith; low = refl; high = refl; single = λ e. refl }; below = omega arith }
 
 checked_described : (check : Check) (null : Bool) (d : Description) → IsDescription d → IsDescription (checked check null d)
-checked_described check null d h = settled_is_description check.call (checked_kind check.map null) d h (checked_is_kind check.map null)
+checked_described check null d h = settled_is_description check.call (checked_kind check.map null) d (checked_is_kind check.map null) h
 
 target_described : (to : ℕ) (known : Option Description) → IfSome known IsDescription → AreDescribed (target to known)
 target_described to None h = All-nil (λ t. IsDescription t.1)

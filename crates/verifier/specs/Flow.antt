@@ -143,11 +143,18 @@ slot_kind size extension (Bytes set) at =
 abbrev pub value_size_of : Subject → ℕ → ℕ
 value_size_of p m = unwrap_or (option_map (λ (shape : Shape). shape.value_size) (shape_at p.shapes m)) 0
 
--- an access lies whole in a value, at whichever of its offsets the pointer is; these are 65536 more than
--- they are
+-- an access begins in a value, at whichever of its offsets the pointer is; these are 65536 more than they
+-- are
+abbrev pub begins_in_value : Offsets → ℤ → Bool
+begins_in_value offsets by = int_le (pos 65536) (pos offsets.low +ℤ by)
+
+-- and ends in it
+abbrev pub ends_in_value : ℕ → Offsets → ℤ → ℕ → Bool
+ends_in_value value_size offsets by size = int_le (pos (offsets.high + size) +ℤ by) (pos (65536 + value_size))
+
+-- an access lies whole in a value
 abbrev pub lies_in_value : ℕ → Offsets → ℤ → ℕ → Result (Unit {0}) ℕ
-lies_in_value value_size offsets by size =
-    holds_or (int_le (pos 65536) (pos offsets.low +ℤ by) && int_le (pos (offsets.high + size) +ℤ by) (pos (65536 + value_size))) outside_map
+lies_in_value value_size offsets by size = holds_or (begins_in_value offsets by && ends_in_value value_size offsets by size) outside_map
 
 -- an access is aligned to its size, at whichever of its offsets the pointer is
 abbrev pub is_aligned_in_value : Offsets → ℤ → ℕ → Bool

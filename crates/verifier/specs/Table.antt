@@ -3,7 +3,7 @@ use Rattle.std.specs.Prelude.{◌≡◌, ℕ, zero, suc, ◌<◌, ◌≤◌, ◌
 use Rattle.host_types.specs.declared.fault.Refused.{Refused}
 use Rattle.bpf_decode.specs.Text.{slots_of, IsInstruction}
 use Rattle.verifier_kinds.specs.declared.description.Description.{Description}
-use Rattle.verifier_kinds.specs.Descriptions.{start_description, join_of, IsDescription, IsDescriptionBelow}
+use Rattle.verifier_kinds.specs.Descriptions.{start_description, join_of, IsLawfulAt, IsDescriptionBelow}
 use Rattle.verifier.specs.Subject.{Subject}
 use Rattle.verifier.specs.Flow.{flow}
 
@@ -91,10 +91,11 @@ IsContained table target = (d : Description) × (described table target.0 ≡ So
 abbrev pub IsKeptAt : Subject → Table → ℕ → Description → Type 0
 IsKeptAt p table slot d = (targets : List (ℕ × Description)) × (flow p slot d ≡ Ok targets) × All (IsContained table) targets
 
--- A lawful table: it contains the start's description, it describes instructions alone, and each
--- described slot breaks no rule and flows to what the table contains.
+-- A lawful table: it contains the start's description, it describes instructions alone, its ranges are
+-- normal and name calls before the slot alone, and each described slot breaks no rule and flows to what
+-- the table contains.
 pub record IsLawful (p : Subject) (table : Table) : Type 0 where
   pub start : IsContained table (0, start_description)
   pub instructions : (slot : ℕ) (d : Description) → described table slot ≡ Some d → IsInstruction p.text slot
-  pub kinds : (slot : ℕ) → IfSome (described table slot) IsDescription
+  pub kinds : (slot : ℕ) → IfSome (described table slot) (IsLawfulAt slot)
   pub kept : (slot : ℕ) (d : Description) → described table slot ≡ Some d → IsKeptAt p table slot d

@@ -4,7 +4,7 @@ ghost use Rattle.std.specs.Prelude.{◌≡◌, ◌+◌, ◌-◌, ◌%◌, ◌^�
 ghost use Rattle.bpf_decode.specs.Opcodes.{byte_count};
 ghost use Rattle.verifier_kinds.specs.Kinds.{IsKind, IsNormal};
 ghost use Rattle.verifier_kinds.specs.Descriptions.{IsDescription, IsSlot, places_of};
-ghost use Rattle.verifier.specs.Flow.{lies_below, aligned, context_place, stack_place, lies_in_value, is_aligned_in_value, value_access, loaded_range, places, slot_kind, load_kind, loaded_kind, after_load, name_kind, wide_kind, after_load_immediate, is_number, written_slot, after_stack_store, stored, after_store};
+ghost use Rattle.verifier.specs.Flow.{lies_below, aligned, context_place, stack_place, begins_in_value, ends_in_value, lies_in_value, is_aligned_in_value, value_access, loaded_range, places, slot_kind, load_kind, loaded_kind, after_load, name_kind, wide_kind, after_load_immediate, is_number, written_slot, after_stack_store, stored, after_store};
 ghost use Rattle.verifier.specs.Way.{done};
 
 use crate::candidate::Candidate;
@@ -81,14 +81,27 @@ fn displaced(offset: i32, by: i16) -> i64
 /// How much more an offset from the beginning of an element is than it says.
 const OFFSET_BASE: i64 = 65536;
 
+/// An access begins in a value, at whichever of its offsets the pointer is.
+fn begins_in_value(offsets: Offsets, by: i16) -> bool
+    ensures { result ≡ begins_in_value offsets by }
+{
+    OFFSET_BASE <= i64::from(offsets.low) + i64::from(by)
+}
+
+/// An access ends in a value, at whichever of its offsets the pointer is.
+fn ends_in_value(value_size: u32, offsets: Offsets, by: i16, size: u64) -> bool
+    requires { size ≤ 8 }
+    ensures { result ≡ ends_in_value value_size offsets by size }
+{
+    (u64::from(offsets.high) + size) as i64 + i64::from(by) <= OFFSET_BASE + i64::from(value_size)
+}
+
 /// An access lies whole in a value, at whichever of its offsets the pointer is.
 fn lies_in_value(value_size: u32, offsets: Offsets, by: i16, size: u64) -> Result<(), u32>
     requires { size ≤ 8 }
     ensures { result ≡ lies_in_value value_size offsets by size }
 {
-    let low = i64::from(offsets.low) + i64::from(by);
-    let end = i64::from(offsets.high) + size as i64 + i64::from(by);
-    if OFFSET_BASE <= low && end <= OFFSET_BASE + i64::from(value_size) {
+    if begins_in_value(offsets, by) && ends_in_value(value_size, offsets, by, size) {
         Ok(())
     } else {
         Err(OUTSIDE_MAP)
