@@ -305,16 +305,19 @@ fn greatest_of_bits(bits: u64) -> u64
 }
 
 #[cfg(test)]
-mod tests {
+pub(crate) mod tests {
     use super::*;
     use AluCode::{Add, And, Arsh, Div, Lsh, Mod, Mov, Mul, Neg, Or, Rsh, Sub, ToBigEndian, Xor};
     use Width::{Bits32, Bits64};
 
     /// Numbers from one to another that 1, 2, 4 or 8 divides.
-    type Ends = (u64, u64, u64);
+    pub(crate) type Ends = (u64, u64, u64);
+
+    /// An operation with the field offset, its two ranges, and what it makes of them.
+    type Row = (AluCode, Width, i16, Ends, Ends, Ends);
 
     /// A normal range of more numbers than one, or the constant at its lower end.
-    fn range(ends: Ends) -> Range
+    pub(crate) fn range(ends: Ends) -> Range
         ensures { IsNormal result }
     {
         let (low, high, factor) = ends;
@@ -326,93 +329,162 @@ mod tests {
         }
     }
 
-    fn made(code: AluCode, width: Width, offset: i16, a: Ends, b: Ends) -> Range {
-        range_of(code, width, offset, range(a), range(b))
+    fn is_made(row: Row) -> bool {
+        let (code, width, offset, a, b, result) = row;
+        range_of(code, width, offset, range(a), range(b)) == range(result)
     }
 
     const WORD: u64 = 1 << 32;
 
     const TO_MAX: Ends = (0, u64::MAX, 1);
 
+    const SOME: Ends = (4, 8, 4);
+
+    /// Less 7, less 3 and less 1, as numbers of 64 bits.
+    const LESS_7: u64 = u64::MAX - 6;
+
+    const LESS_3: u64 = u64::MAX - 2;
+
+    const LESS_1: u64 = u64::MAX;
+
+    const ROWS: [Row; 48] = [
+        (Add, Bits64, 0, (0, 8, 8), (4, 12, 4), (4, 20, 4)),
+        (
+            Add,
+            Bits64,
+            0,
+            (6, 1 << 63, 2),
+            (1 << 63, 0, 8),
+            (0, u64::MAX - 1, 2),
+        ),
+        (Sub, Bits64, 0, (16, 32, 8), (4, 12, 4), (4, 28, 4)),
+        (Sub, Bits64, 0, (8, 32, 8), (4, 12, 4), (0, u64::MAX - 3, 4)),
+        (Mul, Bits64, 0, (2, 4, 2), (4, 12, 4), (8, 48, 8)),
+        (Mul, Bits64, 0, (8, 16, 8), (1, 3, 1), (8, 48, 8)),
+        (
+            Mul,
+            Bits64,
+            0,
+            (0, 1 << 63, 2),
+            (2, 4, 2),
+            (0, u64::MAX - 3, 4),
+        ),
+        (Div, Bits64, 0, (10, 100, 1), (3, 7, 1), (1, 33, 1)),
+        (Div, Bits64, 0, (10, 100, 1), (0, 7, 1), (0, 100, 1)),
+        (Mod, Bits64, 0, (10, 100, 1), (3, 7, 1), (0, 6, 1)),
+        (Mod, Bits64, 0, (2, 4, 2), (3, 7, 1), (0, 4, 1)),
+        (Mod, Bits64, 0, (10, 100, 1), (0, 7, 1), (0, 100, 1)),
+        (And, Bits64, 0, (10, 100, 2), (3, 7, 1), (0, 6, 2)),
+        (Or, Bits64, 0, (4, 100, 4), (2, 6, 2), (4, 126, 2)),
+        (Or, Bits64, 0, (1, 128, 1), (2, 3, 1), (2, 255, 1)),
+        (Xor, Bits64, 0, (4, 100, 4), (8, 16, 8), (0, 124, 4)),
+        (Neg, Bits64, 0, (1, 2, 1), (0, 0, 8), TO_MAX),
+        (Mov, Bits64, 0, (1, 2, 1), (4, 8, 4), (4, 8, 4)),
+        (Lsh, Bits64, 0, (1, 5, 1), (3, 0, 1), (8, 40, 8)),
+        (Lsh, Bits64, 0, (1, 5, 1), (67, 0, 1), (8, 40, 8)),
+        (Lsh, Bits64, 0, (2, 6, 2), (1, 0, 1), (4, 12, 4)),
+        (Lsh, Bits64, 0, (1, 16, 1), (60, 0, 4), (0, u64::MAX - 7, 8)),
+        (Lsh, Bits64, 0, (4, 8, 4), (0, 3, 1), (0, u64::MAX - 3, 4)),
+        (Rsh, Bits64, 0, (5, 100, 1), (2, 0, 2), (1, 25, 1)),
+        (Rsh, Bits64, 0, (5, 100, 1), (66, 0, 2), (1, 25, 1)),
+        (Rsh, Bits64, 0, (5, 100, 1), (0, 3, 1), (0, 100, 1)),
+        (Arsh, Bits64, 0, (4, 8, 4), (1, 0, 1), TO_MAX),
+        (
+            ToBigEndian,
+            Bits64,
+            0,
+            (0, 70000, 1),
+            (16, 0, 8),
+            (0, 65535, 1),
+        ),
+        (
+            Add,
+            Bits32,
+            0,
+            (0, 4_294_967_290, 2),
+            (4, 0, 4),
+            (4, 4_294_967_294, 2),
+        ),
+        (
+            Add,
+            Bits32,
+            0,
+            (0, 4_294_967_290, 2),
+            (6, 0, 2),
+            (0, 4_294_967_294, 2),
+        ),
+        (Add, Bits32, 0, (3, 0, 1), (4_294_967_295, 0, 1), (2, 0, 2)),
+        (
+            Rsh,
+            Bits32,
+            0,
+            (0, 1 << 33, 8),
+            (4, 0, 4),
+            (0, 268_435_455, 1),
+        ),
+        (
+            And,
+            Bits32,
+            0,
+            (0, 1 << 33, 8),
+            (0, 1 << 40, 1),
+            (0, 4_294_967_288, 8),
+        ),
+        (Lsh, Bits32, 0, (1, 3, 1), (33, 0, 1), (2, 6, 2)),
+        (
+            Lsh,
+            Bits32,
+            0,
+            (0, 1 << 31, 1),
+            (1, 0, 1),
+            (0, 4_294_967_294, 2),
+        ),
+        (Mov, Bits32, 0, SOME, (WORD, 0, 8), (0, 4_294_967_288, 8)),
+        (
+            Mov,
+            Bits32,
+            0,
+            SOME,
+            (4_294_967_295, 0, 1),
+            (4_294_967_295, 0, 1),
+        ),
+        (Neg, Bits32, 0, SOME, (0, 0, 8), (0, 4_294_967_295, 1)),
+        (
+            ToBigEndian,
+            Bits32,
+            0,
+            (WORD, 0, 8),
+            (16, 0, 8),
+            (0, 65535, 1),
+        ),
+        (
+            ToBigEndian,
+            Bits32,
+            0,
+            (WORD, 0, 8),
+            (32, 0, 8),
+            (0, 4_294_967_295, 1),
+        ),
+        (ToBigEndian, Bits32, 0, (WORD, 0, 8), (64, 0, 8), TO_MAX),
+        (
+            ToBigEndian,
+            Bits32,
+            0,
+            (1, 0, 1),
+            (64, 0, 8),
+            (1 << 56, 0, 8),
+        ),
+        (Div, Bits64, 1, (10, 100, 1), (3, 7, 1), TO_MAX),
+        (Div, Bits64, 1, (LESS_7, 0, 1), (2, 0, 2), (LESS_3, 0, 1)),
+        (Mod, Bits64, 1, (10, 100, 1), (3, 7, 1), TO_MAX),
+        (Mod, Bits64, 1, (LESS_7, 0, 1), (2, 0, 2), (LESS_1, 0, 1)),
+        (Mov, Bits64, 8, (0, 0, 8), (0, 3, 1), TO_MAX),
+        (Mov, Bits64, 8, (0, 0, 8), (255, 0, 1), (LESS_1, 0, 1)),
+    ];
+
+    /// Each row of the table of arithmetic.
     #[test]
     fn computes_with_ranges(rt: HostRuntime) {
-        for (code, a, b, result) in [
-            (Add, (0, 8, 8), (4, 12, 4), (4, 20, 4)),
-            (Add, (6, 1 << 63, 2), (1 << 63, 0, 8), (0, u64::MAX - 1, 2)),
-            (Sub, (16, 32, 8), (4, 12, 4), (4, 28, 4)),
-            (Sub, (8, 32, 8), (4, 12, 4), (0, u64::MAX - 3, 4)),
-            (Mul, (2, 4, 2), (4, 12, 4), (8, 48, 8)),
-            (Mul, (8, 16, 8), (1, 3, 1), (8, 48, 8)),
-            (Mul, (0, 1 << 63, 2), (2, 4, 2), (0, u64::MAX - 3, 4)),
-            (Div, (10, 100, 1), (3, 7, 1), (1, 33, 1)),
-            (Div, (10, 100, 1), (0, 7, 1), (0, 100, 1)),
-            (Mod, (10, 100, 1), (3, 7, 1), (0, 6, 1)),
-            (Mod, (2, 4, 2), (3, 7, 1), (0, 4, 1)),
-            (Mod, (10, 100, 1), (0, 7, 1), (0, 100, 1)),
-            (And, (10, 100, 2), (3, 7, 1), (0, 6, 2)),
-            (Or, (4, 100, 4), (2, 6, 2), (4, 126, 2)),
-            (Or, (1, 128, 1), (2, 3, 1), (2, 255, 1)),
-            (Xor, (4, 100, 4), (8, 16, 8), (0, 124, 4)),
-            (Neg, (1, 2, 1), (0, 0, 8), TO_MAX),
-            (Mov, (1, 2, 1), (4, 8, 4), (4, 8, 4)),
-        ] {
-            assert_eq!(rt; made(code, Bits64, 0, a, b), range(result));
-        }
-    }
-
-    #[test]
-    fn shifts_ranges(rt: HostRuntime) {
-        for (code, a, b, result) in [
-            (Lsh, (1, 5, 1), (3, 0, 1), (8, 40, 8)),
-            (Lsh, (1, 5, 1), (67, 0, 1), (8, 40, 8)),
-            (Lsh, (2, 6, 2), (1, 0, 1), (4, 12, 4)),
-            (Lsh, (1, 16, 1), (60, 0, 4), (0, u64::MAX - 7, 8)),
-            (Lsh, (4, 8, 4), (0, 3, 1), (0, u64::MAX - 3, 4)),
-            (Rsh, (5, 100, 1), (2, 0, 2), (1, 25, 1)),
-            (Rsh, (5, 100, 1), (66, 0, 2), (1, 25, 1)),
-            (Rsh, (5, 100, 1), (0, 3, 1), (0, 100, 1)),
-            (Arsh, (4, 8, 4), (1, 0, 1), TO_MAX),
-            (ToBigEndian, (0, 70000, 1), (16, 0, 8), (0, 65535, 1)),
-        ] {
-            assert_eq!(rt; made(code, Bits64, 0, a, b), range(result));
-        }
-    }
-
-    #[test]
-    fn computes_with_words(rt: HostRuntime) {
-        let some = (4, 8, 4);
-        for (code, a, b, result) in [
-            (Add, (0, 4_294_967_290, 2), (4, 0, 4), (4, 4_294_967_294, 2)),
-            (Add, (0, 4_294_967_290, 2), (6, 0, 2), (0, 4_294_967_294, 2)),
-            (Add, (3, 0, 1), (4_294_967_295, 0, 1), (2, 0, 2)),
-            (Rsh, (0, 1 << 33, 8), (4, 0, 4), (0, 268_435_455, 1)),
-            (And, (0, 1 << 33, 8), (0, 1 << 40, 1), (0, 4_294_967_288, 8)),
-            (Lsh, (1, 3, 1), (33, 0, 1), (2, 6, 2)),
-            (Lsh, (0, 1 << 31, 1), (1, 0, 1), (0, 4_294_967_294, 2)),
-            (Mov, some, (WORD, 0, 8), (0, 4_294_967_288, 8)),
-            (Mov, some, (4_294_967_295, 0, 1), (4_294_967_295, 0, 1)),
-            (Neg, some, (0, 0, 8), (0, 4_294_967_295, 1)),
-            (ToBigEndian, (WORD, 0, 8), (16, 0, 8), (0, 65535, 1)),
-            (ToBigEndian, (WORD, 0, 8), (32, 0, 8), (0, 4_294_967_295, 1)),
-            (ToBigEndian, (WORD, 0, 8), (64, 0, 8), TO_MAX),
-            (ToBigEndian, (1, 0, 1), (64, 0, 8), (1 << 56, 0, 8)),
-        ] {
-            assert_eq!(rt; made(code, Bits32, 0, a, b), range(result));
-        }
-    }
-
-    #[test]
-    fn computes_with_signed_numbers(rt: HostRuntime) {
-        let minus = |n: u64| n.wrapping_neg();
-        for (code, offset, a, b, result) in [
-            (Div, 1, (10, 100, 1), (3, 7, 1), TO_MAX),
-            (Div, 1, (minus(7), 0, 1), (2, 0, 2), (minus(3), 0, 1)),
-            (Mod, 1, (10, 100, 1), (3, 7, 1), TO_MAX),
-            (Mod, 1, (minus(7), 0, 1), (2, 0, 2), (minus(1), 0, 1)),
-            (Mov, 8, (0, 0, 8), (0, 3, 1), TO_MAX),
-            (Mov, 8, (0, 0, 8), (255, 0, 1), (minus(1), 0, 1)),
-        ] {
-            assert_eq!(rt; made(code, Bits64, offset, a, b), range(result));
-        }
+        assert_eq!(rt; ROWS.iter().position(|row| !is_made(*row)), None);
     }
 }

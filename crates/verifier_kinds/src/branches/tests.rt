@@ -1,266 +1,613 @@
-ghost use Rattle.verifier_kinds.specs.Kinds.{IsKind, IsNormal};
+ghost use Rattle.verifier_kinds.specs.Kinds.{IsKind};
 
 use super::*;
+use crate::rows::tests::{Ends, range};
+use Comparison::{
+    AnyBit, Equal, Greater, GreaterOrEqual, Less, LessOrEqual, NotEqual, SignedGreater,
+    SignedGreaterOrEqual, SignedLess, SignedLessOrEqual,
+};
+use Width::{Bits32, Bits64};
 
-const UNSIGNED: [Comparison; 6] = [
-    Comparison::Equal,
-    Comparison::NotEqual,
-    Comparison::Greater,
-    Comparison::GreaterOrEqual,
-    Comparison::Less,
-    Comparison::LessOrEqual,
+/// A comparison of two ranges, and what is left of the first where it holds, and where it doesn't.
+type Row = (Comparison, Width, Ends, Ends, Option<Ends>, Option<Ends>);
+
+const MAX: u64 = u64::MAX;
+
+const WORD: u64 = 1 << 32;
+
+const BYTE: Ends = (0, 255, 1);
+
+/// The multiples of 4 up to 100.
+const FOURS: Ends = (0, 100, 4);
+
+/// All multiples of 8.
+const EIGHTS: Ends = (0, MAX - 7, 8);
+
+const ALL: Ends = (0, MAX, 1);
+
+const WORDS: Ends = (0, WORD - 1, 1);
+
+fn tells(row: Row) -> bool {
+    let (comparison, width, a, b, taken, not_taken) = row;
+    refined(comparison, width, true, range(a), range(b)) == taken.map(range)
+        && refined(comparison, width, false, range(a), range(b)) == not_taken.map(range)
+}
+
+/// Each comparison of a byte; signed ones and those of bits tell nothing.
+const OF_A_BYTE: [Row; 27] = [
+    (Equal, Bits64, BYTE, (7, 7, 1), Some((7, 7, 1)), Some(BYTE)),
+    (
+        Equal,
+        Bits64,
+        BYTE,
+        (0, 0, 8),
+        Some((0, 0, 8)),
+        Some((1, 255, 1)),
+    ),
+    (
+        Equal,
+        Bits64,
+        BYTE,
+        (255, 255, 1),
+        Some((255, 255, 1)),
+        Some((0, 254, 1)),
+    ),
+    (
+        Equal,
+        Bits64,
+        BYTE,
+        (250, 300, 1),
+        Some((250, 255, 1)),
+        Some(BYTE),
+    ),
+    (Equal, Bits64, BYTE, (256, 300, 1), None, Some(BYTE)),
+    (
+        NotEqual,
+        Bits64,
+        BYTE,
+        (0, 0, 8),
+        Some((1, 255, 1)),
+        Some((0, 0, 8)),
+    ),
+    (
+        NotEqual,
+        Bits64,
+        BYTE,
+        (255, 300, 1),
+        Some(BYTE),
+        Some((255, 255, 1)),
+    ),
+    (
+        Greater,
+        Bits64,
+        BYTE,
+        (7, 7, 1),
+        Some((8, 255, 1)),
+        Some((0, 7, 1)),
+    ),
+    (
+        Greater,
+        Bits64,
+        BYTE,
+        (7, 20, 1),
+        Some((8, 255, 1)),
+        Some((0, 20, 1)),
+    ),
+    (Greater, Bits64, BYTE, (255, 255, 1), None, Some(BYTE)),
+    (
+        GreaterOrEqual,
+        Bits64,
+        BYTE,
+        (7, 7, 1),
+        Some((7, 255, 1)),
+        Some((0, 6, 1)),
+    ),
+    (
+        GreaterOrEqual,
+        Bits64,
+        BYTE,
+        (7, 20, 1),
+        Some((7, 255, 1)),
+        Some((0, 19, 1)),
+    ),
+    (GreaterOrEqual, Bits64, BYTE, (0, 0, 8), Some(BYTE), None),
+    (
+        GreaterOrEqual,
+        Bits64,
+        BYTE,
+        (256, 256, 8),
+        None,
+        Some(BYTE),
+    ),
+    (
+        Less,
+        Bits64,
+        BYTE,
+        (7, 7, 1),
+        Some((0, 6, 1)),
+        Some((7, 255, 1)),
+    ),
+    (
+        Less,
+        Bits64,
+        BYTE,
+        (7, 20, 1),
+        Some((0, 19, 1)),
+        Some((7, 255, 1)),
+    ),
+    (Less, Bits64, BYTE, (0, 0, 8), None, Some(BYTE)),
+    (
+        Less,
+        Bits64,
+        BYTE,
+        (1, 1, 1),
+        Some((0, 0, 8)),
+        Some((1, 255, 1)),
+    ),
+    (Less, Bits64, BYTE, (256, 256, 8), Some(BYTE), None),
+    (
+        LessOrEqual,
+        Bits64,
+        BYTE,
+        (7, 7, 1),
+        Some((0, 7, 1)),
+        Some((8, 255, 1)),
+    ),
+    (
+        LessOrEqual,
+        Bits64,
+        BYTE,
+        (7, 20, 1),
+        Some((0, 20, 1)),
+        Some((8, 255, 1)),
+    ),
+    (LessOrEqual, Bits64, BYTE, (255, 255, 1), Some(BYTE), None),
+    (AnyBit, Bits64, BYTE, (7, 7, 1), Some(BYTE), Some(BYTE)),
+    (
+        SignedGreater,
+        Bits64,
+        BYTE,
+        (7, 7, 1),
+        Some(BYTE),
+        Some(BYTE),
+    ),
+    (
+        SignedGreaterOrEqual,
+        Bits64,
+        BYTE,
+        (7, 7, 1),
+        Some(BYTE),
+        Some(BYTE),
+    ),
+    (SignedLess, Bits64, BYTE, (7, 7, 1), Some(BYTE), Some(BYTE)),
+    (
+        SignedLessOrEqual,
+        Bits64,
+        BYTE,
+        (7, 7, 1),
+        Some(BYTE),
+        Some(BYTE),
+    ),
 ];
 
-/// All numbers from one to another, or one number.
-fn range(low: u64, high: u64) -> Range
-    ensures { IsNormal result }
-{
-    if low < high {
-        Range {
-            low,
-            high,
-            align: Align::One,
-        }
-    } else {
-        Range::constant(low)
-    }
-}
-
-/// What is left where only these numbers are.
-fn left(low: u64, high: u64, align: Align) -> Option<Range> {
-    Some(Range { low, high, align })
-}
-
-/// What a comparison of 64 bits leaves of `a` where it holds, and where it doesn't.
-fn ways(comparison: Comparison, a: Range, b: Range) -> [Option<Range>; 2]
-    requires left { IsNormal a }
-    requires right { IsNormal b }
-{
-    [true, false].map(|taken| refined(comparison, Width::Bits64, taken, a, b))
-}
-
-/// Each comparison tells of a byte what it and its negation leave.
-#[test]
-fn keeps_the_numbers_that_go_there(rt: HostRuntime) {
-    use Align::{Eight, One};
-    use Comparison::{Equal, Greater, GreaterOrEqual, Less, LessOrEqual, NotEqual};
-    let byte = left(0, 255, One);
-    for (comparison, (low, high), taken, not_taken) in [
-        (Equal, (7, 7), left(7, 7, One), byte),
-        (Equal, (0, 0), left(0, 0, Eight), left(1, 255, One)),
-        (Equal, (255, 255), left(255, 255, One), left(0, 254, One)),
-        (Equal, (250, 300), left(250, 255, One), byte),
-        (Equal, (256, 300), None, byte),
-        (NotEqual, (0, 0), left(1, 255, One), left(0, 0, Eight)),
-        (NotEqual, (255, 300), byte, left(255, 255, One)),
-        (Greater, (7, 7), left(8, 255, One), left(0, 7, One)),
-        (Greater, (7, 20), left(8, 255, One), left(0, 20, One)),
-        (Greater, (255, 255), None, byte),
-        (GreaterOrEqual, (7, 7), left(7, 255, One), left(0, 6, One)),
-        (GreaterOrEqual, (7, 20), left(7, 255, One), left(0, 19, One)),
-        (GreaterOrEqual, (0, 0), byte, None),
-        (GreaterOrEqual, (256, 256), None, byte),
-        (Less, (7, 7), left(0, 6, One), left(7, 255, One)),
-        (Less, (7, 20), left(0, 19, One), left(7, 255, One)),
-        (Less, (0, 0), None, byte),
-        (Less, (1, 1), left(0, 0, Eight), left(1, 255, One)),
-        (Less, (256, 256), byte, None),
-        (LessOrEqual, (7, 7), left(0, 7, One), left(8, 255, One)),
-        (LessOrEqual, (7, 20), left(0, 20, One), left(8, 255, One)),
-        (LessOrEqual, (255, 255), byte, None),
-    ] {
-        assert_eq!(rt;
-            ways(comparison, range(0, 255), range(low, high)),
-            [taken, not_taken],
-            "{comparison:?} {low} to {high}"
-        );
-    }
-}
-
 /// Ends move on to the next number that the alignment divides.
-#[test]
-fn keeps_to_alignments(rt: HostRuntime) {
-    use Align::{Eight, Four};
-    use Comparison::{Equal, Greater, GreaterOrEqual, Less, LessOrEqual, NotEqual};
-    let fours = Range {
-        low: 0,
-        high: 100,
-        align: Four,
-    };
-    let all = Some(fours);
-    for (comparison, (low, high), taken, not_taken) in [
-        (Equal, (50, 50), None, all),
-        (Equal, (48, 48), left(48, 48, Eight), all),
-        (Equal, (1, 9), left(4, 8, Four), all),
-        (NotEqual, (0, 0), left(4, 100, Four), left(0, 0, Eight)),
-        (
-            NotEqual,
-            (100, 100),
-            left(0, 96, Four),
-            left(100, 100, Four),
-        ),
-        (NotEqual, (104, 104), all, None),
-        (Greater, (5, 5), left(8, 100, Four), left(0, 4, Four)),
-        (Greater, (97, 98), left(100, 100, Four), left(0, 96, Four)),
-        (
-            GreaterOrEqual,
-            (97, 97),
-            left(100, 100, Four),
-            left(0, 96, Four),
-        ),
-        (Less, (5, 5), left(0, 4, Four), left(8, 100, Four)),
-        (LessOrEqual, (3, 3), left(0, 0, Eight), left(4, 100, Four)),
-    ] {
-        assert_eq!(rt;
-            ways(comparison, fours, range(low, high)),
-            [taken, not_taken],
-            "{comparison:?} {low} to {high}"
-        );
-    }
-}
+const OF_FOURS: [Row; 11] = [
+    (Equal, Bits64, FOURS, (50, 50, 2), None, Some(FOURS)),
+    (
+        Equal,
+        Bits64,
+        FOURS,
+        (48, 48, 8),
+        Some((48, 48, 8)),
+        Some(FOURS),
+    ),
+    (
+        Equal,
+        Bits64,
+        FOURS,
+        (1, 9, 1),
+        Some((4, 8, 4)),
+        Some(FOURS),
+    ),
+    (
+        NotEqual,
+        Bits64,
+        FOURS,
+        (0, 0, 8),
+        Some((4, 100, 4)),
+        Some((0, 0, 8)),
+    ),
+    (
+        NotEqual,
+        Bits64,
+        FOURS,
+        (100, 100, 4),
+        Some((0, 96, 4)),
+        Some((100, 100, 4)),
+    ),
+    (NotEqual, Bits64, FOURS, (104, 104, 8), Some(FOURS), None),
+    (
+        Greater,
+        Bits64,
+        FOURS,
+        (5, 5, 1),
+        Some((8, 100, 4)),
+        Some((0, 4, 4)),
+    ),
+    (
+        Greater,
+        Bits64,
+        FOURS,
+        (97, 98, 1),
+        Some((100, 100, 4)),
+        Some((0, 96, 4)),
+    ),
+    (
+        GreaterOrEqual,
+        Bits64,
+        FOURS,
+        (97, 97, 1),
+        Some((100, 100, 4)),
+        Some((0, 96, 4)),
+    ),
+    (
+        Less,
+        Bits64,
+        FOURS,
+        (5, 5, 1),
+        Some((0, 4, 4)),
+        Some((8, 100, 4)),
+    ),
+    (
+        LessOrEqual,
+        Bits64,
+        FOURS,
+        (3, 3, 1),
+        Some((0, 0, 8)),
+        Some((4, 100, 4)),
+    ),
+];
 
 /// Ends of 64 bits have no number beyond them.
-#[test]
-fn keeps_to_64_bits(rt: HostRuntime) {
-    use Align::{Eight, One};
-    use Comparison::{Equal, Greater, GreaterOrEqual, Less, LessOrEqual, NotEqual};
-    const MAX: u64 = u64::MAX;
-    let all = left(0, MAX, One);
-    for (comparison, b, taken, not_taken) in [
-        (Equal, 0, left(0, 0, Eight), left(1, MAX, One)),
-        (NotEqual, MAX, left(0, MAX - 1, One), left(MAX, MAX, One)),
-        (Greater, MAX, None, all),
-        (
-            GreaterOrEqual,
-            MAX,
-            left(MAX, MAX, One),
-            left(0, MAX - 1, One),
-        ),
-        (Less, 0, None, all),
-        (LessOrEqual, MAX, all, None),
-    ] {
-        assert_eq!(rt;
-            ways(comparison, Range::full(One), Range::constant(b)),
-            [taken, not_taken],
-            "{comparison:?} {b}"
-        );
-    }
-    let eights = left(0, MAX - 7, Eight);
-    for (comparison, b, taken, not_taken) in [
-        (Greater, MAX - 7, None, eights),
-        (
-            Greater,
-            MAX - 8,
-            left(MAX - 7, MAX - 7, Eight),
-            left(0, MAX - 15, Eight),
-        ),
-        (
-            NotEqual,
-            MAX - 7,
-            left(0, MAX - 15, Eight),
-            left(MAX - 7, MAX - 7, Eight),
-        ),
-        (NotEqual, MAX, eights, None),
-    ] {
-        assert_eq!(rt;
-            ways(comparison, Range::full(Eight), Range::constant(b)),
-            [taken, not_taken],
-            "{comparison:?} {b}"
-        );
-    }
-}
+const OF_64_BITS: [Row; 10] = [
+    (
+        Equal,
+        Bits64,
+        ALL,
+        (0, 0, 8),
+        Some((0, 0, 8)),
+        Some((1, MAX, 1)),
+    ),
+    (
+        NotEqual,
+        Bits64,
+        ALL,
+        (MAX, MAX, 1),
+        Some((0, MAX - 1, 1)),
+        Some((MAX, MAX, 1)),
+    ),
+    (Greater, Bits64, ALL, (MAX, MAX, 1), None, Some(ALL)),
+    (
+        GreaterOrEqual,
+        Bits64,
+        ALL,
+        (MAX, MAX, 1),
+        Some((MAX, MAX, 1)),
+        Some((0, MAX - 1, 1)),
+    ),
+    (Less, Bits64, ALL, (0, 0, 8), None, Some(ALL)),
+    (LessOrEqual, Bits64, ALL, (MAX, MAX, 1), Some(ALL), None),
+    (
+        Greater,
+        Bits64,
+        EIGHTS,
+        (MAX - 7, MAX - 7, 8),
+        None,
+        Some(EIGHTS),
+    ),
+    (
+        Greater,
+        Bits64,
+        EIGHTS,
+        (MAX - 8, MAX - 8, 1),
+        Some((MAX - 7, MAX - 7, 8)),
+        Some((0, MAX - 15, 8)),
+    ),
+    (
+        NotEqual,
+        Bits64,
+        EIGHTS,
+        (MAX - 7, MAX - 7, 8),
+        Some((0, MAX - 15, 8)),
+        Some((MAX - 7, MAX - 7, 8)),
+    ),
+    (NotEqual, Bits64, EIGHTS, (MAX, MAX, 1), Some(EIGHTS), None),
+];
 
 /// Of one number an end that moves leaves nothing.
-#[test]
-fn compares_constants(rt: HostRuntime) {
-    for (n, align) in [
-        (0, Align::Eight),
-        (5, Align::One),
-        (12, Align::Four),
-        (u64::MAX, Align::One),
-    ] {
-        let one = Range::constant(n);
-        let same = left(n, n, align);
-        assert_eq!(rt; ways(Comparison::Equal, one, one), [same, None]);
-        assert_eq!(rt; ways(Comparison::NotEqual, one, one), [None, same]);
-        assert_eq!(rt; ways(Comparison::Greater, one, one), [None, same]);
-        assert_eq!(rt; ways(Comparison::Less, one, one), [None, same]);
-        let other = Range::constant(n ^ 1);
-        assert_eq!(rt; ways(Comparison::Equal, one, other), [None, same]);
-        assert_eq!(rt; ways(Comparison::NotEqual, one, other), [same, None]);
-    }
-}
-
-#[test]
-fn tells_nothing_of_signed_numbers_and_bits(rt: HostRuntime) {
-    let byte = left(0, 255, Align::One);
-    for comparison in [
-        Comparison::AnyBit,
-        Comparison::SignedGreater,
-        Comparison::SignedGreaterOrEqual,
-        Comparison::SignedLess,
-        Comparison::SignedLessOrEqual,
-    ] {
-        assert_eq!(rt;
-            ways(comparison, range(0, 255), Range::constant(7)),
-            [byte, byte],
-            "{comparison:?}"
-        );
-    }
-}
+const OF_ONE: [Row; 24] = [
+    (Equal, Bits64, (0, 0, 8), (0, 0, 8), Some((0, 0, 8)), None),
+    (
+        NotEqual,
+        Bits64,
+        (0, 0, 8),
+        (0, 0, 8),
+        None,
+        Some((0, 0, 8)),
+    ),
+    (Greater, Bits64, (0, 0, 8), (0, 0, 8), None, Some((0, 0, 8))),
+    (Less, Bits64, (0, 0, 8), (0, 0, 8), None, Some((0, 0, 8))),
+    (Equal, Bits64, (0, 0, 8), (1, 1, 1), None, Some((0, 0, 8))),
+    (
+        NotEqual,
+        Bits64,
+        (0, 0, 8),
+        (1, 1, 1),
+        Some((0, 0, 8)),
+        None,
+    ),
+    (Equal, Bits64, (5, 5, 1), (5, 5, 1), Some((5, 5, 1)), None),
+    (
+        NotEqual,
+        Bits64,
+        (5, 5, 1),
+        (5, 5, 1),
+        None,
+        Some((5, 5, 1)),
+    ),
+    (Greater, Bits64, (5, 5, 1), (5, 5, 1), None, Some((5, 5, 1))),
+    (Less, Bits64, (5, 5, 1), (5, 5, 1), None, Some((5, 5, 1))),
+    (Equal, Bits64, (5, 5, 1), (4, 4, 4), None, Some((5, 5, 1))),
+    (
+        NotEqual,
+        Bits64,
+        (5, 5, 1),
+        (4, 4, 4),
+        Some((5, 5, 1)),
+        None,
+    ),
+    (
+        Equal,
+        Bits64,
+        (12, 12, 4),
+        (12, 12, 4),
+        Some((12, 12, 4)),
+        None,
+    ),
+    (
+        NotEqual,
+        Bits64,
+        (12, 12, 4),
+        (12, 12, 4),
+        None,
+        Some((12, 12, 4)),
+    ),
+    (
+        Greater,
+        Bits64,
+        (12, 12, 4),
+        (12, 12, 4),
+        None,
+        Some((12, 12, 4)),
+    ),
+    (
+        Less,
+        Bits64,
+        (12, 12, 4),
+        (12, 12, 4),
+        None,
+        Some((12, 12, 4)),
+    ),
+    (
+        Equal,
+        Bits64,
+        (12, 12, 4),
+        (13, 13, 1),
+        None,
+        Some((12, 12, 4)),
+    ),
+    (
+        NotEqual,
+        Bits64,
+        (12, 12, 4),
+        (13, 13, 1),
+        Some((12, 12, 4)),
+        None,
+    ),
+    (
+        Equal,
+        Bits64,
+        (MAX, MAX, 1),
+        (MAX, MAX, 1),
+        Some((MAX, MAX, 1)),
+        None,
+    ),
+    (
+        NotEqual,
+        Bits64,
+        (MAX, MAX, 1),
+        (MAX, MAX, 1),
+        None,
+        Some((MAX, MAX, 1)),
+    ),
+    (
+        Greater,
+        Bits64,
+        (MAX, MAX, 1),
+        (MAX, MAX, 1),
+        None,
+        Some((MAX, MAX, 1)),
+    ),
+    (
+        Less,
+        Bits64,
+        (MAX, MAX, 1),
+        (MAX, MAX, 1),
+        None,
+        Some((MAX, MAX, 1)),
+    ),
+    (
+        Equal,
+        Bits64,
+        (MAX, MAX, 1),
+        (MAX - 1, MAX - 1, 2),
+        None,
+        Some((MAX, MAX, 1)),
+    ),
+    (
+        NotEqual,
+        Bits64,
+        (MAX, MAX, 1),
+        (MAX - 1, MAX - 1, 2),
+        Some((MAX, MAX, 1)),
+        None,
+    ),
+];
 
 /// A comparison of 32 bits tells nothing where one of the numbers may have more.
+const OF_32_BITS: [Row; 14] = [
+    (
+        Equal,
+        Bits32,
+        (0, WORD, 1),
+        (7, 7, 1),
+        Some((0, WORD, 1)),
+        Some((0, WORD, 1)),
+    ),
+    (
+        Equal,
+        Bits32,
+        (8, 9, 1),
+        (7, WORD, 1),
+        Some((8, 9, 1)),
+        Some((8, 9, 1)),
+    ),
+    (
+        NotEqual,
+        Bits32,
+        (0, WORD, 1),
+        (7, 7, 1),
+        Some((0, WORD, 1)),
+        Some((0, WORD, 1)),
+    ),
+    (
+        NotEqual,
+        Bits32,
+        (8, 9, 1),
+        (7, WORD, 1),
+        Some((8, 9, 1)),
+        Some((8, 9, 1)),
+    ),
+    (
+        Greater,
+        Bits32,
+        (0, WORD, 1),
+        (7, 7, 1),
+        Some((0, WORD, 1)),
+        Some((0, WORD, 1)),
+    ),
+    (
+        Greater,
+        Bits32,
+        (8, 9, 1),
+        (7, WORD, 1),
+        Some((8, 9, 1)),
+        Some((8, 9, 1)),
+    ),
+    (
+        GreaterOrEqual,
+        Bits32,
+        (0, WORD, 1),
+        (7, 7, 1),
+        Some((0, WORD, 1)),
+        Some((0, WORD, 1)),
+    ),
+    (
+        GreaterOrEqual,
+        Bits32,
+        (8, 9, 1),
+        (7, WORD, 1),
+        Some((8, 9, 1)),
+        Some((8, 9, 1)),
+    ),
+    (
+        Less,
+        Bits32,
+        (0, WORD, 1),
+        (7, 7, 1),
+        Some((0, WORD, 1)),
+        Some((0, WORD, 1)),
+    ),
+    (
+        Less,
+        Bits32,
+        (8, 9, 1),
+        (7, WORD, 1),
+        Some((8, 9, 1)),
+        Some((8, 9, 1)),
+    ),
+    (
+        LessOrEqual,
+        Bits32,
+        (0, WORD, 1),
+        (7, 7, 1),
+        Some((0, WORD, 1)),
+        Some((0, WORD, 1)),
+    ),
+    (
+        LessOrEqual,
+        Bits32,
+        (8, 9, 1),
+        (7, WORD, 1),
+        Some((8, 9, 1)),
+        Some((8, 9, 1)),
+    ),
+    (
+        Less,
+        Bits32,
+        WORDS,
+        (8, 8, 8),
+        Some((0, 7, 1)),
+        Some((8, WORD - 1, 1)),
+    ),
+    (
+        Less,
+        Bits32,
+        WORDS,
+        (8, WORD - 1, 1),
+        Some((0, WORD - 2, 1)),
+        Some((8, WORD - 1, 1)),
+    ),
+];
+
 #[test]
-fn tells_nothing_of_low_halves(rt: HostRuntime) {
-    const WORD: u64 = 1 << 32;
-    for taken in [true, false] {
-        for comparison in UNSIGNED {
-            assert_eq!(rt;
-                refined(
-                    comparison,
-                    Width::Bits32,
-                    taken,
-                    range(0, WORD),
-                    range(7, 7)
-                ),
-                left(0, WORD, Align::One),
-                "{comparison:?}"
-            );
-            assert_eq!(rt;
-                refined(
-                    comparison,
-                    Width::Bits32,
-                    taken,
-                    range(8, 9),
-                    range(7, WORD)
-                ),
-                left(8, 9, Align::One),
-                "{comparison:?}"
-            );
-        }
-    }
-    let word = range(0, WORD - 1);
-    for (low, high, taken, not_taken) in [
-        (8, 8, (0, 7), (8, WORD - 1)),
-        (8, WORD - 1, (0, WORD - 2), (8, WORD - 1)),
-    ] {
-        let b = range(low, high);
-        assert_eq!(rt;
-            refined(Comparison::Less, Width::Bits32, true, word, b),
-            left(taken.0, taken.1, Align::One)
-        );
-        assert_eq!(rt;
-            refined(Comparison::Less, Width::Bits32, false, word, b),
-            left(not_taken.0, not_taken.1, Align::One)
-        );
-    }
+fn keeps_the_numbers_that_go_there(rt: HostRuntime) {
+    assert_eq!(rt; OF_A_BYTE.iter().position(|row| !tells(*row)), None);
 }
 
-/// The kind of dst after the jump with this opcode; `None` if that isn't a conditional one.
-fn refines(opcode: u8, taken: bool, a: Kind, b: Kind) -> Option<Option<Kind>>
-    requires left { IsKind a }
-    requires right { IsKind b }
-{
+#[test]
+fn keeps_to_alignments(rt: HostRuntime) {
+    assert_eq!(rt; OF_FOURS.iter().position(|row| !tells(*row)), None);
+}
+
+#[test]
+fn keeps_to_64_bits(rt: HostRuntime) {
+    assert_eq!(rt; OF_64_BITS.iter().position(|row| !tells(*row)), None);
+}
+
+#[test]
+fn compares_constants(rt: HostRuntime) {
+    assert_eq!(rt; OF_ONE.iter().position(|row| !tells(*row)), None);
+}
+
+#[test]
+fn tells_nothing_of_low_halves(rt: HostRuntime) {
+    assert_eq!(rt; OF_32_BITS.iter().position(|row| !tells(*row)), None);
+}
+
+/// What the jump with this opcode tells of a byte that is compared with 7; `None` if that isn't a
+/// conditional one.
+fn refines(opcode: u8, taken: bool) -> Option<Option<Kind>> {
     let insn = Insn {
         opcode,
         dst: 1,
@@ -269,56 +616,51 @@ fn refines(opcode: u8, taken: bool, a: Kind, b: Kind) -> Option<Option<Kind>>
         imm: 0,
         next_imm: 0,
     };
+    let byte = Kind::Scalar(range(BYTE));
+    let seven = Kind::Scalar(range((7, 7, 1)));
     match Operation::of(opcode) {
-        Some(Operation::Branch { .. }) => Some(refine(&insn, taken, a, b)),
+        Some(Operation::Branch { .. }) => Some(refine(&insn, taken, byte, seven)),
         _ => None,
     }
 }
 
+/// An opcode, and what is left of a byte that is compared with 7 on both ways.
+type Opcode = (u8, Ends, Ends);
+
 /// JEQ, JGT, JGE, JSET, JNE, JSGT, JLT, JLE (RFC 9669, section 4.3), each of 64 and of 32 bits.
+const OPCODES: [Opcode; 16] = [
+    (0x15, (7, 7, 1), BYTE),
+    (0x1e, (7, 7, 1), BYTE),
+    (0x25, (8, 255, 1), (0, 7, 1)),
+    (0x2e, (8, 255, 1), (0, 7, 1)),
+    (0x35, (7, 255, 1), (0, 6, 1)),
+    (0x3e, (7, 255, 1), (0, 6, 1)),
+    (0x45, BYTE, BYTE),
+    (0x4e, BYTE, BYTE),
+    (0x55, BYTE, (7, 7, 1)),
+    (0x5e, BYTE, (7, 7, 1)),
+    (0x65, BYTE, BYTE),
+    (0x6e, BYTE, BYTE),
+    (0xa5, (0, 6, 1), (7, 255, 1)),
+    (0xae, (0, 6, 1), (7, 255, 1)),
+    (0xb5, (0, 7, 1), (8, 255, 1)),
+    (0xbe, (0, 7, 1), (8, 255, 1)),
+];
+
+fn is_read(row: Opcode) -> bool {
+    let (opcode, taken, not_taken) = row;
+    refines(opcode, true) == Some(Some(Kind::Scalar(range(taken))))
+        && refines(opcode, false) == Some(Some(Kind::Scalar(range(not_taken))))
+}
+
 #[test]
 fn reads_opcodes(rt: HostRuntime) {
-    let byte = Kind::Scalar(range(0, 255));
-    let low = |high: u64| {
-        Some(Kind::Scalar(Range {
-            low: 0,
-            high,
-            align: Align::One,
-        }))
-    };
-    let high = |low: u64| {
-        Some(Kind::Scalar(Range {
-            low,
-            high: 255,
-            align: Align::One,
-        }))
-    };
-    let seven = Some(Kind::Scalar(Range {
-        low: 7,
-        high: 7,
-        align: Align::One,
-    }));
-    for (opcodes, taken, not_taken) in [
-        ([0x15, 0x1e], seven, Some(byte)),
-        ([0x25, 0x2e], high(8), low(7)),
-        ([0x35, 0x3e], high(7), low(6)),
-        ([0x45, 0x4e], Some(byte), Some(byte)),
-        ([0x55, 0x5e], Some(byte), seven),
-        ([0x65, 0x6e], Some(byte), Some(byte)),
-        ([0xa5, 0xae], low(6), high(7)),
-        ([0xb5, 0xbe], low(7), high(8)),
-    ] {
-        for opcode in opcodes {
-            let b = Kind::Scalar(Range::constant(7));
-            assert_eq!(rt; refines(opcode, true, byte, b), Some(taken), "{opcode:#x}");
-            assert_eq!(rt;
-                refines(opcode, false, byte, b),
-                Some(not_taken),
-                "{opcode:#x}"
-            );
-        }
-    }
-    for opcode in [0x05, 0x06, 0x85, 0x95, 0x0f] {
-        assert_eq!(rt; refines(opcode, true, byte, byte), None, "{opcode:#x}");
-    }
+    assert_eq!(rt; OPCODES.iter().position(|row| !is_read(*row)), None);
+}
+
+/// JA, CALL, EXIT and ADD are no conditional jumps.
+#[test]
+fn refines_conditional_jumps_alone(rt: HostRuntime) {
+    let others = [0x05, 0x06, 0x85, 0x95, 0x0f];
+    assert!(rt; others.iter().all(|opcode| refines(*opcode, true).is_none()));
 }
