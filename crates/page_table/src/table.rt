@@ -1,4 +1,4 @@
-ghost use Rattle.std.specs.Prelude.{◌≡◌, ◌≢◌, ◌+◌, ◌-◌, ◌<◌, ◌≤◌, nat_lt, true, false, [], ◌∷◌, ◌++◌, All, drop, find, map, option_map, length, replicate, slice_index_or, slice_set, Option, Some, None, IfOk, IfSome, ℕ};
+ghost use Rattle.std.specs.Prelude.{◌≡◌, ◌≢◌, ◌+◌, ◌-◌, ◌<◌, ◌≤◌, nat_lt, true, false, [], ◌∷◌, ◌++◌, All, drop, find, map, option_map, length, replicate, slice_index_or, slice_set, Option, Some, None, IfOk, IfSome, MatchOption, ℕ};
 ghost use Rattle.host_types.specs.Bytes.{with_part};
 ghost use Rattle.page_table.specs.declared.pass.Pass.{Pass};
 ghost use Rattle.host_types.specs.declared.status.Status.TheVariants.{Grouped};
@@ -321,11 +321,14 @@ impl Table {
 }
 
 impl Table {
-    /// The first page from a place on that may be merged.
-    pub(crate) fn next_mergeable(&self, from: usize) -> Option<usize>
-        ensures { result ≡ first_mergeable from (drop from (states_of self.now.entries)) }
+    /// The first page that may be merged, of those from a place on and before another.
+    pub(crate) fn next_mergeable(&self, from: usize, end: usize) -> Option<usize>
+        requires { end ≤ length self.now.entries }
+        ensures { MatchOption result
+            ((i : ℕ) → from ≤ i → i < end → is_mergeable (slice_index_or (states_of self.now.entries) i None) ≡ false)
+            (λ i. first_mergeable from (drop from (states_of self.now.entries)) ≡ Some i) }
     {
-        for place in from..self.entries.len() {
+        for place in from..end {
             if may_merge(&self.entries[place]) {
                 return Some(place);
             }
