@@ -28,3 +28,4 @@ pub mod Next
 pub mod Searching
 pub mod Scanning
 pub mod Partners
+pub mod Trees
