@@ -21,7 +21,7 @@ abbrev pub but : ℕ → List ℕ → List ℕ
 but f frames = filter (λ g. not (g == f)) frames
 
 -- one frame less for each time that it occurred
-length-but : (f : ℕ) (frames : List ℕ) → length (but f frames) + times f frames ≡ length frames
+pub length-but : (f : ℕ) (frames : List ℕ) → length (but f frames) + times f frames ≡ length frames
 length-but f [] = refl
 length-but f (g ∷ gs) =
     let split = sum_by-cons (λ (x : ℕ). one_when (x == f)) g gs in
@@ -32,7 +32,7 @@ length-but f (g ∷ gs) =
     by_test true e rest split = let one = ap one_when e in omega (arith, rest, split, one)
     by_test false e rest split = let one = ap one_when e in omega (arith, rest, split, one)
 
-times-gone : (f : ℕ) (frames : List ℕ) → times f (but f frames) ≡ 0
+pub times-gone : (f : ℕ) (frames : List ℕ) → times f (but f frames) ≡ 0
 times-gone f [] = refl
 times-gone f (g ∷ gs) = by_test (g == f) refl (times-gone f gs)
   where
@@ -43,7 +43,7 @@ times-gone f (g ∷ gs) = by_test (g == f) refl (times-gone f gs)
         let one = ap one_when e in
         omega (arith, rest, split, one)
 
-times-kept : (f h : ℕ) (frames : List ℕ) → h ≢ f → times h (but f frames) ≡ times h frames
+pub times-kept : (f h : ℕ) (frames : List ℕ) → h ≢ f → times h (but f frames) ≡ times h frames
 times-kept f h [] ne = refl
 times-kept f h (g ∷ gs) ne =
     let split = sum_by-cons (λ (x : ℕ). one_when (x == h)) g gs in

@@ -25,5 +25,7 @@ pub mod Waiters
 pub mod Marking
 pub mod Joining
 pub mod Next
+pub mod Searching
 pub mod Scanning
 pub mod Partners
+pub mod Trees

@@ -1,5 +1,5 @@
 -- The next page that may be merged.
-use Rattle.std.proofs.Common.{◌≡◌, ◌∙◌, ℕ, zero, suc, ◌+◌, ◌<◌, ◌≤◌, Bool, true, false, if◌then◌else◌, List, [], ◌∷◌, drop, length, slice_index_or, Option, Some, None, refl, sym, ap, arith}
+use Rattle.std.proofs.Common.{◌≡◌, ◌∙◌, inl, inr, ◌⊎◌, ℕ, zero, suc, ◌+◌, ◌-◌, ◌<◌, ◌≤◌, Bool, true, false, if◌then◌else◌, List, [], ◌∷◌, drop, length, slice_index_or, Option, Some, None, refl, sym, ap, arith}
 use Rattle.std.proofs.lemmas.List.{get_or-drop, length-drop}
 use Rattle.host_types.specs.Sharing.{PageState}
 use Rattle.host_types.specs.Visits.{is_mergeable, first_mergeable}
@@ -33,6 +33,28 @@ next-none (x ∷ xs) (suc n) h = none (drop n xs) (empty xs n (omega arith))
 
     none : (ys : List (Option PageState)) → ys ≡ [] → first_mergeable (suc n) ys ≡ None
     none ys e = ap (first_mergeable (suc n)) e
+
+over : (pages : List (Option PageState)) (n d : ℕ) → ((i : ℕ) → n ≤ i → i < n + d → is_mergeable (slice_index_or pages i None) ≡ false)
+    → first_mergeable n (drop n pages) ≡ first_mergeable (n + d) (drop (n + d) pages)
+over pages n zero apart = let same : n + 0 ≡ n = omega arith in rw same refl
+over pages n (suc d) apart =
+    let place : n + suc d ≡ n + 1 + d = omega arith in
+    rw place (step (λ later. over pages (n + 1) d later) (split n (length pages)))
+  where
+    split : (n m : ℕ) → (n < m) ⊎ (m ≤ n)
+    split n m = grind arith
+
+    step : (((i : ℕ) → n + 1 ≤ i → i < n + 1 + d → is_mergeable (slice_index_or pages i None) ≡ false) → first_mergeable (n + 1) (drop (n + 1) pages) ≡ first_mergeable (n + 1 + d) (drop (n + 1 + d) pages))
+        → (n < length pages) ⊎ (length pages ≤ n) → first_mergeable n (drop n pages) ≡ first_mergeable (n + 1 + d) (drop (n + 1 + d) pages)
+    step rest (inl less) = next-after pages n less (apart n (omega arith) (omega arith)) ∙ rest (λ i le lt. apart i (omega (arith, le)) (omega (arith, lt)))
+    step rest (inr past) = next-none pages n past ∙ sym (next-none pages (n + 1 + d) (omega (arith, past)))
+
+-- pages that may not be merged are passed over
+pub next-over : (pages : List (Option PageState)) (n m : ℕ) → n ≤ m → ((i : ℕ) → n ≤ i → i < m → is_mergeable (slice_index_or pages i None) ≡ false)
+    → first_mergeable n (drop n pages) ≡ first_mergeable m (drop m pages)
+next-over pages n m le apart =
+    let more : n + (m - n) ≡ m = omega (arith, le) in
+    over pages n (m - n) (λ i from to. apart i from (omega (arith, to, more))) ∙ ap (λ (k : ℕ). first_mergeable k (drop k pages)) more
 
 -- a page that was found
 pub record IsNext (pages : List (Option PageState)) (from i : ℕ) : Type 0 where

@@ -11,6 +11,7 @@ use Rattle.host_types.specs.Shapes.{IsShape, byte_len_of}
 use Rattle.host_types.specs.Sharing.{Sharing, PageState, own_frame, is_shared, cost_of, joined_by}
 use Rattle.host_types.specs.Pages.{zero_page}
 use Rattle.frame_arena.specs.Pages.{page_at}
+use Rattle.stable_tree.specs.Groups.{Groups, IsSorted, has}
 use Rattle.unstable_tree.specs.declared.tree.Waiter.{Waiter}
 use Rattle.page_table.specs.declared.entry.Entry.{Entry}
 use Rattle.page_table.specs.declared.pass.Pass.{Pass}
@@ -138,6 +139,12 @@ pub record AreCountsOf (table : TableState) (counts : CountsState) : Type 0 wher
 pub record IsSound (table : TableState) (counts : CountsState) : Type 0 where
   pub fits : IsTable table
   pub counted : AreCountsOf table counts
+
+-- The tree has the groups, those of each content in order of creation, and room for as many as there are frames.
+pub record IsTreeOf (arena : List (List ℕ)) (groups : List ℕ) (tree : Groups) : Type 0 where
+  pub sorted : IsSorted arena tree.chains
+  pub listed : (bytes : List ℕ) → filter (has arena bytes) (concat tree.chains) ≡ filter (has arena bytes) groups
+  pub room : length arena ≤ tree.room
 
 -- the map's bytes, out of the contents of its 256 page numbers
 abbrev pub flat_of : List (List ℕ) → Shape → FlatMap

@@ -69,6 +69,13 @@ impl FrameCounts {
         self.counts[frame as usize]
     }
 
+    /// How many hold each frame.
+    pub(crate) fn all(&self) -> &[u32]
+        ensures { result.now ≡ self.now.counts }
+    {
+        &self.counts
+    }
+
     /// One more holds a frame that is held already.
     pub(crate) fn share(&mut self, frame: u32)
         requires frame { frame < length self.old.counts }

@@ -7,6 +7,7 @@ mod counts;
 mod entry;
 mod memory;
 mod pass;
+mod search;
 mod table;
 mod tenant;
 

@@ -18,6 +18,7 @@ ghost use Rattle.page_table.specs.Table.{state_of, states_of, contents_of, group
 
 use crate::entry::Entry;
 use crate::pass::Pass;
+use crate::search::next_mergeable;
 use crate::table::Table;
 use crate::tenant::Tenant;
 use frame_arena::{FrameArena, PAGE_SIZE};
@@ -36,7 +37,7 @@ const MAX_TENANTS: u32 = 16;
 const MAX_MAPS: usize = 8;
 
 /// How many page numbers a map has.
-const MAX_PAGES: usize = 256;
+pub(crate) const MAX_PAGES: usize = 256;
 
 /// The value of the option `run` after everything was unmerged.
 const UNMERGED: u32 = 2;
@@ -76,7 +77,7 @@ fn is_size(frames: u32, tenants: u32) -> bool
 }
 
 /// The pages that a map needs.
-fn pages(shape: &Shape) -> u32
+pub(crate) fn pages(shape: &Shape) -> u32
     requires { IsShape shape.now }
     ensures { result ≡ page_count shape.now }
 {
@@ -468,7 +469,7 @@ impl Memory {
             is_mergeable (state_at self.now.sharing (page_place page)) ≡ true) }
     {
         self.table.facts();
-        match self.table.next_mergeable(self.pass.look_from()) {
+        match next_mergeable(&self.table, &self.shapes, self.pass.look_from()) {
             Some(place) => Some(page_at(place)),
             None => None,
         }
@@ -491,7 +492,7 @@ impl Memory {
         ensures free { IsNotWaiting self.new page }
     {
         let place = place_of(page);
-        if self.table.next_mergeable(place + 1).is_some() {
+        if next_mergeable(&self.table, &self.shapes, place + 1).is_some() {
             self.pass.cursor = Some(place);
         } else {
             self.pass.end();

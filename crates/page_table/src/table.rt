@@ -1,4 +1,4 @@
-ghost use Rattle.std.specs.Prelude.{◌≡◌, ◌≢◌, ◌+◌, ◌-◌, ◌<◌, ◌≤◌, nat_lt, true, false, [], ◌∷◌, ◌++◌, All, drop, find, map, option_map, length, replicate, slice_index_or, slice_set, Option, Some, None, IfOk, IfSome, ℕ};
+ghost use Rattle.std.specs.Prelude.{◌≡◌, ◌≢◌, ◌+◌, ◌-◌, ◌<◌, ◌≤◌, nat_lt, true, false, [], ◌∷◌, ◌++◌, All, drop, find, map, option_map, length, replicate, slice_index_or, slice_set, Option, Some, None, IfOk, IfSome, MatchOption, ℕ};
 ghost use Rattle.host_types.specs.Bytes.{with_part};
 ghost use Rattle.page_table.specs.declared.pass.Pass.{Pass};
 ghost use Rattle.host_types.specs.declared.status.Status.TheVariants.{Grouped};
@@ -14,6 +14,7 @@ use crate::counts::FrameCounts;
 use crate::entry::Entry;
 use frame_arena::FrameArena;
 use host_types::Status;
+use stable_tree::StableTree;
 use std::alloc::{AllocError, Global};
 use std::marker::Model;
 
@@ -28,11 +29,13 @@ pub(crate) struct Table {
     entries: Vec<Option<Entry>>,
     // the frames of the groups in order of creation, with room for all frames
     groups: Vec<u32>,
+    // the same frames by the bytes of their pages, with room for all frames
+    tree: StableTree,
 }
 
 impl Model for Table {
     ghost use Rattle.std.specs.Prelude.{◌≤◌, length, vec_capacity};
-    ghost use Rattle.page_table.specs.Table.{TableState, IsSound};
+    ghost use Rattle.page_table.specs.Table.{TableState, IsSound, IsTreeOf};
 
     ghost Value = { TableState };
 
@@ -40,7 +43,8 @@ impl Model for Table {
 
     ghost invariant = { λ t.
         IsSound (record { arena = t.arena; entries = t.entries.items; groups = t.groups.items }) t.counts
-        × (length t.arena ≤ vec_capacity t.groups) };
+        × (length t.arena ≤ vec_capacity t.groups)
+        × IsTreeOf t.arena t.groups.items t.tree };
 }
 
 impl Table {
@@ -54,11 +58,14 @@ impl Table {
         let counts = FrameCounts::new(alloc, frames)?;
         let entries = vec![in alloc; None; places as usize]?;
         let groups = Vec::with_capacity(alloc, frames as usize)?;
+        let mut tree = StableTree::new(alloc);
+        tree.reserve(frames as usize)?;
         Ok(Table {
             arena,
             counts,
             entries,
             groups,
+            tree,
         })
     }
 
@@ -273,6 +280,7 @@ impl Table {
     {
         self.entries[place] = Some(entry.broken(entry.frame));
         self.groups.retain(|frame| *frame != entry.frame);
+        self.tree.remove(&self.arena, entry.frame);
     }
 
     /// Makes two pages of the same bytes, each with its own frame, a new last group.
@@ -299,6 +307,7 @@ impl Table {
         self.counts.release(other.frame);
         let pushed = self.groups.push(one.frame).is_ok();
         prove!(pushed);
+        self.tree.insert(&self.arena, one.frame);
     }
 
     /// Puts a page of zeros, which has its own frame, on the zero frame.
@@ -321,11 +330,14 @@ impl Table {
 }
 
 impl Table {
-    /// The first page from a place on that may be merged.
-    pub(crate) fn next_mergeable(&self, from: usize) -> Option<usize>
-        ensures { result ≡ first_mergeable from (drop from (states_of self.now.entries)) }
+    /// The first page that may be merged, of those from a place on and before another.
+    pub(crate) fn next_mergeable(&self, from: usize, end: usize) -> Option<usize>
+        requires { end ≤ length self.now.entries }
+        ensures { MatchOption result
+            ((i : ℕ) → from ≤ i → i < end → is_mergeable (slice_index_or (states_of self.now.entries) i None) ≡ false)
+            (λ i. first_mergeable from (drop from (states_of self.now.entries)) ≡ Some i) }
     {
-        for place in from..self.entries.len() {
+        for place in from..end {
             if may_merge(&self.entries[place]) {
                 return Some(place);
             }
@@ -338,21 +350,8 @@ impl Table {
         requires { frame < length self.now.arena }
         ensures { result ≡ find (is_open_frame self.now (page_at self.now.arena frame) limit) self.now.groups }
     {
-        for group in &self.groups {
-            if self.is_open(*group, frame, limit) {
-                return Some(*group);
-            }
-        }
-        None
-    }
-
-    /// Whether a group has a frame's bytes, and fewer pages than the limit.
-    fn is_open(&self, group: u32, frame: u32, limit: u32) -> bool
-        requires frame { frame < length self.now.arena }
-        requires group { 1 ≤ times group self.now.groups }
-        ensures { result ≡ is_open_frame self.now (page_at self.now.arena frame) limit group }
-    {
-        self.counts.count(group) < limit && self.arena.same(group, frame)
+        let spot = self.tree.find(&self.arena, frame)?;
+        self.tree.first_open(spot, self.counts.all(), limit)
     }
 
     /// Moves a page, which has its own frame, to the frame of a group of the same bytes.

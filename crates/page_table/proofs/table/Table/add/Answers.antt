@@ -1,8 +1,10 @@
 use Rattle.std.proofs.Common.{◌≡◌, ◌<◌, length, slice_index_or, [], None, length-set}
+use Rattle.host_types.specs.Pages.{zero_page}
 use Rattle.page_table.specs.Table.{TableState, contents_of, entry_at}
 use Rattle.page_table.proofs.Adding.{IsUnused, unused-frame, sound-added, contents-added, states-added, groups-added, used-added}
 use Rattle.page_table.proofs.Putting.{no_entry_of_content}
 use Rattle.page_table.proofs.Entries.{kept-empty}
+use Rattle.page_table.proofs.Trees.{tree-set}
 use Rattle.page_table.proofs.table.Table.add.Goals as goal
 
 abbrev table : goal.After-self-1 → TableState
@@ -24,6 +26,7 @@ invariant_of-self c = (
   rw c.clear.ensures (sound-added (table c) c.args.place c.take-frame.result c.args.mergeable c.self.invariant.0.fits (unused c) (there c) (empty c)
       c.self.inside.counts c.take-frame.new.self c.self.invariant.0.counted c.take-frame.ensures.counts c.take-frame.ensures.fewer),
   rw (c.clear.ensures, length-set) c.self.invariant.1,
+  rw c.clear.ensures (tree-set c.self.inside.arena c.self.inside.groups.items c.self.inside.tree c.take-frame.result zero_page c.self.invariant.2 (unused c).no_group),
 )
 
 pub returns-clause-contents : goal.returns-clause-contents

@@ -3,19 +3,20 @@ use Rattle.std.proofs.lemmas.Fn.{filter_same}
 use Rattle.page_table.specs.Table.{TableState, entry_at, pages_on, one_if_zero}
 use Rattle.page_table.proofs.Ending.{but, contents-ended, sharing-ended, used-ended, sound-ended}
 use Rattle.page_table.proofs.Entries.{kept-shared}
+use Rattle.page_table.proofs.Trees.{tree-removed}
 use Rattle.page_table.proofs.table.Table.end_group.Goals as goal
-use Rattle.page_table.proofs.table.Table.end_group.Goals.{After-retain}
+use Rattle.page_table.proofs.table.Table.end_group.Goals.{After-remove}
 
-abbrev table : After-retain → TableState
+abbrev table : After-remove → TableState
 table c = record { arena = c.self.inside.arena; entries = c.self.inside.entries.items; groups = c.self.inside.groups.items }
 
-left : (c : After-retain) → c.retain.new.self.items ≡ but c.args.entry.frame (table c).groups
+left : (c : After-remove) → c.retain.new.self.items ≡ but c.args.entry.frame (table c).groups
 left c = filter_same _ _ _ (λ x b f' k. search rules) _ _ c.retain.ensures.filtered
 
-here : (c : After-retain) → entry_at (table c).entries c.args.place ≡ Some c.args.entry
+here : (c : After-remove) → entry_at (table c).entries c.args.place ≡ Some c.args.entry
 here c = rw (← c.self.view_is) at c.requires.there
 
-last : (c : After-retain) → one_if_zero c.args.entry.frame + pages_on c.args.entry.frame (table c).entries ≡ 1
+last : (c : After-remove) → one_if_zero c.args.entry.frame + pages_on c.args.entry.frame (table c).entries ≡ 1
 last c = rw (← c.self.view_is) at c.requires.last
 
 pub invariant_of-self : goal.invariant_of-self
@@ -23,6 +24,8 @@ invariant_of-self c = (
   rw (left c) (sound-ended (table c) c.args.place c.args.entry c.broken.result c.self.invariant.0.fits (here c) c.requires.shared (last c) c.broken.ensures.state c.broken.ensures.frame
       c.self.inside.counts c.broken.ensures.protected c.self.invariant.0.counted),
   rw c.retain.ensures.capacity c.self.invariant.1,
+  rw (left c)
+      (tree-removed c.self.inside.arena c.self.inside.groups.items c.self.inside.tree c.remove.new.self c.args.entry.frame c.self.invariant.2 c.remove.ensures.sorted c.remove.ensures.room c.remove.ensures.removed),
 )
 
 pub returns-clause-contents : goal.returns-clause-contents

@@ -26,6 +26,7 @@ invariant_of-self c = (
   sound-moved (table c) c.args.place c.page-entry.result c.merged.result (move c) c.self.inside.counts c.share.new.self c.release.new.self c.self.invariant.0.counted
       (rw c.merged.ensures.frame c.share.ensures.counts) c.share.ensures.unused c.release.ensures.counts c.release.ensures.unused,
   c.self.invariant.1,
+  c.self.invariant.2,
 )
 
 pub returns-clause-contents : goal.returns-clause-contents

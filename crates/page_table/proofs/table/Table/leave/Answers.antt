@@ -1,8 +1,10 @@
 use Rattle.std.proofs.Common.{◌≡◌, ◌<◌, ◌+◌, Some, length-set}
+use Rattle.frame_arena.specs.Pages.{page_at}
 use Rattle.page_table.specs.Table.{TableState, entry_at, one_if_zero, pages_on}
 use Rattle.page_table.proofs.Adding.{IsUnused, unused-frame}
 use Rattle.page_table.proofs.Leaving.{contents-left, sharing-left, used-left, sound-left}
 use Rattle.page_table.proofs.Entries.{kept-shared}
+use Rattle.page_table.proofs.Trees.{tree-set}
 use Rattle.page_table.proofs.table.Table.leave.Goals as goal
 
 abbrev table : goal.After-self-1 → TableState
@@ -23,6 +25,8 @@ invariant_of-self c = (
       (sound-left (table c) c.args.place c.args.entry c.broken.result c.self.invariant.0.fits (unused c) (here c) c.requires.shared (company c) c.broken.ensures.state c.broken.ensures.own
       c.self.inside.counts c.take-frame.new.self c.release.new.self c.broken.ensures.protected c.self.invariant.0.counted (rw c.broken.ensures.frame c.take-frame.ensures.counts) c.take-frame.ensures.fewer c.release.ensures.counts c.release.ensures.unused),
   rw (c.copy.ensures, length-set) c.self.invariant.1,
+  rw (c.copy.ensures, ← c.broken.ensures.frame)
+      (tree-set c.self.inside.arena c.self.inside.groups.items c.self.inside.tree c.broken.result.frame (page_at c.self.inside.arena c.args.entry.frame) c.self.invariant.2 (unused c).no_group),
 )
 
 pub returns-clause-contents : goal.returns-clause-contents

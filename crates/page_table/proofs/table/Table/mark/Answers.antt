@@ -13,6 +13,7 @@ pub invariant_of-self : goal.invariant_of-self
 invariant_of-self c = (
   sound-marked (table c) c.args.place c.page-entry.result c.args.status c.args.last (marking c) c.self.inside.counts c.self.invariant.0.counted,
   c.self.invariant.1,
+  c.self.invariant.2,
 )
 
 pub returns-clause-contents : goal.returns-clause-contents

@@ -1,15 +1,19 @@
-use Rattle.std.proofs.Common.{◌≡◌, replicate, None, arith, rules}
+use Rattle.std.proofs.Common.{◌≡◌, ◌∙◌, max, replicate, None, ap, arith, rules}
 use Rattle.host_types.specs.Pages.{zero_page}
+use Rattle.stable_tree.specs.Groups.{Groups}
 use Rattle.std.proofs.lemmas.List.{length-replicate}
 use Rattle.page_table.proofs.Putting.{sound-new}
+use Rattle.page_table.proofs.Trees.{tree-new}
 use Rattle.page_table.proofs.table.Table.new.Goals as goal
 
 pub invariant_of-result : goal.invariant_of-result
 invariant_of-result c =
     let entries : c.in_ok-entries.entries.items ≡ replicate c.args.places None = search rules in
     let groups = c.in_ok-groups.ensures.items in
-    let long = length-replicate c.args.frames zero_page in (
+    let long = length-replicate c.args.frames zero_page in
+    let tree = c.in_ok-reserve.ensures.reserved ∙ ap (λ (t : Groups). record t { room = max t.room c.args.frames }) c.new-tree.ensures in (
       rw (c.in_ok-arena.ensures, entries, groups) (sound-new c.args.frames c.args.places c.in_ok-counts.counts c.requires.frames.0 c.requires.frames.1 c.requires.places
           c.in_ok-counts.ensures.counts c.in_ok-counts.ensures.unused),
       rw (c.in_ok-arena.ensures) (omega (arith, long, c.in_ok-groups.ensures.exact)),
+      rw (c.in_ok-arena.ensures, groups, tree) (tree-new (replicate c.args.frames zero_page) (max 0 c.args.frames) (omega (arith, long))),
     )

@@ -1,9 +1,9 @@
-use Rattle.std.proofs.Common.{◌≡◌, drop}
-use Rattle.host_types.specs.Visits.{first_mergeable}
+use Rattle.std.proofs.Common.{◌≡◌, ℕ, ◌<◌, ◌≤◌, false, slice_index_or, None}
+use Rattle.host_types.specs.Visits.{is_mergeable}
 use Rattle.page_table.specs.Table.{states_of}
 use Rattle.page_table.proofs.table.Table.next_mergeable.Given as goal
 
 -- no page before the place may be merged
 abbrev pub invariant-loop-place : goal.invariant-loop-place
 invariant-loop-place l =
-    first_mergeable l.place (drop l.place (states_of l.self.entries)) ≡ first_mergeable l.from (drop l.from (states_of l.self.entries))
+    (i : ℕ) → l.from ≤ i → i < l.place → is_mergeable (slice_index_or (states_of l.self.entries) i None) ≡ false

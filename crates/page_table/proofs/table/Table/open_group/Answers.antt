@@ -1,9 +1,21 @@
-use Rattle.std.proofs.Common.{◌≡◌, List, ℕ, subst, ◌≤◌, slice_index_or}
-use Rattle.page_table.specs.Table.{times}
-use Rattle.page_table.proofs.Joining.{times-at}
+use Rattle.std.proofs.Common.{◌∙◌, ℕ, nat_lt, List, [], find, slice_index_or, ap}
+use Rattle.frame_arena.specs.Pages.{page_at}
+use Rattle.stable_tree.specs.Groups.{groups_at}
+use Rattle.page_table.specs.Table.{TableState}
+use Rattle.page_table.proofs.Trees.{found-open}
 use Rattle.page_table.proofs.table.Table.open_group.Goals as goal
 
-pub is_open-requires-clause-group : goal.is_open-requires-clause-group
-is_open-requires-clause-group c =
-    let same : c.deref-group-items.result.now ≡ c.args.self.now.groups = rw (← c.self.view_is) c.deref-group-items.ensures.value in
-    subst (λ (l : List ℕ). 1 ≤ times (slice_index_or c.deref-group-items.result.now c.loop-group.group-index 0) l) same (times-at c.deref-group-items.result.now c.loop-group.group-index c.loop-group-test.true)
+pub returns-in_err-spot : goal.returns-in_err-spot
+returns-in_err-spot c =
+    let table : TableState = record { arena = c.self.inside.arena; entries = c.self.inside.entries.items; groups = c.self.inside.groups.items } in
+    rw (← c.self.view_is)
+    (c.from_residual.ensures
+    ∙ found-open table c.self.inside.counts c.self.inside.tree c.self.invariant.0 c.self.invariant.2 (page_at c.self.inside.arena c.args.frame) c.args.limit [] c.in_err-spot.ensures.found)
+
+pub returns : goal.returns
+returns c =
+    let table : TableState = record { arena = c.self.inside.arena; entries = c.self.inside.entries.items; groups = c.self.inside.groups.items } in
+    rw (← c.self.view_is)
+    (c.first_open.ensures
+    ∙ ap (λ (counts : List ℕ). find (λ f. nat_lt (slice_index_or counts f 0) c.args.limit) (groups_at c.self.inside.tree c.in_ok-spot.spot)) c.all.ensures
+    ∙ found-open table c.self.inside.counts c.self.inside.tree c.self.invariant.0 c.self.invariant.2 (page_at c.self.inside.arena c.args.frame) c.args.limit (groups_at c.self.inside.tree c.in_ok-spot.spot) c.in_ok-spot.ensures.found)

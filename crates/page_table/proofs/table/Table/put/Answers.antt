@@ -7,6 +7,7 @@ use Rattle.host_types.proofs.Lists.{length-with_part}
 use Rattle.page_table.specs.declared.entry.Entry.{Entry}
 use Rattle.page_table.specs.Table.{TableState, IsAlone, IsPageAt, entry_at}
 use Rattle.page_table.proofs.Putting.{is_alone, entry_fits, contents-put, sound-put, content_at, page_inside, page_there}
+use Rattle.page_table.proofs.Trees.{tree-set}
 use Rattle.page_table.proofs.table.Table.put.Goals as goal
 
 pub index-requires : goal.index-requires
@@ -47,6 +48,7 @@ pub invariant_of-self : goal.invariant_of-self
 invariant_of-self c = (
   rw c.put.ensures (sound-put (table c) c.args.place c.in-Some.entry (page c) c.self.invariant.0.fits (here c) (lone c) (sized c) c.self.inside.counts c.self.invariant.0.counted),
   rw (c.put.ensures, length-set) c.self.invariant.1,
+  rw c.put.ensures (tree-set c.self.inside.arena c.self.inside.groups.items c.self.inside.tree c.in-Some.entry.frame (page c) c.self.invariant.2 (lone c).no_group),
 )
 
 pub returns-clause-contents : goal.returns-clause-contents

@@ -1,0 +1,44 @@
+-- No page may be merged where no map is, or behind a map's pages.
+use Rattle.std.proofs.Common.{◌≡◌, ◌∙◌, ℕ, zero, suc, ◌+◌, ◌-◌, ◌*◌, ◌<◌, ◌≤◌, false, List, [], ◌∷◌, refl, length, slice_index_or, Option, Some, None, option_map, sym, ap, subst, arith}
+use Rattle.host_types.specs.declared.shape.Shape.{Shape}
+use Rattle.host_types.specs.Bytes.{part_of}
+use Rattle.host_types.specs.Visits.{is_mergeable}
+use Rattle.page_table.specs.declared.entry.Entry.{Entry}
+use Rattle.page_table.specs.Limits.{page_count}
+use Rattle.page_table.specs.Table.{TableState, IsTable, ArePages, ArePagesOf, AreMaps, contents_of, entry_at, state_of, states_of}
+use Rattle.page_table.proofs.Putting.{no_entry_of_content}
+use Rattle.page_table.proofs.Reading.{content_in}
+
+-- what is known of a place without a page
+state_none : (entries : List (Option Entry)) (i : ℕ) → entry_at entries i ≡ None → slice_index_or (states_of entries) i None ≡ None
+state_none [] i e = get_none i
+  where
+    get_none : (i : ℕ) → slice_index_or (states_of []) i None ≡ None
+    get_none zero = refl
+    get_none (suc i) = refl
+state_none (x ∷ xs) zero e = ap (option_map state_of) e
+state_none (x ∷ xs) (suc i) e = state_none xs i e
+
+module _ (table : TableState) (shapes : List (Option Shape)) (k i : ℕ) (fits : IsTable table) (are : AreMaps shapes (contents_of table)) (inside : k < length shapes) (from : k * 256 ≤ i) (to : i < k * 256 + 256) where
+  no_merge : slice_index_or (part_of (contents_of table) (k * 256) 256) (i - k * 256) [] ≡ [] → is_mergeable (slice_index_or (states_of table.entries) i None) ≡ false
+  no_merge none =
+      let place : k * 256 + (i - k * 256) ≡ i = omega (arith, from) in
+      let small : i - k * 256 < 256 = omega (arith, from, to) in
+      let empty : slice_index_or (contents_of table) i [] ≡ [] =
+      ap (λ (n : ℕ). slice_index_or (contents_of table) n []) (sym place) ∙ content_in (contents_of table) k (i - k * 256) small ∙ none in
+      ap is_mergeable (state_none table.entries i (no_entry_of_content table i fits empty))
+
+  pub without-map : slice_index_or shapes k None ≡ None → is_mergeable (slice_index_or (states_of table.entries) i None) ≡ false
+  without-map e =
+      let pages = subst (λ s. ArePages s (part_of (contents_of table) (k * 256) 256)) e (are.each k inside) in
+      no_merge (pages (i - k * 256))
+
+  pub behind-pages : (shape : Shape) → slice_index_or shapes k None ≡ Some shape → k * 256 + page_count shape ≤ i → is_mergeable (slice_index_or (states_of table.entries) i None) ≡ false
+  behind-pages shape e past =
+      let pages = subst (λ s. ArePages s (part_of (contents_of table) (k * 256) 256)) e (are.each k inside) in
+      no_merge (ArePagesOf.none pages (i - k * 256) (omega (arith, past)))
+
+-- the shape of a map
+pub shaped : (shapes : List (Option Shape)) (contents : List (List ℕ)) (k : ℕ) (shape : Shape) → AreMaps shapes contents → k < length shapes → slice_index_or shapes k None ≡ Some shape
+    → ArePagesOf shape (part_of contents (k * 256) 256)
+shaped shapes contents k shape are inside e = subst (λ s. ArePages s (part_of contents (k * 256) 256)) e (are.each k inside)

@@ -1,0 +1,225 @@
+-- The tree of groups has the groups of each content in order of creation, whatever happens to the table.
+use Rattle.std.proofs.Common.{◌≡◌, ◌≢◌, ◌∙◌, ⊎_elim, ℕ, zero, suc, ◌+◌, ◌<◌, ◌≤◌, ◌==◌, ◌&&◌, nat_lt, not, bytes_eq, Bool, true, false, if◌then◌else◌, List, [], ◌∷◌, ◌++◌, length, filter, find, slice_index_or, slice_set, All, Option, Some, refl, sym, ap, arith}
+use Rattle.std.specs.List.{concat}
+use Rattle.std.proofs.lemmas.List.{get_or-set_other, length-set}
+use Rattle.std.proofs.lemmas.List.Elements.{All-nil, All-cons, filter-append}
+use Rattle.std.proofs.lemmas.List.Sums.{sum_by-cons, sum_by-append}
+use Rattle.std.proofs.lemmas.Bool.Decides.{eqb_tells}
+use Rattle.frame_arena.specs.Pages.{page_at}
+use Rattle.stable_tree.specs.Groups.{Groups, IsSorted, IsChain, has, content}
+use Rattle.stable_tree.proofs.Removing.{has-itself}
+use Rattle.page_table.specs.Table.{TableState, CountsState, IsSound, IsGroup, IsTreeOf, times, pages_on, is_open_frame}
+use Rattle.page_table.proofs.Ending.{but, length-but, times-gone, times-kept}
+use Rattle.page_table.proofs.Entries.{one_when, times-head, times-tail, not_equal}
+use Rattle.page_table.proofs.Joining.{group_of, group-inside}
+use Rattle.page_table.proofs.Moving.{no_holder}
+
+-- a number that stands nowhere
+pub nowhere : (f : ℕ) (xs : List ℕ) → times f xs ≡ 0 → All (λ g. g ≢ f) xs
+nowhere f [] none = All-nil (λ g. g ≢ f)
+nowhere f (x ∷ xs) none =
+    let split = sum_by-cons (λ (y : ℕ). one_when (y == f)) x xs in
+    All-cons (λ g. g ≢ f) x xs (λ same. let here = times-head x xs in let there : times f (x ∷ xs) ≡ times x (x ∷ xs) = ap (λ n. times n (x ∷ xs)) (sym same) in omega (arith, none, here, there))
+    (nowhere f xs (omega (arith, split, none)))
+
+-- a number passes a test as often as it stands there
+times-filter : (f : ℕ) (test : ℕ → Bool) (xs : List ℕ) → test f ≡ true → times f (filter test xs) ≡ times f xs
+times-filter f test [] passes = refl
+times-filter f test (x ∷ xs) passes =
+    let split = sum_by-cons (λ (y : ℕ). one_when (y == f)) x xs in
+    by_test (test x) refl (times-filter f test xs passes) split
+  where
+    by_test : (b : Bool) → test x ≡ b → times f (filter test xs) ≡ times f xs → times f (x ∷ xs) ≡ one_when (x == f) + times f xs
+        → times f (if b then x ∷ filter test xs else filter test xs) ≡ times f (x ∷ xs)
+    by_test true e rest split =
+        let kept = sum_by-cons (λ (y : ℕ). one_when (y == f)) x (filter test xs) in
+        omega (arith, rest, split, kept)
+    by_test false e rest split =
+        let apart : x ≢ f = λ same. let passed : test x ≡ true = ap test same ∙ passes in cc in
+        let none = ap one_when (not_equal f x apart) in
+        omega (arith, rest, split, none)
+
+-- lists with the same numbers are as long
+same-length : (n : ℕ) (xs ys : List ℕ) → length xs ≤ n → ((f : ℕ) → times f xs ≡ times f ys) → length xs ≡ length ys
+same-length n [] [] few same = refl
+same-length n [] (y ∷ ys) few same = let here = times-head y ys in let none = same y in absurd (omega (arith, here, none))
+same-length zero (x ∷ xs) ys few same = absurd (omega (arith, few))
+same-length (suc n) (x ∷ xs) ys few same =
+    let here = times-head x xs in
+    let left = length-but x (x ∷ xs) in
+    let right = length-but x ys in
+    let both = same x in
+    let rest = same-length n (but x (x ∷ xs)) (but x ys) (omega (arith, left, here, few)) less in
+    omega (arith, rest, left, right, both)
+  where
+    less : (f : ℕ) → times f (but x (x ∷ xs)) ≡ times f (but x ys)
+    less f =
+        ⊎_elim
+        (λ is. ap (λ n. times n (but x (x ∷ xs))) is.1 ∙ times-gone x (x ∷ xs) ∙ sym (ap (λ n. times n (but x ys)) is.1 ∙ times-gone x ys))
+        (λ other. times-kept x f (x ∷ xs) other.1 ∙ same f ∙ sym (times-kept x f ys other.1))
+        (eqb_tells f x)
+
+module _ (arena : List (List ℕ)) (groups : List ℕ) (tree : Groups) (is : IsTreeOf arena groups tree) where
+  pub tree-times : (f : ℕ) → times f (concat tree.chains) ≡ times f groups
+  tree-times f =
+      sym (times-filter f (has arena (page_at arena f)) (concat tree.chains) (has-itself arena f))
+      ∙ ap (times f) (is.listed (page_at arena f))
+      ∙ times-filter f (has arena (page_at arena f)) groups (has-itself arena f)
+
+  pub tree-length : length (concat tree.chains) ≡ length groups
+  tree-length = same-length (length (concat tree.chains)) (concat tree.chains) groups (omega arith) tree-times
+
+  pub tree-absent : (f : ℕ) → times f groups ≡ 0 → All (λ g. g ≢ f) (concat tree.chains)
+  tree-absent f none = nowhere f (concat tree.chains) (tree-times f ∙ none)
+
+-- a number that stands at a place
+stands : (xs : List ℕ) (i d : ℕ) → i < length xs → 1 ≤ times (slice_index_or xs i d) xs
+stands [] i d h = absurd (omega (arith, h))
+stands (x ∷ xs) zero d h = times-head x xs
+stands (x ∷ xs) (suc i) d h = let rest = stands xs i d (omega arith) in let more = times-tail (slice_index_or xs i d) x xs in omega (arith, rest, more)
+
+-- a number of a chain is one of all
+in-chain : (chains : List (List ℕ)) (k : ℕ) (d : List ℕ) (f : ℕ) → k < length chains → 1 ≤ times f (slice_index_or chains k d) → 1 ≤ times f (concat chains)
+in-chain [] k d f h some = absurd (omega (arith, h))
+in-chain (c ∷ cs) zero d f h some = let split = sum_by-append (λ (y : ℕ). one_when (y == f)) c (concat cs) in omega (arith, split, some)
+in-chain (c ∷ cs) (suc k) d f h some =
+    let split = sum_by-append (λ (y : ℕ). one_when (y == f)) c (concat cs) in
+    let rest = in-chain cs k d f (omega arith) some in
+    omega (arith, split, rest)
+
+-- frames whose pages stay have their bytes still
+filter-kept : (old new : List (List ℕ)) (bytes xs : List ℕ) → ((f : ℕ) → 1 ≤ times f xs → page_at new f ≡ page_at old f) → filter (has new bytes) xs ≡ filter (has old bytes) xs
+filter-kept old new bytes [] same = refl
+filter-kept old new bytes (x ∷ xs) same =
+    let here = same x (times-head x xs) in
+    let rest = filter-kept old new bytes xs (λ f some. let more = times-tail f x xs in same f (omega (arith, some, more))) in
+    ap (λ (page : List ℕ). if bytes_eq page bytes then x ∷ filter (has new bytes) xs else filter (has new bytes) xs) here
+    ∙ ap (λ (l : List ℕ). if bytes_eq (page_at old x) bytes then x ∷ l else l) rest
+
+module _ (old new : List (List ℕ)) (size : length new ≡ length old) where
+  content-kept : (chain : List ℕ) → 0 < length chain → ((f : ℕ) → 1 ≤ times f chain → page_at new f ≡ page_at old f) → content new chain ≡ content old chain
+  content-kept chain filled same = same (slice_index_or chain 0 0) (stands chain 0 0 filled)
+
+  chain-kept : (chain : List ℕ) → IsChain old chain → ((f : ℕ) → 1 ≤ times f chain → page_at new f ≡ page_at old f) → IsChain new chain
+  chain-kept chain is same =
+      record {
+        filled = is.filled;
+        there = λ k d less. let inside = is.there k d less in omega (arith, inside, size);
+        alike = λ k d less. same (slice_index_or chain k d) (stands chain k d less) ∙ is.alike k d less ∙ sym (content-kept chain is.filled same);
+      }
+
+  sorted-kept : (chains : List (List ℕ)) → IsSorted old chains → ((f : ℕ) → 1 ≤ times f (concat chains) → page_at new f ≡ page_at old f) → IsSorted new chains
+  sorted-kept chains sorted same =
+      record {
+        alike = λ k d less. chain-kept (slice_index_or chains k d) (sorted.alike k d less) (λ f some. same f (in-chain chains k d f less some));
+        ascending = λ i j d less there. rw (kept i d (omega (arith, less, there)), kept j d there) (sorted.ascending i j d less there);
+        once = sorted.once;
+      }
+    where
+      kept : (i : ℕ) (d : List ℕ) → i < length chains → content new (slice_index_or chains i d) ≡ content old (slice_index_or chains i d)
+      kept i d less = content-kept (slice_index_or chains i d) (IsChain.filled (sorted.alike i d less)) (λ f some. same f (in-chain chains i d f less some))
+
+  pub tree-kept : (groups : List ℕ) (tree : Groups) → IsTreeOf old groups tree → ((f : ℕ) → 1 ≤ times f groups → page_at new f ≡ page_at old f) → IsTreeOf new groups tree
+  tree-kept groups tree is same =
+      record {
+        sorted = sorted-kept tree.chains is.sorted in_tree;
+        listed = λ bytes. filter-kept old new bytes (concat tree.chains) in_tree ∙ is.listed bytes ∙ sym (filter-kept old new bytes groups same);
+        room = let room = is.room in omega (arith, room, size);
+      }
+    where
+      in_tree : (f : ℕ) → 1 ≤ times f (concat tree.chains) → page_at new f ≡ page_at old f
+      in_tree f some = let known = tree-times old groups tree is f in same f (omega (arith, some, known))
+
+-- another page in a frame that no group has
+pub tree-set : (arena : List (List ℕ)) (groups : List ℕ) (tree : Groups) (f : ℕ) (page : List ℕ) → IsTreeOf arena groups tree → times f groups ≡ 0 → IsTreeOf (slice_set arena f page) groups tree
+tree-set arena groups tree f page is none =
+    tree-kept arena (slice_set arena f page) (length-set arena f page) groups tree is
+    (λ g some. get_or-set_other arena f g page [] (λ same. let also = ap (λ n. times n groups) same in omega (arith, also, none, some)))
+
+-- a new last group
+pub tree-pushed : (arena : List (List ℕ)) (groups : List ℕ) (old new : Groups) (f : ℕ) → IsTreeOf arena groups old → IsSorted arena new.chains → new.room ≡ old.room
+    → ((bytes : List ℕ) → filter (has arena bytes) (concat new.chains) ≡ filter (has arena bytes) (concat old.chains) ++ filter (has arena bytes) (f ∷ []))
+    → IsTreeOf arena (groups ++ f ∷ []) new
+tree-pushed arena groups old new f is sorted room inserted =
+    record {
+      sorted = sorted;
+      listed = λ bytes.
+          inserted bytes
+          ∙ ap (λ (l : List ℕ). l ++ filter (has arena bytes) (f ∷ [])) (is.listed bytes)
+          ∙ sym (filter-append (has arena bytes) groups (f ∷ []));
+      room = let known = is.room in omega (arith, room, known);
+    }
+
+-- one test after another
+filter-filter : (p q : ℕ → Bool) (xs : List ℕ) → filter p (filter q xs) ≡ filter q (filter p xs)
+filter-filter p q [] = refl
+filter-filter p q (x ∷ xs) = by_tests (p x) (q x) refl refl (filter-filter p q xs)
+  where
+    by_tests : (a b : Bool) → p x ≡ a → q x ≡ b → filter p (filter q xs) ≡ filter q (filter p xs)
+        → filter p (if b then x ∷ filter q xs else filter q xs) ≡ filter q (if a then x ∷ filter p xs else filter p xs)
+    by_tests true true is also rest = rw (is, also) (ap (λ l. x ∷ l) rest)
+    by_tests true false is also rest = rw also rest
+    by_tests false true is also rest = rw is rest
+    by_tests false false is also rest = rest
+
+-- a group less
+pub tree-removed : (arena : List (List ℕ)) (groups : List ℕ) (old new : Groups) (f : ℕ) → IsTreeOf arena groups old → IsSorted arena new.chains → new.room ≡ old.room
+    → concat new.chains ≡ but f (concat old.chains) → IsTreeOf arena (but f groups) new
+tree-removed arena groups old new f is sorted room removed =
+    record {
+      sorted = sorted;
+      listed = λ bytes.
+          ap (filter (has arena bytes)) removed
+          ∙ filter-filter (has arena bytes) (λ g. not (g == f)) (concat old.chains)
+          ∙ ap (but f) (is.listed bytes)
+          ∙ filter-filter (λ g. not (g == f)) (has arena bytes) groups;
+      room = let known = is.room in omega (arith, room, known);
+    }
+
+-- there is no group at first
+pub tree-new : (arena : List (List ℕ)) (room : ℕ) → length arena ≤ room → IsTreeOf arena [] (record { chains = []; room = room })
+tree-new arena room enough =
+    record {
+      sorted = record {
+        alike = All-nil (IsChain arena);
+        ascending = λ i j d less there. absurd (omega (arith, there));
+        once = λ i j d less there. absurd (omega (arith, there));
+      };
+      listed = λ bytes. refl;
+      room = enough;
+    }
+
+-- the earliest open group is among those that have the bytes
+pub find-open : (table : TableState) (counts bytes : List ℕ) (limit : ℕ) (gs : List ℕ) → ((f : ℕ) → 1 ≤ times f gs → slice_index_or counts f 0 ≡ pages_on f table.entries)
+    → find (λ f. nat_lt (slice_index_or counts f 0) limit) (filter (has table.arena bytes) gs) ≡ find (is_open_frame table bytes limit) gs
+find-open table counts bytes limit [] same = refl
+find-open table counts bytes limit (g ∷ gs) same =
+    by_bytes (bytes_eq (page_at table.arena g) bytes) (find-open table counts bytes limit gs (λ f some. let more = times-tail f g gs in same f (omega (arith, some, more))))
+  where
+    by_bytes : (b : Bool) → find (λ f. nat_lt (slice_index_or counts f 0) limit) (filter (has table.arena bytes) gs) ≡ find (is_open_frame table bytes limit) gs
+        → find (λ f. nat_lt (slice_index_or counts f 0) limit) (if b then g ∷ filter (has table.arena bytes) gs else filter (has table.arena bytes) gs)
+        ≡ (if b && nat_lt (pages_on g table.entries) limit then Some g else find (is_open_frame table bytes limit) gs)
+    by_bytes true rest =
+        ap (λ (n : ℕ). if nat_lt n limit then Some g else find (λ f. nat_lt (slice_index_or counts f 0) limit) (filter (has table.arena bytes) gs)) (same g (times-head g gs))
+        ∙ ap (λ (o : Option ℕ). if nat_lt (pages_on g table.entries) limit then Some g else o) rest
+    by_bytes false rest = rest
+
+module _ (table : TableState) (counts : CountsState) (tree : Groups) (sound : IsSound table counts) (is : IsTreeOf table.arena table.groups tree) where
+  -- there is room for one more group
+  pub tree-room : length (concat tree.chains) < tree.room
+  tree-room =
+      let long = tree-length table.arena table.groups tree is in
+      omega (arith, long, is.room, sound.counted.used)
+
+  counted : (f : ℕ) → 1 ≤ times f table.groups → slice_index_or counts.counts f 0 ≡ pages_on f table.entries
+  counted f some =
+      let known = sound.counted.counted f (group-inside table f sound.fits some) in
+      let none = no_holder f (IsGroup.above (group_of table f sound.fits some)) in
+      omega (arith, known, none)
+
+  -- the earliest open group is the earliest one of its bytes in the tree
+  pub found-open : (bytes : List ℕ) (limit : ℕ) (gs : List ℕ) → gs ≡ filter (has table.arena bytes) (concat tree.chains)
+      → find (λ f. nat_lt (slice_index_or counts.counts f 0) limit) gs ≡ find (is_open_frame table bytes limit) table.groups
+  found-open bytes limit gs e =
+      ap (find (λ f. nat_lt (slice_index_or counts.counts f 0) limit)) (e ∙ is.listed bytes)
+      ∙ find-open table counts.counts bytes limit table.groups counted

@@ -1,0 +1,12 @@
+use Rattle.std.proofs.Common.{◌≡◌, ◌+◌, ◌*◌, ◌≤◌, drop}
+use Rattle.host_types.specs.Visits.{first_mergeable}
+use Rattle.page_table.specs.Table.{states_of}
+use Rattle.page_table.proofs.search.next_mergeable.Given as goal
+
+-- no page before the place may be merged, and the place is in the map or at its end
+abbrev pub invariant-loop-index : goal.invariant-loop-index
+invariant-loop-index l = record {
+  first : l.index * 256 ≤ l.at;
+  last : l.at ≤ l.index * 256 + 256;
+  same : first_mergeable l.from (drop l.from (states_of l.table.entries)) ≡ first_mergeable l.at (drop l.at (states_of l.table.entries));
+}

@@ -1,0 +1,42 @@
+// The search for the next page that may be merged: map by map, and in each map that is there its pages.
+ghost use Rattle.std.specs.Prelude.{◌≡◌, ◌+◌, ◌*◌, ◌<◌, ◌≤◌, false, drop, length, slice_index_or, MatchOption, Option, None, Some, ℕ};
+ghost use Rattle.host_types.specs.Visits.{first_mergeable, is_mergeable};
+ghost use Rattle.page_table.specs.Table.{AreMaps, contents_of, states_of};
+
+use crate::memory::{MAX_PAGES, pages};
+use crate::table::Table;
+use host_types::Shape;
+
+/// The first page from a place on that may be merged. No place is looked at where there is no map, or
+/// behind a map's pages.
+pub(crate) fn next_mergeable(table: &Table, shapes: &[Option<Shape>], from: usize) -> Option<usize>
+    requires maps { AreMaps shapes.now (contents_of table.now) }
+    requires few { length shapes.now ≤ 128 }
+    ensures { result ≡ first_mergeable from (drop from (states_of table.now.entries)) }
+{
+    let mut at = from;
+    for index in from / MAX_PAGES..shapes.len() {
+        if let Some(place) = next_in_map(table, shapes, index, at) {
+            return Some(place);
+        }
+        at = (index + 1) * MAX_PAGES;
+    }
+    None
+}
+
+/// The first page of a map from a place on that may be merged.
+fn next_in_map(table: &Table, shapes: &[Option<Shape>], index: usize, from: usize) -> Option<usize>
+    requires maps { AreMaps shapes.now (contents_of table.now) }
+    requires map { index < length shapes.now }
+    requires few { length shapes.now ≤ 128 }
+    requires first { index * 256 ≤ from }
+    ensures { MatchOption result
+        ((i : ℕ) → from ≤ i → i < index * 256 + 256 → is_mergeable (slice_index_or (states_of table.now.entries) i None) ≡ false)
+        (λ i. first_mergeable from (drop from (states_of table.now.entries)) ≡ Some i) }
+{
+    table.facts();
+    let Some(shape) = &shapes[index] else {
+        return None;
+    };
+    table.next_mergeable(from, index * MAX_PAGES + pages(shape) as usize)
+}
