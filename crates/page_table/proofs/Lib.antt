@@ -5,6 +5,7 @@ pub mod Unmerging
 pub mod Putting
 pub mod Maps
 pub mod Reading
+pub mod Recording
 pub mod Free
 pub mod Writing
 pub mod Creating
