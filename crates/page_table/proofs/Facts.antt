@@ -32,7 +32,7 @@ use Rattle.page_table.proofs.Groups.{among-places, length-places}
 use Rattle.page_table.proofs.Counting.{same_either_way, one_if_zero-above, length-unused, empty-frame}
 
 -- what is told of the entry at a place
-told_at : {X : Type 0} (tell : Entry → X) (xs : List (Option Entry)) (i : ℕ) → slice_index_or (map (option_map tell) xs) i None ≡ option_map tell (entry_at xs i)
+pub told_at : {X : Type 0} (tell : Entry → X) (xs : List (Option Entry)) (i : ℕ) → slice_index_or (map (option_map tell) xs) i None ≡ option_map tell (entry_at xs i)
 told_at tell [] i = refl
 told_at tell (x ∷ xs) zero = refl
 told_at tell (x ∷ xs) (suc i) = told_at tell xs i

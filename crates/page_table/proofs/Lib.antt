@@ -27,4 +27,5 @@ pub mod Marking
 pub mod Joining
 pub mod Next
 pub mod Scanning
+pub mod Tallying
 pub mod Partners

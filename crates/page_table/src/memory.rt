@@ -45,7 +45,7 @@ const UNMERGED: u32 = 2;
 /// tenant's part, which pages share frames, the frames' pages, and the frame of each page.
 #[derive(Drop)]
 pub struct Memory {
-    table: Table,
+    pub(crate) table: Table,
     // by the maps' places
     shapes: Vec<Option<Shape>>,
     tenants: Vec<Tenant>,
