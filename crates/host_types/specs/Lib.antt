@@ -10,4 +10,5 @@ pub mod Pages
 pub mod Sharing
 pub mod Visits
 pub mod Unmerging
+pub mod Counters
 pub mod Helpers

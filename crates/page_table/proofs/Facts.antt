@@ -1,5 +1,5 @@
 -- The law of every memory, from what holds of its table.
-use Rattle.std.proofs.Common.{◌≡◌, ◌≢◌, ◌∙◌, ◌⊎◌, ◌↔◌, inl, inr, ⊎_elim, ℕ, zero, suc, ◌+◌, ◌-◌, ◌<◌, ◌≤◌, ◌==◌, ◌&&◌, ◌||◌, Bool, true, false, not, if◌then◌else◌, List, [], ◌∷◌, length, map, sum_by, filter, All, AllPairs, slice_index_or, Option, Some, None, IsSome, IfSome, option_map, refl, sym, ap, subst, arith}
+use Rattle.std.proofs.Common.{◌≡◌, ◌≢◌, ◌∙◌, ◌⊎◌, ◌↔◌, inl, inr, ⊎_elim, ℕ, zero, suc, ◌+◌, ◌-◌, ◌/◌, ◌%◌, ◌<◌, ◌≤◌, ◌==◌, ◌&&◌, ◌||◌, Bool, true, false, not, if◌then◌else◌, List, [], ◌∷◌, length, map, sum_by, filter, All, AllPairs, slice_index_or, Option, Some, None, IsSome, IfSome, is_some, option_map, refl, sym, ap, subst, arith}
 use Rattle.std.specs.List.{list_any, range_with_len}
 use Rattle.std.proofs.lemmas.List.{get_or_default}
 use Rattle.std.proofs.lemmas.List.Sums.{sum_by-cons, length-filter}
@@ -9,21 +9,30 @@ use Rattle.page_table.specs.declared.pass.Pass.{Pass}
 use Rattle.host_types.specs.declared.shape.Shape.{Shape}
 use Rattle.host_types.specs.declared.status.Status.{Status}
 use Rattle.host_types.specs.declared.status.Status.TheVariants.{New, Volatile, Waiting, Grouped, Zero}
+use Rattle.host_types.specs.declared.shape.Page.{Page}
+use Rattle.host_types.specs.Memory.{map_at}
+use Rattle.host_types.specs.Pages.{map_place, page_place}
 use Rattle.host_types.specs.Sharing.{PageState, is_among}
+use Rattle.host_types.specs.Visits.{contents_in}
+use Rattle.frame_arena.specs.Pages.{page_at}
 use Rattle.page_table.specs.declared.entry.Entry.{Entry}
 use Rattle.page_table.specs.declared.tenant.Tenant.{Tenant}
-use Rattle.page_table.specs.State.{free_of}
-use Rattle.page_table.specs.Table.{TableState, CountsState, IsTable, IsEntry, IsAlone, IsGroup, IsSound, AreCounts, LiesRight, times, one_if_zero, entry_at, state_of, states_of, frames_of, groups_of, sharing_of, is_on, pages_on, places_on}
-use Rattle.page_table.specs.View.{view_of}
-use Rattle.page_table.specs.Reads.{ReadsAs, AreGroups, AreMerged, status_at, has_both, is_frame, free_frames}
+use Rattle.page_table.specs.State.{MemoryState, free_of, part, bytes_of_map}
+use Rattle.page_table.specs.Table.{TableState, CountsState, IsTable, IsEntry, IsAlone, IsGroup, IsSound, IsPageAt, AreCounts, LiesRight, maps_of, contents_of, times, one_if_zero, entry_at, state_of, states_of, frames_of, groups_of, sharing_of, is_on, pages_on, places_on}
+use Rattle.page_table.specs.View.{view_of, IsMemory}
+use Rattle.page_table.specs.Reads.{ReadsAs, AreGroups, AreMerged, HasPage, status_at, has_both, is_frame, free_frames}
 use Rattle.page_table.proofs.Entries.{one_when, alone, inside, equal, times-head, times-tail}
-use Rattle.page_table.proofs.Putting.{entry_fits}
+use Rattle.page_table.proofs.Putting.{entry_fits, page_there as no_page}
+use Rattle.page_table.proofs.Maps.{length-maps_of}
+use Rattle.page_table.proofs.Reading.{map_at-part, bytes_in, is_page_at}
+use Rattle.page_table.proofs.Recording.{reserved_fits}
+use Rattle.page_table.proofs.Scanning.{is_page_at_entry, page_there, frame_told}
 use Rattle.page_table.proofs.Free.{free_is}
 use Rattle.page_table.proofs.Groups.{among-places, length-places}
 use Rattle.page_table.proofs.Counting.{same_either_way, one_if_zero-above, length-unused, empty-frame}
 
 -- what is told of the entry at a place
-told_at : {X : Type 0} (tell : Entry → X) (xs : List (Option Entry)) (i : ℕ) → slice_index_or (map (option_map tell) xs) i None ≡ option_map tell (entry_at xs i)
+pub told_at : {X : Type 0} (tell : Entry → X) (xs : List (Option Entry)) (i : ℕ) → slice_index_or (map (option_map tell) xs) i None ≡ option_map tell (entry_at xs i)
 told_at tell [] i = refl
 told_at tell (x ∷ xs) zero = refl
 told_at tell (x ∷ xs) (suc i) = told_at tell xs i
@@ -253,7 +262,48 @@ module _ (table : TableState) (pass : Pass) (is : IsTable table) where
           one : (a b : Entry) → Some a ≡ Some b → a ≡ b
           one a b e = cc
 
-module _ (table : TableState) (shapes : List (Option Shape)) (tenants : List Tenant) (pass : Pass) (counts : CountsState) (sound : IsSound table counts) (listed : AreCounts counts) where
+-- where the pages of maps are, and their bytes
+module _ (table : TableState) (shapes : List (Option Shape)) (tenants : List Tenant) (pass : Pass) (reserved : ℕ) (is : IsMemory table shapes tenants reserved) (fits : IsTable table) where
+  abbrev view : MemoryState
+  view = view_of table shapes tenants pass
+
+  -- a place's page by its tenant, map and number
+  named : ℕ → Page
+  named i = record { tenant = i / 2048; map = i / 256 % 8; number = i % 256 }
+
+  -- the bytes of the map that a place's page is of
+  map_named : (i : ℕ) → bytes_of_map view (named i) ≡ bytes_in (map_at view.maps (i / 256))
+  unfolding view_of part named
+  map_named i =
+      let place : map_place (i / 2048) (i / 256 % 8) ≡ i / 256 = omega arith in
+      ap bytes_in (map_at-part (maps_of shapes (contents_of table)) (i / 2048) (i / 256 % 8) (omega arith) ∙ ap (map_at (maps_of shapes (contents_of table))) place)
+
+  pub bytes_of_frame : (i x : ℕ) → slice_index_or (frames_of table.entries) i None ≡ Some x → page_at table.arena x ≡ contents_in view.maps i
+  bytes_of_frame i x h =
+      let at = lies table i x fits h in
+      sym (frame_told table shapes tenants pass reserved is i at.entry fits at.here ∙ ap (page_at table.arena) at.on)
+
+  pub paged_there : (i : ℕ) → IsSome (slice_index_or (states_of table.entries) i None) ↔ HasPage view i
+  unfolding named
+  paged_there i = (λ h. has (entry_at table.entries i) refl (sym (ap is_some (told_at state_of table.entries i)) ∙ h), λ h. ap is_some (told_at state_of table.entries i) ∙ found (entry_at table.entries i) refl h)
+    where
+      place : page_place (named i) ≡ i
+      place = omega arith
+
+      has : (x : Option Entry) → entry_at table.entries i ≡ x → is_some (option_map state_of (entry_at table.entries i)) ≡ true → HasPage view i
+      has None e h = absurd (let none = ap (λ (x : Option Entry). is_some (option_map state_of x)) e in cc)
+      has (Some entry) e h =
+          let there = page_there table shapes tenants pass reserved is (named i) (omega arith) (omega arith) (subst (IsPageAt table) (sym place) (is_page_at_entry table i entry fits e)) in
+          let same = ap (λ bytes. length bytes) (map_named i) in
+          omega (arith, there, same)
+
+      found : (x : Option Entry) → entry_at table.entries i ≡ x → HasPage view i → is_some (option_map state_of (entry_at table.entries i)) ≡ true
+      found None e h =
+          let same = ap (λ bytes. length bytes) (map_named i) in
+          absurd (no_page table i (subst (IsPageAt table) place (is_page_at table shapes tenants pass reserved (named i) is (omega (arith, h, same)))) e)
+      found (Some entry) e h = ap (λ (x : Option Entry). is_some (option_map state_of x)) e
+
+module _ (table : TableState) (shapes : List (Option Shape)) (tenants : List Tenant) (pass : Pass) (reserved : ℕ) (is : IsMemory table shapes tenants reserved) (counts : CountsState) (sound : IsSound table counts) (listed : AreCounts counts) where
   free_is_counted : free_of (view_of table shapes tenants pass) ≡ length (free_frames (view_of table shapes tenants pass))
   unfolding view_of
   free_is_counted =
@@ -288,6 +338,10 @@ module _ (table : TableState) (shapes : List (Option Shape)) (tenants : List Ten
         placed = λ i. placed i (entry_at table.entries i) refl;
         there = λ i. there i (entry_at table.entries i) refl;
         free = free_is_counted;
+        reserved = reserved_fits table shapes tenants pass reserved is;
+        bytes = bytes_of_frame table shapes tenants pass reserved is sound.fits;
+        paged = paged_there table shapes tenants pass reserved is sound.fits;
+        eight = length-maps_of shapes (contents_of table) ∙ is.numbers;
         groups = are_groups table pass sound.fits;
       }
     where

@@ -5,6 +5,7 @@ pub mod Unmerging
 pub mod Putting
 pub mod Maps
 pub mod Reading
+pub mod Recording
 pub mod Free
 pub mod Writing
 pub mod Creating
@@ -27,5 +28,6 @@ pub mod Joining
 pub mod Next
 pub mod Searching
 pub mod Scanning
+pub mod Tallying
 pub mod Partners
 pub mod Trees

@@ -223,7 +223,7 @@ module _ (table : TableState) (shapes : List (Option Shape)) (tenants : List Ten
       let same : entry.frame ≡ g = grind (arith, nat_tests) in
       frame_told table shapes tenants pass reserved is k entry fits e ∙ ap (page_at table.arena) same
 
-  bytes-of_group : (g : ℕ) → 1 ≤ times g table.groups → group_bytes contents (places_on 0 g table.entries) ≡ page_at table.arena g
+  pub bytes-of_group : (g : ℕ) → 1 ≤ times g table.groups → group_bytes contents (places_on 0 g table.entries) ≡ page_at table.arena g
   bytes-of_group g some =
       bytes-first contents (places_on 0 g table.entries)
       ∙ first-places [] contents (page_at table.arena g) g 0 table.entries

@@ -41,7 +41,7 @@ same_position : (maps : FlatMaps) (shapes : List (Option Shape)) → length maps
     → position (λ (slot : Option FlatMap). is_none slot) maps ≡ position (λ (slot : Option Shape). is_none slot) shapes
 same_position maps shapes e h = rw (same_prefix maps shapes e h, e) refl
 
-length-part : {X : Type 0} (xs : List X) (at w : ℕ) → length (part_of xs at w) ≡ min w (length xs - at)
+pub length-part : {X : Type 0} (xs : List X) (at w : ℕ) → length (part_of xs at w) ≡ min w (length xs - at)
 unfolding part_of
 length-part xs at w = length-take w (drop at xs) ∙ ap (min w) (length-drop at xs)
 

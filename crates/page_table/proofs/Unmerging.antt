@@ -183,6 +183,11 @@ module _ (table : TableState) (is : IsTable table) where
       let zero = zeros-frames table.entries zeros in
       omega (arith, pages, few, zero)
 
+  -- the pages on the zero frame, as callers see them
+  pub zeros-told : (pass : Pass) → pages_on 0 table.entries ≡ zero_pages (sharing_of table pass)
+  unfolding zero_pages
+  zeros-told pass = let zero = zeros-frames table.entries zeros in omega (arith, zero)
+
   -- a page is there where an entry is
   pub page_of_entry : (i : ℕ) (entry : Entry) → entry_at table.entries i ≡ Some entry → IsPageAt table i
   page_of_entry i entry e = ap length (content_at table i entry e) ∙ is.pages entry.frame (IsEntry.frame (entry_fits table i entry is e))

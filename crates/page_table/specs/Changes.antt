@@ -32,6 +32,15 @@ part_written owned m at bytes = record owned { maps = slice_set owned.maps m (op
 abbrev pub part_created : TenantPart → ℕ → Shape → TenantPart
 part_created owned m shape = record owned { maps = slice_set owned.maps m (Some (zero_map shape)) }
 
+-- a tenant's part with another number of frames reserved for its open run
+abbrev pub with_reserve : ℕ → TenantPart → TenantPart
+with_reserve reserve owned = record owned { reserve = reserve }
+
+-- the memory with another number of frames recorded as reserved for a tenant's open run, and nothing else
+abbrev pub with_record : MemoryState → ℕ → ℕ → MemoryState
+with_record memory tenant reserve =
+    record memory { tenants = slice_set memory.tenants tenant (record { reserve = reserve }) }
+
 -- every other tenant's part stays
 abbrev pub IsKeptBut : ℕ → MemoryState → MemoryState → Type 0
 IsKeptBut tenant old new = (t : ℕ) → t ≢ tenant → part new t ≡ part old t

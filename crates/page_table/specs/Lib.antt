@@ -4,3 +4,4 @@ pub mod Changes
 pub mod Table
 pub mod View
 pub mod Reads
+pub mod Tallies

@@ -219,3 +219,7 @@ joined_on table i f g = if g == f then joined_by i (places_on 0 g table.entries)
 -- a page with another status and fingerprint
 abbrev pub marked : Status → ℕ → PageState → PageState
 marked status last state = record state { status = status; last = Some last }
+
+-- some frames are there
+abbrev pub AreInside : ℕ → List ℕ → Type 0
+AreInside frames some = (i : ℕ) → i < length some → slice_index_or some i 0 < frames

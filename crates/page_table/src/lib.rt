@@ -3,6 +3,7 @@
 //! bytes may lie.
 #![tactic(auto)]
 
+mod counters;
 mod counts;
 mod entry;
 mod memory;

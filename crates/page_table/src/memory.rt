@@ -5,14 +5,14 @@ ghost use Rattle.host_types.specs.OptionTable.{AreOptions, MayBe};
 ghost use Rattle.host_types.specs.Pages.{map_place, page_place, page_bytes, zero_page};
 ghost use Rattle.host_types.specs.Shapes.{IsShape};
 ghost use Rattle.host_types.specs.Sharing.{new_page, state_at, is_shared, broken, break_cost, cost_from, paired, zeroed};
-ghost use Rattle.host_types.specs.Tenant.{IsFlatMap};
+ghost use Rattle.host_types.specs.Tenant.{IsFlatMap, AreFlatMaps};
 ghost use Rattle.host_types.specs.Unmerging.{with_option, MaySet, unmerged, unmerge_need, SharesNothing};
 ghost use Rattle.host_types.specs.Visits.{page_to_visit, is_mergeable, flushed, moved_on, changed, waits, has_open, joined};
 ghost use Rattle.frame_arena.specs.Pages.{page_at};
 ghost use Rattle.page_table.specs.Limits.{AreLimits, page_count, shape_of};
-ghost use Rattle.page_table.specs.State.{MemoryState, part, bytes_of_map, free_number, new_memory, free_of, have_of, frame_at};
+ghost use Rattle.page_table.specs.State.{MemoryState, part, bytes_of_map, free_number, new_memory, new_tenant, free_of, have_of, frame_at};
 ghost use Rattle.page_table.specs.Reads.{ReadsAs};
-ghost use Rattle.page_table.specs.Changes.{IsNotWaiting, HadFingerprint, contents_now, open_frame, partner_place, zero_map, part_written, part_created, AreKept, MayMerge, IsKeptBut, AreMapsKeptBut, KeepsSettings, IsPageOf, IsOwn, with_new_pages, FitsMap, RefusesMap, RefusesMemory};
+ghost use Rattle.page_table.specs.Changes.{IsNotWaiting, HadFingerprint, contents_now, open_frame, partner_place, zero_map, part_written, part_created, AreKept, MayMerge, IsKeptBut, AreMapsKeptBut, KeepsSettings, with_reserve, with_record, IsPageOf, IsOwn, with_new_pages, FitsMap, RefusesMap, RefusesMemory};
 ghost use Rattle.page_table.specs.declared.entry.Entry.{Entry};
 ghost use Rattle.page_table.specs.Table.{state_of, states_of, contents_of, groups_of, used_by, entry_at};
 
@@ -46,7 +46,7 @@ const UNMERGED: u32 = 2;
 /// tenant's part, which pages share frames, the frames' pages, and the frame of each page.
 #[derive(Drop)]
 pub struct Memory {
-    table: Table,
+    pub(crate) table: Table,
     // by the maps' places
     shapes: Vec<Option<Shape>>,
     tenants: Vec<Tenant>,
@@ -233,6 +233,15 @@ impl Memory {
         ensures { ReadsAs self.now }
     {
         self.table.facts();
+    }
+
+    /// What each memory's maps meet: each tenant has eight places for them, and the maps that are
+    /// there have as many bytes as their shapes say. The function does nothing.
+    pub fn maps_are_flat(&self)
+        ensures there { (t : ℕ) → t < length self.now.tenants → length (part self.now t).maps ≡ 8 }
+        ensures flat { (t : ℕ) → length (part self.now t).maps ≡ 8 → AreFlatMaps (part self.now t).maps }
+    {
+        self.table.pages_are_bytes();
     }
 
     /// Makes a map of zeros for a tenant, at its first free number.
@@ -619,6 +628,41 @@ impl Memory {
     {
         self.table.take_out_all();
         self.pass.set(Opt::Run, UNMERGED);
+    }
+}
+
+impl Memory {
+    /// How many frames are recorded as reserved for a tenant's open run, none where there is no such
+    /// tenant.
+    pub fn reserve(&self, tenant: u32) -> u32
+        ensures { result ≡ (part self.now tenant).reserve }
+    {
+        reserve_of(&self.tenants, tenant)
+    }
+
+    /// Records how many frames are reserved for a tenant's open run, in place of what was recorded
+    /// of it. There are so many free frames that no other tenant's record has.
+    pub fn record(&mut self, tenant: u32, reserve: u32)
+        requires there { length (part self.old tenant).maps ≡ 8 }
+        requires room { reserve ≤ have_of self.old + (part self.old tenant).reserve }
+        ensures recorded { part self.new tenant ≡ with_reserve reserve (part self.old tenant) }
+        ensures others { IsKeptBut tenant self.old self.new }
+        ensures have { have_of self.new + reserve ≡ have_of self.old + (part self.old tenant).reserve }
+        ensures all { self.new ≡ with_record self.old tenant reserve }
+    {
+        let before = self.reserve(tenant);
+        self.reserved = self.reserved - before + reserve;
+        self.tenants[tenant as usize] = Tenant { reserve };
+    }
+}
+
+/// What is recorded of a tenant.
+fn reserve_of(tenants: &[Tenant], tenant: u32) -> u32
+    ensures { result ≡ (slice_index_or tenants.now tenant new_tenant).reserve }
+{
+    match tenants.get(tenant as usize) {
+        Some(tenant) => tenant.reserve,
+        None => 0,
     }
 }
 

@@ -8,7 +8,7 @@ ghost use Rattle.host_types.specs.Visits.{first_mergeable, is_mergeable, with_pa
 ghost use Rattle.host_types.specs.Pages.{zero_page};
 ghost use Rattle.frame_arena.specs.Pages.{IsPage, page_at};
 ghost use Rattle.page_table.specs.declared.entry.Entry.{Entry};
-ghost use Rattle.page_table.specs.Table.{TableState, CountsState, AreCounts, IsSound, IsEntry, IsPageAt, IsOwnAt, AreOwnKept, AreOthersKept, entry_at, states_of, contents_of, groups_of, sharing_of, forgets, used_by, cost_at, is_on, pages_on, one_if_zero, times, state_of, is_open_frame, joined_on, marked};
+ghost use Rattle.page_table.specs.Table.{TableState, CountsState, AreCounts, IsSound, IsEntry, IsPageAt, IsOwnAt, AreOwnKept, AreOthersKept, entry_at, states_of, contents_of, groups_of, sharing_of, forgets, used_by, cost_at, is_on, pages_on, one_if_zero, times, state_of, is_open_frame, joined_on, marked, AreInside};
 
 use crate::counts::FrameCounts;
 use crate::entry::Entry;
@@ -111,6 +111,16 @@ impl Table {
         ensures { result ≡ nat_lt 0 (length self.now.groups) }
     {
         !self.groups.is_empty()
+    }
+
+    /// The frames of the groups in order of creation.
+    pub(crate) fn groups(&self) -> &[u32]
+        ensures frames { result.now ≡ self.now.groups }
+        ensures there { AreInside (length self.now.arena) result.now }
+        ensures few { length result.now < length self.now.arena }
+    {
+        self.facts();
+        &self.groups
     }
 
     /// What is kept of the page at a place.
@@ -412,7 +422,7 @@ impl Table {
     }
 
     /// How many pages lie on the zero frame.
-    fn zero_pages(&self) -> u32
+    pub(crate) fn zero_pages(&self) -> u32
         ensures pages { result ≡ pages_on 0 self.now.entries }
         ensures few { result ≤ 32768 }
     {
@@ -429,7 +439,7 @@ impl Table {
     }
 
     /// How many places there are.
-    fn places(&self) -> usize
+    pub(crate) fn places(&self) -> usize
         ensures { result ≡ length self.now.entries }
     {
         self.entries.len()

@@ -4,3 +4,4 @@ pub mod Pairs
 pub mod Inserting
 pub mod Ordered
 pub mod Removing
+pub mod Counting

@@ -1,6 +1,6 @@
 -- Groups of pages as chains of one content each, sorted by content (this project's own rule, in the
 -- manner of the stable tree of Linux's KSM).
-use Rattle.std.specs.Prelude.{◌≡◌, ◌≢◌, ℕ, ◌<◌, ◌≤◌, nat_lt, ◌&&◌, Bool, true, false, List, [], length, slice_index_or, All, AllPairs, Option, None, Some}
+use Rattle.std.specs.Prelude.{◌≡◌, ◌≢◌, ℕ, ◌<◌, ◌≤◌, nat_lt, ◌&&◌, Bool, true, false, if◌then◌else◌, List, [], length, sum_by, slice_index_or, All, AllPairs, Option, None, Some}
 use Rattle.std.specs.List.{concat}
 use Rattle.std.specs.Str.{bytes_eq}
 use Rattle.std.specs.Ordering.{nat_cmp, is_lt}
@@ -8,6 +8,7 @@ use Rattle.std.specs.declared.cmp.Ordering.{Ordering}
 use Rattle.std.specs.declared.cmp.Ordering.TheVariants.{Less}
 use Rattle.std.specs.Cmp.Lexicographic.{slice_cmp}
 use Rattle.frame_arena.specs.Pages.{page_at}
+use Rattle.stable_tree.specs.declared.dups.Dups.{Dups}
 use Rattle.stable_tree.specs.declared.tree.Spot.{Spot}
 
 -- A chain for each content, with the frames of its groups in order of creation; and for how many
@@ -19,6 +20,27 @@ pub record Groups : Type 0 where
 -- the frames of all groups
 abbrev pub groups_of : Groups → List ℕ
 groups_of tree = concat tree.chains
+
+-- one for a content with two groups or more
+abbrev pub many_in : ℕ → ℕ
+many_in groups = if nat_lt 1 groups then 1 else 0
+
+-- the groups of a content with two or more
+abbrev pub dups_in : ℕ → ℕ
+dups_in groups = if nat_lt 1 groups then groups else 0
+
+-- how many contents have two groups or more
+unfoldable pub chains_among : List (List ℕ) → ℕ
+chains_among chains = sum_by (λ chain. many_in (length chain)) chains
+
+-- how many groups such contents have
+unfoldable pub dups_among : List (List ℕ) → ℕ
+dups_among chains = sum_by (λ chain. dups_in (length chain)) chains
+
+-- the numbers are those of the contents with two groups or more
+pub record AreDups (dups : Dups) (chains : List (List ℕ)) : Type 0 where
+  pub counted : dups.chains ≡ chains_among chains
+  pub grouped : dups.groups ≡ dups_among chains
 
 -- a frame has the bytes
 abbrev pub has : List (List ℕ) → List ℕ → ℕ → Bool

@@ -3,6 +3,7 @@
 #![tactic(auto)]
 
 mod chains;
+mod dups;
 mod tree;
 
 pub use tree::{Spot, StableTree};

@@ -1,11 +1,12 @@
 ghost use Rattle.std.specs.Prelude.{◌≡◌, ◌≢◌, ◌++◌, ◌∷◌, [], ◌==◌, ◌+◌, ◌<◌, ◌≤◌, ℕ, List, not, nat_lt, filter, find, insert, remove, length, max, All, OnOk, OnErr, IfSome, slice_index_or, slice_set};
 ghost use Rattle.std.specs.Ordering.{nat_cmp};
 ghost use Rattle.frame_arena.specs.Pages.{page_at};
-ghost use Rattle.stable_tree.specs.Groups.{Groups, IsSorted, IsSpot, IsCutAt, has, is_before, is_there, groups_of, groups_at, groups_found};
+ghost use Rattle.stable_tree.specs.Groups.{Groups, IsSorted, IsSpot, IsCutAt, has, is_before, is_there, groups_of, groups_at, groups_found, chains_among, dups_among};
 
 use crate::chains::{
-    Chain, add, first_below, first_of, frames_of, lengthen, position_of, shorten, take_out,
+    Chain, add, first_below, first_of, frames_of, lengthen, position_of, shorten, size_of, take_out,
 };
+use crate::dups::Dups;
 use frame_arena::FrameArena;
 use std::alloc::{AllocError, Global};
 use std::marker::Model;
@@ -26,11 +27,12 @@ pub struct StableTree {
     frames: Vec<u32>,
     // for how many groups `reserve` was called
     room: usize,
+    dups: Dups,
 }
 
 impl Model for StableTree {
     ghost use Rattle.std.specs.Prelude.{◌≤◌, vec_capacity};
-    ghost use Rattle.stable_tree.specs.Groups.{Groups};
+    ghost use Rattle.stable_tree.specs.Groups.{Groups, AreDups};
     ghost use Rattle.stable_tree.specs.Cut.{AreCut, cut};
 
     ghost Value = { Groups };
@@ -38,7 +40,8 @@ impl Model for StableTree {
     ghost view = { λ tree. record { chains = cut tree.chains.items tree.frames.items; room = tree.room } };
 
     ghost invariant = { λ tree. AreCut tree.chains.items tree.frames.items
-        × (tree.room ≤ vec_capacity tree.chains) × (tree.room ≤ vec_capacity tree.frames) };
+        × (tree.room ≤ vec_capacity tree.chains) × (tree.room ≤ vec_capacity tree.frames)
+        × AreDups tree.dups (cut tree.chains.items tree.frames.items) };
 }
 
 impl StableTree {
@@ -50,6 +53,7 @@ impl StableTree {
             chains: Vec::new(alloc),
             frames: Vec::new(alloc),
             room: 0,
+            dups: Dups::NONE,
         }
     }
 
@@ -80,6 +84,21 @@ impl StableTree {
         ensures { result ≡ length (groups_of self.now) }
     {
         self.frames.len()
+    }
+
+    /// How many contents have two groups or more. The number is kept, and no chain is looked at.
+    pub fn node_chains(&self) -> usize
+        ensures { result ≡ chains_among self.now.chains }
+    {
+        self.dups.chains
+    }
+
+    /// How many groups the contents with two or more have. The number is kept, and no chain is looked
+    /// at.
+    pub fn node_dups(&self) -> usize
+        ensures { result ≡ dups_among self.now.chains }
+    {
+        self.dups.groups
     }
 
     /// Where the groups that have the bytes of a frame stand, if there are any.
@@ -155,7 +174,9 @@ impl StableTree {
           chains = slice_set self.old.chains chain (remove (slice_index_or self.old.chains chain []) place);
         } }
     {
+        let groups = size_of(&self.chains, &self.frames, chain);
         shorten(&mut self.chains, &mut self.frames, chain, place);
+        self.dups = self.dups.moved(groups, groups - 1);
     }
 
     // Takes out a chain of one frame.
@@ -175,7 +196,9 @@ impl StableTree {
           chains = slice_set self.old.chains chain (slice_index_or self.old.chains chain [] ++ frame ∷ []);
         } }
     {
+        let groups = size_of(&self.chains, &self.frames, chain);
         lengthen(&mut self.chains, &mut self.frames, chain, frame);
+        self.dups = self.dups.moved(groups, groups + 1);
     }
 
     // Makes a chain of one frame.

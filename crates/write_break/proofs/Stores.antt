@@ -1,9 +1,11 @@
 -- A store page by page does what the whole store does.
-use Rattle.std.proofs.Common.{◌≡◌, ◌∙◌, ◌⊎◌, ⊎_elim, ℕ, zero, suc, ◌+◌, ◌-◌, ◌/◌, ◌%◌, ◌<◌, ◌≤◌, List, [], ◌∷◌, ◌++◌, length, take, drop, slice_set, Option, Some, None, option_map, unwrap_or, refl, sym, ap, arith}
+use Rattle.std.proofs.Common.{◌≡◌, ◌∙◌, ◌⊎◌, ⊎_elim, ℕ, zero, suc, ◌+◌, ◌-◌, ◌/◌, ◌%◌, ◌<◌, ◌≤◌, Bool, true, false, List, [], ◌∷◌, ◌++◌, length, take, drop, slice_set, Option, Some, None, option_map, unwrap_or, refl, sym, ap, arith}
 use Rattle.std.proofs.lemmas.List.{get_or-set_same, set-get_or, set-set, append_assoc, append-nil, length-append, length-take, take_at, drop_at, drop-drop, take-append-drop}
 use Rattle.host_types.specs.Bytes.{with_part}
 use Rattle.host_types.specs.Memory.{FlatMap, FlatMaps, map_at}
-use Rattle.host_types.specs.Sharing.{Sharing, broken, break_cost, broken_from, cost_from}
+use Rattle.host_types.specs.declared.status.Status.{Status}
+use Rattle.host_types.specs.declared.status.Status.TheVariants.{New, Volatile, Waiting, Grouped, Zero}
+use Rattle.host_types.specs.Sharing.{Sharing, PageState, state_at, cost_of, is_in_company, broken, break_cost, broken_from, cost_from}
 use Rattle.host_types.specs.Tenant.{TenantPart}
 use Rattle.page_table.specs.State.{MemoryState, part, map_bytes, have_of}
 use Rattle.page_table.specs.Changes.{map_written, part_written, KeepsSettings}
@@ -28,6 +30,44 @@ pub touched-one : (at size : ℕ) → 0 < size → at % 4096 + size ≤ 4096 →
 unfolding touched
 touched-one at zero some in_page = absurd (omega arith)
 touched-one at (suc n) some in_page = omega arith
+
+-- bytes in one page lie on one at most
+pub touched-within : (at size : ℕ) → at % 4096 + size ≤ 4096 → touched at size ≤ 1
+unfolding touched
+touched-within at zero in_page = omega arith
+touched-within at (suc n) in_page = omega arith
+
+-- as many bytes as a page has lie on two at most
+pub touched-two : (at size : ℕ) → size ≤ 4096 → touched at size ≤ 2
+unfolding touched
+touched-two at zero small = omega arith
+touched-two at (suc n) small = omega arith
+
+-- the break of a page takes one frame at most
+break_cost-few : (sharing : Sharing) (i : ℕ) → break_cost sharing i ≤ 1
+unfolding break_cost
+break_cost-few sharing i = by_page (state_at sharing i) refl
+  where
+    by_status : (company : Bool) (status : Status) → cost_of company status ≤ 1
+    by_status company New = omega arith
+    by_status company Volatile = omega arith
+    by_status company Waiting = omega arith
+    by_status true Grouped = omega arith
+    by_status false Grouped = omega arith
+    by_status company Zero = omega arith
+
+    by_page : (page : Option PageState) → state_at sharing i ≡ page → break_cost sharing i ≤ 1
+    by_page None e = rw e (omega arith)
+    by_page (Some state) e = rw e (by_status (is_in_company sharing i) state.status)
+
+-- the breaks of some pages take one frame each at most
+pub cost_from-few : (sharing : Sharing) (i n : ℕ) → cost_from sharing i n ≤ n
+unfolding cost_from
+cost_from-few sharing i zero = omega arith
+cost_from-few sharing i (suc n) =
+    let first = break_cost-few sharing i in
+    let rest = cost_from-few (broken sharing i) (i + 1) n in
+    omega (arith, first, rest)
 
 -- bytes up to the end of a page, and more behind it
 pub touched-more : (at size rest : ℕ) → 0 < size → at % 4096 + size ≡ 4096 → touched at (size + rest) ≡ suc (touched (at + size) rest)

@@ -46,10 +46,15 @@ fn touched_pages(at: u32, len: u32) -> u32
 }
 
 /// How many frames a store of `len` bytes would take now: one for each of their pages that shares its
-/// frame with another, each counted after the breaks before it. Nothing is changed.
+/// frame with another, each counted after the breaks before it. Nothing is changed. Whichever pages
+/// share frames, it is at most the number of pages that the bytes lie on: one within a page, else at most
+/// two for up to 4096 bytes.
 pub fn needs(memory: &Memory, tenant: u32, map: MapNo, at: u32, len: u32) -> u32
     requires within { at + len ≤ length (map_bytes (part memory.now tenant) map) }
-    ensures { result ≡ store_cost memory.now.sharing tenant map at len }
+    ensures cost { result ≡ store_cost memory.now.sharing tenant map at len }
+    ensures few { result ≤ touched at len }
+    ensures one { at % 4096 + len ≤ 4096 → result ≤ 1 }
+    ensures two { len ≤ 4096 → result ≤ 2 }
 {
     let count = touched_pages(at, len);
     if count == 0 {

@@ -1,6 +1,9 @@
-use Rattle.std.proofs.Common.{ap, arith, length}
+use Rattle.std.proofs.Common.{ap, arith, rules, length}
 use Rattle.stable_tree.specs.Groups.{Groups, groups_of}
 use Rattle.stable_tree.proofs.Cuts.{length-cut, concat-cut, fewer-chains}
+use Rattle.stable_tree.specs.Cut.{cut}
+use Rattle.stable_tree.specs.Groups.{AreDups}
+use Rattle.stable_tree.proofs.Counting.{inserts}
 use Rattle.stable_tree.proofs.tree.StableTree.add.Goals as goal
 
 pub add-requires-clause-chain : goal.add-requires-clause-chain
@@ -28,3 +31,8 @@ add-requires-clause-chain_room c =
     let room = ap (λ (tree : Groups). tree.room) c.self.view_is in
     let kept = c.self.invariant.1 in
     omega (arith, seen, all, fewer, few, room, kept)
+
+pub invariant_of-self : goal.invariant_of-self
+invariant_of-self c =
+    let told : AreDups c.self.inside.dups (cut c.add.new.chains.items c.add.new.frames.items) = rw c.add.ensures.chains (inserts c.self.inside.dups (cut c.self.inside.chains.items c.self.inside.frames.items) c.args.chain c.args.frame c.self.invariant.3) in
+    search rules

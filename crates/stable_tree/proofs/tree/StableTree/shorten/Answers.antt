@@ -1,6 +1,8 @@
-use Rattle.std.proofs.Common.{ap, arith, length}
-use Rattle.stable_tree.specs.Groups.{Groups}
-use Rattle.stable_tree.proofs.Cuts.{length-cut}
+use Rattle.std.proofs.Common.{◌≡◌, ◌-◌, ◌<◌, ap, arith, length, slice_index_or, []}
+use Rattle.stable_tree.specs.Groups.{Groups, AreDups}
+use Rattle.stable_tree.proofs.Cuts.{length-cut, concat-cut}
+use Rattle.stable_tree.specs.Cut.{cut}
+use Rattle.stable_tree.proofs.Counting.{IsMoved, shrinks, written}
 use Rattle.stable_tree.proofs.tree.StableTree.shorten.Goals as goal
 
 pub shorten-requires-clause-chain : goal.shorten-requires-clause-chain
@@ -10,3 +12,54 @@ shorten-requires-clause-chain c =
     let lent = ap length c.deref_mut.ensures.value in
     let there = c.requires.chain in
     omega (arith, seen, size, lent, there)
+
+pub size_of-groups-requires-clause-chain : goal.size_of-groups-requires-clause-chain
+size_of-groups-requires-clause-chain c =
+    let seen = ap (λ (tree : Groups). length tree.chains) c.self.view_is in
+    let size = length-cut c.self.inside.chains.items c.self.inside.frames.items in
+    let lent = ap length c.deref.ensures.value in
+    let there = c.requires.chain in
+    omega (arith, seen, size, lent, there)
+
+before : (c : goal.After-moved-arg-1) → c.size_of-groups.result ≡ length (slice_index_or (cut c.self.inside.chains.items c.self.inside.frames.items) c.args.chain [])
+before c = rw (c.deref.ensures.value, c.deref-2.ensures.value) at c.size_of-groups.ensures
+
+inside : (c : goal.After-moved-arg-1) → c.args.chain < length (cut c.self.inside.chains.items c.self.inside.frames.items)
+inside c =
+    let seen = ap (λ (tree : Groups). length tree.chains) c.self.view_is in
+    let there = c.requires.chain in
+    omega (arith, seen, there)
+
+there : (c : goal.After-moved-arg-1) → c.args.place < length (slice_index_or (cut c.self.inside.chains.items c.self.inside.frames.items) c.args.chain [])
+there c = rw (← c.self.view_is) at c.requires.place
+
+moves : (c : goal.After-moved-arg-1) → IsMoved c.self.inside.dups (cut c.shorten.new.chains c.shorten.new.frames.items) c.size_of-groups.result (c.size_of-groups.result - 1) (length c.shorten.new.frames.items)
+moves c =
+    shrinks c.self.inside.dups (cut c.self.inside.chains.items c.self.inside.frames.items) (cut c.shorten.new.chains c.shorten.new.frames.items) c.args.chain c.size_of-groups.result (length c.shorten.new.frames.items) c.args.place
+    (inside c) c.self.invariant.3 (before c) (there c) (rw c.deref_mut.ensures.value at c.shorten.ensures.chains) (ap length (concat-cut c.shorten.new.chains c.shorten.new.frames.items c.shorten.ensures.cut))
+
+pub moved-self-inside-requires-clause-chains : goal.moved-self-inside-requires-clause-chains
+moved-self-inside-requires-clause-chains c = (moves c).one
+
+pub moved-self-inside-requires-clause-groups : goal.moved-self-inside-requires-clause-groups
+moved-self-inside-requires-clause-groups c = (moves c).other
+
+pub moved-self-inside-requires-clause-few_chains : goal.moved-self-inside-requires-clause-few_chains
+moved-self-inside-requires-clause-few_chains c = let few = (moves c).few in omega (arith, few)
+
+pub moved-self-inside-requires-clause-few_groups : goal.moved-self-inside-requires-clause-few_groups
+moved-self-inside-requires-clause-few_groups c = let few = (moves c).fit in omega (arith, few)
+
+-- the same, where the tree is whole again
+told : (c : goal.After-self-2-1) → AreDups c.moved-self-inside.result (cut c.shorten.new.chains c.shorten.new.frames.items)
+told c =
+    let seen = ap (λ (tree : Groups). length tree.chains) c.self.view_is in
+    let chain = c.requires.chain in
+    rw c.moved-self-inside.ensures
+    (IsMoved.told (shrinks c.self.inside.dups (cut c.self.inside.chains.items c.self.inside.frames.items) (cut c.shorten.new.chains c.shorten.new.frames.items) c.args.chain c.size_of-groups.result (length c.shorten.new.frames.items) c.args.place
+    (omega (arith, seen, chain)) c.self.invariant.3 (rw (c.deref.ensures.value, c.deref-2.ensures.value) at c.size_of-groups.ensures) (rw (← c.self.view_is) at c.requires.place) (rw c.deref_mut.ensures.value at c.shorten.ensures.chains) (ap length (concat-cut c.shorten.new.chains c.shorten.new.frames.items c.shorten.ensures.cut))))
+
+pub invariant_of-self : goal.invariant_of-self
+invariant_of-self c =
+    let same = written c.self.inside.chains.len c.shorten.new.chains c.self.inside.chains.items (omega (arith, c.shorten.auto.chains, c.deref_mut.ensures.len)) (omega arith) in
+    rw same (c.shorten.ensures.cut, c.self.invariant.1, omega (arith, c.self.invariant.2, c.shorten.ensures.capacity), told c)

@@ -1,0 +1,53 @@
+ghost use Rattle.std.specs.Prelude.{◌≡◌, ◌+◌, ◌≤◌, length, OnOk, IfErr, OnErr};
+ghost use Rattle.page_table.specs.State.{part, have_of};
+ghost use Rattle.page_table.specs.Changes.{IsKeptBut, with_reserve, with_record};
+ghost use Rattle.admission.specs.Refusals.{RefusesRun};
+
+use host_types::Fault;
+use page_table::Memory;
+
+/// Reserves frames for a run that a tenant wants to begin. Nothing is recorded of the tenant before.
+///
+/// 31 just where the need is above `have()`; it tells both numbers, and changes nothing.
+pub fn admit(memory: &mut Memory, tenant: u32, need: u32) -> Result<(), Fault>
+    requires there { length (part memory.old tenant).maps ≡ 8 }
+    requires none { (part memory.old tenant).reserve ≡ 0 }
+    ensures enough { OnOk result (need ≤ have_of memory.old) }
+    ensures recorded { OnOk result (part memory.new tenant ≡ with_reserve need (part memory.old tenant)) }
+    ensures have { OnOk result (have_of memory.new + need ≡ have_of memory.old) }
+    ensures all { OnOk result (memory.new ≡ with_record memory.old tenant need) }
+    ensures others { IsKeptBut tenant memory.old memory.new }
+    ensures err { IfErr result (RefusesRun memory.old need) }
+    ensures unchanged { OnErr result (memory.new ≡ memory.old) }
+{
+    let have = memory.have();
+    if have < need {
+        return Err(Fault::NoFrames { need, have });
+    }
+    memory.record(tenant, need);
+    Ok(())
+}
+
+/// Lowers what is reserved for a tenant's run to what is left of it, which isn't above what is recorded.
+/// The difference may be had by others at once.
+pub fn lower(memory: &mut Memory, tenant: u32, left: u32)
+    requires there { length (part memory.old tenant).maps ≡ 8 }
+    requires most { left ≤ (part memory.old tenant).reserve }
+    ensures recorded { part memory.new tenant ≡ with_reserve left (part memory.old tenant) }
+    ensures have { have_of memory.new + left ≡ have_of memory.old + (part memory.old tenant).reserve }
+    ensures all { memory.new ≡ with_record memory.old tenant left }
+    ensures others { IsKeptBut tenant memory.old memory.new }
+{
+    memory.record(tenant, left);
+}
+
+/// Ends what is reserved for a tenant's run, as at its end.
+pub fn release(memory: &mut Memory, tenant: u32)
+    requires there { length (part memory.old tenant).maps ≡ 8 }
+    ensures recorded { part memory.new tenant ≡ with_reserve 0 (part memory.old tenant) }
+    ensures have { have_of memory.new ≡ have_of memory.old + (part memory.old tenant).reserve }
+    ensures all { memory.new ≡ with_record memory.old tenant 0 }
+    ensures others { IsKeptBut tenant memory.old memory.new }
+{
+    memory.record(tenant, 0);
+}

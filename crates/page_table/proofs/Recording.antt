@@ -1,0 +1,176 @@
+-- Frames reserved for open runs, and what the maps of a memory meet.
+use Rattle.std.proofs.Common.{◌≡◌, ◌∙◌, ◌⊎◌, ⊎_elim, ℕ, ◌+◌, ◌-◌, ◌*◌, ◌<◌, ◌≤◌, List, length, sum_by, slice_index_or, slice_set, Option, IfSome, refl, sym, ap, subst, arith, All, length-set}
+use Rattle.std.proofs.lemmas.List.{get_or-set_same, get_or-set_other}
+use Rattle.std.proofs.lemmas.List.Sums.{sum_by-set}
+use Rattle.host_types.specs.declared.shape.Shape.{Shape}
+use Rattle.host_types.specs.Memory.{FlatMap, map_at}
+use Rattle.host_types.specs.Tenant.{IsFlatMap, AreFlatMaps}
+use Rattle.frame_arena.specs.Pages.{IsPage}
+use Rattle.page_table.specs.declared.pass.Pass.{Pass}
+use Rattle.page_table.specs.declared.tenant.Tenant.{Tenant}
+use Rattle.page_table.specs.State.{MemoryState, part, new_tenant, free_of, have_of}
+use Rattle.page_table.specs.Changes.{IsKeptBut, with_reserve, with_record}
+use Rattle.page_table.specs.Table.{TableState, contents_of, maps_of, used_by}
+use Rattle.page_table.specs.View.{view_of, IsMemory}
+use Rattle.page_table.proofs.Maps.{length-maps_of}
+use Rattle.page_table.proofs.Free.{free_is}
+use Rattle.page_table.proofs.Shapes.{length-part, map_ok, map_past}
+
+-- what is reserved for a tenant's open run
+abbrev pub reserve_in : Tenant → ℕ
+reserve_in tenant = tenant.reserve
+
+-- the reserves of all tenants, where one of them has another
+pub sum-recorded : (tenants : List Tenant) (t reserve : ℕ) → t < length tenants
+    → sum_by reserve_in (slice_set tenants t (record { reserve = reserve })) + (slice_index_or tenants t new_tenant).reserve ≡ sum_by reserve_in tenants + reserve
+sum-recorded tenants t reserve inside = sum_by-set reserve_in tenants t (record { reserve = reserve }) new_tenant inside
+
+-- a tenant's reserve is one of all
+pub reserve-small : (tenants : List Tenant) (t : ℕ) → t < length tenants → (slice_index_or tenants t new_tenant).reserve ≤ sum_by reserve_in tenants
+reserve-small tenants t inside = let told = sum-recorded tenants t 0 inside in omega (arith, told)
+
+module _ (table : TableState) (shapes : List (Option Shape)) (tenants : List Tenant) (pass : Pass) (reserved : ℕ) (is : IsMemory table shapes tenants reserved) where
+  abbrev memory : MemoryState
+  memory = view_of table shapes tenants pass
+
+  long : length (maps_of shapes (contents_of table)) ≡ length tenants * 8
+  long = length-maps_of shapes (contents_of table) ∙ is.numbers
+
+  -- a tenant has eight places for maps
+  pub eight_maps : (t : ℕ) → t < length memory.tenants → length (part memory t).maps ≡ 8
+  unfolding view_of part
+  eight_maps t inside =
+      let short = length-part (maps_of shapes (contents_of table)) (t * 8) 8 in
+      let all = long in
+      omega (arith, short, all, inside)
+
+  -- a tenant with eight places for maps is there
+  pub tenant_there : (t : ℕ) → length (part memory t).maps ≡ 8 → t < length tenants
+  unfolding view_of part
+  tenant_there t eight =
+      let short = length-part (maps_of shapes (contents_of table)) (t * 8) 8 in
+      let all = long in
+      omega (arith, short, all, eight)
+
+  -- the maps of a tenant are flat maps
+  pub flat_maps : All IsPage table.arena → (t : ℕ) → length (part memory t).maps ≡ 8 → AreFlatMaps (part memory t).maps
+  flat_maps bytes t eight = record { eight = eight; each = λ m. ⊎_elim (λ less. map_ok table shapes tenants pass t m is.maps less bytes) (λ past. none m past) (order m 8) }
+    where
+      order : (a b : ℕ) → (a < b) ⊎ (b ≤ a)
+      order a b = grind arith
+
+      none : (m : ℕ) → 8 ≤ m → IfSome (map_at (part memory t).maps m) IsFlatMap
+      none m past = subst (λ (x : Option FlatMap). IfSome x IsFlatMap) (sym (map_past memory t m past)) tt
+
+  -- no more frames are reserved than are free
+  pub reserved_fits : sum_by reserve_in memory.tenants ≤ free_of memory
+  unfolding view_of
+  reserved_fits =
+      let told = free_is table shapes tenants pass (omega (arith, is.room)) in
+      omega (arith, told, is.room, is.sum)
+
+  -- another reserve of one tenant
+  module _ (t reserve : ℕ) (eight : length (part memory t).maps ≡ 8) (room : reserve ≤ have_of memory + (part memory t).reserve) where
+    abbrev recorded : List Tenant
+    recorded = slice_set tenants t (record { reserve = reserve })
+
+    abbrev before : ℕ
+    before = (slice_index_or tenants t new_tenant).reserve
+
+    pub before_small : before ≤ reserved
+    before_small = let told = reserve-small tenants t (tenant_there t eight) in omega (arith, told, is.sum)
+
+    pub fits : reserved - before + reserve + used_by table ≤ length table.arena
+    unfolding view_of part
+    fits =
+        let told = free_is table shapes tenants pass (omega (arith, is.room)) in
+        let small = before_small in
+        omega (arith, told, is.room, is.sum, room, small)
+
+    pub memory_recorded : IsMemory table shapes recorded (reserved - before + reserve)
+    memory_recorded =
+        let sum = sum-recorded tenants t reserve (tenant_there t eight) in
+        let small = before_small in
+        record {
+          maps = is.maps;
+          numbers = is.numbers ∙ ap (λ (n : ℕ). n * 8) (sym (length-set tenants t (record { reserve = reserve })));
+          few = let same = length-set tenants t (record { reserve = reserve }) in omega (arith, same, is.few);
+          frames = is.frames;
+          sum = omega (arith, sum, small, is.sum);
+          room = fits;
+        }
+
+    abbrev after : MemoryState
+    after = view_of table shapes recorded pass
+
+    pub all_recorded : after ≡ with_record memory t reserve
+    unfolding view_of
+    all_recorded = refl
+
+    pub part_recorded : part after t ≡ with_reserve reserve (part memory t)
+    unfolding view_of part
+    part_recorded = rw (get_or-set_same tenants t (record { reserve = reserve }) new_tenant (tenant_there t eight)) refl
+
+    pub others_recorded : IsKeptBut t memory after
+    unfolding view_of part
+    others_recorded s ne = rw (get_or-set_other tenants t s (record { reserve = reserve }) new_tenant ne) refl
+
+    pub have_recorded : have_of after + reserve ≡ have_of memory + (part memory t).reserve
+    unfolding view_of part
+    have_recorded =
+        let sum = sum-recorded tenants t reserve (tenant_there t eight) in
+        let small = reserve-small tenants t (tenant_there t eight) in
+        let told = free_is table shapes tenants pass (omega (arith, is.room)) in
+        let same = free_is table shapes recorded pass (omega (arith, is.room)) in
+        omega (arith, sum, small, told, same, is.room, is.sum, room)
+
+-- what a new reserve of one tenant leaves, over what callers see
+pub record Records (old new : MemoryState) (t reserve : ℕ) : Type 0 where
+  pub recorded_part : part new t ≡ with_reserve reserve (part old t)
+  pub others : IsKeptBut t old new
+  pub have : have_of new + reserve ≡ have_of old + (part old t).reserve
+  pub all : new ≡ with_record old t reserve
+
+module _ (table : TableState) (shapes : List (Option Shape)) (tenants : List Tenant) (pass : Pass) (reserved : ℕ) (is : IsMemory table shapes tenants reserved)
+    (now : MemoryState) (same : view_of table shapes tenants pass ≡ now) (t reserve before : ℕ)
+    (eight : length (part now t).maps ≡ 8) (room : reserve ≤ have_of now + (part now t).reserve) (told : before ≡ (part now t).reserve) where
+  abbrev renewed : List Tenant
+  renewed = slice_set tenants t (record { reserve = reserve })
+
+  eight_here : length (part (view_of table shapes tenants pass) t).maps ≡ 8
+  eight_here = rw (← same) at eight
+
+  room_here : reserve ≤ have_of (view_of table shapes tenants pass) + (part (view_of table shapes tenants pass) t).reserve
+  room_here = rw (← same) at room
+
+  pub before_is : before ≡ (slice_index_or tenants t new_tenant).reserve
+  unfolding view_of part
+  before_is = rw (← same) at told
+
+  pub record_there : t < length tenants
+  record_there = tenant_there table shapes tenants pass reserved is t eight_here
+
+  pub record_before : before ≤ reserved
+  record_before =
+      let small = before_small table shapes tenants pass reserved is t reserve eight_here room_here in
+      let e = before_is in
+      omega (arith, small, e)
+
+  pub record_fits : reserved - before + reserve ≤ 4096
+  record_fits =
+      let few = fits table shapes tenants pass reserved is t reserve eight_here room_here in
+      let e = before_is in
+      omega (arith, few, e, is.frames)
+
+  pub record_memory : IsMemory table shapes renewed (reserved - before + reserve)
+  record_memory = rw before_is (memory_recorded table shapes tenants pass reserved is t reserve eight_here room_here)
+
+  pub records : Records now (view_of table shapes renewed pass) t reserve
+  records =
+      rw (← same)
+      record {
+        recorded_part = part_recorded table shapes tenants pass reserved is t reserve eight_here room_here;
+        others = others_recorded table shapes tenants pass reserved is t reserve eight_here room_here;
+        have = have_recorded table shapes tenants pass reserved is t reserve eight_here room_here;
+        all = all_recorded table shapes tenants pass reserved is t reserve eight_here room_here;
+      }

@@ -1,0 +1,11 @@
+use Rattle.std.proofs.Common.{◌∙◌, length, sym, ap}
+use Rattle.std.proofs.lemmas.List.{length-map}
+use Rattle.page_table.specs.Table.{groups_of, places_on}
+use Rattle.page_table.specs.View.{view_of}
+use Rattle.page_table.proofs.memory.Memory.groups.Goals as goal
+
+pub returns : goal.returns
+unfolding view_of groups_of
+returns c =
+    let long = length-map c.self.inside.table.groups (λ f. places_on 0 f c.self.inside.table.entries) in
+    rw (← c.self.view_is) (ap length c.groups.ensures.frames ∙ sym long)
