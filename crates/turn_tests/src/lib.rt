@@ -1,6 +1,8 @@
-//! Tests of `turn`, in a crate above it: so it is proved once.
+//! Tests of `turn` and `tenant_workers`, in a crate above them: so these are proved once.
 #![tactic(auto)]
 
+#[cfg(test)]
+mod calls;
 #[cfg(test)]
 mod ends;
 #[cfg(test)]
