@@ -57,7 +57,10 @@ fn called(rt: &impl Wait, lent: Lent) -> ([Result<(), Fault>; 3], Option<Memory>
 }
 
 /// Whether the group that four visits made is gone, the scanner stands still and the option is set.
-fn is_unmerged(memory: &Memory) -> bool {
+fn is_unmerged(memory: Option<Memory>) -> bool {
+    let Some(memory) = memory else {
+        return false;
+    };
     let options = Options {
         run: 2,
         max_page_sharing: 3,
@@ -69,7 +72,6 @@ fn is_unmerged(memory: &Memory) -> bool {
 #[test]
 fn the_scanner_and_the_host_act(rt: HostRuntime) -> Result<(), Fail> {
     let (answers, memory) = called(&rt, lend(rt.alloc())?);
-    let is_unmerged = memory.is_some_and(|memory| is_unmerged(&memory));
-    assert!(rt; is_unmerged && answers == [Err(Fault::PagesShared), Ok(()), Ok(())]);
+    assert!(rt; is_unmerged(memory) && answers == [Err(Fault::PagesShared), Ok(()), Ok(())]);
     Ok(())
 }

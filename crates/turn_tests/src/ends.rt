@@ -80,26 +80,37 @@ fn ended_by(rt: &impl Wait, three: Three, ending: u32) -> Option<Memory>
     }
 }
 
-/// Whether a memory has each tenant's number, the options, and as many free frames as before.
-fn is_whole(memory: &Memory) -> bool {
-    let numbers = [0, 1, 2].map(|tenant| number(memory, tenant));
+/// Whether there is a memory with each tenant's number, the options, and as many free frames as before.
+fn is_whole(memory: Option<Memory>) -> bool {
+    let Some(memory) = memory else {
+        return false;
+    };
+    let numbers = [number(&memory, 0), number(&memory, 1), number(&memory, 2)];
     let is_kept = memory.tenants() == 3 && memory.free() == 6 && memory.options() == OPTIONS;
     is_kept && numbers == [Some(1), Some(12), Some(23)]
+}
+
+/// Whether the memory is whole, by the seat that ends the turn.
+fn is_whole_by(rt: &(impl Wait + AllocGlobal), ending: u32) -> Result<bool, Fault> {
+    let three = three_tenants(rt.alloc())?;
+    Ok(is_whole(ended_by(rt, three, ending)))
 }
 
 /// A `close` that changes another tenant's part meets its contract, as does one that gives nothing to some
 /// seats; so every tenant's map is looked at, whichever seat ends the turn.
 #[test]
 fn every_tenant_keeps_its_map_at_the_end(rt: HostRuntime) -> Result<(), Fail> {
-    for ending in 0..3 {
-        let memory = ended_by(&rt, three_tenants(rt.alloc())?, ending);
-        assert!(rt; memory.is_some_and(|memory| is_whole(&memory)), "{ending}");
-    }
+    let whole = [
+        is_whole_by(&rt, 0)?,
+        is_whole_by(&rt, 1)?,
+        is_whole_by(&rt, 2)?,
+    ];
+    assert!(rt; whole == [true; 3]);
     Ok(())
 }
 
-/// The numbers of a new turn's seats, where there is one for so many tenants.
-fn numbered(alloc: Global, seats: u32) -> Result<bool, Fault> {
+/// Whether a new turn's seats are numbered from 0 on, where there is one for so many tenants.
+fn is_numbered(alloc: Global, seats: u32) -> Result<bool, Fault> {
     let memory = Memory::new(alloc, 2, 3, OPTIONS)?;
     let (_turn, seats, _scanner, _host) = Turn::new(alloc, memory, seats)?;
     Ok(seats.iter().map(|seat| seat.tenant()).eq(0..3))
@@ -107,7 +118,9 @@ fn numbered(alloc: Global, seats: u32) -> Result<bool, Fault> {
 
 #[test]
 fn a_turn_has_a_seat_for_each_tenant(rt: HostRuntime) -> Result<(), Fail> {
-    let numbers = [2, 3, 4].map(|seats| numbered(rt.alloc(), seats));
-    assert!(rt; numbers == [Err(Fault::BadShape), Ok(true), Err(Fault::BadShape)]);
+    let few = is_numbered(rt.alloc(), 2);
+    let all = is_numbered(rt.alloc(), 3);
+    let many = is_numbered(rt.alloc(), 4);
+    assert!(rt; [few, all, many] == [Err(Fault::BadShape), Ok(true), Err(Fault::BadShape)]);
     Ok(())
 }
