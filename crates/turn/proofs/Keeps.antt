@@ -1,5 +1,5 @@
 -- The steps on the turn's word keep its rule.
-use Rattle.std.proofs.Common.{◌≡◌, ◌≢◌, ◌∙◌, ℕ, ◌==◌, Bool, true, false, Option, Some, None, IfSome, List, [], ◌∷◌, ◌++◌, set, slice_index, sym, refl, ap, subst, inl, inr, ⊎_elim, arith}
+use Rattle.std.proofs.Common.{◌≡◌, ◌≢◌, ◌∙◌, ℕ, ◌==◌, Bool, true, false, Option, Some, None, List, [], ◌∷◌, ◌++◌, set, slice_index, sym, refl, ap, subst, inl, inr, ⊎_elim, arith}
 use mathlib.Core.Option.{some, none, some-injective, some-ne-none}
 use lib.ListN.{get_elem?}
 use prog.Atomic.{either}
@@ -183,17 +183,17 @@ split_keeps id old left right seen seen' idle idle_left idle_right less more cut
       place = ⊎_elim (λ h. inl (home h)) (λ o. inr (out o)) r.place;
     }
 
--- where the word is 0 at the end, the slot has a memory with the seat's own parts
-pub closes : (id : ℕ) (view : View) (words : List ℕ) (slots : List (Option MemoryState)) (slot : Option MemoryState)
-    → Final (Seen IsInTurn id view) words slots → get_elem? words 0 ≡ some 0 → get_elem? slots 0 ≡ some slot → IfSome slot (Agrees view)
-closes id view words slots slot end home at =
+-- where the word is 0 at the end, a memory in the slot has the seat's own parts
+pub closes : (id : ℕ) (view : View) (words : List ℕ) (slots : List (Option MemoryState)) (memory : MemoryState)
+    → Final (Seen IsInTurn id view) words slots → get_elem? words 0 ≡ some 0 → get_elem? slots 0 ≡ some (Some memory) → Agrees view memory
+closes id view words slots memory end home at =
     let s = end.0 in
     let r = end.1.0 in
     ⊎_elim
     (λ h.
     let kept : get_elem? slots 0 ≡ some (Some r.memory) = end.4 0 (Some r.memory) (ap (λ (homes : List (mathlib.Core.Option.Option (Option MemoryState))). get_elem? homes 0) h.slot) in
-    let same : Some r.memory ≡ slot = some-injective (Some r.memory) slot (sym kept ∙ at) in
-    subst (λ (x : Option MemoryState). IfSome x (Agrees view)) same (r.agree id view end.1.1))
+    let same : r.memory ≡ memory = same_Some r.memory memory (some-injective (Some r.memory) (Some memory) (sym kept ∙ at)) in
+    subst (λ (x : MemoryState). Agrees view x) same (r.agree id view end.1.1))
     (λ o.
     let one : some 1 ≡ some 0 = ap (λ (ws : List ℕ). get_elem? ws 0) (sym o.word ∙ end.2) ∙ home in
     absurd (omega (arith, some-injective 1 0 one)))

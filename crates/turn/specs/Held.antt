@@ -9,7 +9,7 @@ use Rattle.turn.specs.Seats.{SeatState}
 
 -- the memory that is held
 abbrev pub memory_of : Held → MemoryState
-memory_of held = held.memory
+memory_of held = held.memory.value
 
 -- it is this seat that holds the memory
 abbrev pub IsBy : Held → SeatState → Type 0
@@ -17,7 +17,7 @@ IsBy held seat = (held.by.value.table_id ≡ seat.turn) × (held.by.value.id ≡
 
 -- the holder's memory with another in its place
 abbrev pub with_memory : Held → MemoryState → Held
-with_memory held memory = record held { memory = memory }
+with_memory held memory = record held { memory = record held.memory { value = memory } }
 
 -- the holder ends with the last memory behind the reference
 abbrev pub LendsMemory : MutBor Held → MutBor MemoryState → Fml

@@ -1,12 +1,13 @@
+use crate::boxed::Boxed;
 use crate::view::View;
 use page_table::Memory;
 use std::snapshot::Snapshot;
 
 /// The memory while a seat holds it. It must be given back.
 pub struct Held {
-    pub(crate) memory: Memory,
+    pub(crate) memory: Box<Memory>,
     /// The token of the seat that took it, which contracts alone see.
-    pub(crate) by: Snapshot<atomic_table::Seat<Option<Memory>, View>>,
+    pub(crate) by: Snapshot<atomic_table::Seat<Option<Boxed>, View>>,
 }
 
 impl Held {

@@ -2,13 +2,11 @@
 //! A seat knows its tenant's part of the memory, and what it knows outlives the turns of all others.
 #![tactic(auto)]
 
-#[cfg(test)]
-mod close_tests;
+mod bell;
+mod boxed;
 mod held;
 mod rule;
 mod seat;
-#[cfg(test)]
-mod tests;
 mod turn;
 mod view;
 

@@ -1,5 +1,6 @@
 ghost use Rattle.std.specs.Prelude.{◌+◌, ℕ, length, suc};
 
+use crate::boxed::Boxed;
 use crate::view::View;
 use atomic_table::{Play, Split, TableRule};
 use page_table::Memory;
@@ -8,7 +9,7 @@ use std::snapshot::Snapshot;
 /// The rule of the turn's one word.
 pub(crate) struct InTurn;
 
-impl TableRule<Option<Memory>, View, Snapshot<Memory>> for InTurn {
+impl TableRule<Option<Boxed>, View, Snapshot<Memory>> for InTurn {
     ghost use Rattle.turn.specs.Rule.{IsInTurn};
     ghost use Rattle.turn.specs.Views.{new_view};
 
@@ -20,7 +21,7 @@ impl TableRule<Option<Memory>, View, Snapshot<Memory>> for InTurn {
 /// A take, which wins or loses.
 pub(crate) struct Take;
 
-impl Play<Option<Memory>, View> for Take {
+impl Play<Option<Boxed>, View> for Take {
     ghost use Rattle.turn.specs.Rule.{Takes};
 
     ghost then = { Takes };
@@ -29,7 +30,7 @@ impl Play<Option<Memory>, View> for Take {
 /// A give.
 pub(crate) struct Give;
 
-impl Play<Option<Memory>, View> for Give {
+impl Play<Option<Boxed>, View> for Give {
     ghost use Rattle.turn.specs.Rule.{Gives};
 
     ghost then = { Gives };

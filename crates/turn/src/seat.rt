@@ -1,7 +1,7 @@
 ghost use Rattle.std.specs.Prelude.{◌≡◌, ◌+◌, ℕ, length, suc};
 
+use crate::boxed::Boxed;
 use crate::view::View;
-use page_table::Memory;
 use std::marker::{Model, PhantomData};
 
 /// Whose a seat is.
@@ -34,7 +34,7 @@ impl Kind for OfHost {
 /// A seat at a turn. It knows its tenants' parts of the memory, and only its own turns change them.
 #[derive(Drop)]
 pub struct Place<K: Kind> {
-    pub(crate) token: atomic_table::Seat<Option<Memory>, View>,
+    pub(crate) token: atomic_table::Seat<Option<Boxed>, View>,
     pub(crate) tenant: u32,
     pub(crate) kind: PhantomData<K>,
 }

@@ -5,6 +5,8 @@ ghost use Rattle.turn.specs.Views.{Agrees, Spares, new_view, holding, resting};
 ghost use Rattle.turn.specs.Seats.{SeatState, took, gave, IsNewSeat, RefusesTurn};
 ghost use Rattle.turn.specs.Held.{memory_of, IsBy};
 
+use crate::bell::Bell;
+use crate::boxed::Boxed;
 use crate::held::Held;
 use crate::rule::{CutNone, CutTenant, Give, InTurn, Take};
 use crate::seat::{HostSeat, Kind, Place, ScanSeat, Seat};
@@ -13,10 +15,10 @@ use atomic_table::{Refused, Table};
 use host_types::Fault;
 use page_table::Memory;
 use std::alloc::{AllocError, Global};
+use std::hint::spin_loop;
 use std::marker::{Model, PhantomData};
 use std::snapshot::Snapshot;
 use std::sync::Wait;
-use std::sync::atomic::{AtomicU64, Ordering};
 
 /// The word while the memory is home.
 const HOME: u64 = 0;
@@ -24,14 +26,19 @@ const HOME: u64 = 0;
 /// The word while the memory is out.
 const OUT: u64 = 1;
 
-type Token = atomic_table::Seat<Option<Memory>, View>;
+/// How often a loser looks at the word between two tries.
+const LOOKS: u32 = 100;
+
+/// How often a loser tries again before it sleeps: for some microseconds, in which most turns end.
+const TRIES: u32 = 8;
+
+type Token = atomic_table::Seat<Option<Boxed>, View>;
 
 /// The one memory, which threads take in turns. Contracts see which turn it is.
 #[derive(Drop)]
 pub struct Turn {
-    table: Table<Option<Memory>, View, Snapshot<Memory>, InTurn, Global>,
-    /// How many threads sleep until the memory is home, or are about to.
-    waiting: AtomicU64,
+    table: Table<Option<Boxed>, View, Snapshot<Memory>, InTurn, Global>,
+    bell: Bell,
 }
 
 impl Model for Turn {
@@ -101,15 +108,14 @@ impl Turn {
         ensures turn { IfOk result (λ r. r.1.table_id ≡ r.0) }
         ensures all { IfOk result (λ r. r.1.me ≡ (new_view 0 (length memory.tenants) memory, [])) }
     {
+        let bell = Bell::new(alloc)?;
         let key = Snapshot::of(&memory);
         let mut slots = Vec::with_capacity(alloc, 1)?;
-        slots.push(Some(memory))?;
+        let memory = Box::new(alloc, memory)?;
+        slots.push(Some(Boxed { memory }))?;
         match Table::new(alloc, &[HOME], slots, &key) {
             Ok((table, token)) => {
-                let turn = Turn {
-                    table,
-                    waiting: AtomicU64::new(0),
-                };
+                let turn = Turn { table, bell };
                 Ok((turn, token))
             }
             Err(Refused { slots: _ }) => Err(AllocError),
@@ -160,13 +166,32 @@ impl Turn {
         if let Some(held) = self.try_take(seat) {
             return held;
         }
-        self.waiting.fetch_add(1, Ordering::SeqCst);
-        let held = self.sleep_and_take(rt, seat);
-        self.waiting.fetch_sub(1, Ordering::SeqCst);
-        held
+        if let Some(held) = self.take_soon(seat) {
+            return held;
+        }
+        self.take_later(rt, seat)
     }
 
-    fn sleep_and_take<K: Kind>(&self, rt: &impl Wait, seat: &mut Place<K>) -> Held
+    /// Tries a few times, and looks at the word between tries.
+    fn take_soon<K: Kind>(&self, seat: &mut Place<K>) -> Option<Held>
+        requires turn { seat.old.turn ≡ self.now }
+        requires free { seat.old.view.holds ≡ false }
+        ensures none { IfNone result (seat.new ≡ seat.old) }
+        ensures seat { IfSome result (λ held. seat.new ≡ took seat.old (memory_of held)) }
+        ensures by { IfSome result (λ held. IsBy held seat.old) }
+        ensures known { IfSome result (λ held. Agrees seat.old.view (memory_of held)) }
+    {
+        for _try in 0..TRIES {
+            self.look();
+            if let Some(held) = self.try_take(seat) {
+                return Some(held);
+            }
+        }
+        None
+    }
+
+    /// Sleeps between tries until one wins.
+    fn take_later<K: Kind>(&self, rt: &impl Wait, seat: &mut Place<K>) -> Held
         requires turn { seat.old.turn ≡ self.now }
         requires free { seat.old.view.holds ≡ false }
         ensures seat { seat.new ≡ took seat.old (memory_of result) }
@@ -174,12 +199,24 @@ impl Turn {
         ensures known { Agrees seat.old.view (memory_of result) }
     {
         for _ in rt.forever() {
+            self.bell.ask();
             if let Some(held) = self.try_take(seat) {
                 return held;
             }
-            self.table.shared.park(rt, 0, OUT as u32);
+            self.bell.sleep(rt);
+            self.look();
         }
         unreachable!()
+    }
+
+    /// Looks at the word until the memory is home, but not for long.
+    fn look(&self) {
+        for _look in 0..LOOKS {
+            if self.table.shared.peek(0) == HOME {
+                return;
+            }
+            spin_loop();
+        }
     }
 
     /// Tries once to take the memory, and waits for nobody. `None` comes only after a lost try.
@@ -197,21 +234,22 @@ impl Turn {
     }
 
     /// Writes `OUT` where the memory is home, and then empties the slot. `None` where it was out.
-    fn take_out(&self, token: &mut Token) -> Option<Memory>
+    fn take_out(&self, token: &mut Token) -> Option<Box<Memory>>
         requires turn { token.old.table_id ≡ self.now }
         requires empty { token.old.me.1 ≡ [] }
         ensures none { IfNone result (token.new.me ≡ token.old.me) }
         ensures same { (token.new.table_id ≡ token.old.table_id) × (token.new.id ≡ token.old.id) }
         ensures won { IfSome result (λ memory.
-            token.new.me ≡ (holding token.old.me.0 memory, (0, None) ∷ [])) }
-        ensures known { IfSome result (Agrees token.old.me.0) }
+            token.new.me ≡ (holding token.old.me.0 memory.value, (0, None) ∷ [])) }
+        ensures known { IfSome result (λ memory. Agrees token.old.me.0 memory.value) }
     {
         let shared = &self.table.shared;
         let found = shared.compare_exchange::<Take>(token, 0, HOME, OUT);
         if found != HOME {
             return None;
         }
-        shared.exchange(token, 0, None)
+        let Boxed { memory } = shared.exchange(token, 0, None)?;
+        Some(memory)
     }
 
     /// Gives the memory back, and waits for nobody.
@@ -224,22 +262,20 @@ impl Turn {
     {
         let Held { memory, by: _ } = held;
         self.put_back(&mut seat.token, memory);
-        if self.waiting.load(Ordering::SeqCst) != 0 {
-            self.table.shared.wake_one(0);
-        }
+        self.bell.ring();
     }
 
     /// Puts a memory into the slot that the token emptied, and then writes `HOME`.
-    fn put_back(&self, token: &mut Token, memory: Memory)
+    fn put_back(&self, token: &mut Token, memory: Box<Memory>)
         requires turn { token.old.table_id ≡ self.now }
         requires holds { token.old.me.0.holds ≡ true }
         requires empty { token.old.me.1 ≡ (0, None) ∷ [] }
-        requires others { Spares token.old.me.0 memory }
+        requires others { Spares token.old.me.0 memory.value }
         ensures same { (token.new.table_id ≡ token.old.table_id) × (token.new.id ≡ token.old.id) }
-        ensures after { token.new.me ≡ (resting token.old.me.0 memory, []) }
+        ensures after { token.new.me ≡ (resting token.old.me.0 memory.value, []) }
     {
         let shared = &self.table.shared;
-        let _empty = shared.exchange(token, 0, Some(memory));
+        let _empty = shared.exchange(token, 0, Some(Boxed { memory }));
         shared.store::<Give>(token, 0, HOME);
     }
 
@@ -248,7 +284,7 @@ impl Turn {
         requires { seat.turn ≡ self }
         ensures { IfSome result (λ memory. Agrees seat.view memory) }
     {
-        let Turn { table, waiting: _ } = self;
+        let Turn { table, bell: _ } = self;
         let Place {
             token,
             tenant: _,
@@ -256,8 +292,12 @@ impl Turn {
         } = seat;
         let mut closed = table.close_with(token);
         let word = closed.word(0);
-        let memory = closed.take(0);
+        let home = closed.take(0);
         closed.free();
-        if word == HOME { memory } else { None }
+        if word != HOME {
+            return None;
+        }
+        let Boxed { memory } = home?;
+        Some(Box::into_inner(memory))
     }
 }

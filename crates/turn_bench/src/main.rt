@@ -1,110 +1,85 @@
 //! How long a turn takes, alone and between threads, beside a mutex of std round the same memory.
-//! The one argument is the number of turns; without it nothing is measured or printed.
+//! The one argument is the number of turns of a round; without it nothing is measured or printed.
 #![tactic(auto)]
 
-ghost use Rattle.std.specs.Prelude.{◌≡◌, ◌≤◌, ℕ, length, slice_get, IfOk, IfSome};
+ghost use Rattle.std.specs.Prelude.{◌≡◌};
 ghost use Rattle.turn.specs.Seats.{IsIdle};
 
-use host_types::{Fault, Options};
+mod jobs;
+
+use host_types::Options;
+use jobs::{Four, Job, Locks, Turns};
 use page_table::Memory;
-use std::alloc::Global;
 use std::rt::Clock;
 use std::sync::{Mutex, Wait};
 use std::thread::Threads;
 use std::time::{Duration, Instant};
 use std::{env, io, thread};
-use turn::{Seat, Turn};
 
-/// A turn with four seats.
-#[derive(Drop)]
-struct Four {
-    turn: Turn,
-    seats: (Seat, Seat, Seat, Seat),
-}
+/// How many rounds there are of each row. Its time is the one in the middle.
+const ROUNDS: usize = 11;
 
-/// A turn over a memory of four tenants without maps, and the tenants' seats.
-fn opened(alloc: Global) -> Result<(Turn, Vec<Seat>), Fault>
-    ensures count { IfOk result (λ r. length r.1.items ≡ 4) }
-    ensures idle { IfOk result (λ r. (t : ℕ) → IfSome (slice_get r.1.items t) (IsIdle r.0)) }
-{
-    let memory = Memory::new(alloc, 5, 4, Options::standard())?;
-    let (turn, seats, _scanner, _host) = Turn::new(alloc, memory, 4)?;
-    Ok((turn, seats))
-}
-
-fn four_seats(alloc: Global) -> Result<Four, Fault>
-    ensures first { IfOk result (λ four. IsIdle four.turn four.seats.0) }
-    ensures second { IfOk result (λ four. IsIdle four.turn four.seats.1) }
-    ensures third { IfOk result (λ four. IsIdle four.turn four.seats.2) }
-    ensures fourth { IfOk result (λ four. IsIdle four.turn four.seats.3) }
-{
-    let (turn, mut seats) = opened(alloc)?;
-    let fourth = seats.remove(3);
-    let third = seats.remove(2);
-    let second = seats.remove(1);
-    let first = seats.remove(0);
-    Ok(Four {
-        turn,
-        seats: (first, second, third, fourth),
-    })
-}
-
-/// Takes and gives the memory again and again.
-fn turns(rt: &impl Wait, turn: &Turn, mut seat: Seat, count: u32) -> Seat
-    requires { IsIdle turn.now seat }
-    ensures { IsIdle turn.now result }
-{
-    for _turn in 0..count {
-        let held = turn.take(rt, &mut seat);
-        turn.give(&mut seat, held);
-    }
-    seat
-}
-
-/// Two threads, each with so many turns.
-fn turns_of_two<R: Threads + Wait + Sync>(
+/// How long so many turns take, where each job is done by a thread of its own.
+fn time<R: Clock + Threads + Wait + Sync, J: Job + Send>(
     rt: &R,
-    turn: &Turn,
-    first: Seat,
-    second: Seat,
-    count: u32,
-) -> (Seat, Seat)
-    requires first { IsIdle turn.now first }
-    requires second { IsIdle turn.now second }
-    ensures first { IsIdle turn.now result.0 }
-    ensures second { IsIdle turn.now result.1 }
-{
-    thread::join(
+    jobs: &mut [J],
+    each: u32,
+) -> io::Result<Duration> {
+    let threads = jobs.len().max(1);
+    let start = Instant::now(rt)?;
+    thread::for_each_mut(
         rt,
-        ||
-            requires { IsIdle turn.now first }
-        { turns(rt, turn, first, count) },
-        ||
-            requires { IsIdle turn.now second }
-        { turns(rt, turn, second, count) },
-    )
+        jobs,
+        threads,
+        &|_place: usize, job: &mut J| job.work(rt, each),
+    );
+    start.elapsed(rt)
 }
 
-/// Locks and unlocks the memory again and again.
-fn locks(rt: &impl Wait, memory: &Mutex<Memory>, count: u32) {
-    for _turn in 0..count {
-        drop(memory.lock(rt));
+/// The time in the middle, of a turn and of a lock, in nanoseconds.
+fn middle<R: Clock + Threads + Wait + Sync>(
+    rt: &R,
+    turns: &mut [Turns<'_>],
+    locks: &mut [Locks<'_>],
+    each: u32,
+) -> io::Result<[Duration; 2]> {
+    let mut of_turns = [Duration::ZERO; ROUNDS];
+    let mut of_locks = [Duration::ZERO; ROUNDS];
+    for round in 0..ROUNDS {
+        of_turns[round] = time(rt, turns, each)?;
+        of_locks[round] = time(rt, locks, each)?;
     }
+    of_turns.sort_unstable();
+    of_locks.sort_unstable();
+    Ok([of_turns[ROUNDS / 2], of_locks[ROUNDS / 2]])
 }
 
-/// Two threads, each with so many locks.
-fn locks_of_two<R: Threads + Wait + Sync>(rt: &R, memory: &Mutex<Memory>, count: u32) {
-    thread::join(rt, || locks(rt, memory, count), || locks(rt, memory, count));
+/// Prints the table, a row for each number of threads.
+fn print_table<R: Print + Clock + Threads + Wait + Sync>(
+    rt: &R,
+    turns: &mut [Turns<'_>; 4],
+    locks: &mut [Locks<'_>; 4],
+    count: u32,
+) -> io::Result<()> {
+    println!(rt; "| threads | turn, ns | mutex, ns | times |")?;
+    println!(rt; "|---|---|---|---|")?;
+    for threads in [1, 2, 4] {
+        let each = count / (threads as u32);
+        let middles = middle(rt, &mut turns[..threads], &mut locks[..threads], each)?;
+        let [turn, lock] = middles.map(|time| time.as_secs_f64() * 1e9 / f64::from(count));
+        println!(rt;
+            "| {threads} | {turn:.1} | {lock:.1} | {:.1} |",
+            turn / lock
+        )?;
+    }
+    Ok(())
 }
 
-fn report(rt: &impl Print, name: &str, spent: Duration, count: u32) -> io::Result<()> {
-    let nanos = spent.as_secs_f64() * 1e9 / f64::from(count);
-    println!(rt; "{name}: {nanos:.1} ns a turn")
-}
-
-fn measure_turns<R: Print + Clock + Threads + Wait + Sync>(
+/// Measures the turn and a mutex round another such memory.
+fn measure<R: Print + Clock + Threads + Wait + Sync>(
     rt: &R,
     four: Four,
+    memory: &Mutex<Memory>,
     count: u32,
 ) -> io::Result<()>
     requires first { IsIdle four.turn four.seats.0 }
@@ -114,48 +89,31 @@ fn measure_turns<R: Print + Clock + Threads + Wait + Sync>(
 {
     let Four { turn, seats } = four;
     let (first, second, third, fourth) = seats;
-
-    let start = Instant::now(rt)?;
-    let first = turns(rt, &turn, first, count);
-    report(rt, "turn, one thread", start.elapsed(rt)?, count)?;
-
-    let start = Instant::now(rt)?;
-    let (first, second) = turns_of_two(rt, &turn, first, second, count / 2);
-    report(rt, "turn, two threads", start.elapsed(rt)?, count)?;
-
-    let start = Instant::now(rt)?;
-    thread::join(
-        rt,
-        ||
-            requires { IsIdle turn first × IsIdle turn second }
-        { turns_of_two(rt, &turn, first, second, count / 4) },
-        ||
-            requires { IsIdle turn third × IsIdle turn fourth }
-        { turns_of_two(rt, &turn, third, fourth, count / 4) },
-    );
-    report(rt, "turn, four threads", start.elapsed(rt)?, count)
-}
-
-fn measure_locks<R: Print + Clock + Threads + Wait + Sync>(
-    rt: &R,
-    memory: &Mutex<Memory>,
-    count: u32,
-) -> io::Result<()> {
-    let start = Instant::now(rt)?;
-    locks(rt, memory, count);
-    report(rt, "mutex, one thread", start.elapsed(rt)?, count)?;
-
-    let start = Instant::now(rt)?;
-    locks_of_two(rt, memory, count / 2);
-    report(rt, "mutex, two threads", start.elapsed(rt)?, count)?;
-
-    let start = Instant::now(rt)?;
-    thread::join(
-        rt,
-        || locks_of_two(rt, memory, count / 4),
-        || locks_of_two(rt, memory, count / 4),
-    );
-    report(rt, "mutex, four threads", start.elapsed(rt)?, count)
+    let mut turns = [
+        Turns {
+            turn: &turn,
+            seat: first,
+        },
+        Turns {
+            turn: &turn,
+            seat: second,
+        },
+        Turns {
+            turn: &turn,
+            seat: third,
+        },
+        Turns {
+            turn: &turn,
+            seat: fourth,
+        },
+    ];
+    let mut locks = [
+        Locks { memory },
+        Locks { memory },
+        Locks { memory },
+        Locks { memory },
+    ];
+    print_table(rt, &mut turns, &mut locks, count)
 }
 
 fn main(rt: HostRuntime) -> io::Result<()> {
@@ -165,12 +123,11 @@ fn main(rt: HostRuntime) -> io::Result<()> {
     let Ok(count) = word.as_str().parse::<u32>() else {
         return Ok(());
     };
-    let Ok(four) = four_seats(rt.alloc()) else {
+    let Ok(four) = Four::new(rt.alloc()) else {
         return Ok(());
     };
     let Ok(memory) = Memory::new(rt.alloc(), 5, 4, Options::standard()) else {
         return Ok(());
     };
-    measure_turns(&rt, four, count)?;
-    measure_locks(&rt, &Mutex::new(memory), count)
+    measure(&rt, four, &Mutex::new(memory), count)
 }

@@ -4,4 +4,4 @@ use Rattle.turn.proofs.turn.Turn.put_back.Goals as goal
 
 pub store-requires : goal.store-requires
 store-requires c =
-    (search rules, search rules, give_keeps _ _ _ _ c.args.memory (search rules) (search rules) (search rules) (search rules))
+    (search rules, search rules, give_keeps _ _ _ _ c.args.memory.value (search rules) (search rules) (search rules) (search rules))

@@ -1,0 +1,6 @@
+use Rattle.turn.specs.Seats.{IsIdle}
+use Rattle.tenant_workers.specs.Calls.{IsSameSeat}
+use Rattle.tenant_workers.proofs.shared.Shared.scan_batch.Given as goal
+
+abbrev pub invariant-loop-visit : goal.invariant-loop-visit
+invariant-loop-visit g l = IsIdle l.self l.seat × IsSameSeat l.fn.seat l.seat

@@ -1,0 +1,9 @@
+//! Calls on one memory that many threads share: each takes the turn, makes one call of the memory, and
+//! gives the turn back.
+#![tactic(auto)]
+
+mod host;
+mod scanning;
+mod shared;
+
+pub use shared::Shared;

@@ -1,0 +1,32 @@
+ghost use Rattle.std.specs.Prelude.{◌≡◌};
+ghost use Rattle.turn.specs.Seats.{IsIdle};
+ghost use Rattle.tenant_workers.specs.Calls.{IsSameSeat};
+
+use crate::shared::Shared;
+use scanner::visit;
+use std::sync::Wait;
+use turn::ScanSeat;
+
+impl Shared {
+    /// So many visits of the scanner, one turn a visit. No tenant's part changes.
+    pub fn scan_batch(&self, rt: &impl Wait, seat: &mut ScanSeat, visits: u32)
+        requires idle { IsIdle self.now seat.old }
+        ensures idle { IsIdle self.now seat.new }
+        ensures same { IsSameSeat seat.old seat.new }
+    {
+        for _visit in 0..visits {
+            self.scan(rt, seat);
+        }
+    }
+
+    /// One visit.
+    fn scan(&self, rt: &impl Wait, seat: &mut ScanSeat)
+        requires idle { IsIdle self.now seat.old }
+        ensures idle { IsIdle self.now seat.new }
+        ensures same { IsSameSeat seat.old seat.new }
+    {
+        let mut held = self.turn.take(rt, seat);
+        let _visited = visit(held.memory_mut());
+        self.turn.give(seat, held);
+    }
+}

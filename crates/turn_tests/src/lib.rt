@@ -1,0 +1,11 @@
+//! Tests of `turn` and `tenant_workers`, in a crate above them: so these are proved once.
+#![tactic(auto)]
+
+#[cfg(test)]
+mod calls;
+#[cfg(test)]
+mod ends;
+#[cfg(test)]
+mod numbers;
+#[cfg(test)]
+mod turns;
