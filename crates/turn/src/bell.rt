@@ -4,7 +4,7 @@ use atomic_table::{Play, Table, TableRule};
 use std::alloc::{AllocError, Global};
 use std::sync::Wait;
 
-/// Nobody sleeps, or somebody was woken who will set the word again before it takes.
+/// Nobody sleeps, or somebody was woken who will set the word again before it gives or sleeps.
 const QUIET: u64 = 0;
 
 /// Somebody sleeps, or is about to.
@@ -26,7 +26,7 @@ impl Play<(), ()> for Free {
 /// A word on which the losers of a turn sleep.
 ///
 /// A loser sets it, tries once more, and sleeps while it is set. Whoever gave the memory back unsets it
-/// and wakes one of them. That one sets it again before its next try, since others may sleep. So a sleep
+/// and wakes one of them. That one sets it again before it gives or sleeps, since others may sleep. So a sleep
 /// costs one wake, however many turns others have before the woken thread runs.
 #[derive(Drop)]
 pub(crate) struct Bell {

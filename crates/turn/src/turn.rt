@@ -190,7 +190,8 @@ impl Turn {
         None
     }
 
-    /// Sleeps between tries until one wins.
+    /// Sleeps between tries until one wins. Whoever slept asks for a ring before it gives, since others
+    /// may sleep.
     fn take_later<K: Kind>(&self, rt: &impl Wait, seat: &mut Place<K>) -> Held
         requires turn { seat.old.turn ≡ self.now }
         requires free { seat.old.view.holds ≡ false }
@@ -204,7 +205,10 @@ impl Turn {
                 return held;
             }
             self.bell.sleep(rt);
-            self.look();
+            if let Some(held) = self.take_soon(seat) {
+                self.bell.ask();
+                return held;
+            }
         }
         unreachable!()
     }
