@@ -2,6 +2,9 @@
 //! the same call succeeds when it is made again. A plain run of these tests refuses none;
 //! `rt try --test --fail-alloc N` refuses the Nth.
 
+ghost use Rattle.std.specs.Prelude.{◌≡◌, [], IfOk};
+ghost use Rattle.verifier.specs.Subject.{all_there};
+
 use bpf_decode::{Program, decode};
 use engines::check::check;
 use engines::replay::replay;
@@ -38,7 +41,9 @@ fn program(alloc: Global) -> Result<Program, Refused> {
     }
 }
 
-fn accepted(alloc: Global) -> Result<Verified, Refused> {
+fn accepted(alloc: Global) -> Result<Verified, Refused>
+    ensures { IfOk result (λ v. v.subject.shapes ≡ all_there []) }
+{
     match verify(alloc, program(alloc)?, &[], 8) {
         Err(Refused::OUT_OF_MEMORY) => verify(alloc, program(alloc)?, &[], 8),
         answer => answer,
