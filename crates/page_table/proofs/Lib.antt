@@ -29,3 +29,4 @@ pub mod Searching
 pub mod Scanning
 pub mod Partners
 pub mod Trees
+pub mod Slots

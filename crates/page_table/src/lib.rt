@@ -6,6 +6,7 @@
 mod counts;
 mod entry;
 mod memory;
+mod order;
 mod pass;
 mod search;
 mod table;

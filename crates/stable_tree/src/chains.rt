@@ -44,6 +44,15 @@ pub(crate) fn first_of(chains: &[Chain], frames: &[u32], chain: usize) -> u32
     chains[chain].first
 }
 
+/// How many groups a chain has.
+pub(crate) fn size_of(chains: &[Chain], frames: &[u32], chain: usize) -> usize
+    requires cut { AreCut chains.now frames.now }
+    requires chain { chain < length chains.now }
+    ensures { result ≡ length (slice_index_or (cut chains.now frames.now) chain []) }
+{
+    chains[chain].groups
+}
+
 /// The first of some frames that fewer than `limit` hold.
 pub(crate) fn first_below(frames: &[u32], counts: &[u32], limit: u32) -> Option<u32>
     requires { All (λ frame. frame < length counts.now) frames.now }
