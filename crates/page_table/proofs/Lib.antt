@@ -31,3 +31,4 @@ pub mod Scanning
 pub mod Tallying
 pub mod Partners
 pub mod Trees
+pub mod Slots

@@ -1,7 +1,7 @@
-ghost use Rattle.std.specs.Prelude.{◌≡◌, ◌≢◌, ◌++◌, ◌∷◌, [], ◌==◌, ◌+◌, ◌<◌, ◌≤◌, ℕ, List, not, nat_lt, filter, find, insert, remove, length, max, All, OnOk, OnErr, IfSome, slice_index_or, slice_set};
-ghost use Rattle.std.specs.Ordering.{nat_cmp};
+ghost use Rattle.std.specs.Prelude.{◌≡◌, ◌≢◌, ◌++◌, ◌∷◌, [], ◌==◌, ◌+◌, ◌<◌, ◌≤◌, ℕ, List, not, nat_lt, filter, find, insert, remove, length, max, All, IsTrue, ◌↔◌, if◌then◌else◌, OnOk, OnErr, IfSome, slice_index_or, slice_set};
+ghost use Rattle.std.specs.Ordering.{is_lt};
 ghost use Rattle.frame_arena.specs.Pages.{page_at};
-ghost use Rattle.stable_tree.specs.Groups.{Groups, IsSorted, IsSpot, IsCutAt, has, is_before, is_there, groups_of, groups_at, groups_found, chains_among, dups_among};
+ghost use Rattle.stable_tree.specs.Groups.{Groups, IsSorted, IsSpot, IsCutAt, has, order, is_before, is_there, groups_of, groups_at, groups_found, chains_among, dups_among};
 
 use crate::chains::{
     Chain, add, first_below, first_of, frames_of, lengthen, position_of, shorten, size_of, take_out,
@@ -155,13 +155,13 @@ impl StableTree {
         if !self.is_there(arena, frame, chain) {
             return;
         }
+        if self.size(chain) == 1 {
+            self.take_out_only(chain, frame);
+            return;
+        }
         let Some(place) = position_of(self.chain(chain), frame) else {
             return;
         };
-        if self.chain(chain).len() == 1 {
-            self.take_out(chain);
-            return;
-        }
         self.shorten(chain, place);
     }
 
@@ -177,6 +177,18 @@ impl StableTree {
         let groups = size_of(&self.chains, &self.frames, chain);
         shorten(&mut self.chains, &mut self.frames, chain, place);
         self.dups = self.dups.moved(groups, groups - 1);
+    }
+
+    // Takes out a chain of one group, if the group has the frame.
+    fn take_out_only(&mut self, chain: usize, frame: u32)
+        requires chain { chain < length self.old.chains }
+        requires one { length (slice_index_or self.old.chains chain []) ≡ 1 }
+        ensures { self.new ≡ (if slice_index_or (slice_index_or self.old.chains chain []) 0 0 == frame
+            then record self.old { chains = remove self.old.chains chain } else self.old) }
+    {
+        if self.first(chain) == frame {
+            self.take_out(chain);
+        }
     }
 
     // Takes out a chain of one frame.
@@ -225,6 +237,14 @@ impl StableTree {
         frames_of(&self.chains, &self.frames, chain)
     }
 
+    // How many groups a chain has.
+    fn size(&self, chain: usize) -> usize
+        requires { chain < length self.now.chains }
+        ensures { result ≡ length (slice_index_or self.now.chains chain []) }
+    {
+        size_of(&self.chains, &self.frames, chain)
+    }
+
     // The frame of a chain's earliest group.
     fn first(&self, chain: usize) -> u32
         requires { chain < length self.now.chains }
@@ -239,7 +259,7 @@ impl StableTree {
         requires sorted { IsSorted arena.now self.now.chains }
         ensures { result ≡ is_there arena.now (page_at arena.now frame) self.now.chains chain }
     {
-        chain < self.count() && arena.same(self.first(chain), frame)
+        chain < self.count() && same_page(arena, self.first(chain), frame)
     }
 
     // Whether the content of a chain comes before a frame's.
@@ -249,7 +269,7 @@ impl StableTree {
         requires sorted { IsSorted arena.now self.now.chains }
         ensures { result ≡ is_before arena.now (page_at arena.now frame) (slice_index_or self.now.chains chain []) }
     {
-        arena.order(self.first(chain), frame).is_lt()
+        comes_before(arena, self.first(chain), frame)
     }
 
     // The first chain whose content doesn't come before a frame's.
@@ -270,4 +290,22 @@ impl StableTree {
         }
         low
     }
+}
+
+/// Whether two frames have the same bytes. A frame isn't compared with itself.
+fn same_page(arena: &FrameArena, a: u32, b: u32) -> bool
+    requires a { a < length arena.now }
+    requires b { b < length arena.now }
+    ensures { IsTrue result ↔ (page_at arena.now a ≡ page_at arena.now b) }
+{
+    a == b || arena.same(a, b)
+}
+
+/// Whether the bytes of a frame come before another's. A frame isn't compared with itself.
+fn comes_before(arena: &FrameArena, a: u32, b: u32) -> bool
+    requires a { a < length arena.now }
+    requires b { b < length arena.now }
+    ensures { result ≡ is_lt (order (page_at arena.now a) (page_at arena.now b)) }
+{
+    a != b && arena.order(a, b).is_lt()
 }
