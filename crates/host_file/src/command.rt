@@ -9,14 +9,9 @@ pub enum Command {
     /// Applies an event of the host as it is.
     Apply(Event),
     /// Makes up to a number of steps of the tenant's open run.
-    Step {
-        tenant: u32,
-        count: u32,
-    },
+    Step { tenant: u32, count: u32 },
     /// Makes steps of the tenant's open run until it ends.
-    Finish {
-        tenant: u32,
-    },
+    Finish { tenant: u32 },
     /// Applies the event that opens a run and, where it is open then, makes its steps until it ends.
     Run(Event),
 }
