@@ -8,8 +8,6 @@ mod insn;
 mod operation;
 mod program;
 mod slot;
-#[cfg(test)]
-mod tests;
 mod text;
 mod typed;
 

@@ -6,8 +6,6 @@ mod arithmetic;
 mod jump;
 mod memory;
 mod operand;
-#[cfg(test)]
-mod tests;
 
 use arithmetic::write_arithmetic;
 use bpf_decode::{Insn, Operation};

@@ -1,2 +1,4 @@
 pub mod Check
 pub mod Lines
+pub mod Replay
+pub mod Sessions

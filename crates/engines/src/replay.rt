@@ -1,9 +1,12 @@
 //! The engine of `replay`: a host file's events in their order, on one thread.
 
-ghost use Rattle.std.specs.Prelude.{◌≡◌, ◌≤◌, IfErr, IfOk, IfSome, OnOk};
+ghost use Rattle.std.specs.Prelude.{◌≡◌, ◌≤◌, replicate, IfErr, IfOk, IfSome};
+ghost use Rattle.host_core.specs.World.{new_tenant};
+ghost use Rattle.host_core.specs.HostView.{StandsForWorld};
 ghost use Rattle.host_file.specs.Faults.{IsBad};
 ghost use Rattle.host_file.specs.HostFile.{IsFileText};
 ghost use Rattle.host_file.specs.declared.file.HostFile.{HostFile};
+ghost use Rattle.engines.specs.Replay.{IsReplayed};
 
 use crate::explanation::explain_host;
 use crate::fault::written;
@@ -15,10 +18,10 @@ use std::alloc::{AllocError, Global};
 use std::io;
 use std::io::{Read, Write};
 
-/// Applies the events of the host file that the reader gives, in their order. Each run that ends and
-/// each refusal is one line of the output; which event was refused, and what that means, goes to `words`.
-/// Answers the status: 0, or 1 if a refusal was written. A bad file applies nothing; after a write that
-/// fails no further event is applied.
+/// Applies the events of the host file that the reader gives, in their order, to a new host. Each run that
+/// ends and each refusal is one line of the output, and nothing else is written there; which event was
+/// refused, and what that means, goes to `words`. Answers the status: 0, or 1 if a refusal was written. A
+/// bad file applies nothing; after a write that fails no further event is applied.
 pub fn replay<R: Read, W: Write, E: Write>(
     alloc: Global,
     reader: &mut R,
@@ -26,11 +29,12 @@ pub fn replay<R: Read, W: Write, E: Write>(
     words: &mut E,
 ) -> Result<u8, FileFault>
     ensures status { IfOk result (λ status. status ≤ 1) }
-    ensures file { OnOk result (IfSome (R.remaining reader.old) (λ bytes. (file : HostFile) × IsFileText bytes file)) }
+    ensures replayed { IfOk result (λ status. IfSome (R.remaining reader.old) (λ bytes.
+        (file : HostFile) × IsFileText bytes file × IsReplayed file (W.contents writer.old) (W.contents writer.new) status)) }
     ensures bad { IfErr result (λ fault. IsBad fault → (writer.new ≡ writer.old) × (words.new ≡ words.old)) }
 {
     let file = file_from(alloc, reader)?;
-    let status = replay_file(alloc, file, writer, words);
+    let status = replay_file(alloc, &file, writer, words);
     let flushed = writer.flush();
     let status = status?;
     written(flushed)?;
@@ -60,27 +64,40 @@ fn read_fault(error: io::Error) -> FileFault {
     }
 }
 
+/// Applies the events of a host file to a new host.
 fn replay_file<W: Write, E: Write>(
     alloc: Global,
-    file: HostFile,
+    file: &HostFile,
     writer: &mut W,
     words: &mut E,
 ) -> Result<u8, FileFault>
-    ensures status { IfOk result (λ status. status ≤ 1) }
+    ensures replayed { IfOk result (IsReplayed file.now (W.contents writer.old) (W.contents writer.new)) }
     ensures fault { IfErr result (λ fault. ¬ IsBad fault) }
 {
-    let host = match Host::new(alloc, file.frames, file.tenants, file.options) {
-        Ok(host) => host,
+    match Host::new(alloc, file.frames, file.tenants, file.options) {
+        Ok(host) => replay_commands(alloc, host, file, writer, words),
         Err(fault) => {
             write_refusal(writer, fault)?;
             // The line is written: what it means may be lost.
             let _ = explain_host(words, &file.options, fault);
-            return Ok(1);
+            Ok(1)
         }
-    };
-    let mut session = Session::new(alloc, host, file.tenants).map_err(FileFault::OutOfMemory)?;
-    for (number, command) in file.commands.into_vec().into_iter().enumerate() {
-        session.perform(number, command, writer, words)?;
     }
+}
+
+/// Performs the commands of a host file on its new host.
+fn replay_commands<W: Write, E: Write>(
+    alloc: Global,
+    host: Host,
+    file: &HostFile,
+    writer: &mut W,
+    words: &mut E,
+) -> Result<u8, FileFault>
+    requires { StandsForWorld host (replicate file.now.tenants new_tenant) }
+    ensures replayed { IfOk result (IsReplayed file.now (W.contents writer.old) (W.contents writer.new)) }
+    ensures fault { IfErr result (λ fault. ¬ IsBad fault) }
+{
+    let mut session = Session::new(alloc, host, file.tenants)?;
+    session.perform_all(file.commands.as_slice(), writer, words)?;
     Ok(u8::from(session.has_refused()))
 }

@@ -182,6 +182,16 @@ made-last_step programs kept after limit number steps counted advanced w t tenan
     let happen = subst (λ k. AllHappen w (replicate m (Step t) ++ Step t ∷ []) (replicate m Stepped ++ Ended number k ∷ []) (slice_set w t next)) told all in
     (next, stands', (_, _, (m, omega (arith, is, within), (λ e. cc), refl, refl), happen))
 
+-- A run that goes on made fewer than 2^32 steps, since they are counted by a number of 32 bits.
+pub goes_on-few : (programs : List Accepted) (kept after : KeptRun) (limit steps : ℕ) → after.run.steps ≡ steps → steps < 4294967296
+    → IsKept (record { programs = programs; run = Some kept })
+    → ((accepted : Accepted) (s : MachineState) → slice_get programs kept.program ≡ Some accepted → StandsFor accepted kept.run s → HasAdvanced accepted s limit kept.run Private after.run)
+    → 4294967296 ≤ limit → ⊥
+goes_on-few programs kept after limit steps counted few is advanced great =
+    let (r, is_open, stood) = run-found programs kept is.tenant.run is.stands.run in
+    let (n, led, made, within, whole) = advanced stood.accepted r.state stood.numbered stood.state in
+    omega (arith, made, counted, few, great, whole refl)
+
 -- a tenant that made steps is still kept
 pub kept-made : (old new : TenantView) (limit : ℕ) (last : Option Reply) → HasMadeSteps old limit last new → IsKept old → All IsKeptProgram new.programs → IsKept new
 kept-made old new limit last made kept accepted =

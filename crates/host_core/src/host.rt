@@ -1,4 +1,4 @@
-ghost use Rattle.std.specs.Prelude.{◌≡◌, ◌↔◌, ◌⊎◌, IsTrue, Err, IfOk, IfErr, OnErr, replicate};
+ghost use Rattle.std.specs.Prelude.{◌≡◌, ◌≤◌, ◌↔◌, ◌⊎◌, IsSome, IsTrue, Err, IfOk, IfErr, OnErr, replicate};
 ghost use Rattle.host_types.specs.OptionTable.{AreOptions};
 ghost use Rattle.host_types.specs.declared.fault.Fault.TheVariants.{BadShape, BadOption, OutOfMemory};
 ghost use Rattle.host_core.specs.World.{World, new_tenant};
@@ -87,10 +87,12 @@ impl Host {
     }
 
     /// Makes steps of a tenant's open run, up to a limit, and none after one with which the run ends or
-    /// that is refused: the reply to that one, or `None` where the limit comes first. It takes no memory.
+    /// that is refused: the reply to that one, or `None` where the limit comes first. A run makes fewer
+    /// than 2^32 steps, so that such a limit never comes first. It takes no memory.
     pub fn make_steps(&mut self, tenant: u32, limit: u64) -> Option<Reply>
-        ensures { (w : World) → StandsForWorld self.old w
+        ensures steps { (w : World) → StandsForWorld self.old w
             → (next : World) × StandsForWorld self.new next × StepsHappen w tenant limit result next }
+        ensures ends { 4294967296 ≤ limit → IsSome result }
     {
         if limit == 0 {
             return None;

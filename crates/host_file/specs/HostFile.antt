@@ -1,14 +1,16 @@
 -- Host files (this project's own format, docs/HOST.md): what a TOML document says.
-use Rattle.std.specs.Prelude.{◌≡◌, ℕ, ◌≤◌, pos, List, [], ◌∷◌, codes, Any, MatchOption, Option, Some, Ok}
+use Rattle.std.specs.Prelude.{◌≡◌, ℕ, ◌≤◌, pos, List, [], ◌∷◌, codes, ◌⊎◌, Any, MatchOption, Option, Some, Ok}
 use Rattle.host_types.specs.declared.options.Options.{Options}
 use Rattle.host_types.specs.OptionTable.{default_options}
 use Rattle.hex.specs.Hex.{decode_of}
+use Rattle.host_core.specs.declared.event.Event.{Event}
+use Rattle.host_core.specs.declared.event.Event.TheVariants.{Load, Begin}
 use Rattle.toml.specs.Parse.{parse_document}
 use Rattle.toml.specs.Data.{Data, string, integer, array, table, Items, no_items, item, Members, no_members, member, get_member}
 use Rattle.host_file.specs.declared.key.Key.{Key}
 use Rattle.host_file.specs.declared.key.Key.TheVariants as key
 use Rattle.host_file.specs.declared.command.Command.{Command}
-use Rattle.host_file.specs.declared.command.Command.TheVariants.{Load, Begin, Step, Finish, Run}
+use Rattle.host_file.specs.declared.command.Command.TheVariants.{Apply, Step, Finish, Run}
 use Rattle.host_file.specs.declared.file.HostFile.{HostFile}
 
 -- the keys as they are written
@@ -77,25 +79,30 @@ HasOptions ms options = MatchOption (value_at ms key.Options) (options ≡ defau
 abbrev pub IsRow : Members → List ℕ → List Key → Type 0
 IsRow ms kind keys = HasString ms key.Do kind × HasOnly ms keys
 
--- the beginning of a run: a tenant, one of its programs, and the bytes of a context
-abbrev pub HasBeginning : Members → ℕ → ℕ → List ℕ → Type 0
-HasBeginning ms tenant program context =
-    HasNumber ms key.Tenant tenant × HasNumber ms key.Program program × HasHex ms key.Context context
+-- the table has what loads a program: a tenant, a text, and the size of its contexts
+abbrev pub IsLoading : Members → Event → Type 0
+IsLoading ms (Load tenant text context_size) =
+    HasOnly ms (key.Do ∷ key.Tenant ∷ key.Hex ∷ key.Context ∷ [])
+    × HasNumber ms key.Tenant tenant × HasHex ms key.Hex text × HasNumber ms key.Context context_size
+IsLoading ms _ = ⊥
+
+-- the table has what opens a run: a tenant, one of its programs, and the bytes of a context
+abbrev pub IsBeginning : Members → Event → Type 0
+IsBeginning ms (Begin tenant program context) =
+    HasOnly ms (key.Do ∷ key.Tenant ∷ key.Program ∷ key.Context ∷ [])
+    × HasNumber ms key.Tenant tenant × HasNumber ms key.Program program × HasHex ms key.Context context
+IsBeginning ms _ = ⊥
 
 -- the table of an event, by what it does
 abbrev pub IsEvent : Members → Command → Type 0
-IsEvent ms (Load tenant text context_size) =
-    IsRow ms (codes "load") (key.Do ∷ key.Tenant ∷ key.Hex ∷ key.Context ∷ [])
-    × HasNumber ms key.Tenant tenant × HasHex ms key.Hex text × HasNumber ms key.Context context_size
-IsEvent ms (Begin tenant program context) =
-    IsRow ms (codes "begin") (key.Do ∷ key.Tenant ∷ key.Program ∷ key.Context ∷ []) × HasBeginning ms tenant program context
+IsEvent ms (Apply event) =
+    (HasString ms key.Do (codes "load") × IsLoading ms event) ⊎ (HasString ms key.Do (codes "begin") × IsBeginning ms event)
 IsEvent ms (Step tenant count) =
     IsRow ms (codes "step") (key.Do ∷ key.Tenant ∷ key.Count ∷ [])
     × HasNumber ms key.Tenant tenant × HasNumberOr 1 ms key.Count count
 IsEvent ms (Finish tenant) =
     IsRow ms (codes "finish") (key.Do ∷ key.Tenant ∷ []) × HasNumber ms key.Tenant tenant
-IsEvent ms (Run tenant program context) =
-    IsRow ms (codes "run") (key.Do ∷ key.Tenant ∷ key.Program ∷ key.Context ∷ []) × HasBeginning ms tenant program context
+IsEvent ms (Run event) = HasString ms key.Do (codes "run") × IsBeginning ms event
 
 abbrev pub IsEventTable : Data → Command → Type 0
 IsEventTable (table ms) command = IsEvent ms command

@@ -1,38 +1,19 @@
 ghost use Rattle.std.specs.Prelude.{◌≡◌};
 
-use host_core::Bytes;
+use host_core::Event;
 use std::marker::Model;
 
 /// What an event of a host file asks for.
 #[derive(Debug, Drop)]
 pub enum Command {
-    /// Loads a program's text for contexts of a size in bytes.
-    Load {
-        tenant: u32,
-        text: Bytes,
-        context_size: u32,
-    },
-    /// Opens a run of a loaded program on a context.
-    Begin {
-        tenant: u32,
-        program: u32,
-        context: Bytes,
-    },
+    /// Applies an event of the host as it is.
+    Apply(Event),
     /// Makes up to a number of steps of the tenant's open run.
-    Step {
-        tenant: u32,
-        count: u32,
-    },
+    Step { tenant: u32, count: u32 },
     /// Makes steps of the tenant's open run until it ends.
-    Finish {
-        tenant: u32,
-    },
-    /// Opens a run and makes its steps until it ends.
-    Run {
-        tenant: u32,
-        program: u32,
-        context: Bytes,
-    },
+    Finish { tenant: u32 },
+    /// Applies the event that opens a run and, where it is open then, makes its steps until it ends.
+    Run(Event),
 }
 
 /// The commands of a host file in their order.
@@ -51,11 +32,10 @@ impl Model for Commands {
 }
 
 impl Commands {
-    /// The commands as a `Vec`, with no copy.
-    pub fn into_vec(self) -> Vec<Command>
-        ensures { result.items ≡ self }
+    pub fn as_slice(&self) -> &[Command]
+        ensures { result.now ≡ self.now }
     {
-        self.items
+        self.items.as_slice()
     }
 }
 

@@ -1,11 +1,12 @@
 ghost use Rattle.std.specs.Prelude.{codes, IfOk};
-ghost use Rattle.host_file.specs.HostFile.{HasString, IsEvent};
+ghost use Rattle.host_file.specs.HostFile.{HasString, IsBeginning, IsEvent};
 ghost use Rattle.host_file.specs.Section.{members_of};
 
 use crate::command::Command;
 use crate::fault::{Cause, FileFault};
 use crate::key::Key;
 use crate::section::Section;
+use host_core::Event;
 use std::alloc::Global;
 
 /// The command of an event's table.
@@ -27,23 +28,18 @@ fn load(alloc: Global, event: &Section<'_>) -> Result<Command, FileFault>
     ensures { IfOk result (IsEvent (members_of event.now)) }
 {
     event.require_only(alloc, &[Key::Do, Key::Tenant, Key::Hex, Key::Context])?;
-    Ok(Command::Load {
+    Ok(Command::Apply(Event::Load {
         tenant: event.number(Key::Tenant)?,
         text: event.bytes(alloc, Key::Hex)?,
         context_size: event.number(Key::Context)?,
-    })
+    }))
 }
 
 fn begin(alloc: Global, event: &Section<'_>) -> Result<Command, FileFault>
     requires { HasString (members_of event.now) Key.Do (codes "begin") }
     ensures { IfOk result (IsEvent (members_of event.now)) }
 {
-    event.require_only(alloc, &[Key::Do, Key::Tenant, Key::Program, Key::Context])?;
-    Ok(Command::Begin {
-        tenant: event.number(Key::Tenant)?,
-        program: event.number(Key::Program)?,
-        context: event.bytes(alloc, Key::Context)?,
-    })
+    Ok(Command::Apply(beginning(alloc, event)?))
 }
 
 fn step(alloc: Global, event: &Section<'_>) -> Result<Command, FileFault>
@@ -71,8 +67,15 @@ fn run(alloc: Global, event: &Section<'_>) -> Result<Command, FileFault>
     requires { HasString (members_of event.now) Key.Do (codes "run") }
     ensures { IfOk result (IsEvent (members_of event.now)) }
 {
+    Ok(Command::Run(beginning(alloc, event)?))
+}
+
+/// The event that opens a run.
+fn beginning(alloc: Global, event: &Section<'_>) -> Result<Event, FileFault>
+    ensures { IfOk result (IsBeginning (members_of event.now)) }
+{
     event.require_only(alloc, &[Key::Do, Key::Tenant, Key::Program, Key::Context])?;
-    Ok(Command::Run {
+    Ok(Event::Begin {
         tenant: event.number(Key::Tenant)?,
         program: event.number(Key::Program)?,
         context: event.bytes(alloc, Key::Context)?,

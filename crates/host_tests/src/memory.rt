@@ -120,7 +120,7 @@ fn reads_a_file_again(rt: HostRuntime) -> Result<(), Fail> {
         Err(FileFault::OutOfMemory(_)) => read_file(rt.alloc(), FILE)?,
         answer => answer?,
     };
-    assert!(rt; file.commands.into_vec().len() == 2);
+    assert!(rt; file.commands.as_slice().len() == 2);
     Ok(())
 }
 

@@ -36,7 +36,7 @@ impl Model for Tenant {
 }
 
 impl Tenant {
-    ghost use Rattle.std.specs.Prelude.{ℕ, length, ◌<◌};
+    ghost use Rattle.std.specs.Prelude.{ℕ, IsSome, ◌<◌, ◌≤◌};
     ghost use Rattle.host_core.specs.declared.event.Event.TheVariants.{Load, Begin, Step};
     ghost use Rattle.host_core.specs.World.{new_tenant};
     ghost use Rattle.host_core.specs.HostView.{StandsForTenant, IsServed, HasMadeSteps, reply_of};
@@ -130,7 +130,8 @@ impl Tenant {
     // each of them was made and the run goes on.
     pub(super) fn make_steps(&mut self, limit: u64) -> Option<Reply>
         requires { 0 < limit }
-        ensures { HasMadeSteps self.old limit result self.new }
+        ensures steps { HasMadeSteps self.old limit result self.new }
+        ensures ends { 4294967296 ≤ limit → IsSome result }
     {
         let Some(open) = &mut self.run else {
             return Some(Reply::Refused(Fault::NoRun));

@@ -1,14 +1,17 @@
-use Rattle.std.proofs.Common.{Option, Some, None, sym, subst}
+use Rattle.std.proofs.Common.{Option, Some, None, sym, refl, subst, arith}
 use Rattle.host_types.specs.declared.fault.Fault.TheVariants.{NoRun}
 use Rattle.host_core.specs.declared.event.Reply.TheVariants.{Ended, Refused}
-use Rattle.host_core.specs.HostView.{TenantView, HasMadeSteps}
-use Rattle.host_core.proofs.Stepping.{made-no_run, made-steps, made-last_step, kept-made}
+use Rattle.host_core.specs.HostView.{TenantView, HasMadeSteps, IsKept}
+use Rattle.host_core.proofs.Stepping.{goes_on-few, made-no_run, made-steps, made-last_step, kept-made}
 use Rattle.host_core.proofs.host.tenant.Tenant.make_steps.Goals as goal
 
 pub returns-in_default : goal.returns-in_default
 returns-in_default c =
     let seen : TenantView = record { programs = c.self.inside.programs.items; run = c.self.inside.run } in
-    subst (λ old. HasMadeSteps old c.args.limit (Some (Refused NoRun)) seen) c.self.view_is (made-no_run seen c.args.limit c.in_default.is c.requires)
+    record {
+      steps = subst (λ old. HasMadeSteps old c.args.limit (Some (Refused NoRun)) seen) c.self.view_is (made-no_run seen c.args.limit c.in_default.is c.requires);
+      ends = λ great. refl;
+    }
 
 -- the steps of a run that goes on
 goes_on : (c : goal.In-Private) → HasMadeSteps (record { programs = c.self.inside.programs.items; run = c.self.inside.run }) c.args.limit None (record { programs = c.self.inside.programs.items; run = Some c.advance-need.new.self })
@@ -25,7 +28,11 @@ invariant_of-self-in-Private c =
 pub returns-in-Private : goal.returns-in-Private
 returns-in-Private c =
     let new : TenantView = record { programs = c.self.inside.programs.items; run = Some c.advance-need.new.self } in
-    subst (λ old. HasMadeSteps old c.args.limit None new) c.self.view_is (goes_on c)
+    record {
+      steps = subst (λ old. HasMadeSteps old c.args.limit None new) c.self.view_is (goes_on c);
+      ends = λ great. absurd (goes_on-few c.self.inside.programs.items c.in-Some.open c.advance-need.new.self c.args.limit c.steps-steps.result (sym c.steps-steps.ensures) (omega arith) (subst (λ run. IsKept (record { programs = c.self.inside.programs.items; run = run })) c.in-Some.is c.self.invariant)
+          (λ accepted s found stands. c.in-Private.ensures.advanced accepted s (rw c.as_slice.ensures.value found) stands) great);
+    }
 
 -- the steps with the last of which a run ends
 ends : (c : goal.Joined-self-2) → HasMadeSteps (record { programs = c.self.inside.programs.items; run = c.self.inside.run }) c.args.limit (Some (Ended c.in-Ended.ret c.steps-steps.result)) (record { programs = c.self.inside.programs.items; run = None })
@@ -42,4 +49,7 @@ invariant_of-self-in-Ended c =
 pub returns-in-Ended : goal.returns-in-Ended
 returns-in-Ended c =
     let new : TenantView = record { programs = c.self.inside.programs.items; run = None } in
-    subst (λ old. HasMadeSteps old c.args.limit (Some (Ended c.in-Ended.ret c.steps-steps.result)) new) c.self.view_is (ends c)
+    record {
+      steps = subst (λ old. HasMadeSteps old c.args.limit (Some (Ended c.in-Ended.ret c.steps-steps.result)) new) c.self.view_is (ends c);
+      ends = λ great. refl;
+    }
