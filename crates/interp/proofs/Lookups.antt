@@ -1,9 +1,12 @@
 -- Where no map is there, no kind of a map describes a number.
-use Rattle.std.specs.Prelude.{◌≡◌, ℕ, zero, suc, [], replicate, slice_index_or, IsSomeAnd, Option, Some, None, refl}
-use Rattle.std.proofs.Common.{◌∙◌, ap}
+use Rattle.std.specs.Prelude.{◌≡◌, ℕ, zero, suc, [], replicate, slice_index_or, IsSomeAnd, IfSome, Option, None, refl}
+use Rattle.std.proofs.Common.{arith}
+use Rattle.std.proofs.lemmas.List.Elements.{All-replicate}
 use Rattle.host_types.specs.declared.shape.Shape.{Shape}
-use Rattle.verifier_kinds.specs.Kinds.{shape_at}
+use Rattle.host_types.specs.Shapes.{IsShape}
+use Rattle.verifier_kinds.specs.Kinds.{IsSetting, shape_at}
 use Rattle.verifier.specs.Subject.{Subject, all_there}
+use Rattle.interp.specs.Fits.{setting_of}
 
 nowhere : (n i : ℕ) → slice_index_or (replicate {A = Option Shape} n None) i None ≡ None
 nowhere zero i = refl
@@ -17,3 +20,7 @@ no_shape m = nowhere 8 m
 -- so nothing is known of one
 pub no_map : (p : Subject) (m : ℕ) (P : Shape → Type 0) → p.shapes ≡ all_there [] → IsSomeAnd (shape_at p.shapes m) P → ⊥
 no_map p m P none h = let gone = no_shape m in rw (none, gone) at h
+
+-- shapes of which none is there are within the limits
+pub no_setting : (p : Subject) (answers : ℕ → ℕ) → p.shapes ≡ all_there [] → IsSetting (setting_of p answers)
+no_setting p answers none = rw none record { few = omega arith; each = All-replicate (λ shape. IfSome shape IsShape) 8 None tt }
