@@ -1,37 +1,42 @@
 ghost use Rattle.verifier.specs.Subject.{IsContextSize};
+ghost use Rattle.verifier.specs.Verified.{AreShapes};
 
 use bpf_decode::decode;
-use host_types::Refused;
+use host_types::{Refused, Shape};
 use plain_verifier::{Judged, Table, judge_backward, judge_forward};
 use std::alloc::Global;
 use verifier::Verified;
 
-/// Whether both passes of the plain verifier answer of a well-formed text with a context of a size what
-/// `verify` answered: the same number and slot of a refusal, or the same kinds.
+/// Whether both passes of the plain verifier answer of a well-formed text, with maps of these shapes and a
+/// context of a size, what `verify` answered: the same number and slot of a refusal, or the same kinds.
 pub fn judge_alike(
     alloc: Global,
     text: &[u8],
+    shapes: &[Shape],
     size: u32,
     verified: &Result<Verified, Refused>,
 ) -> bool
-    requires { IsContextSize size }
+    requires shapes { AreShapes shapes.now }
+    requires context { IsContextSize size }
 {
-    forward(alloc, text, size).is_some_and(|judged| is_as(&judged, verified))
-        && backward(alloc, text, size).is_some_and(|judged| is_as(&judged, verified))
+    forward(alloc, text, shapes, size).is_some_and(|judged| is_as(&judged, verified))
+        && backward(alloc, text, shapes, size).is_some_and(|judged| is_as(&judged, verified))
 }
 
 // What the pass answers that joins in order; `None` where the decoder refuses, or for want of memory.
-fn forward(alloc: Global, text: &[u8], size: u32) -> Option<Judged>
-    requires { IsContextSize size }
+fn forward(alloc: Global, text: &[u8], shapes: &[Shape], size: u32) -> Option<Judged>
+    requires shapes { AreShapes shapes.now }
+    requires context { IsContextSize size }
 {
-    judge_forward(alloc, decode(alloc, text).ok()?, size).ok()
+    judge_forward(alloc, decode(alloc, text).ok()?, shapes, size).ok()
 }
 
 // What the pass answers that joins in the opposite order.
-fn backward(alloc: Global, text: &[u8], size: u32) -> Option<Judged>
-    requires { IsContextSize size }
+fn backward(alloc: Global, text: &[u8], shapes: &[Shape], size: u32) -> Option<Judged>
+    requires shapes { AreShapes shapes.now }
+    requires context { IsContextSize size }
 {
-    judge_backward(alloc, decode(alloc, text).ok()?, size).ok()
+    judge_backward(alloc, decode(alloc, text).ok()?, shapes, size).ok()
 }
 
 // Whether a text was judged as `verify` judged it.

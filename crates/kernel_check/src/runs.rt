@@ -45,7 +45,7 @@ fn verified_on_the_host(
 ) -> Outcome
     requires { IfOk verified (λ v. v.subject.shapes ≡ all_there []) }
 {
-    if judged_twice && !judge_alike(alloc, text, 0, &verified) {
+    if judged_twice && !judge_alike(alloc, text, &[], 0, &verified) {
         return Outcome::Disputed;
     }
     match verified {

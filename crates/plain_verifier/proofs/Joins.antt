@@ -5,12 +5,13 @@ use Rattle.std.proofs.lemmas.Nat.{and_comm}
 use Rattle.verifier_kinds.specs.declared.kind.Align.{Align}
 use Rattle.verifier_kinds.specs.declared.kind.Align.TheVariants.{One, Two, Four, Eight}
 use Rattle.verifier_kinds.specs.declared.kind.Range.{Range}
+use Rattle.verifier_kinds.specs.declared.kind.Offsets.{Offsets}
 use Rattle.verifier_kinds.specs.declared.kind.Kind.{Kind}
-use Rattle.verifier_kinds.specs.declared.kind.Kind.TheVariants.{Scalar, Context, Stack}
+use Rattle.verifier_kinds.specs.declared.kind.Kind.TheVariants.{Scalar, Context, Stack, MapValue, MaybeValue, MapName}
 use Rattle.verifier_kinds.specs.declared.description.StackSlot.{StackSlot}
 use Rattle.verifier_kinds.specs.declared.description.StackSlot.TheVariants.{Kept, Bytes}
 use Rattle.verifier_kinds.specs.declared.description.Description.{Description}
-use Rattle.verifier_kinds.specs.Kinds.{rank, of_rank, IsWithin, IsKindBelow, IsBelow}
+use Rattle.verifier_kinds.specs.Kinds.{rank, of_rank, range_in, offsets_in, IsWithin, IsKindBelow, IsBelow}
 use Rattle.verifier_kinds.specs.Descriptions.{IsSlotBelow, join_of_registers, join_of_slots, merged, join_of}
 use Rattle.verifier_kinds.proofs.Order.{below_trans, slot_below_trans}
 use Rattle.verifier_kinds.proofs.Joins.{register_below_join_left, register_below_join_right, slot_below_join_left, slot_below_join_right}
@@ -61,6 +62,9 @@ same_range a b p q =
     let range : ℕ → ℕ → Align → Range = λ low high align. record { low = low; high = high; align = align } in
     ap (λ n. range n a.high a.align) low ∙ ap (λ n. range b.low n a.align) high ∙ ap (range b.low b.high) align
 
+same_offsets : (a b : Offsets) → IsWithin (range_in a) (range_in b) → IsWithin (range_in b) (range_in a) → a ≡ b
+same_offsets a b p q = ap offsets_in (same_range (range_in a) (range_in b) p q)
+
 same_kind : (a b : Kind) → IsKindBelow a b → IsKindBelow b a → a ≡ b
 same_kind (Scalar a) (Scalar b) (x, is, within) (y, also, back) =
     let e : a ≡ x = cc in
@@ -68,8 +72,23 @@ same_kind (Scalar a) (Scalar b) (x, is, within) (y, also, back) =
     ap Scalar (same_range a b (rw e within) (rw f back))
 same_kind (Scalar a) (Context k) is q = is
 same_kind (Scalar a) (Stack k) is q = is
+same_kind (Scalar a) (MapValue n b) (x, is, within) q = absurd cc
+same_kind (Scalar a) (MaybeValue n j) is q = is
+same_kind (Scalar a) (MapName n) is q = is
 same_kind (Context k) b p q = sym q
 same_kind (Stack k) b p q = sym q
+same_kind (MapValue m a) (Scalar b) (x, is, within) q = absurd cc
+same_kind (MapValue m a) (Context k) is q = is
+same_kind (MapValue m a) (Stack k) is q = is
+same_kind (MapValue m a) (MapValue n b) (x, is, within) (y, also, back) =
+    let e : a ≡ x = cc in
+    let f : b ≡ y = cc in
+    let g : m ≡ n = cc in
+    ap (λ m. MapValue m a) g ∙ ap (MapValue n) (same_offsets a b (rw e within) (rw f back))
+same_kind (MapValue m a) (MaybeValue n j) is q = is
+same_kind (MapValue m a) (MapName n) is q = is
+same_kind (MaybeValue m i) b p q = sym q
+same_kind (MapName m) b p q = sym q
 
 same_register : (a b : Option Kind) → IsBelow a b → IsBelow b a → a ≡ b
 same_register None None p q = refl

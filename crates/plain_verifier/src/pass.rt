@@ -1,16 +1,17 @@
 //! One pass over the slots of a text, in either order of joins.
 
-ghost use Rattle.std.specs.Prelude.{◌≡◌, ◌+◌, ◌<◌, ◌++◌, [], IfOk};
+ghost use Rattle.std.specs.Prelude.{◌≡◌, ◌+◌, ◌<◌, ◌++◌, IfOk};
 ghost use Rattle.bpf_decode.specs.Text.{slots_of, IsWellFormed};
 ghost use Rattle.verifier.specs.Pass.{target_in};
 ghost use Rattle.verifier.specs.Subject.{IsContextSize, all_there};
+ghost use Rattle.verifier.specs.Verified.{AreShapes};
 ghost use Rattle.plain_verifier.specs.Orders.{pairs_of};
 ghost use Rattle.plain_verifier.specs.Pass.{IsJudged, IsPulled, IsSlotJudged};
 
 use crate::orders::{Order, joined};
 use crate::table::{Judged, Table};
 use bpf_decode::Program;
-use host_types::Refused;
+use host_types::{Refused, Shape};
 use std::alloc::{AllocError, Global};
 use verifier::{Candidate, Target};
 use verifier_kinds::Description;
@@ -91,23 +92,35 @@ fn judge(alloc: Global, candidate: &Candidate, order: Order) -> Result<Judged, A
     Ok(Judged::Accepted(Table { slots: pass.table }))
 }
 
-/// Judges a program that uses no map, and whose context has `ctx_size` bytes. At each slot it joins what
-/// flows there in the order of the slots that it comes from, the start's description first at slot 0. The
-/// error is want of memory.
-pub fn judge_forward(alloc: Global, program: Program, ctx_size: u32) -> Result<Judged, AllocError>
-    requires { IsContextSize ctx_size }
-    ensures { IfOk result (IsJudged (record { text = program; shapes = all_there []; context_size = ctx_size })) }
+/// Judges a program that may use maps of these shapes, by number, and whose context has `ctx_size` bytes.
+/// At each slot it joins what flows there in the order of the slots that it comes from, the start's
+/// description first at slot 0. The error is want of memory.
+pub fn judge_forward(
+    alloc: Global,
+    program: Program,
+    shapes: &[Shape],
+    ctx_size: u32,
+) -> Result<Judged, AllocError>
+    requires shapes { AreShapes shapes.now }
+    requires context { IsContextSize ctx_size }
+    ensures { IfOk result (IsJudged (record { text = program; shapes = all_there shapes.now; context_size = ctx_size })) }
 {
-    let candidate = Candidate::new(alloc, program, &[], ctx_size)?;
+    let candidate = Candidate::new(alloc, program, shapes, ctx_size)?;
     judge(alloc, &candidate, Order::Forward)
 }
 
 /// Judges it with joins in the opposite order: from the slot before back to slot 0, of each instruction
 /// first the slot to which it jumps, and the start's description last.
-pub fn judge_backward(alloc: Global, program: Program, ctx_size: u32) -> Result<Judged, AllocError>
-    requires { IsContextSize ctx_size }
-    ensures { IfOk result (IsJudged (record { text = program; shapes = all_there []; context_size = ctx_size })) }
+pub fn judge_backward(
+    alloc: Global,
+    program: Program,
+    shapes: &[Shape],
+    ctx_size: u32,
+) -> Result<Judged, AllocError>
+    requires shapes { AreShapes shapes.now }
+    requires context { IsContextSize ctx_size }
+    ensures { IfOk result (IsJudged (record { text = program; shapes = all_there shapes.now; context_size = ctx_size })) }
 {
-    let candidate = Candidate::new(alloc, program, &[], ctx_size)?;
+    let candidate = Candidate::new(alloc, program, shapes, ctx_size)?;
     judge(alloc, &candidate, Order::Backward)
 }

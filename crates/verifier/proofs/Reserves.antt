@@ -8,6 +8,8 @@ use Rattle.host_types.specs.declared.helper.MapHelper.TheVariants.{Update}
 use Rattle.host_types.specs.declared.shape.Shape.{Shape}
 use Rattle.host_types.specs.Helpers.{helper_of, update_charge}
 use Rattle.host_types.specs.Shapes.{stride_of}
+use Rattle.bpf_decode.specs.declared.operation.Size.{Size}
+use Rattle.bpf_decode.specs.declared.operation.Source.{Source}
 use Rattle.bpf_decode.specs.declared.operation.Operation.{Operation}
 use Rattle.bpf_decode.specs.declared.operation.Operation.TheVariants.{Store, Call}
 use Rattle.bpf_decode.specs.Opcodes.{operation_of, sign_extended}
@@ -58,6 +60,16 @@ cost_by-small p table slot (Some operation) = omega arith
 pub cost_small : (v : Accepted) (slot : ℕ) → cost_at v slot ≤ 2
 unfolding cost_at
 cost_small v slot = cost_by-small v.subject v.table slot (operation_of (insn_at v.subject.text slot).opcode)
+
+-- what a store may need
+pub cost_store : (v : Accepted) (slot : ℕ) (size : Size) (source : Source) → operation_of (insn_at v.subject.text slot).opcode ≡ Some (Store size source) → cost_at v slot ≡ store_cost (kind_at v.table slot (insn_at v.subject.text slot).dst)
+unfolding cost_at
+cost_store v slot size source e = ap (cost_by v.subject v.table slot) e
+
+-- what a call may need
+pub cost_call : (v : Accepted) (slot : ℕ) → operation_of (insn_at v.subject.text slot).opcode ≡ Some Call → cost_at v slot ≡ call_cost v.subject (helper_of (sign_extended (insn_at v.subject.text slot).imm)) (kind_at v.table slot 1)
+unfolding cost_at
+cost_call v slot e = ap (cost_by v.subject v.table slot) e
 
 -- the sums by their first slot
 costs_next : (v : Accepted) (slot n : ℕ) → costs_from v slot (suc n) ≡ cost_at v slot + costs_from v (suc slot) n
@@ -121,6 +133,13 @@ reserve_later v slot (suc n) = below (reserve_from v slot) (reserve_from v (slot
 
     one_more : (slot n : ℕ) → slot + suc n ≡ slot + n + 1
     one_more slot n = omega arith
+
+-- the same by the later slot
+pub reserve_below : (v : Accepted) (slot later : ℕ) → slot ≤ later → reserve_from v later ≤ reserve_from v slot
+reserve_below v slot later h = subst (λ s. reserve_from v s ≤ reserve_from v slot) (further slot later h) (reserve_later v slot (later - slot))
+  where
+    further : (slot later : ℕ) → slot ≤ later → slot + (later - slot) ≡ later
+    further slot later h = omega arith
 
 -- What the instruction at a slot may need, and the reserve of any later slot, are at most the reserve of
 -- the slot: each step of a run leads to a later slot.

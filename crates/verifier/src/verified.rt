@@ -91,9 +91,9 @@ impl Verified {
         known[usize::from(register)]
     }
 
-    /// How many frames a run may need from a slot on, at most: a store through a pointer to a map's
-    /// value 1, an update 1 or 2 by its map's shape, all else 0, and a slot that isn't reached 0.
-    /// At the end of the text it is 0.
+    /// How many frames the rest of a run may need from a slot on. Each slot from there to the end that is
+    /// reached adds 1 if it stores through a pointer to a map's value, and 1 or 2 if it updates a map,
+    /// by the map's stride; behind the end it's 0.
     #[inline]
     pub fn reserve(&self, slot: u32) -> u32
         ensures { result ≡ reserve_from self.now slot }
