@@ -31,4 +31,3 @@ pub mod Scanning
 pub mod Tallying
 pub mod Partners
 pub mod Trees
-pub mod Slots

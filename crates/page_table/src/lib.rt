@@ -7,7 +7,6 @@ mod counters;
 mod counts;
 mod entry;
 mod memory;
-mod order;
 mod pass;
 mod search;
 mod table;

@@ -1,4 +1,4 @@
-ghost use Rattle.std.specs.Prelude.{◌≡◌, ◌≢◌, ◌+◌, ◌-◌, ◌<◌, ◌≤◌, nat_lt, true, false, [], ◌∷◌, ◌++◌, All, drop, find, map, option_map, length, replicate, slice_index_or, slice_set, Option, Some, None, if◌then◌else◌, ◌==◌, IfOk, IfSome, MatchOption, ℕ};
+ghost use Rattle.std.specs.Prelude.{◌≡◌, ◌≢◌, ◌+◌, ◌-◌, ◌<◌, ◌≤◌, nat_lt, true, false, [], ◌∷◌, ◌++◌, All, drop, find, map, option_map, length, replicate, slice_index_or, slice_set, Option, Some, None, IfOk, IfSome, MatchOption, ℕ};
 ghost use Rattle.host_types.specs.Bytes.{with_part};
 ghost use Rattle.page_table.specs.declared.pass.Pass.{Pass};
 ghost use Rattle.host_types.specs.declared.status.Status.TheVariants.{Grouped};
@@ -12,7 +12,6 @@ ghost use Rattle.page_table.specs.Table.{TableState, CountsState, AreCounts, IsS
 
 use crate::counts::FrameCounts;
 use crate::entry::Entry;
-use crate::order::GroupOrder;
 use frame_arena::FrameArena;
 use host_types::Status;
 use stable_tree::StableTree;
@@ -28,24 +27,24 @@ pub(crate) struct Table {
     arena: FrameArena,
     counts: FrameCounts,
     entries: Vec<Option<Entry>>,
-    // the frames of the groups in order of creation
-    groups: GroupOrder,
+    // the frames of the groups in order of creation, with room for all frames
+    groups: Vec<u32>,
     // the same frames by the bytes of their pages, with room for all frames
     tree: StableTree,
 }
 
 impl Model for Table {
-    ghost use Rattle.std.specs.Prelude.{◌≤◌, length};
+    ghost use Rattle.std.specs.Prelude.{◌≤◌, length, vec_capacity};
     ghost use Rattle.page_table.specs.Table.{TableState, IsSound, IsTreeOf};
 
     ghost Value = { TableState };
 
-    ghost view = { λ t. record { arena = t.arena; entries = t.entries.items; groups = t.groups.listed } };
+    ghost view = { λ t. record { arena = t.arena; entries = t.entries.items; groups = t.groups.items } };
 
     ghost invariant = { λ t.
-        IsSound (record { arena = t.arena; entries = t.entries.items; groups = t.groups.listed }) t.counts
-        × (length t.arena ≤ t.groups.frames)
-        × IsTreeOf t.arena t.groups.listed t.tree };
+        IsSound (record { arena = t.arena; entries = t.entries.items; groups = t.groups.items }) t.counts
+        × (length t.arena ≤ vec_capacity t.groups)
+        × IsTreeOf t.arena t.groups.items t.tree };
 }
 
 impl Table {
@@ -58,7 +57,7 @@ impl Table {
         let arena = FrameArena::new(alloc, frames)?;
         let counts = FrameCounts::new(alloc, frames)?;
         let entries = vec![in alloc; None; places as usize]?;
-        let groups = GroupOrder::new(alloc, frames)?;
+        let groups = Vec::with_capacity(alloc, frames as usize)?;
         let mut tree = StableTree::new(alloc);
         tree.reserve(frames as usize)?;
         Ok(Table {
@@ -111,7 +110,7 @@ impl Table {
     pub(crate) fn has_groups(&self) -> bool
         ensures { result ≡ nat_lt 0 (length self.now.groups) }
     {
-        self.tree.groups() > 0
+        !self.groups.is_empty()
     }
 
     /// The frames of the groups in order of creation.
@@ -290,7 +289,7 @@ impl Table {
         ensures arena { length self.new.arena ≡ length self.old.arena }
     {
         self.entries[place] = Some(entry.broken(entry.frame));
-        self.groups.remove(entry.frame);
+        self.groups.retain(|frame| *frame != entry.frame);
         self.tree.remove(&self.arena, entry.frame);
     }
 
@@ -316,7 +315,8 @@ impl Table {
         self.entries[second] = Some(other.merged(one.frame, Status::Grouped));
         self.counts.share(one.frame);
         self.counts.release(other.frame);
-        self.groups.push(one.frame);
+        let pushed = self.groups.push(one.frame).is_ok();
+        prove!(pushed);
         self.tree.insert(&self.arena, one.frame);
     }
 
@@ -415,7 +415,7 @@ impl Table {
     {
         self.facts();
         let mut need = self.zero_pages();
-        for group in self.groups.slots() {
+        for group in &self.groups {
             need += self.pages_but_one(*group);
         }
         need
@@ -429,15 +429,12 @@ impl Table {
         self.counts.count(ZERO_FRAME) - 1
     }
 
-    /// How many pages the group of a slot has beside one. In an empty slot stands the zero frame.
+    /// How many pages a group has beside one.
     fn pages_but_one(&self, group: u32) -> u32
-        requires { group ≢ 0 → 1 ≤ times group self.now.groups }
-        ensures pages { result ≡ (if group == 0 then 0 else pages_on group self.now.entries - 1) }
+        requires { 1 ≤ times group self.now.groups }
+        ensures pages { result ≡ pages_on group self.now.entries - 1 }
         ensures few { result ≤ 32768 }
     {
-        if group == ZERO_FRAME {
-            return 0;
-        }
         self.counts.count(group) - 1
     }
 
