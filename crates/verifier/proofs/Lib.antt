@@ -10,4 +10,5 @@ pub mod Naming
 pub mod Lawful
 pub mod Tight
 pub mod Passes
+pub mod Reserves
 pub mod WithoutMaps

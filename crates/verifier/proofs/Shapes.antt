@@ -67,3 +67,16 @@ shapes_all_there shapes a = record {
   eight = let few = a.few in simp (length-append, length-map, length-replicate) (omega arith);
   each = All-append (λ shape. IfSome shape IsShape) _ _ (All-map (λ shape. IfSome shape IsShape) Some shapes a.each) (all_none (8 - length shapes));
 }
+
+-- a shape that is there is within the limits
+shape_each : (p : Subject) (m : ℕ) → HasShapes p.shapes → IfSome (shape_at p.shapes m) IsShape
+shape_each p m h = elim (cases_lt m (length p.shapes)) [
+  | inl within ↦ All-get_or (λ shape. IfSome shape IsShape) p.shapes m None within h.each
+  | inr past ↦ rw (get_or_past p.shapes m None past) tt
+]
+
+-- so is one of the list
+pub shape_is_shape : (p : Subject) (shapes : List Shape) (m : ℕ) (shape : Shape) → HasShapes p.shapes → p.shapes ≡ all_there shapes → m < length shapes → shape ≡ get_or shapes m shape → IsShape shape
+shape_is_shape p shapes m shape h all within is =
+    let there : shape_at p.shapes m ≡ Some shape = ap (λ shapes. shape_at shapes m) all ∙ shape_before shapes (8 - length shapes) m shape within ∙ ap Some (sym is) in
+    rw there at (shape_each p m h)

@@ -1,10 +1,9 @@
 -- How many frames the rest of a run may need: each store through a pointer to a map's value and each
 -- update may break pages that share frames (this project's own rule).
-use Rattle.std.specs.Prelude.{ℕ, zero, suc, ◌+◌, ◌-◌, Option, Some, None, option_map, unwrap_or}
+use Rattle.std.specs.Prelude.{◌≡◌, ℕ, zero, suc, ◌+◌, ◌-◌, List, slice_index_or, Option, Some, None, option_map, unwrap_or}
 use Rattle.host_types.specs.declared.helper.MapHelper.{MapHelper}
-use Rattle.host_types.specs.declared.helper.MapHelper.TheVariants.{Lookup, Update, Delete}
+use Rattle.host_types.specs.declared.helper.MapHelper.TheVariants.{Update}
 use Rattle.host_types.specs.Helpers.{helper_of, update_charge}
-use Rattle.bpf_decode.specs.declared.insn.Insn.{Insn}
 use Rattle.bpf_decode.specs.declared.operation.Operation.{Operation}
 use Rattle.bpf_decode.specs.declared.operation.Operation.TheVariants.{Store, Call}
 use Rattle.bpf_decode.specs.Opcodes.{operation_of, sign_extended}
@@ -50,3 +49,11 @@ costs_from v slot (suc n) = cost_at v slot + costs_from v (suc slot) n
 -- what the rest of a program may need from a slot on
 abbrev pub reserve_from : Accepted → ℕ → ℕ
 reserve_from v slot = costs_from v slot (slots_of v.subject.text - slot)
+
+-- what is kept for the slots of a program is their reserves, and behind the text 0
+abbrev pub AreReserves : Accepted → List ℕ → Type 0
+AreReserves v reserves = (slot : ℕ) → slice_index_or reserves slot 0 ≡ reserve_from v slot
+
+-- at a slot of a table the registers have these kinds
+abbrev pub HasKindsAt : Table → ℕ → List (Option Kind) → Type 0
+HasKindsAt table slot kinds = (register : ℕ) → kind_at table slot register ≡ slice_index_or kinds register None

@@ -341,12 +341,7 @@ fn written_slot(size: Size, slot: StackSlot, at: u64, kind: Kind) -> Result<Stac
 }
 
 /// What is known after a store to the stack at an offset from its end.
-fn after_stack_store(
-    size: Size,
-    offset: i64,
-    kind: Kind,
-    d: &mut Description,
-) -> Result<(), u32>
+fn after_stack_store(size: Size, offset: i64, kind: Kind, d: &mut Description) -> Result<(), u32>
     requires near { offset ≤ℤ pos 4294967296 }
     requires kind { IsKind kind }
     requires description { IsDescription d.old }

@@ -134,11 +134,7 @@ fn key_argument(candidate: &Candidate, d: &Description) -> Result<(), u32>
 }
 
 /// R3 of an update is where the value is, of as many bytes as the map's values have.
-fn value_argument(
-    candidate: &Candidate,
-    d: &Description,
-    map: Result<u32, u32>,
-) -> Result<(), u32>
+fn value_argument(candidate: &Candidate, d: &Description, map: Result<u32, u32>) -> Result<(), u32>
     requires { IsDescription d.now }
     ensures { result ≡ value_argument candidate.now d.now map }
 {

@@ -91,7 +91,8 @@ impl Candidate {
 
     /// The shapes of the maps that the program may use, by number.
     pub(crate) fn shapes(&self) -> &[Shape]
-        ensures { all_there result.now ≡ self.now.shapes }
+        ensures shapes { all_there result.now ≡ self.now.shapes }
+        ensures subject { IsSubject self.now }
     {
         self.shapes.as_slice()
     }

@@ -1,4 +1,4 @@
-ghost use Rattle.verifier.specs.Laws.{HasOneRefusal, HasOneTable, RefusalExcludesTable};
+ghost use Rattle.verifier.specs.Laws.{HasOneRefusal, HasOneTable, RefusalExcludesTable, ReserveCoversStep, ReserveEndsAtNone};
 
 /// A subject has one refusal or one tight table at most, and not both, so what `verify` answers
 /// is the only answer that there is. This is a law about the definitions: the function does nothing.
@@ -6,4 +6,12 @@ pub fn answer_is_one()
     ensures refusal { HasOneRefusal }
     ensures table { HasOneTable }
     ensures exclusive { RefusalExcludesTable }
+{}
+
+/// A step to a later slot needs no more than what the reserve falls by, so a run that is admitted with
+/// the reserve of its slot has frames for all its stores; behind the text nothing is reserved. This is
+/// a law about the definitions: the function does nothing.
+pub fn reserve_falls()
+    ensures step { ReserveCoversStep }
+    ensures end { ReserveEndsAtNone }
 {}

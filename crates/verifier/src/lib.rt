@@ -9,6 +9,7 @@ mod candidate;
 mod flow;
 mod jumps;
 mod laws;
+mod reserve;
 mod rules;
 mod table;
 mod targets;
@@ -17,5 +18,5 @@ mod way;
 
 pub use candidate::Candidate;
 pub use flow::{Onward, Target};
-pub use laws::answer_is_one;
+pub use laws::{answer_is_one, reserve_falls};
 pub use verified::{Verified, verify};

@@ -4,8 +4,10 @@ ghost use Rattle.bpf_decode.specs.Text.{slots_of, insn_at, instructions_of, IsIn
 ghost use Rattle.verifier.specs.Subject.{IsContextSize, all_there};
 ghost use Rattle.verifier.specs.Table.{IsRefusal};
 ghost use Rattle.verifier.specs.Verified.{AreShapes, IsVerified, kind_at};
+ghost use Rattle.verifier.specs.Reserve.{reserve_from};
 
 use crate::candidate::Candidate;
+use crate::reserve::reserves;
 use crate::table::{Registers, kept_kinds};
 use bpf_decode::{Insn, Program};
 use host_types::{Refused, Shape};
@@ -14,12 +16,14 @@ use std::marker::Model;
 use verifier_kinds::Kind;
 
 /// An accepted program, with the shapes of the maps that it may use, the size of its context, and
-/// what is known at each of its slots. Contracts see these.
+/// what is known at each of its slots. Contracts see these. What the rest of a run may need from
+/// each slot on is kept beside them, so that it's told in constant time.
 #[derive(Drop)]
 pub struct Verified {
     candidate: Candidate,
     kept: Vec<Option<Registers>>,
     instructions: u32,
+    reserves: Vec<u32>,
 }
 
 impl Model for Verified {
@@ -28,6 +32,7 @@ impl Model for Verified {
     ghost use Rattle.verifier.specs.Table.{tight_table};
     ghost use Rattle.verifier.specs.Pass.{kinds_in};
     ghost use Rattle.verifier.specs.Verified.{Accepted, IsVerified};
+    ghost use Rattle.verifier.specs.Reserve.{AreReserves};
 
     ghost Value = { Accepted };
 
@@ -37,6 +42,7 @@ impl Model for Verified {
       verified : IsVerified (record { subject = v.candidate; table = tight_table v.candidate });
       kept : v.kept.items ≡ map kinds_in (tight_table v.candidate);
       counted : v.instructions ≡ instructions_of v.candidate.text;
+      reserved : AreReserves (record { subject = v.candidate; table = tight_table v.candidate }) v.reserves.items;
     } };
 }
 
@@ -85,6 +91,19 @@ impl Verified {
         known[usize::from(register)]
     }
 
+    /// How many frames the rest of a run may need from a slot on. Each slot from there to the end that is
+    /// reached adds 1 if it stores through a pointer to a map's value, and 1 or 2 if it updates a map,
+    /// by the map's stride; behind the end it's 0.
+    #[inline]
+    pub fn reserve(&self, slot: u32) -> u32
+        ensures { result ≡ reserve_from self.now slot }
+    {
+        match self.reserves.get(slot as usize) {
+            Some(reserve) => *reserve,
+            None => 0,
+        }
+    }
+
     /// The shapes of the maps that the program may use, by number.
     pub fn shapes(&self) -> &[Shape]
         ensures { all_there result.now ≡ self.now.subject.shapes }
@@ -128,9 +147,13 @@ pub fn verify(
     };
     let kept = kept_kinds(alloc, &candidate)?;
     let instructions = candidate.count_instructions();
+    let Ok(reserves) = reserves(alloc, &candidate, &kept) else {
+        return Err(Refused::OUT_OF_MEMORY);
+    };
     Ok(Verified {
         candidate,
         kept,
         instructions,
+        reserves,
     })
 }

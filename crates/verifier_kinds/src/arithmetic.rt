@@ -247,7 +247,8 @@ fn within_value(map: u32, align: Align, low: i128, high: i128) -> Result<Kind, u
 #[cfg(test)]
 mod tests {
     use super::*;
-    use crate::kind::Align;
+    use crate::rows::tests::range;
+    use Kind::{Context, Stack};
 
     const ADD: u8 = 0x0f;
 
@@ -259,139 +260,182 @@ mod tests {
 
     const MOV_32: u8 = 0xbc;
 
-    /// An instruction with two registers (RFC 9669, section 4.1).
-    fn insn(opcode: u8, offset: i16) -> Insn
-        requires { opcode ≡ 15 ⊎ (opcode ≡ 31 ⊎ (opcode ≡ 12 ⊎ (opcode ≡ 191 ⊎ opcode ≡ 188))) }
-        ensures { IsArithmetic result }
+    /// Less 1, less 7 and less 8, as numbers of 64 bits.
+    const LESS_1: u64 = u64::MAX;
+
+    const LESS_7: u64 = u64::MAX - 6;
+
+    const LESS_8: u64 = u64::MAX - 7;
+
+    /// The kind as one that the verifier may know, which it is in each row.
+    fn kind(of: Kind) -> Kind
+        ensures { IsKind result }
     {
-        Insn {
+        match of {
+            Kind::Scalar(r) => Kind::Scalar(range((r.low, r.high, r.align.factor()))),
+            Context(offset) if -65536 <= offset && offset <= 65536 => Context(offset),
+            Stack(offset) if -65536 <= offset && offset <= 65536 => Stack(offset),
+            Kind::MapValue { map, offsets } => {
+                let r = offsets.range();
+                let r = range((r.low, r.high, r.align.factor()));
+                Kind::MapValue {
+                    map,
+                    offsets: if r.high <= 131072 {
+                        Offsets::of(r)
+                    } else {
+                        Offsets::BEGINNING
+                    },
+                }
+            }
+            Kind::MaybeValue { map, call } => Kind::MaybeValue { map, call },
+            _ => Kind::MapName(0),
+        }
+    }
+
+    /// An instruction with two registers (RFC 9669, section 4.1), what is known of both, and what is
+    /// known of dst afterwards.
+    type Row = (u8, i16, Option<Kind>, Kind, Result<Kind, u32>);
+
+    fn is_made(row: Row) -> bool {
+        let (opcode, offset, a, b, result) = row;
+        let insn = Insn {
             opcode,
             dst: 1,
             src: 2,
             offset,
             imm: 0,
             next_imm: 0,
-        }
+        };
+        let made = match (Operation::of(opcode), a) {
+            (Some(Operation::Alu { .. }), Some(a)) => arith(&insn, Some(kind(a)), kind(b)),
+            (Some(Operation::Alu { .. }), None) => arith(&insn, None, kind(b)),
+            _ => return false,
+        };
+        made == result
     }
 
-    fn add(a: Kind, b: Kind) -> Result<Kind, u32>
-        requires left { IsKind a }
-        requires right { IsKind b }
-    {
-        arith(&insn(ADD, 0), Some(a), b)
+    fn numbers(low: u64, high: u64, align: Align) -> Kind {
+        Kind::Scalar(Range { low, high, align })
     }
 
-    fn sub(a: Kind, b: Kind) -> Result<Kind, u32>
-        requires left { IsKind a }
-        requires right { IsKind b }
-    {
-        arith(&insn(SUB, 0), Some(a), b)
-    }
-
-    fn constant(n: u64) -> Kind
-        ensures { IsKind result }
-    {
+    fn constant(n: u64) -> Kind {
         Kind::Scalar(Range::constant(n))
     }
 
-    fn byte() -> Kind
-        ensures { IsKind result }
-    {
-        Kind::Scalar(Range {
-            low: 0,
-            high: 255,
-            align: Align::One,
-        })
-    }
-
-    fn minus(n: u64) -> u64 {
-        n.wrapping_neg()
+    fn byte() -> Kind {
+        numbers(0, 255, Align::One)
     }
 
     #[test]
     fn computes_with_numbers(rt: HostRuntime) {
-        let twelve = Kind::Scalar(Range {
-            low: 12,
-            high: 12,
-            align: Align::Four,
-        });
-        assert_eq!(rt; add(constant(5), constant(7)), Ok(twelve));
-        assert_eq!(rt; add(constant(minus(1)), constant(13)), Ok(twelve));
-        assert_eq!(rt; sub(constant(5), constant(minus(7))), Ok(twelve));
-        assert_eq!(rt;
-            arith(&insn(ADD_32, 0), Some(constant(5)), constant(7)),
-            Ok(twelve)
-        );
-        assert_eq!(rt; arith(&insn(MOV, 0), None, byte()), Ok(byte()));
-        assert_eq!(rt; arith(&insn(MOV_32, 0), None, byte()), Ok(byte()));
-        assert_eq!(rt; arith(&insn(MOV, 8), None, constant(0x10c)), Ok(twelve));
-        assert_eq!(rt; arith(&insn(ADD, 0), None, byte()), Err(UNSET_REGISTER));
-        assert_eq!(rt;
-            arith(&insn(ADD_32, 0), None, Kind::Stack(0)),
-            Err(UNSET_REGISTER)
-        );
+        let twelve = Ok(numbers(12, 12, Align::Four));
+        let five = Some(constant(5));
+        let rows = [
+            (ADD, 0, five, constant(7), twelve),
+            (ADD, 0, Some(constant(LESS_1)), constant(13), twelve),
+            (SUB, 0, five, constant(LESS_7), twelve),
+            (ADD_32, 0, five, constant(7), twelve),
+            (MOV, 0, None, byte(), Ok(byte())),
+            (MOV_32, 0, None, byte(), Ok(byte())),
+            (MOV, 8, None, constant(0x10c), twelve),
+            (ADD, 0, None, byte(), Err(UNSET_REGISTER)),
+            (ADD_32, 0, None, Stack(0), Err(UNSET_REGISTER)),
+        ];
+        assert_eq!(rt; rows.iter().position(|row| !is_made(*row)), None);
     }
 
     #[test]
     fn moves_pointers(rt: HostRuntime) {
-        assert_eq!(rt;
-            add(Kind::Stack(0), constant(minus(8))),
-            Ok(Kind::Stack(-8))
-        );
-        assert_eq!(rt;
-            add(Kind::Context(8), constant(minus(8))),
-            Ok(Kind::Context(0))
-        );
-        assert_eq!(rt;
-            add(Kind::Stack(-65536), constant(minus(1))),
-            Err(OUTSIDE_STACK)
-        );
-        assert_eq!(rt;
-            add(Kind::Context(65536), constant(1)),
-            Err(OUTSIDE_CONTEXT)
-        );
-        assert_eq!(rt;
-            add(Kind::Context(0), constant(1 << 63)),
-            Err(OUTSIDE_CONTEXT)
-        );
+        let first = 1 << 63;
+        let rows = [
+            (ADD, Stack(0), LESS_8, Ok(Stack(-8))),
+            (ADD, Context(8), LESS_8, Ok(Context(0))),
+            (ADD, Stack(-65536), LESS_1, Err(OUTSIDE_STACK)),
+            (ADD, Context(65536), 1, Err(OUTSIDE_CONTEXT)),
+            (ADD, Context(0), first, Err(OUTSIDE_CONTEXT)),
+            (SUB, Stack(0), 8, Ok(Stack(-8))),
+            (SUB, Stack(-8), LESS_8, Ok(Stack(0))),
+            (SUB, Context(65536), 65536, Ok(Context(0))),
+            (SUB, Stack(-65536), 1, Err(OUTSIDE_STACK)),
+            (SUB, Context(65536), LESS_1, Err(OUTSIDE_CONTEXT)),
+            (SUB, Context(0), first, Err(OUTSIDE_CONTEXT)),
+        ];
+        let wrong = rows.iter().position(|row| {
+            !is_made((row.0, 0, Some(row.1), constant(row.2), row.3))
+        });
+        assert_eq!(rt; wrong, None);
+    }
+
+    /// The offsets of the values of a map, each 65536 more than it is.
+    fn value(low: u32, high: u32, align: Align) -> Kind {
+        Kind::MapValue {
+            map: 3,
+            offsets: Offsets { low, high, align },
+        }
     }
 
     #[test]
-    fn moves_pointers_back(rt: HostRuntime) {
-        assert_eq!(rt; sub(Kind::Stack(0), constant(8)), Ok(Kind::Stack(-8)));
-        assert_eq!(rt;
-            sub(Kind::Stack(-8), constant(minus(8))),
-            Ok(Kind::Stack(0))
-        );
-        assert_eq!(rt;
-            sub(Kind::Context(65536), constant(65536)),
-            Ok(Kind::Context(0))
-        );
-        assert_eq!(rt; sub(Kind::Stack(-65536), constant(1)), Err(OUTSIDE_STACK));
-        assert_eq!(rt;
-            sub(Kind::Context(65536), constant(minus(1))),
-            Err(OUTSIDE_CONTEXT)
-        );
-        assert_eq!(rt;
-            sub(Kind::Context(0), constant(1 << 63)),
-            Err(OUTSIDE_CONTEXT)
-        );
+    fn moves_pointers_to_values(rt: HostRuntime) {
+        let first = value(65536, 65536, Align::Eight);
+        let last = value(131072, 131072, Align::Eight);
+        let least = value(0, 0, Align::Eight);
+        let some = value(65536, 65592, Align::Eight);
+        let rows = [
+            (
+                ADD,
+                first,
+                constant(8),
+                Ok(value(65544, 65544, Align::Eight)),
+            ),
+            (
+                ADD,
+                first,
+                constant(LESS_8),
+                Ok(value(65528, 65528, Align::Eight)),
+            ),
+            (ADD, first, numbers(0, 56, Align::Eight), Ok(some)),
+            (ADD, some, byte(), Ok(value(65536, 65847, Align::One))),
+            (ADD, last, constant(1), Err(OUTSIDE_MAP)),
+            (ADD, last, byte(), Err(OUTSIDE_MAP)),
+            (ADD, least, constant(LESS_1), Err(OUTSIDE_MAP)),
+            (SUB, last, constant(65536), Ok(first)),
+            (SUB, least, constant(LESS_8), Ok(value(8, 8, Align::Eight))),
+            (SUB, least, constant(1), Err(OUTSIDE_MAP)),
+            (SUB, last, constant(LESS_1), Err(OUTSIDE_MAP)),
+            (SUB, some, byte(), Err(WRONG_KIND)),
+            (ADD_32, some, constant(8), Err(WRONG_KIND)),
+            (ADD, some, some, Err(WRONG_KIND)),
+        ];
+        let wrong = rows
+            .iter()
+            .position(|row| !is_made((row.0, 0, Some(row.1), row.2, row.3)));
+        assert_eq!(rt; wrong, None);
     }
 
     #[test]
     fn refuses_other_uses_of_pointers(rt: HostRuntime) {
-        let stack = Kind::Stack(-8);
-        assert_eq!(rt; add(Kind::Context(0), byte()), Err(WRONG_KIND));
-        assert_eq!(rt; sub(Kind::Context(0), byte()), Err(WRONG_KIND));
-        assert_eq!(rt; add(byte(), stack), Err(WRONG_KIND));
-        assert_eq!(rt; add(stack, stack), Err(WRONG_KIND));
-        assert_eq!(rt; sub(stack, stack), Err(WRONG_KIND));
-        assert_eq!(rt;
-            arith(&insn(ADD_32, 0), Some(stack), constant(8)),
-            Err(WRONG_KIND)
-        );
-        assert_eq!(rt; arith(&insn(MOV, 0), None, stack), Ok(stack));
-        assert_eq!(rt; arith(&insn(MOV_32, 0), None, stack), Err(WRONG_KIND));
-        assert_eq!(rt; arith(&insn(MOV, 32), None, stack), Err(WRONG_KIND));
+        let stack = Stack(-8);
+        let answer = Kind::MaybeValue { map: 0, call: 7 };
+        let name = Kind::MapName(0);
+        let rows = [
+            (ADD, 0, Context(0), byte(), Err(WRONG_KIND)),
+            (SUB, 0, Context(0), byte(), Err(WRONG_KIND)),
+            (ADD, 0, byte(), stack, Err(WRONG_KIND)),
+            (ADD, 0, stack, stack, Err(WRONG_KIND)),
+            (SUB, 0, stack, stack, Err(WRONG_KIND)),
+            (ADD_32, 0, stack, constant(8), Err(WRONG_KIND)),
+            (ADD, 0, name, constant(8), Err(WRONG_KIND)),
+            (MOV, 0, byte(), stack, Ok(stack)),
+            (MOV_32, 0, byte(), stack, Err(WRONG_KIND)),
+            (MOV, 32, byte(), stack, Err(WRONG_KIND)),
+            (MOV, 0, byte(), answer, Ok(answer)),
+            (MOV_32, 0, byte(), answer, Err(NULL_NOT_CHECKED)),
+            (ADD, 0, answer, name, Err(NULL_NOT_CHECKED)),
+            (ADD, 0, stack, answer, Err(NULL_NOT_CHECKED)),
+        ];
+        let wrong = rows
+            .iter()
+            .position(|row| !is_made((row.0, row.1, Some(row.2), row.3, row.4)));
+        assert_eq!(rt; wrong, None);
     }
 }

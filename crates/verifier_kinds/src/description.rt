@@ -272,52 +272,83 @@ fn is_stack_below(a: &[StackSlot; 64], b: &[StackSlot; 64]) -> bool
 #[cfg(test)]
 mod tests {
     use super::*;
-    use crate::kind::{Align, Range};
+    use crate::kind::{Align, Offsets, Range};
+    use StackSlot::{Bytes, Kept};
+
+    const FOUR: Kind = Kind::Scalar(Range {
+        low: 4,
+        high: 4,
+        align: Align::Four,
+    });
+
+    const EIGHT: Kind = Kind::Scalar(Range {
+        low: 8,
+        high: 8,
+        align: Align::Eight,
+    });
+
+    const FOUR_TO_EIGHT: Kind = Kind::Scalar(Range {
+        low: 4,
+        high: 8,
+        align: Align::Four,
+    });
+
+    /// Pointers to the beginning of an element, 4 bytes on, and to all between that 4 divides.
+    const fn value(map: u32, low: u32, high: u32, align: Align) -> Kind {
+        Kind::MapValue {
+            map,
+            offsets: Offsets { low, high, align },
+        }
+    }
+
+    const fn answer(map: u32, call: u32) -> Kind {
+        Kind::MaybeValue { map, call }
+    }
+
+    /// Two slots of the stack, and the least above both.
+    type Row = (StackSlot, StackSlot, StackSlot);
+
+    fn rows() -> [Row; 11] {
+        let first = value(1, 65536, 65536, Align::Eight);
+        let next = value(1, 65540, 65540, Align::Four);
+        let both = value(1, 65536, 65540, Align::Four);
+        let other = value(2, 65536, 65536, Align::Eight);
+        [
+            (Kept(FOUR), Kept(EIGHT), Kept(FOUR_TO_EIGHT)),
+            (
+                Kept(Kind::Context(0)),
+                Kept(Kind::Context(0)),
+                Kept(Kind::Context(0)),
+            ),
+            (Kept(Kind::Context(0)), Kept(Kind::Context(8)), Bytes(0)),
+            (Kept(FOUR), Bytes(0x0f), Bytes(0x0f)),
+            (Kept(Kind::Stack(0)), Bytes(0x0f), Bytes(0)),
+            (Bytes(0x3c), Bytes(0x0f), Bytes(0x0c)),
+            (Kept(first), Kept(next), Kept(both)),
+            (Kept(first), Kept(other), Bytes(0)),
+            (Kept(answer(1, 5)), Kept(answer(1, 5)), Kept(answer(1, 5))),
+            (Kept(answer(1, 5)), Kept(answer(1, 6)), Bytes(0)),
+            (Kept(Kind::MapName(1)), Kept(Kind::MapName(2)), Bytes(0)),
+        ]
+    }
+
+    fn is_joined(row: Row) -> bool {
+        let (a, b, join) = row;
+        let mut left = Description::start();
+        left.set_slot(63, a);
+        let mut right = Description::start();
+        right.set_slot(63, b);
+        right.set_register(2, FOUR);
+        let joined = left.join(&right);
+        joined.slot(63) == join
+            && joined.register(1) == Some(Kind::Context(0))
+            && joined.register(2).is_none()
+            && left.is_below(&joined)
+            && right.is_below(&joined)
+    }
 
     #[test]
     fn joins_what_is_known(rt: HostRuntime) {
-        let four = Kind::Scalar(Range::constant(4));
-        let eight = Kind::Scalar(Range::constant(8));
-        let both = Kind::Scalar(Range {
-            low: 4,
-            high: 8,
-            align: Align::Four,
-        });
-        let kept = StackSlot::Kept;
-        for (a, b, join) in [
-            (kept(four), kept(eight), kept(both)),
-            (
-                kept(Kind::Context(0)),
-                kept(Kind::Context(0)),
-                kept(Kind::Context(0)),
-            ),
-            (
-                kept(Kind::Context(0)),
-                kept(Kind::Context(8)),
-                StackSlot::Bytes(0),
-            ),
-            (kept(four), StackSlot::Bytes(0x0f), StackSlot::Bytes(0x0f)),
-            (
-                kept(Kind::Stack(0)),
-                StackSlot::Bytes(0x0f),
-                StackSlot::Bytes(0),
-            ),
-            (
-                StackSlot::Bytes(0x3c),
-                StackSlot::Bytes(0x0f),
-                StackSlot::Bytes(0x0c),
-            ),
-        ] {
-            let mut left = Description::start();
-            left.set_slot(63, a);
-            let mut right = Description::start();
-            right.set_slot(63, b);
-            right.set_register(2, four);
-            let joined = left.join(&right);
-            assert_eq!(rt; joined.slot(63), join);
-            assert_eq!(rt; joined.register(1), Some(Kind::Context(0)));
-            assert_eq!(rt; joined.register(2), None);
-            assert!(rt; left.is_below(&joined) && right.is_below(&joined));
-        }
+        assert_eq!(rt; rows().iter().position(|row| !is_joined(*row)), None);
     }
 }

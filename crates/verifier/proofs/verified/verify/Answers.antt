@@ -8,6 +8,7 @@ invariant_of-result c = record {
   verified = passed_verified c.in-Ok.candidate (subst IsSubject c.candidate.view_is c.candidate.invariant) c.in_ok-kept.ensures.clean c.in_ok-kept.ensures.flows;
   kept = c.in_ok-kept.ensures.kept;
   counted = c.count_instructions-instructions.ensures;
+  reserved = c.in-Ok-reserves.ensures;
 }
 
 pub returns-clause-verified : goal.returns-clause-verified

@@ -1,0 +1,121 @@
+//! How many frames the rest of a run may need, from each slot on.
+
+ghost use Rattle.std.specs.Prelude.{◌≡◌, ◌+◌, ◌≤◌, map, slice_index_or, None, IfOk, IfSome, option_map, unwrap_or};
+ghost use Rattle.host_types.specs.Helpers.{update_charge};
+ghost use Rattle.host_types.specs.Shapes.{IsShape};
+ghost use Rattle.bpf_decode.specs.Opcodes.{operation_of};
+ghost use Rattle.bpf_decode.specs.Text.{insn_at, slots_of, IsInstruction};
+ghost use Rattle.verifier_kinds.specs.Kinds.{shape_at};
+ghost use Rattle.verifier.specs.Table.{Table, described, tight_table};
+ghost use Rattle.verifier.specs.Pass.{kinds_in};
+ghost use Rattle.verifier.specs.Reserve.{store_cost, update_cost, call_cost, cost_by, AreReserves, HasKindsAt};
+
+use crate::candidate::Candidate;
+use crate::table::Registers;
+use bpf_decode::Operation;
+use host_types::{MapHelper, Shape};
+use std::alloc::{AllocError, Global};
+use verifier_kinds::Kind;
+
+/// The bytes of a page.
+const PAGE_SIZE: u32 = 4096;
+
+/// A store through a pointer to a map's value writes to one page.
+fn store_cost(base: Option<Kind>) -> u32
+    ensures { result ≡ store_cost base }
+{
+    match base {
+        Some(Kind::MapValue { .. }) => 1,
+        _ => 0,
+    }
+}
+
+/// An update of a map of this shape writes to one page where no value crosses the end of a page, since
+/// the stride divides a page; else to two at most.
+fn update_charge(shape: Shape) -> u32
+    requires { IsShape shape }
+    ensures { result ≡ update_charge shape }
+{
+    if PAGE_SIZE % shape.stride() == 0 {
+        1
+    } else {
+        2
+    }
+}
+
+impl Candidate {
+    /// What an update of a map may need; a map that isn't there needs nothing.
+    fn map_cost(&self, map: u32) -> u32
+        ensures { result ≡ unwrap_or (option_map update_charge (shape_at self.now.shapes map)) 0 }
+    {
+        match self.shapes().get(map as usize) {
+            Some(shape) => update_charge(*shape),
+            None => 0,
+        }
+    }
+
+    /// What an update may need whose first argument has this kind.
+    fn update_cost(&self, name: Option<Kind>) -> u32
+        ensures { result ≡ update_cost self.now name }
+    {
+        match name {
+            Some(Kind::MapName(map)) => self.map_cost(map),
+            _ => 0,
+        }
+    }
+
+    /// What a call may need: of the helpers only an update writes.
+    fn call_cost(&self, helper: Option<MapHelper>, name: Option<Kind>) -> u32
+        ensures { result ≡ call_cost self.now helper name }
+    {
+        match helper {
+            Some(MapHelper::Update) => self.update_cost(name),
+            _ => 0,
+        }
+    }
+
+    /// What the instruction at a slot that is reached may need.
+    fn reached_cost(&self, slot: u32, kinds: &Registers) -> u32
+        requires { IsInstruction self.now.text slot }
+        ensures { (table : Table) → HasKindsAt table slot kinds.now
+            → result ≡ cost_by self.now table slot (operation_of (insn_at self.now.text slot).opcode) }
+    {
+        let insn = self.insn(slot);
+        match insn.operation() {
+            Operation::Store { .. } => store_cost(kinds[usize::from(insn.dst)]),
+            Operation::Call => self.call_cost(MapHelper::of(insn.immediate()), kinds[1]),
+            _ => 0,
+        }
+    }
+
+    /// What the instruction at a slot may need; a slot that isn't reached needs nothing.
+    fn cost(&self, slot: u32, known: &Option<Registers>) -> u32
+        requires { IfSome known.now (λ kinds. IsInstruction self.now.text slot) }
+        ensures { (table : Table) → kinds_in (described table slot) ≡ known.now
+            → result ≡ cost_by self.now table slot (operation_of (insn_at self.now.text slot).opcode) }
+    {
+        match known {
+            Some(kinds) => self.reached_cost(slot, kinds),
+            None => 0,
+        }
+    }
+}
+
+/// What the rest of a program may need from each slot on, summed from its end.
+pub(crate) fn reserves(
+    alloc: Global,
+    candidate: &Candidate,
+    kept: &[Option<Registers>],
+) -> Result<Vec<u32>, AllocError>
+    requires { kept.now ≡ map kinds_in (tight_table candidate.now) }
+    ensures { IfOk result (λ reserves. AreReserves (record { subject = candidate.now; table = tight_table candidate.now }) reserves.items) }
+{
+    let slots = candidate.slots();
+    let mut reserves = vec![in alloc; 0; slots as usize]?;
+    let mut reserve = 0;
+    for slot in (0..slots).rev() {
+        reserve += candidate.cost(slot, &kept[slot as usize]);
+        reserves[slot as usize] = reserve;
+    }
+    Ok(reserves)
+}
