@@ -1,18 +1,31 @@
 //! What the verifier answers of texts, and what it knows at their slots. A row of the standard input is
-//! four texts between tabs: a name, a program in hex, the size of its context, and places `slot.register`.
-//! Its line is the name and the answer: that the program is accepted, with what is known at the places, or
-//! the number and the slot of its refusal; and whether both passes of the plain verifier differ from that.
-//! The file `stdout` of this crate says what is wanted.
+//! four texts between tabs: a name, a program in hex, the size of its context with the shapes of its maps
+//! behind it, and places `slot.register`. Its line is the name and the answer: that the program is accepted,
+//! with what is known at the places, or the number and the slot of its refusal; and whether both passes of
+//! the plain verifier differ from that. The file `stdout` of this crate says what is wanted.
 #![tactic(auto)]
 
+ghost use Rattle.std.specs.Prelude.{◌<◌, length, IfOk, IfSome, OnOk};
+ghost use Rattle.host_types.specs.Shapes.{IsShape};
+ghost use Rattle.verifier.specs.Subject.{IsContextSize};
+ghost use Rattle.verifier.specs.Verified.{AreShapes};
+
 use bpf_decode::decode;
-use host_types::Refused;
+use host_types::{Refused, Shape};
 use kernel_check::judge_alike;
-use std::alloc::Global;
+use std::alloc::{AllocError, Global};
 use std::io;
 use std::io::Input;
 use verifier::{Verified, verify};
-use verifier_kinds::{Align, Kind};
+use verifier_kinds::{Kind, Offsets, Range};
+
+/// Prints the offsets of a pointer to a value of a map.
+fn print_value(rt: &impl Print, map: u32, offsets: Offsets) -> io::Result<()> {
+    let low = i64::from(offsets.low) - 65536;
+    let high = i64::from(offsets.high) - 65536;
+    let align = offsets.align.factor();
+    print!(rt; "value of {map}, {low} to {high} by {align}")
+}
 
 /// Prints what is known of a register at a slot.
 fn print_kind(rt: &impl Print, kind: Option<Kind>) -> io::Result<()> {
@@ -20,17 +33,13 @@ fn print_kind(rt: &impl Print, kind: Option<Kind>) -> io::Result<()> {
         None => print!(rt; "nothing"),
         Some(Kind::Context(offset)) => print!(rt; "context {offset}"),
         Some(Kind::Stack(offset)) => print!(rt; "stack {offset}"),
-        Some(Kind::Scalar(range)) => {
-            let low = range.low;
-            let high = range.high;
-            let align = match range.align {
-                Align::One => 1,
-                Align::Two => 2,
-                Align::Four => 4,
-                Align::Eight => 8,
-            };
+        Some(Kind::Scalar(Range { low, high, align })) => {
+            let align = align.factor();
             print!(rt; "{low} to {high} by {align}")
         }
+        Some(Kind::MapValue { map, offsets }) => print_value(rt, map, offsets),
+        Some(Kind::MaybeValue { map, call }) => print!(rt; "value of {map} or 0, from {call}"),
+        Some(Kind::MapName(map)) => print!(rt; "map {map}"),
     }
 }
 
@@ -51,19 +60,64 @@ struct Answer {
     is_alike: bool,
 }
 
-/// The answer to a text of a row. A text that isn't hex is empty, and a size that no context has is 0.
-fn answer_of(alloc: Global, hex: &str, size: &str) -> Answer {
-    let size = match size.parse() {
+/// The size of a row's context; one that no context has is 0.
+fn size_of(given: &str) -> u32
+    ensures { IsContextSize result }
+{
+    match given.split(' ').next().unwrap_or("").parse() {
         Ok(size) if size <= 256 && size % 8 == 0 => size,
         _ => 0,
+    }
+}
+
+/// The shape that is written `value_size:entries`, if a map may have it.
+fn shape_of(text: &str) -> Option<Shape>
+    ensures { IfSome result IsShape }
+{
+    let (value_size, entries) = text.split_once(':')?;
+    let shape = Shape {
+        value_size: value_size.parse().ok()?,
+        entries: entries.parse().ok()?,
     };
+    if shape.is_valid() { Some(shape) } else { None }
+}
+
+/// Puts a shape behind others.
+fn add(shapes: &mut Vec<Shape>, shape: Shape) -> Result<(), AllocError>
+    requires shapes { AreShapes shapes.old.items }
+    requires shape { IsShape shape }
+    requires few { length shapes.old.items < 8 }
+    ensures { OnOk result (AreShapes shapes.new.items) }
+{
+    shapes.push(shape)?;
+    Ok(())
+}
+
+/// The shapes of a row's maps, at most eight; one that no map has is passed over.
+fn shapes_of(alloc: Global, given: &str) -> Result<Vec<Shape>, AllocError>
+    ensures { IfOk result (λ shapes. AreShapes shapes.items) }
+{
+    let mut shapes = Vec::new(alloc);
+    for text in given.split(' ') {
+        match shape_of(text) {
+            Some(shape) if shapes.len() < 8 => add(&mut shapes, shape)?,
+            _ => {}
+        }
+    }
+    Ok(shapes)
+}
+
+/// The answer to a text of a row. A text that isn't hex is empty.
+fn answer_of(alloc: Global, hex: &str, given: &str) -> Result<Answer, AllocError> {
+    let size = size_of(given);
+    let shapes = shapes_of(alloc, given)?;
     let text = hex::decode(alloc, hex).unwrap_or(Vec::new(alloc));
     let outcome = match decode(alloc, &text) {
-        Ok(program) => verify(alloc, program, &[], size),
+        Ok(program) => verify(alloc, program, &shapes, size),
         Err(refused) => Err(refused),
     };
-    let is_alike = judge_alike(alloc, &text, size, &outcome);
-    Answer { outcome, is_alike }
+    let is_alike = judge_alike(alloc, &text, &shapes, size, &outcome);
+    Ok(Answer { outcome, is_alike })
 }
 
 /// Prints the line of a row.
@@ -71,8 +125,8 @@ fn print_answer(rt: &(impl AllocGlobal + Print), row: &str) -> io::Result<()> {
     let mut fields = row.split('\t');
     let name = fields.next().unwrap_or("");
     let hex = fields.next().unwrap_or("");
-    let size = fields.next().unwrap_or("");
-    let Answer { outcome, is_alike } = answer_of(rt.alloc(), hex, size);
+    let given = fields.next().unwrap_or("");
+    let Answer { outcome, is_alike } = answer_of(rt.alloc(), hex, given)?;
     match outcome {
         Err(Refused { number, slot }) => print!(rt; "{name}\trefused {number} at {slot}")?,
         Ok(program) => {
