@@ -1,30 +1,40 @@
-//! The counters of small memories, after visits, stores, new maps and an unmerging that has no frames. The
-//! file `stdout` says what is wanted.
+//! What small memories answer, visit by visit, and their counters. A line of the standard input says what
+//! is done to the memory at hand, in words between spaces; it is printed, and behind it what was answered:
+//!
+//!     memory FRAMES TENANTS                 a new memory, with the standard options
+//!     map TENANT VALUE_SIZE ENTRIES         a map whose pages may be merged
+//!     fixed TENANT VALUE_SIZE ENTRIES       a map whose pages may not
+//!     store TENANT VALUE                    eight bytes at the beginning of the tenant's first map
+//!     visit COUNT                           what each visit did
+//!     unmerge, counters                     everything unmerged; the nine counters
+//!     OPTION VALUE                          an option, by its name
+//!
+//! The file `stdout` says what is wanted.
 #![tactic(auto)]
 
 ghost use Rattle.std.specs.Prelude.{◌≡◌, length};
 ghost use Rattle.page_table.specs.State.{part, map_bytes};
 
-use host_types::{Opt, Options};
+use host_types::{Fault, Opt, Options};
 use ksm_counters::{counters, text};
 use page_table::Memory;
 use scanner::{set, unmerge_all, visit};
+use std::alloc::Global;
 use std::io;
-use std::io::Write;
+use std::io::{Input, Write};
 use write_break::{needs, store};
 
-/// Visits so many pages.
-fn visits(memory: &mut Memory, count: u32) {
-    for _visit in 0..count {
-        visit(memory);
-    }
+/// The numbers behind the first word of a line; one that isn't there is 0.
+#[derive(Clone, Copy)]
+struct Numbers {
+    first: u32,
+    second: u32,
+    third: u32,
 }
 
-/// Makes a map of one value of eight bytes for each of some tenants.
-fn make_maps(memory: &mut Memory, tenants: u32) {
-    for tenant in 0..tenants {
-        let _number = memory.create_map(tenant, 8, 1, true);
-    }
+/// The number that a word is, else 0.
+fn number(word: Option<&str>) -> u32 {
+    word.unwrap_or("").parse().unwrap_or(0)
 }
 
 /// The bytes of a tenant's first map; none where there is no such map.
@@ -37,100 +47,104 @@ fn byte_len(memory: &Memory, tenant: u32) -> u32
     }
 }
 
-/// Stores 1 into the first eight bytes of a tenant's first map, where they and the frames are there.
-fn store_one(memory: &mut Memory, tenant: u32) {
+/// Stores a value into the first eight bytes of a tenant's first map, where they and the frames are there.
+fn store_first(memory: &mut Memory, tenant: u32, value: u32) {
     if byte_len(memory, tenant) < 8 {
         return;
     }
     if needs(memory, tenant, 0, 0, 8) > memory.have() {
         return;
     }
-    store(memory, tenant, 0, 0, 8, 1);
+    store(memory, tenant, 0, 0, 8, u64::from(value));
 }
 
-/// Writes what was done, and the counters then.
-fn tell<W: Write>(writer: &mut W, done: &str, memory: &Memory) -> io::Result<()> {
-    writeln!(writer, "{done}")?;
-    text(&counters(memory), writer)
+/// Puts a new memory in the place of another one.
+fn renew(alloc: Global, memory: &mut Memory, frames: u32, tenants: u32) -> Result<(), Fault> {
+    *memory = Memory::new(alloc, frames, tenants, Options::standard())?;
+    Ok(())
 }
 
-/// Two tenants whose pages share a frame and part again, the last one without a copy.
-fn share_and_part<W: Write>(writer: &mut W, mut memory: Memory) -> io::Result<()> {
-    make_maps(&mut memory, 2);
-    visits(&mut memory, 2);
-    tell(writer, "two pages, two visits", &memory)?;
-    visits(&mut memory, 2);
-    tell(writer, "four visits", &memory)?;
-    store_one(&mut memory, 0);
-    tell(writer, "tenant 0 stored", &memory)?;
-    store_one(&mut memory, 1);
-    tell(writer, "tenant 1 stored", &memory)
+/// Makes a map.
+fn add_map(memory: &mut Memory, numbers: &Numbers, mergeable: bool) -> Result<(), Fault> {
+    memory.create_map(numbers.first, numbers.second, numbers.third, mergeable)?;
+    Ok(())
 }
 
-/// Four pages of zeros, with an option set before.
-fn four_pages<W: Write>(
+/// Writes what each of some visits did.
+fn visits<W: Write>(writer: &mut W, memory: &mut Memory, count: u32) -> io::Result<()> {
+    for _visit in 0..count {
+        let visited = visit(memory);
+        writeln!(writer, "{visited:?}")?;
+    }
+    Ok(())
+}
+
+/// Writes a refusal.
+fn tell<W: Write>(writer: &mut W, outcome: Result<(), Fault>) -> io::Result<()> {
+    match outcome {
+        Ok(()) => Ok(()),
+        Err(fault) => writeln!(writer, "{fault}"),
+    }
+}
+
+/// The option with a name.
+fn option_of(name: &str) -> Option<Opt> {
+    match name {
+        "pages_to_scan" => Some(Opt::PagesToScan),
+        "run" => Some(Opt::Run),
+        "use_zero_pages" => Some(Opt::UseZeroPages),
+        "max_page_sharing" => Some(Opt::MaxPageSharing),
+        _ => None,
+    }
+}
+
+/// Sets the option with a name; another name sets none.
+fn set_named(memory: &mut Memory, name: &str, value: u32) -> Result<(), Fault> {
+    match option_of(name) {
+        Some(option) => set(memory, option, value),
+        None => Ok(()),
+    }
+}
+
+/// Does what a line says, and writes what is answered.
+fn obey<W: Write>(
     writer: &mut W,
-    mut memory: Memory,
-    option: Opt,
-    value: u32,
-    done: &str,
+    alloc: Global,
+    memory: &mut Memory,
+    line: &str,
 ) -> io::Result<()> {
-    let _outcome = set(&mut memory, option, value);
-    make_maps(&mut memory, 4);
-    visits(&mut memory, 8);
-    tell(writer, done, &memory)
-}
-
-/// Four pages in three frames, the zero frame among them, and what is refused then.
-fn crowded<W: Write>(writer: &mut W, mut memory: Memory) -> io::Result<()> {
-    make_maps(&mut memory, 2);
-    visits(&mut memory, 4);
-    make_maps(&mut memory, 1);
-    visits(&mut memory, 6);
-    let _number = memory.create_map(1, 8, 1, true);
-    visits(&mut memory, 8);
-    tell(writer, "four pages in three frames", &memory)?;
-    if let Err(fault) = unmerge_all(&mut memory) {
-        writeln!(writer, "unmerging: {fault}")?;
-    }
-    for (option, value) in [
-        (Opt::MaxPageSharing, 3),
-        (Opt::MaxPageSharing, 1),
-        (Opt::Run, 2),
-    ] {
-        if let Err(fault) = set(&mut memory, option, value) {
-            writeln!(writer, "an option to {value}: {fault}")?;
+    let mut words = line.split(' ');
+    let verb = words.next().unwrap_or("");
+    let numbers = Numbers {
+        first: number(words.next()),
+        second: number(words.next()),
+        third: number(words.next()),
+    };
+    let outcome = match verb {
+        "memory" => renew(alloc, memory, numbers.first, numbers.second),
+        "map" => add_map(memory, &numbers, true),
+        "fixed" => add_map(memory, &numbers, false),
+        "visit" => return visits(writer, memory, numbers.first),
+        "counters" => return text(&counters(memory), writer),
+        "unmerge" => unmerge_all(memory),
+        "store" => {
+            store_first(memory, numbers.first, numbers.second);
+            Ok(())
         }
-    }
-    tell(writer, "as before", &memory)
+        name => set_named(memory, name, numbers.first),
+    };
+    tell(writer, outcome)
 }
 
 fn main(rt: HostRuntime) -> io::Result<()> {
-    let options = Options::standard();
     let mut out = rt.stdout();
-    if let Ok(memory) = Memory::new(rt.alloc(), 4, 2, options) {
-        share_and_part(&mut out, memory)?;
-    }
-    if let Ok(memory) = Memory::new(rt.alloc(), 8, 4, options) {
-        four_pages(
-            &mut out,
-            memory,
-            Opt::MaxPageSharing,
-            2,
-            "two groups of one content",
-        )?;
-    }
-    if let Ok(memory) = Memory::new(rt.alloc(), 8, 4, options) {
-        four_pages(
-            &mut out,
-            memory,
-            Opt::UseZeroPages,
-            1,
-            "four pages of zeros",
-        )?;
-    }
-    if let Ok(memory) = Memory::new(rt.alloc(), 3, 2, options) {
-        crowded(&mut out, memory)?;
+    let Ok(mut memory) = Memory::new(rt.alloc(), 2, 1, Options::standard()) else {
+        return Ok(());
+    };
+    for line in rt.lines(rt.alloc()) {
+        let line = line?;
+        writeln!(out, "> {line}")?;
+        obey(&mut out, rt.alloc(), &mut memory, line.as_str())?;
     }
     Ok(())
 }

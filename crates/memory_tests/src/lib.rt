@@ -10,6 +10,4 @@ mod breaks;
 #[cfg(test)]
 mod maps;
 #[cfg(test)]
-mod scans;
-#[cfg(test)]
 mod trees;
