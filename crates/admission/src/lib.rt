@@ -5,4 +5,4 @@
 
 mod reserve;
 
-pub use reserve::{admit, lower, release};
+pub use reserve::{admit, breaks, lower, release};

@@ -1,10 +1,21 @@
 ghost use Rattle.std.specs.Prelude.{◌≡◌, ◌+◌, ◌≤◌, length, OnOk, IfErr, OnErr};
 ghost use Rattle.page_table.specs.State.{part, have_of};
 ghost use Rattle.page_table.specs.Changes.{IsKeptBut, with_reserve, with_record};
+ghost use Rattle.verifier.specs.Reserve.{reserve_from};
 ghost use Rattle.admission.specs.Refusals.{RefusesRun};
 
 use host_types::Fault;
 use page_table::Memory;
+use verifier::Verified;
+
+/// How many frames the rest of a run may take from a slot on, whichever pages share frames: what is
+/// reserved for a run that stands there. It is told in constant time.
+#[inline]
+pub fn breaks(program: &Verified, slot: u32) -> u32
+    ensures { result ≡ reserve_from program.now slot }
+{
+    program.reserve(slot)
+}
 
 /// Reserves frames for a run that a tenant wants to begin. Nothing is recorded of the tenant before.
 ///
