@@ -117,7 +117,7 @@ module _ (table : TableState) (i : ℕ) (entry new : Entry) (is : IsTable table)
   there = inside table.entries i entry here
 
   -- the page is of a group
-  one_group : times entry.frame table.groups ≡ 1
+  pub one_group : times entry.frame table.groups ≡ 1
   one_group = by_status entry.status shared (IsEntry.right (entry_fits table i entry is here))
     where
       on_zero : (f : ℕ) → f ≡ 0 → one_if_zero f ≡ 1

@@ -31,3 +31,5 @@ pub mod Scanning
 pub mod Tallying
 pub mod Partners
 pub mod Trees
+pub mod Nodes
+pub mod Slots

@@ -34,6 +34,20 @@ one_if_zero (suc n) = 0
 pub record AreCounts (state : CountsState) : Type 0 where
   pub listed : (f : ℕ) → times f state.unused ≡ one_if_zero (slice_index_or state.counts f 1)
 
+-- The groups' frames in order of creation, and how many frames there are.
+pub record GroupsState : Type 0 where
+  pub listed : List ℕ
+  pub frames : ℕ
+
+-- the groups in some slots; in an empty one stands the zero frame, which no group has
+abbrev pub groups_in : List ℕ → List ℕ
+groups_in slots = filter (λ f. not (f == 0)) slots
+
+-- the slot of each group is noted by its frame
+pub record ArePlaced (slots slot_of : List ℕ) : Type 0 where
+  pub below : (i : ℕ) → i < length slots → slice_index_or slots i 0 < length slot_of
+  pub placed : (i : ℕ) → i < length slots → 0 < slice_index_or slots i 0 → slice_index_or slot_of (slice_index_or slots i 0) 0 ≡ i
+
 -- The frames' pages, the entries by place, and the frames of the groups in order of creation.
 pub record TableState : Type 0 where
   pub arena : List (List ℕ)
@@ -219,7 +233,3 @@ joined_on table i f g = if g == f then joined_by i (places_on 0 g table.entries)
 -- a page with another status and fingerprint
 abbrev pub marked : Status → ℕ → PageState → PageState
 marked status last state = record state { status = status; last = Some last }
-
--- some frames are there
-abbrev pub AreInside : ℕ → List ℕ → Type 0
-AreInside frames some = (i : ℕ) → i < length some → slice_index_or some i 0 < frames

@@ -7,6 +7,7 @@ mod counters;
 mod counts;
 mod entry;
 mod memory;
+mod order;
 mod pass;
 mod search;
 mod table;

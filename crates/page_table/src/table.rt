@@ -1,17 +1,19 @@
-ghost use Rattle.std.specs.Prelude.{◌≡◌, ◌≢◌, ◌+◌, ◌-◌, ◌<◌, ◌≤◌, nat_lt, true, false, [], ◌∷◌, ◌++◌, All, drop, find, map, option_map, length, replicate, slice_index_or, slice_set, Option, Some, None, IfOk, IfSome, MatchOption, ℕ};
+ghost use Rattle.std.specs.Prelude.{◌≡◌, ◌≢◌, ◌+◌, ◌-◌, ◌<◌, ◌≤◌, nat_lt, true, false, [], ◌∷◌, ◌++◌, All, drop, find, map, option_map, length, replicate, slice_index_or, slice_set, Option, Some, None, if◌then◌else◌, ◌==◌, IfOk, IfSome, MatchOption, ℕ};
 ghost use Rattle.host_types.specs.Bytes.{with_part};
 ghost use Rattle.page_table.specs.declared.pass.Pass.{Pass};
 ghost use Rattle.host_types.specs.declared.status.Status.TheVariants.{Grouped};
 ghost use Rattle.host_types.specs.Sharing.{new_page, is_shared, broken, break_cost, broken_from, cost_from, paired, zeroed, with_status};
+ghost use Rattle.host_types.specs.Counters.{repeated_among, seconds_behind};
 ghost use Rattle.host_types.specs.Unmerging.{unmerge_need, SharesNothing};
 ghost use Rattle.host_types.specs.Visits.{first_mergeable, is_mergeable, with_page};
 ghost use Rattle.host_types.specs.Pages.{zero_page};
 ghost use Rattle.frame_arena.specs.Pages.{IsPage, page_at};
 ghost use Rattle.page_table.specs.declared.entry.Entry.{Entry};
-ghost use Rattle.page_table.specs.Table.{TableState, CountsState, AreCounts, IsSound, IsEntry, IsPageAt, IsOwnAt, AreOwnKept, AreOthersKept, entry_at, states_of, contents_of, groups_of, sharing_of, forgets, used_by, cost_at, is_on, pages_on, one_if_zero, times, state_of, is_open_frame, joined_on, marked, AreInside};
+ghost use Rattle.page_table.specs.Table.{TableState, CountsState, AreCounts, IsSound, IsEntry, IsPageAt, IsOwnAt, AreOwnKept, AreOthersKept, entry_at, states_of, contents_of, groups_of, sharing_of, forgets, used_by, cost_at, is_on, pages_on, one_if_zero, times, state_of, is_open_frame, joined_on, marked};
 
 use crate::counts::FrameCounts;
 use crate::entry::Entry;
+use crate::order::GroupOrder;
 use frame_arena::FrameArena;
 use host_types::Status;
 use stable_tree::StableTree;
@@ -27,24 +29,24 @@ pub(crate) struct Table {
     arena: FrameArena,
     counts: FrameCounts,
     entries: Vec<Option<Entry>>,
-    // the frames of the groups in order of creation, with room for all frames
-    groups: Vec<u32>,
+    // the frames of the groups in order of creation
+    groups: GroupOrder,
     // the same frames by the bytes of their pages, with room for all frames
     tree: StableTree,
 }
 
 impl Model for Table {
-    ghost use Rattle.std.specs.Prelude.{◌≤◌, length, vec_capacity};
+    ghost use Rattle.std.specs.Prelude.{◌≤◌, length};
     ghost use Rattle.page_table.specs.Table.{TableState, IsSound, IsTreeOf};
 
     ghost Value = { TableState };
 
-    ghost view = { λ t. record { arena = t.arena; entries = t.entries.items; groups = t.groups.items } };
+    ghost view = { λ t. record { arena = t.arena; entries = t.entries.items; groups = t.groups.listed } };
 
     ghost invariant = { λ t.
-        IsSound (record { arena = t.arena; entries = t.entries.items; groups = t.groups.items }) t.counts
-        × (length t.arena ≤ vec_capacity t.groups)
-        × IsTreeOf t.arena t.groups.items t.tree };
+        IsSound (record { arena = t.arena; entries = t.entries.items; groups = t.groups.listed }) t.counts
+        × (length t.arena ≤ t.groups.frames)
+        × IsTreeOf t.arena t.groups.listed t.tree };
 }
 
 impl Table {
@@ -57,7 +59,7 @@ impl Table {
         let arena = FrameArena::new(alloc, frames)?;
         let counts = FrameCounts::new(alloc, frames)?;
         let entries = vec![in alloc; None; places as usize]?;
-        let groups = Vec::with_capacity(alloc, frames as usize)?;
+        let groups = GroupOrder::new(alloc, frames)?;
         let mut tree = StableTree::new(alloc);
         tree.reserve(frames as usize)?;
         Ok(Table {
@@ -110,17 +112,29 @@ impl Table {
     pub(crate) fn has_groups(&self) -> bool
         ensures { result ≡ nat_lt 0 (length self.now.groups) }
     {
-        !self.groups.is_empty()
+        self.tree.groups() > 0
     }
 
-    /// The frames of the groups in order of creation.
-    pub(crate) fn groups(&self) -> &[u32]
-        ensures frames { result.now ≡ self.now.groups }
-        ensures there { AreInside (length self.now.arena) result.now }
-        ensures few { length result.now < length self.now.arena }
+    /// How many groups there are.
+    pub(crate) fn groups(&self) -> u32
+        ensures { result ≡ length self.now.groups }
     {
-        self.facts();
-        &self.groups
+        self.tree.groups() as u32
+    }
+
+    /// How many contents have two groups or more. The number is kept, and no group is looked at.
+    pub(crate) fn node_chains(&self) -> u32
+        ensures { result ≡ seconds_behind [] (map (page_at self.now.arena) self.now.groups) }
+    {
+        self.tree.node_chains() as u32
+    }
+
+    /// How many groups such contents have. The number is kept, and no group is looked at.
+    pub(crate) fn node_dups(&self) -> u32
+        ensures { result ≡
+            repeated_among (map (page_at self.now.arena) self.now.groups) (map (page_at self.now.arena) self.now.groups) }
+    {
+        self.tree.node_dups() as u32
     }
 
     /// What is kept of the page at a place.
@@ -289,7 +303,7 @@ impl Table {
         ensures arena { length self.new.arena ≡ length self.old.arena }
     {
         self.entries[place] = Some(entry.broken(entry.frame));
-        self.groups.retain(|frame| *frame != entry.frame);
+        self.groups.remove(entry.frame);
         self.tree.remove(&self.arena, entry.frame);
     }
 
@@ -315,8 +329,7 @@ impl Table {
         self.entries[second] = Some(other.merged(one.frame, Status::Grouped));
         self.counts.share(one.frame);
         self.counts.release(other.frame);
-        let pushed = self.groups.push(one.frame).is_ok();
-        prove!(pushed);
+        self.groups.push(one.frame);
         self.tree.insert(&self.arena, one.frame);
     }
 
@@ -415,7 +428,7 @@ impl Table {
     {
         self.facts();
         let mut need = self.zero_pages();
-        for group in &self.groups {
+        for group in self.groups.slots() {
             need += self.pages_but_one(*group);
         }
         need
@@ -429,12 +442,15 @@ impl Table {
         self.counts.count(ZERO_FRAME) - 1
     }
 
-    /// How many pages a group has beside one.
+    /// How many pages the group of a slot has beside one. In an empty slot stands the zero frame.
     fn pages_but_one(&self, group: u32) -> u32
-        requires { 1 ≤ times group self.now.groups }
-        ensures pages { result ≡ pages_on group self.now.entries - 1 }
+        requires { group ≢ 0 → 1 ≤ times group self.now.groups }
+        ensures pages { result ≡ (if group == 0 then 0 else pages_on group self.now.entries - 1) }
         ensures few { result ≤ 32768 }
     {
+        if group == ZERO_FRAME {
+            return 0;
+        }
         self.counts.count(group) - 1
     }
 

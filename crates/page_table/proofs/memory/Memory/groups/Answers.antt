@@ -1,4 +1,4 @@
-use Rattle.std.proofs.Common.{◌∙◌, length, sym, ap}
+use Rattle.std.proofs.Common.{◌∙◌, sym}
 use Rattle.std.proofs.lemmas.List.{length-map}
 use Rattle.page_table.specs.Table.{groups_of, places_on}
 use Rattle.page_table.specs.View.{view_of}
@@ -8,4 +8,4 @@ pub returns : goal.returns
 unfolding view_of groups_of
 returns c =
     let long = length-map c.self.inside.table.groups (λ f. places_on 0 f c.self.inside.table.entries) in
-    rw (← c.self.view_is) (ap length c.groups.ensures.frames ∙ sym long)
+    rw (← c.self.view_is) (c.groups.ensures ∙ sym long)

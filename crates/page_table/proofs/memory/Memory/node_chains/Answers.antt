@@ -1,4 +1,4 @@
-use Rattle.std.proofs.Common.{◌∙◌, List, [], ℕ, sym, ap}
+use Rattle.std.proofs.Common.{◌∙◌, [], sym, ap}
 use Rattle.host_types.specs.Counters.{seconds_behind}
 use Rattle.page_table.proofs.Tallying.{contents-told}
 use Rattle.page_table.proofs.memory.Memory.node_chains.Goals as goal
@@ -6,5 +6,4 @@ use Rattle.page_table.proofs.memory.Memory.node_chains.Goals as goal
 pub returns : goal.returns
 returns c =
     let told = contents-told c.self.inside.table c.self.inside.shapes.items c.self.inside.tenants.items c.self.inside.pass c.self.inside.reserved c.self.invariant.0 c.facts.ensures.1.fits in
-    rw (← c.self.view_is)
-    (rw (c.arena.ensures, c.groups.ensures.frames) at c.count_seconds.ensures ∙ sym (ap (λ (all : List (List ℕ)). seconds_behind [] all) told))
+    rw (← c.self.view_is) (c.node_chains.ensures ∙ sym (ap (seconds_behind []) told))

@@ -8,7 +8,7 @@ use Rattle.page_table.proofs.Trees.{tree-set}
 use Rattle.page_table.proofs.table.Table.add.Goals as goal
 
 abbrev table : goal.After-self-1 → TableState
-table c = record { arena = c.self.inside.arena; entries = c.self.inside.entries.items; groups = c.self.inside.groups.items }
+table c = record { arena = c.self.inside.arena; entries = c.self.inside.entries.items; groups = c.self.inside.groups.listed }
 
 unused : (c : goal.After-self-1) → IsUnused (table c) c.take-frame.result
 unused c = unused-frame (table c) c.self.inside.counts c.take-frame.result c.self.invariant.0 c.take-frame.ensures.unused
@@ -26,7 +26,7 @@ invariant_of-self c = (
   rw c.clear.ensures (sound-added (table c) c.args.place c.take-frame.result c.args.mergeable c.self.invariant.0.fits (unused c) (there c) (empty c)
       c.self.inside.counts c.take-frame.new.self c.self.invariant.0.counted c.take-frame.ensures.counts c.take-frame.ensures.fewer),
   rw (c.clear.ensures, length-set) c.self.invariant.1,
-  rw c.clear.ensures (tree-set c.self.inside.arena c.self.inside.groups.items c.self.inside.tree c.take-frame.result zero_page c.self.invariant.2 (unused c).no_group),
+  rw c.clear.ensures (tree-set c.self.inside.arena c.self.inside.groups.listed c.self.inside.tree c.take-frame.result zero_page c.self.invariant.2 (unused c).no_group),
 )
 
 pub returns-clause-contents : goal.returns-clause-contents

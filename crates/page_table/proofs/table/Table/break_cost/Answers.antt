@@ -8,17 +8,17 @@ use Rattle.page_table.proofs.table.Table.break_cost.Goals.{then-entry, else-entr
 
 pub index-requires : goal.index-requires
 index-requires c =
-    let there : IsPageAt (record { arena = c.self.inside.arena; entries = c.self.inside.entries.items; groups = c.self.inside.groups.items }) c.args.place = rw (← c.self.view_is) at c.requires in
+    let there : IsPageAt (record { arena = c.self.inside.arena; entries = c.self.inside.entries.items; groups = c.self.inside.groups.listed }) c.args.place = rw (← c.self.view_is) at c.requires in
     let inside = page_inside _ c.args.place there in omega (arith, inside)
 
 pub unreachable-requires : goal.unreachable-requires
 unreachable-requires c =
-    let there : IsPageAt (record { arena = c.self.inside.arena; entries = c.self.inside.entries.items; groups = c.self.inside.groups.items }) c.args.place = rw (← c.self.view_is) at c.requires in
+    let there : IsPageAt (record { arena = c.self.inside.arena; entries = c.self.inside.entries.items; groups = c.self.inside.groups.listed }) c.args.place = rw (← c.self.view_is) at c.requires in
     page_there _ c.args.place there
     (get_or_default c.self.inside.entries.items c.args.place None c.index.result.now (page_inside _ c.args.place there) ∙ sym c.index.ensures ∙ c.in_default.is)
 
 abbrev table : goal.Then-entry → TableState
-table c = record { arena = c.self.inside.arena; entries = c.self.inside.entries.items; groups = c.self.inside.groups.items }
+table c = record { arena = c.self.inside.arena; entries = c.self.inside.entries.items; groups = c.self.inside.groups.listed }
 
 here : (c : goal.Then-entry) → entry_at (table c).entries c.args.place ≡ Some c.in-Some.entry
 here c =
@@ -32,7 +32,7 @@ count-requires c =
 
 pub returns : goal.returns
 returns c =
-    let whole : TableState = record { arena = c.self.inside.arena; entries = c.self.inside.entries.items; groups = c.self.inside.groups.items } in
+    let whole : TableState = record { arena = c.self.inside.arena; entries = c.self.inside.entries.items; groups = c.self.inside.groups.listed } in
     let there : IsPageAt whole c.args.place = rw (← c.self.view_is) at c.requires in
     let here = get_or_default c.self.inside.entries.items c.args.place None c.index.result.now (page_inside whole c.args.place there) ∙ sym c.index.ensures ∙ c.in-Some.is in
     rw (← c.self.view_is) (elim c.if-entry.branch [

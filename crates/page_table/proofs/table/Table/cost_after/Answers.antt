@@ -26,7 +26,7 @@ returns-in_default-clause-cost c =
     rw (← c.self.view_is) (λ pass. sym (cost-after-none _ pass c.args.first c.args.number c.self.invariant.0.fits (sym behind ∙ c.in_default.is)))
 
 abbrev table : In-Some → TableState
-table c = record { arena = c.self.inside.arena; entries = c.self.inside.entries.items; groups = c.self.inside.groups.items }
+table c = record { arena = c.self.inside.arena; entries = c.self.inside.entries.items; groups = c.self.inside.groups.listed }
 
 inside : (c : In-Some) → c.args.first + c.args.number < length c.self.inside.entries.items
 inside c = rw (← c.self.view_is) at c.requires

@@ -1,31 +1,30 @@
-use Rattle.std.proofs.Common.{◌≡◌, ◌+◌, Some, rules}
-use Rattle.std.proofs.lemmas.Fn.{filter_same}
-use Rattle.page_table.specs.Table.{TableState, entry_at, pages_on, one_if_zero}
-use Rattle.page_table.proofs.Ending.{but, contents-ended, sharing-ended, used-ended, sound-ended}
+use Rattle.std.proofs.Common.{◌≡◌, ◌+◌, Some, ap, arith}
+use Rattle.page_table.specs.Table.{TableState, GroupsState, entry_at, pages_on, one_if_zero}
+use Rattle.page_table.proofs.Ending.{but, one_group, contents-ended, sharing-ended, used-ended, sound-ended}
 use Rattle.page_table.proofs.Entries.{kept-shared}
 use Rattle.page_table.proofs.Trees.{tree-removed}
 use Rattle.page_table.proofs.table.Table.end_group.Goals as goal
-use Rattle.page_table.proofs.table.Table.end_group.Goals.{After-remove}
+use Rattle.page_table.proofs.table.Table.end_group.Goals.{After-remove-2}
 
-abbrev table : After-remove → TableState
-table c = record { arena = c.self.inside.arena; entries = c.self.inside.entries.items; groups = c.self.inside.groups.items }
+abbrev table : After-remove-2 → TableState
+table c = record { arena = c.self.inside.arena; entries = c.self.inside.entries.items; groups = c.self.inside.groups.listed }
 
-left : (c : After-remove) → c.retain.new.self.items ≡ but c.args.entry.frame (table c).groups
-left c = filter_same _ _ _ (λ x b f' k. search rules) _ _ c.retain.ensures.filtered
+left : (c : After-remove-2) → c.remove.new.self.listed ≡ but c.args.entry.frame (table c).groups
+left c = ap (λ (groups : GroupsState). groups.listed) c.remove.ensures
 
-here : (c : After-remove) → entry_at (table c).entries c.args.place ≡ Some c.args.entry
+here : (c : After-remove-2) → entry_at (table c).entries c.args.place ≡ Some c.args.entry
 here c = rw (← c.self.view_is) at c.requires.there
 
-last : (c : After-remove) → one_if_zero c.args.entry.frame + pages_on c.args.entry.frame (table c).entries ≡ 1
+last : (c : After-remove-2) → one_if_zero c.args.entry.frame + pages_on c.args.entry.frame (table c).entries ≡ 1
 last c = rw (← c.self.view_is) at c.requires.last
 
 pub invariant_of-self : goal.invariant_of-self
 invariant_of-self c = (
   rw (left c) (sound-ended (table c) c.args.place c.args.entry c.broken.result c.self.invariant.0.fits (here c) c.requires.shared (last c) c.broken.ensures.state c.broken.ensures.frame
       c.self.inside.counts c.broken.ensures.protected c.self.invariant.0.counted),
-  rw c.retain.ensures.capacity c.self.invariant.1,
+  rw c.remove.ensures c.self.invariant.1,
   rw (left c)
-      (tree-removed c.self.inside.arena c.self.inside.groups.items c.self.inside.tree c.remove.new.self c.args.entry.frame c.self.invariant.2 c.remove.ensures.sorted c.remove.ensures.room c.remove.ensures.removed),
+      (tree-removed c.self.inside.arena c.self.inside.groups.listed c.self.inside.tree c.remove-2.new.self c.args.entry.frame c.self.invariant.2 c.remove-2.ensures.sorted c.remove-2.ensures.room c.remove-2.ensures.removed),
 )
 
 pub returns-clause-contents : goal.returns-clause-contents
@@ -45,3 +44,11 @@ returns-clause-used c =
 
 pub returns-clause-kept : goal.returns-clause-kept
 returns-clause-kept c = rw (← c.self.view_is) (kept-shared (table c).entries c.args.place c.args.entry _ (here c) c.requires.shared)
+
+pub remove-requires : goal.remove-requires
+remove-requires c =
+    let before : TableState = record { arena = c.self.inside.arena; entries = c.self.inside.entries.items; groups = c.self.inside.groups.listed } in
+    let there : entry_at before.entries c.args.place ≡ Some c.args.entry = rw (← c.self.view_is) at c.requires.there in
+    let last : one_if_zero c.args.entry.frame + pages_on c.args.entry.frame before.entries ≡ 1 = rw (← c.self.view_is) at c.requires.last in
+    let one = one_group before c.args.place c.args.entry c.broken.result c.self.invariant.0.fits there c.requires.shared last c.broken.ensures.state c.broken.ensures.frame in
+    omega (arith, one)

@@ -1,10 +1,11 @@
-use Rattle.std.proofs.Common.{◌≡◌, ◌∙◌, slice_index_or, ap}
-use Rattle.page_table.proofs.Joining.{times-at, group-inside}
-use Rattle.page_table.specs.Table.{TableState}
+use Rattle.std.proofs.Common.{◌∙◌, arith}
+use Rattle.page_table.proofs.Trees.{tree-length}
 use Rattle.page_table.proofs.table.Table.groups.Goals as goal
 
-pub returns-clause-there : goal.returns-clause-there
-returns-clause-there c i inside =
-    let same : c.deref.result.now ≡ c.args.self.now.groups = c.deref.ensures.value ∙ ap (λ (table : TableState). table.groups) c.self.view_is in
-    let fits = c.facts.ensures.1.fits in
-    rw same (group-inside c.args.self.now (slice_index_or c.args.self.now.groups i 0) fits (times-at c.args.self.now.groups i (rw same at inside)))
+pub overflow_cast-result : goal.overflow_cast-result
+overflow_cast-result c =
+    let long = tree-length c.self.inside.arena c.self.inside.groups.listed c.self.inside.tree c.self.invariant.2 in
+    omega (arith, c.groups.ensures, long, c.self.invariant.0.counted.used, c.self.invariant.0.fits.small)
+
+pub returns : goal.returns
+returns c = rw (← c.self.view_is) (c.groups.ensures ∙ tree-length c.self.inside.arena c.self.inside.groups.listed c.self.inside.tree c.self.invariant.2)

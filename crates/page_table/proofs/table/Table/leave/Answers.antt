@@ -8,7 +8,7 @@ use Rattle.page_table.proofs.Trees.{tree-set}
 use Rattle.page_table.proofs.table.Table.leave.Goals as goal
 
 abbrev table : goal.After-self-1 → TableState
-table c = record { arena = c.self.inside.arena; entries = c.self.inside.entries.items; groups = c.self.inside.groups.items }
+table c = record { arena = c.self.inside.arena; entries = c.self.inside.entries.items; groups = c.self.inside.groups.listed }
 
 unused : (c : goal.After-self-1) → IsUnused (table c) c.broken.result.frame
 unused c = rw (c.broken.ensures.frame) (unused-frame (table c) c.self.inside.counts c.take-frame.result c.self.invariant.0 c.take-frame.ensures.unused)
@@ -26,7 +26,7 @@ invariant_of-self c = (
       c.self.inside.counts c.take-frame.new.self c.release.new.self c.broken.ensures.protected c.self.invariant.0.counted (rw c.broken.ensures.frame c.take-frame.ensures.counts) c.take-frame.ensures.fewer c.release.ensures.counts c.release.ensures.unused),
   rw (c.copy.ensures, length-set) c.self.invariant.1,
   rw (c.copy.ensures, ← c.broken.ensures.frame)
-      (tree-set c.self.inside.arena c.self.inside.groups.items c.self.inside.tree c.broken.result.frame (page_at c.self.inside.arena c.args.entry.frame) c.self.invariant.2 (unused c).no_group),
+      (tree-set c.self.inside.arena c.self.inside.groups.listed c.self.inside.tree c.broken.result.frame (page_at c.self.inside.arena c.args.entry.frame) c.self.invariant.2 (unused c).no_group),
 )
 
 pub returns-clause-contents : goal.returns-clause-contents

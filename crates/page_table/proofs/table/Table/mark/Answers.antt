@@ -3,7 +3,7 @@ use Rattle.page_table.proofs.Marking.{IsMarking, marking-from, contents-marked, 
 use Rattle.page_table.proofs.table.Table.mark.Goals as goal
 
 abbrev table : goal.After-self-1 → TableState
-table c = record { arena = c.self.inside.arena; entries = c.self.inside.entries.items; groups = c.self.inside.groups.items }
+table c = record { arena = c.self.inside.arena; entries = c.self.inside.entries.items; groups = c.self.inside.groups.listed }
 
 marking : (c : goal.After-self-1) → IsMarking (table c) c.args.place c.page-entry.result c.args.status
 marking c =

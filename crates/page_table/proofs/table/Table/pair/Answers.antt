@@ -1,32 +1,52 @@
-use Rattle.std.proofs.Common.{rules, ◌≡◌, ◌∙◌, ◌∷◌, ◌++◌, [], Bool, true, false, if◌then◌else◌, is_ok, ℕ, slice_set, Option, Some, None, IfSome, sym, ap, subst}
+use Rattle.std.proofs.Common.{◌≡◌, ◌∙◌, ◌∷◌, ◌++◌, [], false, ℕ, slice_set, Option, Some, None, IfSome, sym, ap, subst, ◌<◌, length, arith}
 use Rattle.host_types.specs.Sharing.{is_shared}
 use Rattle.page_table.specs.declared.entry.Entry.{Entry}
-use Rattle.page_table.specs.Table.{TableState, IsAlone, IsOwnAt, entry_at}
+use Rattle.page_table.specs.Table.{TableState, GroupsState, IsAlone, IsOwnAt, entry_at}
 use Rattle.page_table.proofs.Pairing.{IsPairing, IsGroupEntry, pairing-from, contents-pair, used-pair, sound-pair, sharing-pair}
 use Rattle.std.proofs.lemmas.List.{get_or-set_other}
 use Rattle.page_table.proofs.Putting.{is_alone, entry_fits}
 use Rattle.page_table.proofs.Trees.{tree-absent, tree-room, tree-pushed}
 use Rattle.page_table.proofs.table.Table.pair.Goals as goal
-use Rattle.page_table.proofs.table.Table.pair.Goals.{Else-prove}
+use Rattle.page_table.proofs.table.Table.pair.Goals.{After-release}
+
+fits_first : (c : After-release) → c.page-one.result.frame < length c.self.inside.arena
+fits_first c =
+    let before : TableState = record { arena = c.self.inside.arena; entries = c.self.inside.entries.items; groups = c.self.inside.groups.listed } in
+    let there : entry_at before.entries c.args.first ≡ Some c.page-one.result = rw (← c.self.view_is) at c.page-one.ensures in
+    (entry_fits before c.args.first c.page-one.result c.self.invariant.0.fits there).frame
 
 -- the first page is alone on its frame
-alone_first : (c : Else-prove) → IsAlone (record { arena = c.self.inside.arena; entries = c.self.inside.entries.items; groups = c.self.inside.groups.items }) c.page-one.result.frame
+alone_first : (c : After-release) → IsAlone (record { arena = c.self.inside.arena; entries = c.self.inside.entries.items; groups = c.self.inside.groups.listed }) c.page-one.result.frame
 alone_first c =
-    let before : TableState = record { arena = c.self.inside.arena; entries = c.self.inside.entries.items; groups = c.self.inside.groups.items } in
+    let before : TableState = record { arena = c.self.inside.arena; entries = c.self.inside.entries.items; groups = c.self.inside.groups.listed } in
     let there : entry_at before.entries c.args.first ≡ Some c.page-one.result = rw (← c.self.view_is) at c.page-one.ensures in
     let own : IsOwnAt before c.args.first = rw (← c.self.view_is) at c.requires.own_first in
     is_alone before c.page-one.result (entry_fits before c.args.first c.page-one.result c.self.invariant.0.fits there)
     (subst (λ (x : Option Entry). IfSome x (λ (entry : Entry). is_shared entry.status ≡ false)) there own)
 
+pub push-requires-clause-above : goal.push-requires-clause-above
+push-requires-clause-above c = (alone_first (goal.at.push-requires-clause-above c).After-release).above
+
+pub push-requires-clause-there : goal.push-requires-clause-there
+push-requires-clause-there c =
+    let inside = fits_first (goal.at.push-requires-clause-there c).After-release in
+    omega (arith, inside, c.self.invariant.1)
+
+pub push-requires-clause-new : goal.push-requires-clause-new
+push-requires-clause-new c = (alone_first (goal.at.push-requires-clause-new c).After-release).no_group
+
+pub push-requires-clause-room : goal.push-requires-clause-room
+push-requires-clause-room c = omega (arith, c.self.invariant.0.counted.used, c.self.invariant.1)
+
 pub insert-requires-clause-new : goal.insert-requires-clause-new
-insert-requires-clause-new c = tree-absent c.self.inside.arena c.self.inside.groups.items c.self.inside.tree c.self.invariant.2 c.page-one.result.frame (alone_first (goal.at.insert-requires-clause-new c).Else-prove).no_group
+insert-requires-clause-new c = tree-absent c.self.inside.arena c.self.inside.groups.listed c.self.inside.tree c.self.invariant.2 c.page-one.result.frame (alone_first (goal.at.insert-requires-clause-new c).After-release).no_group
 
 pub insert-requires-clause-room : goal.insert-requires-clause-room
 insert-requires-clause-room c =
-    tree-room (record { arena = c.self.inside.arena; entries = c.self.inside.entries.items; groups = c.self.inside.groups.items }) c.self.inside.counts c.self.inside.tree c.self.invariant.0 c.self.invariant.2
+    tree-room (record { arena = c.self.inside.arena; entries = c.self.inside.entries.items; groups = c.self.inside.groups.listed }) c.self.inside.counts c.self.inside.tree c.self.invariant.0 c.self.invariant.2
 
 abbrev table : goal.After-insert → TableState
-table c = record { arena = c.self.inside.arena; entries = c.self.inside.entries.items; groups = c.self.inside.groups.items }
+table c = record { arena = c.self.inside.arena; entries = c.self.inside.entries.items; groups = c.self.inside.groups.listed }
 
 pairs : (c : goal.After-insert) → IsPairing (table c) c.args.first c.args.second c.page-one.result c.page-other.result c.merged.result c.merged-2.result
 pairs c =
@@ -37,11 +57,9 @@ pairs c =
     pairing-from (table c) c.args.self.now c.args.first c.args.second c.page-one.result c.page-other.result c.merged.result c.merged-2.result
     c.self.view_is c.self.invariant.0.fits c.requires.apart c.page-one.ensures c.page-other.ensures c.requires.own_first c.requires.own_second c.requires.same first second
 
-pushed : (c : goal.After-insert) → c.push.new.self.items ≡ (table c).groups ++ c.merged.result.frame ∷ []
+pushed : (c : goal.After-insert) → c.push.new.self.listed ≡ (table c).groups ++ c.merged.result.frame ∷ []
 pushed c =
-    let is_ok : is_ok c.push.result ≡ true = sym c.is_ok-pushed.ensures.value ∙ c.if-prove.false in
-    c.push.ensures.items
-    ∙ ap (λ (b : Bool). if b then (table c).groups ++ c.page-one.result.frame ∷ [] else (table c).groups) is_ok
+    ap (λ (groups : GroupsState). groups.listed) c.push.ensures
     ∙ ap (λ (f : ℕ). (table c).groups ++ f ∷ []) (sym c.merged.ensures.frame)
 
 pub invariant_of-self : goal.invariant_of-self
@@ -49,9 +67,9 @@ invariant_of-self c = (
   rw (pushed c)
       (sound-pair (table c) c.args.first c.args.second c.page-one.result c.page-other.result c.merged.result c.merged-2.result (pairs c)
       c.self.inside.counts c.share.new.self c.release.new.self c.self.invariant.0.counted c.share.ensures.counts c.share.ensures.unused c.release.ensures.counts c.release.ensures.unused),
-  search rules,
+  rw c.push.ensures c.self.invariant.1,
   rw (pushed c, c.merged.ensures.frame)
-      (tree-pushed c.self.inside.arena c.self.inside.groups.items c.self.inside.tree c.insert.new.self c.page-one.result.frame c.self.invariant.2 c.insert.ensures.sorted c.insert.ensures.room c.insert.ensures.inserted),
+      (tree-pushed c.self.inside.arena c.self.inside.groups.listed c.self.inside.tree c.insert.new.self c.page-one.result.frame c.self.invariant.2 c.insert.ensures.sorted c.insert.ensures.room c.insert.ensures.inserted),
 )
 
 pub returns-clause-contents : goal.returns-clause-contents

@@ -12,17 +12,17 @@ use Rattle.page_table.proofs.table.Table.put.Goals as goal
 
 pub index-requires : goal.index-requires
 index-requires c =
-    let there : IsPageAt (record { arena = c.self.inside.arena; entries = c.self.inside.entries.items; groups = c.self.inside.groups.items }) c.args.place = rw (← c.self.view_is) at c.requires.there in
+    let there : IsPageAt (record { arena = c.self.inside.arena; entries = c.self.inside.entries.items; groups = c.self.inside.groups.listed }) c.args.place = rw (← c.self.view_is) at c.requires.there in
     let inside = page_inside _ c.args.place there in omega (arith, inside)
 
 pub unreachable-requires : goal.unreachable-requires
 unreachable-requires c =
-    let there : IsPageAt (record { arena = c.self.inside.arena; entries = c.self.inside.entries.items; groups = c.self.inside.groups.items }) c.args.place = rw (← c.self.view_is) at c.requires.there in
+    let there : IsPageAt (record { arena = c.self.inside.arena; entries = c.self.inside.entries.items; groups = c.self.inside.groups.listed }) c.args.place = rw (← c.self.view_is) at c.requires.there in
     page_there _ c.args.place there
     (get_or_default c.self.inside.entries.items c.args.place None c.index.result.now (page_inside _ c.args.place there) ∙ sym c.index.ensures ∙ c.in_default.is)
 
 abbrev table : goal.After-put → TableState
-table c = record { arena = c.self.inside.arena; entries = c.self.inside.entries.items; groups = c.self.inside.groups.items }
+table c = record { arena = c.self.inside.arena; entries = c.self.inside.entries.items; groups = c.self.inside.groups.listed }
 
 here : (c : goal.After-put) → entry_at (table c).entries c.args.place ≡ Some c.in-Some.entry
 here c =
@@ -48,7 +48,7 @@ pub invariant_of-self : goal.invariant_of-self
 invariant_of-self c = (
   rw c.put.ensures (sound-put (table c) c.args.place c.in-Some.entry (page c) c.self.invariant.0.fits (here c) (lone c) (sized c) c.self.inside.counts c.self.invariant.0.counted),
   rw (c.put.ensures, length-set) c.self.invariant.1,
-  rw c.put.ensures (tree-set c.self.inside.arena c.self.inside.groups.items c.self.inside.tree c.in-Some.entry.frame (page c) c.self.invariant.2 (lone c).no_group),
+  rw c.put.ensures (tree-set c.self.inside.arena c.self.inside.groups.listed c.self.inside.tree c.in-Some.entry.frame (page c) c.self.invariant.2 (lone c).no_group),
 )
 
 pub returns-clause-contents : goal.returns-clause-contents
@@ -58,7 +58,7 @@ returns-clause-contents c =
 
 pub put-requires-clause-frame : goal.put-requires-clause-frame
 put-requires-clause-frame c =
-    let whole : TableState = record { arena = c.self.inside.arena; entries = c.self.inside.entries.items; groups = c.self.inside.groups.items } in
+    let whole : TableState = record { arena = c.self.inside.arena; entries = c.self.inside.entries.items; groups = c.self.inside.groups.listed } in
     let there : IsPageAt whole c.args.place = rw (← c.self.view_is) at c.requires.there in
     let here = get_or_default c.self.inside.entries.items c.args.place None c.index.result.now (page_inside whole c.args.place there) ∙ sym c.index.ensures ∙ c.in-Some.is in
     (entry_fits whole c.args.place c.in-Some.entry c.self.invariant.0.fits here).frame

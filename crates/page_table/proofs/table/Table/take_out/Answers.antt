@@ -10,17 +10,17 @@ use Rattle.page_table.proofs.table.Table.take_out.Goals.{In-Some}
 
 pub index-requires : goal.index-requires
 index-requires c =
-    let there : IsPageAt (record { arena = c.self.inside.arena; entries = c.self.inside.entries.items; groups = c.self.inside.groups.items }) c.args.place = rw (← c.self.view_is) at c.requires.there in
+    let there : IsPageAt (record { arena = c.self.inside.arena; entries = c.self.inside.entries.items; groups = c.self.inside.groups.listed }) c.args.place = rw (← c.self.view_is) at c.requires.there in
     let inside = page_inside _ c.args.place there in omega (arith, inside)
 
 pub unreachable-requires : goal.unreachable-requires
 unreachable-requires c =
-    let there : IsPageAt (record { arena = c.self.inside.arena; entries = c.self.inside.entries.items; groups = c.self.inside.groups.items }) c.args.place = rw (← c.self.view_is) at c.requires.there in
+    let there : IsPageAt (record { arena = c.self.inside.arena; entries = c.self.inside.entries.items; groups = c.self.inside.groups.listed }) c.args.place = rw (← c.self.view_is) at c.requires.there in
     page_there _ c.args.place there
     (get_or_default c.self.inside.entries.items c.args.place None c.index.result.now (page_inside _ c.args.place there) ∙ sym c.index.ensures ∙ c.in_default.is)
 
 abbrev table : In-Some → TableState
-table c = record { arena = c.self.inside.arena; entries = c.self.inside.entries.items; groups = c.self.inside.groups.items }
+table c = record { arena = c.self.inside.arena; entries = c.self.inside.entries.items; groups = c.self.inside.groups.listed }
 
 here : (c : In-Some) → entry_at (table c).entries c.args.place ≡ Some c.in-Some.entry
 here c =

@@ -6,13 +6,13 @@ use Rattle.page_table.proofs.table.Table.zero.Goals as goal
 
 pub share-requires-clause-few : goal.share-requires-clause-few
 share-requires-clause-few c =
-    let table : TableState = record { arena = c.self.inside.arena; entries = c.self.inside.entries.items; groups = c.self.inside.groups.items } in
+    let table : TableState = record { arena = c.self.inside.arena; entries = c.self.inside.entries.items; groups = c.self.inside.groups.listed } in
     let to : IsZeroEntry c.page-entry.result c.merged.result = record { state = c.merged.ensures.state; frame = c.merged.ensures.frame; status = c.merged.ensures.status; protected = c.merged.ensures.protected } in
     let move = move-zeroed table c.args.self.now c.args.place c.page-entry.result c.merged.result c.self.view_is c.self.invariant.0.fits c.page-entry.ensures c.requires.own c.requires.zeros to in
     rw c.merged.ensures.frame at (few table c.args.place c.page-entry.result c.merged.result move c.self.inside.counts c.self.invariant.0.counted)
 
 abbrev table : goal.After-release → TableState
-table c = record { arena = c.self.inside.arena; entries = c.self.inside.entries.items; groups = c.self.inside.groups.items }
+table c = record { arena = c.self.inside.arena; entries = c.self.inside.entries.items; groups = c.self.inside.groups.listed }
 
 to : (c : goal.After-release) → IsZeroEntry c.page-entry.result c.merged.result
 to c = record { state = c.merged.ensures.state; frame = c.merged.ensures.frame; status = c.merged.ensures.status; protected = c.merged.ensures.protected }

@@ -1,0 +1,289 @@
+-- How many contents have more than one group, told by the chains of the tree: of all contents one is taken out
+-- after another, and how often it occurs is the length of its chain.
+use Rattle.std.proofs.Common.{◌≡◌, ◌≢◌, ◌∙◌, ◌⊎◌, inl, inr, ⊎_elim, ℕ, zero, suc, ◌+◌, ◌<◌, ◌≤◌, ◌==◌, nat_lt, not, bytes_eq, Bool, true, false, if◌then◌else◌, List, [], ◌∷◌, ◌++◌, length, map, filter, slice_index_or, All, AllPairs, refl, sym, ap, arith}
+use Rattle.std.specs.List.{concat}
+use Rattle.std.specs.Ordering.{is_eq}
+use Rattle.std.specs.declared.cmp.Ordering.TheVariants.{Less}
+use Rattle.std.proofs.lemmas.List.{length-append, append-nil}
+use Rattle.std.proofs.lemmas.List.Elements.{All-tail, filter-append}
+use Rattle.std.proofs.lemmas.List.Sums.{sum_by-cons, sum_by-append}
+use Rattle.std.proofs.lemmas.Map.Text.{is_eq-slice_cmp}
+use Rattle.std.proofs.lemmas.Slice.Eq.{bytes_eq-Decides}
+use Rattle.std.proofs.lemmas.Bool.Decides.{nat_tests}
+use Rattle.host_types.specs.Counters.{times_among, repeated_among, seconds_behind}
+use Rattle.frame_arena.specs.Pages.{page_at}
+use Rattle.stable_tree.specs.Groups.{Groups, IsChain, has, content, order, many_in, dups_in, chains_among, dups_among}
+use Rattle.stable_tree.proofs.Sorting.{filter-chain, filter-no_chain}
+use Rattle.page_table.specs.Table.{IsTreeOf}
+use Rattle.page_table.proofs.Entries.{one_when}
+
+-- all contents but one
+abbrev out : List ℕ → List (List ℕ) → List (List ℕ)
+out c all = filter (λ other. not (bytes_eq other c)) all
+
+tells : (x c : List ℕ) → ((bytes_eq x c ≡ true) × (x ≡ c)) ⊎ ((bytes_eq x c ≡ false) × (x ≢ c))
+tells x c = by_test (bytes_eq x c) refl
+  where
+    by_test : (t : Bool) → bytes_eq x c ≡ t → ((bytes_eq x c ≡ true) × (x ≡ c)) ⊎ ((bytes_eq x c ≡ false) × (x ≢ c))
+    by_test true e = inl (e, (bytes_eq-Decides x c).0 e)
+    by_test false e = inr (e, λ same. let yes = (bytes_eq-Decides x c).1 same in cc)
+
+differ : (x c : List ℕ) → x ≢ c → bytes_eq x c ≡ false
+differ x c ne = ⊎_elim (λ is. absurd (ne is.1)) (λ is. is.0) (tells x c)
+
+times-cons : (b x : List ℕ) (xs : List (List ℕ)) → times_among b (x ∷ xs) ≡ one_when (bytes_eq x b) + times_among b xs
+unfolding times_among
+times-cons b x xs = sum_by-cons (λ (other : List ℕ). if bytes_eq other b then 1 else 0) x xs
+
+times-none : (b : List ℕ) → times_among b [] ≡ 0
+unfolding times_among
+times-none b = refl
+
+times-last : (b : List ℕ) (xs : List (List ℕ)) (x : List ℕ) → times_among b (xs ++ x ∷ []) ≡ times_among b xs + one_when (bytes_eq x b)
+unfolding times_among
+times-last b xs x =
+    let split = sum_by-append (λ (other : List ℕ). if bytes_eq other b then 1 else 0) xs (x ∷ []) in
+    let one = times-cons b x [] in
+    let none = times-none b in
+    omega (arith, split, one, none)
+
+times-gone : (c : List ℕ) (xs : List (List ℕ)) → times_among c (out c xs) ≡ 0
+times-gone c [] = times-none c
+times-gone c (x ∷ xs) = by_test (bytes_eq x c) refl (times-gone c xs)
+  where
+    by_test : (t : Bool) → bytes_eq x c ≡ t → times_among c (out c xs) ≡ 0 → times_among c (if not t then x ∷ out c xs else out c xs) ≡ 0
+    by_test true e rest = rest
+    by_test false e rest =
+        let split = times-cons c x (out c xs) in
+        let none = ap one_when e in
+        omega (arith, rest, split, none)
+
+times-other : (b c : List ℕ) (xs : List (List ℕ)) → b ≢ c → times_among b (out c xs) ≡ times_among b xs
+times-other b c [] ne = refl
+times-other b c (x ∷ xs) ne = by_test (bytes_eq x c) refl (times-other b c xs ne)
+  where
+    by_test : (t : Bool) → bytes_eq x c ≡ t → times_among b (out c xs) ≡ times_among b xs → times_among b (if not t then x ∷ out c xs else out c xs) ≡ times_among b (x ∷ xs)
+    by_test true e rest =
+        let is : x ≡ c = (bytes_eq-Decides x c).0 e in
+        let split = times-cons b x xs in
+        let none = ap one_when (differ x b (λ same. ne (sym same ∙ is))) in
+        omega (arith, rest, split, none)
+    by_test false e rest =
+        let split = times-cons b x xs in
+        let kept = times-cons b x (out c xs) in
+        omega (arith, rest, split, kept)
+
+many-more : (k : ℕ) → one_when (k == 1) + many_in k ≡ many_in (k + 1)
+many-more zero = refl
+many-more (suc zero) = refl
+many-more (suc (suc k)) =
+    let here : nat_lt 1 (suc (suc k)) ≡ true = grind (arith, nat_tests) in
+    let more : nat_lt 1 (suc (suc k) + 1) ≡ true = grind (arith, nat_tests) in
+    let above : (suc (suc k) == 1) ≡ false = grind (arith, nat_tests) in
+    let a = ap one_when here in
+    let b = ap one_when more in
+    let c = ap one_when above in
+    omega (arith, a, b, c)
+
+seconds-cons : (before : List (List ℕ)) (x : List ℕ) (xs : List (List ℕ)) → seconds_behind before (x ∷ xs) ≡ one_when (times_among x before == 1) + seconds_behind (before ++ x ∷ []) xs
+unfolding seconds_behind
+seconds-cons before x xs = refl
+
+seconds-none : (before : List (List ℕ)) → seconds_behind before [] ≡ 0
+unfolding seconds_behind
+seconds-none before = refl
+
+-- the second one of a content, and those of all others
+seconds-split : (c : List ℕ) (before xs : List (List ℕ)) → seconds_behind before xs + many_in (times_among c before) ≡ many_in (times_among c before + times_among c xs) + seconds_behind (out c before) (out c xs)
+seconds-split c before [] =
+    let none = times-none c in
+    let left = seconds-none before in
+    let right = seconds-none (out c before) in
+    let same : times_among c before + times_among c [] ≡ times_among c before = omega (arith, none) in
+    let many = ap many_in same in
+    omega (arith, left, right, many)
+seconds-split c before (x ∷ xs) = by_test (bytes_eq x c) refl (seconds-split c (before ++ x ∷ []) xs)
+  where
+    last : out c (before ++ x ∷ []) ≡ out c before ++ out c (x ∷ [])
+    last = filter-append (λ (other : List ℕ). not (bytes_eq other c)) before (x ∷ [])
+
+    by_test : (t : Bool) → bytes_eq x c ≡ t
+        → seconds_behind (before ++ x ∷ []) xs + many_in (times_among c (before ++ x ∷ [])) ≡ many_in (times_among c (before ++ x ∷ []) + times_among c xs) + seconds_behind (out c (before ++ x ∷ [])) (out c xs)
+        → seconds_behind before (x ∷ xs) + many_in (times_among c before) ≡ many_in (times_among c before + times_among c (x ∷ xs)) + seconds_behind (out c before) (if not t then x ∷ out c xs else out c xs)
+    by_test true e rest =
+        let is : x ≡ c = (bytes_eq-Decides x c).0 e in
+        let one = ap one_when e in
+        let grown = times-last c before x in
+        let split = times-cons c x xs in
+        let long : times_among c (before ++ x ∷ []) ≡ times_among c before + 1 = omega (arith, one, grown) in
+        let whole : times_among c (before ++ x ∷ []) + times_among c xs ≡ times_among c before + times_among c (x ∷ xs) = omega (arith, one, grown, split) in
+        let many = ap many_in long in
+        let most = ap many_in whole in
+        let same : out c (before ++ x ∷ []) ≡ out c before = last ∙ ap (λ (b : Bool). out c before ++ (if not b then x ∷ [] else [])) e ∙ append-nil (out c before) in
+        let behind = ap (λ l. seconds_behind l (out c xs)) same in
+        let first = ap (λ (y : List ℕ). one_when (times_among y before == 1)) is in
+        let next = seconds-cons before x xs in
+        let more = many-more (times_among c before) in
+        omega (arith, rest, many, most, behind, first, next, more)
+    by_test false e rest =
+        let apart : x ≢ c = λ is. let yes = (bytes_eq-Decides x c).1 is in cc in
+        let none = ap one_when e in
+        let grown = times-last c before x in
+        let split = times-cons c x xs in
+        let long : times_among c (before ++ x ∷ []) ≡ times_among c before = omega (arith, none, grown) in
+        let whole : times_among c (before ++ x ∷ []) + times_among c xs ≡ times_among c before + times_among c (x ∷ xs) = omega (arith, none, grown, split) in
+        let many = ap many_in long in
+        let most = ap many_in whole in
+        let same : out c (before ++ x ∷ []) ≡ out c before ++ x ∷ [] = last ∙ ap (λ (b : Bool). out c before ++ (if not b then x ∷ [] else [])) e in
+        let behind = ap (λ l. seconds_behind l (out c xs)) same in
+        let first = ap (λ (n : ℕ). one_when (n == 1)) (times-other x c before apart) in
+        let next = seconds-cons before x xs in
+        let after = seconds-cons (out c before) x (out c xs) in
+        omega (arith, rest, many, most, behind, first, next, after)
+
+-- as many, where a content occurs more than once
+abbrev share : ℕ → ℕ → ℕ
+share n m = if nat_lt 1 n then m else 0
+
+share-none : (n : ℕ) → share n 0 ≡ 0
+share-none n = by_test (nat_lt 1 n) 0 refl
+  where
+    by_test : (b : Bool) (m : ℕ) → m ≡ 0 → (if b then m else 0) ≡ 0
+    by_test true m e = e
+    by_test false m e = refl
+
+share-more : (n m : ℕ) → share n (1 + m) ≡ many_in n + share n m
+share-more n m = by_test (nat_lt 1 n)
+  where
+    by_test : (b : Bool) → (if b then 1 + m else 0) ≡ (if b then 1 else 0) + (if b then m else 0)
+    by_test true = refl
+    by_test false = refl
+
+repeated-cons : (all : List (List ℕ)) (x : List ℕ) (xs : List (List ℕ)) → repeated_among all (x ∷ xs) ≡ many_in (times_among x all) + repeated_among all xs
+unfolding repeated_among
+repeated-cons all x xs = sum_by-cons (λ (bytes : List ℕ). if nat_lt 1 (times_among bytes all) then 1 else 0) x xs
+
+repeated-none : (all : List (List ℕ)) → repeated_among all [] ≡ 0
+unfolding repeated_among
+repeated-none all = refl
+
+-- those of a content, and those of all others
+repeated-split : (c : List ℕ) (all xs : List (List ℕ)) → repeated_among all xs ≡ share (times_among c all) (times_among c xs) + repeated_among (out c all) (out c xs)
+repeated-split c all [] =
+    let none = ap (share (times_among c all)) (times-none c) ∙ share-none (times_among c all) in
+    let left = repeated-none all in
+    let right = repeated-none (out c all) in
+    omega (arith, none, left, right)
+repeated-split c all (x ∷ xs) = by_test (bytes_eq x c) refl (repeated-split c all xs)
+  where
+    by_test : (t : Bool) → bytes_eq x c ≡ t → repeated_among all xs ≡ share (times_among c all) (times_among c xs) + repeated_among (out c all) (out c xs)
+        → repeated_among all (x ∷ xs) ≡ share (times_among c all) (times_among c (x ∷ xs)) + repeated_among (out c all) (if not t then x ∷ out c xs else out c xs)
+    by_test true e rest =
+        let is : x ≡ c = (bytes_eq-Decides x c).0 e in
+        let one = ap one_when e in
+        let split = times-cons c x xs in
+        let long : times_among c (x ∷ xs) ≡ 1 + times_among c xs = omega (arith, one, split) in
+        let shared = ap (share (times_among c all)) long ∙ share-more (times_among c all) (times_among c xs) in
+        let first = ap (λ (y : List ℕ). many_in (times_among y all)) is in
+        let next = repeated-cons all x xs in
+        omega (arith, rest, shared, first, next)
+    by_test false e rest =
+        let apart : x ≢ c = λ is. let yes = (bytes_eq-Decides x c).1 is in cc in
+        let none = ap one_when e in
+        let split = times-cons c x xs in
+        let long : times_among c (x ∷ xs) ≡ times_among c xs = omega (arith, none, split) in
+        let shared = ap (share (times_among c all)) long in
+        let first = ap many_in (times-other x c all apart) in
+        let next = repeated-cons all x xs in
+        let after = repeated-cons (out c all) x (out c xs) in
+        omega (arith, rest, shared, first, next, after)
+
+module _ (arena : List (List ℕ)) where
+  -- as many frames have the bytes
+  pub times-has : (b : List ℕ) (frames : List ℕ) → times_among b (map (page_at arena) frames) ≡ length (filter (has arena b) frames)
+  times-has b [] = times-none b
+  times-has b (f ∷ fs) = by_test (bytes_eq (page_at arena f) b) refl (times-has b fs)
+    where
+      by_test : (t : Bool) → bytes_eq (page_at arena f) b ≡ t → times_among b (map (page_at arena) fs) ≡ length (filter (has arena b) fs)
+          → times_among b (page_at arena f ∷ map (page_at arena) fs) ≡ length (if t then f ∷ filter (has arena b) fs else filter (has arena b) fs)
+      by_test true e rest =
+          let split = times-cons b (page_at arena f) (map (page_at arena) fs) in
+          let one = ap one_when e in
+          omega (arith, rest, split, one)
+      by_test false e rest =
+          let split = times-cons b (page_at arena f) (map (page_at arena) fs) in
+          let one = ap one_when e in
+          omega (arith, rest, split, one)
+
+  has-split : (b chain : List ℕ) (chains : List (List ℕ)) → IsChain arena chain
+      → length (filter (has arena b) (chain ++ concat chains)) ≡ length (if bytes_eq (content arena chain) b then chain else []) + length (filter (has arena b) (concat chains))
+  has-split b chain chains is =
+      ap length (filter-append (has arena b) chain (concat chains) ∙ ap (λ (l : List ℕ). l ++ filter (has arena b) (concat chains)) (filter-chain arena b chain is))
+      ∙ length-append (if bytes_eq (content arena chain) b then chain else []) (filter (has arena b) (concat chains))
+
+  -- the numbers of contents that occur twice or more are those of the chains
+  pub nodes-told : (chains all : List (List ℕ)) → All (IsChain arena) chains → AllPairs (λ c d. order (content arena c) (content arena d) ≡ Less) chains
+      → ((b : List ℕ) → times_among b all ≡ length (filter (has arena b) (concat chains)))
+      → (seconds_behind [] all ≡ chains_among chains) × (repeated_among all all ≡ dups_among chains)
+  unfolding chains_among dups_among
+  nodes-told [] [] are ascending same = (seconds-none [], repeated-none [])
+  nodes-told [] (x ∷ xs) are ascending same =
+      let split = times-cons x x xs in
+      let one = ap one_when ((bytes_eq-Decides x x).1 refl) in
+      let none = same x in
+      absurd (omega (arith, split, one, none))
+  nodes-told (chain ∷ chains) all are ascending same =
+      let seconds : seconds_behind [] all + many_in (times_among (content arena chain) []) ≡ many_in (times_among (content arena chain) [] + times_among (content arena chain) all) + seconds_behind [] (out (content arena chain) all) = seconds-split (content arena chain) [] all in
+      let repeated = repeated-split (content arena chain) all all in
+      let none = times-none (content arena chain) in
+      let start : many_in (times_among (content arena chain) []) ≡ 0 = ap many_in none in
+      let sum : times_among (content arena chain) [] + times_among (content arena chain) all ≡ length chain = omega (arith, none, whole) in
+      let many = ap many_in sum in
+      let dups = ap dups_in whole in
+      let rest = nodes-told chains (out (content arena chain) all) (All-tail (IsChain arena) chain chains are) (λ i j d less there. ascending (suc i) (suc j) d (omega arith) (omega arith)) less in
+      let first = rest.0 in
+      let second = rest.1 in
+      let more = sum_by-cons (λ (one : List ℕ). many_in (length one)) chain chains in
+      let most = sum_by-cons (λ (one : List ℕ). dups_in (length one)) chain chains in
+      (omega (arith, seconds, start, many, first, more), omega (arith, repeated, dups, second, most))
+    where
+      is : IsChain arena chain
+      is = are 0 [] (omega arith)
+
+      unlike : filter (has arena (content arena chain)) (concat chains) ≡ []
+      unlike =
+          filter-no_chain arena (content arena chain) chains (All-tail (IsChain arena) chain chains are)
+          (λ i less. differ (content arena (slice_index_or chains i [])) (content arena chain) (λ e.
+          let below = ascending 0 (suc i) [] (omega arith) (omega arith) in
+          let other : bytes_eq (content arena chain) (content arena (slice_index_or chains i [])) ≡ false = sym (is_eq-slice_cmp (content arena chain) (content arena (slice_index_or chains i []))) ∙ ap is_eq below in
+          let yes = (bytes_eq-Decides (content arena chain) (content arena (slice_index_or chains i []))).1 (sym e) in
+          cc))
+
+      whole : times_among (content arena chain) all ≡ length chain
+      whole =
+          let split = has-split (content arena chain) chain chains is in
+          let yes : length (if bytes_eq (content arena chain) (content arena chain) then chain else []) ≡ length chain = ap (λ (b : Bool). length (if b then chain else [])) ((bytes_eq-Decides (content arena chain) (content arena chain)).1 refl) in
+          let no : length (filter (has arena (content arena chain)) (concat chains)) ≡ 0 = ap length unlike in
+          let told : times_among (content arena chain) all ≡ length (filter (has arena (content arena chain)) (chain ++ concat chains)) = same (content arena chain) in
+          omega (arith, split, yes, no, told)
+
+      less : (b : List ℕ) → times_among b (out (content arena chain) all) ≡ length (filter (has arena b) (concat chains))
+      less b =
+          ⊎_elim
+          (λ here. ap (λ (n : List ℕ). times_among n (out (content arena chain) all)) here.1 ∙ times-gone (content arena chain) all
+          ∙ sym (ap (λ (n : List ℕ). length (filter (has arena n) (concat chains))) here.1 ∙ ap length unlike))
+          (λ other.
+          let kept = times-other b (content arena chain) all other.1 in
+          let split = has-split b chain chains is in
+          let no : length (if bytes_eq (content arena chain) b then chain else []) ≡ 0 = ap (λ (t : Bool). length (if t then chain else [])) (differ (content arena chain) b (λ e. other.1 (sym e))) in
+          let told : times_among b all ≡ length (filter (has arena b) (chain ++ concat chains)) = same b in
+          omega (arith, kept, split, no, told))
+          (tells b (content arena chain))
+
+  -- the numbers of the tree are those of the groups' contents
+  pub tree-nodes : (groups : List ℕ) (tree : Groups) → IsTreeOf arena groups tree
+      → (seconds_behind [] (map (page_at arena) groups) ≡ chains_among tree.chains)
+      × (repeated_among (map (page_at arena) groups) (map (page_at arena) groups) ≡ dups_among tree.chains)
+  tree-nodes groups tree is =
+      nodes-told tree.chains (map (page_at arena) groups) is.sorted.alike is.sorted.ascending
+      (λ b. times-has b groups ∙ ap length (sym (is.listed b)))

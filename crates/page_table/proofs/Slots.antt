@@ -1,0 +1,236 @@
+-- The slots of the groups in order of creation.
+use Rattle.std.proofs.Common.{◌≡◌, ◌≢◌, ◌∙◌, ◌⊎◌, ⊎_elim, ℕ, zero, suc, ◌+◌, ◌<◌, ◌≤◌, ◌==◌, not, Bool, true, false, if◌then◌else◌, List, [], ◌∷◌, ◌++◌, length, take, drop, sum_by, slice_index_or, slice_set, All, AllPairs, refl, sym, ap, subst, arith, length-append}
+use Rattle.std.proofs.lemmas.List.{get_or-set_same, get_or-set_other, length-set, get_or_append_left, get_or-append-add, get_or_default, take_at}
+use Rattle.std.proofs.lemmas.List.Elements.{All-filter, filter-append, filter_more, filter_passes}
+use Rattle.std.proofs.lemmas.List.Kept.{AllPairs-filter}
+use Rattle.std.proofs.lemmas.List.Sums.{sum_by-cons, sum_by-append}
+use Rattle.std.proofs.lemmas.Bool.Decides.{nat_tests, eqb_tells}
+use Rattle.stable_tree.proofs.Removing.{filter-absent}
+use Rattle.page_table.specs.Table.{ArePlaced, groups_in, times}
+use Rattle.page_table.proofs.Ending.{but}
+use Rattle.page_table.proofs.Entries.{one_when, times-head, times-tail}
+
+full : (x : ℕ) → 0 < x → (x == 0) ≡ false
+full x h = grind (arith, nat_tests)
+
+empty : (x : ℕ) → (x == 0) ≡ true → x ≡ 0
+empty x h = grind (arith, nat_tests)
+
+some : (x : ℕ) → (x == 0) ≡ false → 0 < x
+some x h = grind (arith, nat_tests)
+
+other : (x f : ℕ) → x ≢ f → (x == f) ≡ false
+other x f ne = grind (arith, nat_tests)
+
+itself : (x : ℕ) → (x == x) ≡ true
+itself x = grind (arith, nat_tests)
+
+-- the group in a slot is one of the groups
+pub in-groups : (slots : List ℕ) (i : ℕ) → i < length slots → 0 < slice_index_or slots i 0 → 1 ≤ times (slice_index_or slots i 0) (groups_in slots)
+in-groups [] i h above = absurd (omega (arith, h))
+in-groups (x ∷ xs) zero h above = rw (full x above) (times-head x (groups_in xs))
+in-groups (x ∷ xs) (suc i) h above = by_test (x == 0) refl (in-groups xs i (omega arith) above)
+  where
+    by_test : (b : Bool) → (x == 0) ≡ b → 1 ≤ times (slice_index_or xs i 0) (groups_in xs) → 1 ≤ times (slice_index_or xs i 0) (if not b then x ∷ groups_in xs else groups_in xs)
+    by_test true e rest = rest
+    by_test false e rest = let more = times-tail (slice_index_or xs i 0) x (groups_in xs) in omega (arith, rest, more)
+
+-- where a group stands
+pub slot-of-group : (slots : List ℕ) (f : ℕ) → 1 ≤ times f (groups_in slots) → (i : ℕ) × (i < length slots) × (slice_index_or slots i 0 ≡ f) × (0 < f)
+slot-of-group [] f h = absurd (omega (arith, h))
+slot-of-group (x ∷ xs) f h = by_test (x == 0) refl (slot-of-group xs f) h
+  where
+    later : ((i : ℕ) × (i < length xs) × (slice_index_or xs i 0 ≡ f) × (0 < f)) → (i : ℕ) × (i < length (x ∷ xs)) × (slice_index_or (x ∷ xs) i 0 ≡ f) × (0 < f)
+    later found = let within = found.1 in (suc found.0, omega (arith, within), found.2, found.3)
+
+    by_test : (b : Bool) → (x == 0) ≡ b → (1 ≤ times f (groups_in xs) → (i : ℕ) × (i < length xs) × (slice_index_or xs i 0 ≡ f) × (0 < f))
+        → 1 ≤ times f (if not b then x ∷ groups_in xs else groups_in xs) → (i : ℕ) × (i < length (x ∷ xs)) × (slice_index_or (x ∷ xs) i 0 ≡ f) × (0 < f)
+    by_test true e rest h = later (rest h)
+    by_test false e rest h =
+        ⊎_elim
+        (λ same. (0, omega arith, same.1, subst (λ (n : ℕ). 0 < n) same.1 (some x e)))
+        (λ apart. let split = sum_by-cons (λ (y : ℕ). one_when (y == f)) x (groups_in xs) in let none = ap one_when apart.0 in later (rest (omega (arith, h, split, none))))
+        (eqb_tells x f)
+
+-- a slot that is emptied
+pub groups-emptied : (slots : List ℕ) (i f : ℕ) → i < length slots → slice_index_or slots i 0 ≡ f → ((j : ℕ) → j < length slots → slice_index_or slots j 0 ≡ f → j ≡ i)
+    → groups_in (slice_set slots i 0) ≡ but f (groups_in slots)
+groups-emptied [] i f h here once = absurd (omega (arith, h))
+groups-emptied (x ∷ xs) zero f h here once = sym (by_test (x == 0) refl)
+  where
+    absent : All (λ g. g ≢ f) xs
+    absent = λ k d less same. let place = once (suc k) (omega (arith, less)) (get_or_default xs k 0 d less ∙ same) in absurd (omega (arith, place))
+
+    rest : but f (groups_in xs) ≡ groups_in xs
+    rest = filter-absent (groups_in xs) f (All-filter (λ g. not (g == 0)) (λ g. g ≢ f) xs absent)
+
+    by_test : (b : Bool) → (x == 0) ≡ b → but f (if not b then x ∷ groups_in xs else groups_in xs) ≡ groups_in xs
+    by_test true e = rest
+    by_test false e =
+        let same : (x == f) ≡ true = ap (λ (n : ℕ). n == f) here ∙ itself f in
+        ap (λ (b : Bool). if not b then x ∷ but f (groups_in xs) else but f (groups_in xs)) same ∙ rest
+groups-emptied (x ∷ xs) (suc i) f h here once =
+    by_test (x == 0) (groups-emptied xs i f (omega arith) here (λ j less e. let place = once (suc j) (omega (arith, less)) e in omega (arith, place)))
+  where
+    apart : x ≢ f
+    apart same = let place = once 0 (omega arith) same in omega (arith, place)
+
+    by_test : (b : Bool) → groups_in (slice_set xs i 0) ≡ but f (groups_in xs)
+        → (if not b then x ∷ groups_in (slice_set xs i 0) else groups_in (slice_set xs i 0)) ≡ but f (if not b then x ∷ groups_in xs else groups_in xs)
+    by_test true rest = rest
+    by_test false rest = rw (other x f apart) (ap (λ l. x ∷ l) rest)
+
+module _ (slots slot_of : List ℕ) (are : ArePlaced slots slot_of) where
+  -- a group stands once
+  pub stands-once : (i j : ℕ) → i < length slots → j < length slots → 0 < slice_index_or slots i 0 → slice_index_or slots j 0 ≡ slice_index_or slots i 0 → j ≡ i
+  stands-once i j h k above same =
+      sym (are.placed j k (subst (λ (n : ℕ). 0 < n) (sym same) above)) ∙ ap (λ (n : ℕ). slice_index_or slot_of n 0) same ∙ are.placed i h above
+
+  pub placed-emptied : (i : ℕ) → ArePlaced (slice_set slots i 0) slot_of
+  placed-emptied i =
+      record {
+        below = λ j less. below j (rw (length-set slots i 0) at less);
+        placed = λ j less above. placed j (rw (length-set slots i 0) at less) above;
+      }
+    where
+      below : (j : ℕ) → j < length slots → slice_index_or (slice_set slots i 0) j 0 < length slot_of
+      below j less =
+          ⊎_elim
+          (λ same. let none : slice_index_or (slice_set slots i 0) j 0 ≡ 0 = ap (λ (n : ℕ). slice_index_or (slice_set slots i 0) n 0) same.1 ∙ get_or-set_same slots i 0 0 (subst (λ (n : ℕ). n < length slots) same.1 less) in let old = are.below j less in omega (arith, none, old))
+          (λ apart. let kept = get_or-set_other slots i j 0 0 apart.1 in let old = are.below j less in omega (arith, kept, old))
+          (eqb_tells j i)
+
+      placed : (j : ℕ) → j < length slots → 0 < slice_index_or (slice_set slots i 0) j 0 → slice_index_or slot_of (slice_index_or (slice_set slots i 0) j 0) 0 ≡ j
+      placed j less above =
+          ⊎_elim
+          (λ same. let none : slice_index_or (slice_set slots i 0) j 0 ≡ 0 = ap (λ (n : ℕ). slice_index_or (slice_set slots i 0) n 0) same.1 ∙ get_or-set_same slots i 0 0 (subst (λ (n : ℕ). n < length slots) same.1 less) in absurd (omega (arith, none, above)))
+          (λ apart. let kept = get_or-set_other slots i j 0 0 apart.1 in ap (λ (n : ℕ). slice_index_or slot_of n 0) kept ∙ are.placed j less (omega (arith, kept, above)))
+          (eqb_tells j i)
+
+  -- the slot of a group is the one that is noted
+  pub noted : (f : ℕ) → 1 ≤ times f (groups_in slots)
+      → (f < length slot_of) × (slice_index_or slot_of f 0 < length slots) × (slice_index_or slots (slice_index_or slot_of f 0) 0 ≡ f) × (0 < f)
+  noted f h =
+      let found = slot-of-group slots f h in
+      let place : slice_index_or slot_of f 0 ≡ found.0 = ap (λ (n : ℕ). slice_index_or slot_of n 0) (sym found.2) ∙ are.placed found.0 found.1 (subst (λ (n : ℕ). 0 < n) (sym found.2) found.3) in
+      let inside = are.below found.0 found.1 in
+      let is = found.2 in
+      let within = found.1 in (
+        omega (arith, inside, is),
+        omega (arith, place, within),
+        ap (λ (n : ℕ). slice_index_or slots n 0) place ∙ found.2,
+        found.3,
+      )
+
+  pub groups-removed : (f : ℕ) → 1 ≤ times f (groups_in slots) → groups_in (slice_set slots (slice_index_or slot_of f 0) 0) ≡ but f (groups_in slots)
+  groups-removed f h =
+      let there = noted f h in
+      groups-emptied slots (slice_index_or slot_of f 0) f there.1 there.2
+      (λ j less e. stands-once (slice_index_or slot_of f 0) j there.1 less (subst (λ (n : ℕ). 0 < n) (sym there.2) there.3) (e ∙ sym there.2))
+
+  -- a new group behind the others
+  pub placed-pushed : (f : ℕ) → 0 < f → f < length slot_of → times f (groups_in slots) ≡ 0 → ArePlaced (slots ++ f ∷ []) (slice_set slot_of f (length slots))
+  placed-pushed f above there none =
+      record {
+        below = λ j less. ⊎_elim (λ front. before_below j front) (λ last. last_below j last) (split j (more j less));
+        placed = λ j less full. ⊎_elim (λ front. before_placed j front full) (λ last. last_placed j last) (split j (more j less));
+      }
+    where
+      more : (j : ℕ) → j < length (slots ++ f ∷ []) → j < length slots + 1
+      more j less = let long = length-append slots (f ∷ []) in omega (arith, long, less)
+
+      split : (j : ℕ) → j < length slots + 1 → (j < length slots) ⊎ (j ≡ length slots + 0)
+      split j less = grind arith
+
+      last_is : (j : ℕ) → j ≡ length slots + 0 → slice_index_or (slots ++ f ∷ []) j 0 ≡ f
+      last_is j e = ap (λ (n : ℕ). slice_index_or (slots ++ f ∷ []) n 0) e ∙ get_or-append-add slots (f ∷ []) 0 0
+
+      last_below : (j : ℕ) → j ≡ length slots + 0 → slice_index_or (slots ++ f ∷ []) j 0 < length (slice_set slot_of f (length slots))
+      last_below j e = let is = last_is j e in let long = length-set slot_of f (length slots) in omega (arith, is, long, there)
+
+      last_placed : (j : ℕ) → j ≡ length slots + 0 → slice_index_or (slice_set slot_of f (length slots)) (slice_index_or (slots ++ f ∷ []) j 0) 0 ≡ j
+      last_placed j e =
+          ap (λ (n : ℕ). slice_index_or (slice_set slot_of f (length slots)) n 0) (last_is j e)
+          ∙ get_or-set_same slot_of f (length slots) 0 there ∙ (omega (arith, e))
+
+      front_is : (j : ℕ) → j < length slots → slice_index_or (slots ++ f ∷ []) j 0 ≡ slice_index_or slots j 0
+      front_is j less = get_or_append_left slots (f ∷ []) 0 j less
+
+      before_below : (j : ℕ) → j < length slots → slice_index_or (slots ++ f ∷ []) j 0 < length (slice_set slot_of f (length slots))
+      before_below j less = let is = front_is j less in let long = length-set slot_of f (length slots) in let old = are.below j less in omega (arith, is, long, old)
+
+      before_placed : (j : ℕ) → j < length slots → 0 < slice_index_or (slots ++ f ∷ []) j 0 → slice_index_or (slice_set slot_of f (length slots)) (slice_index_or (slots ++ f ∷ []) j 0) 0 ≡ j
+      before_placed j less full =
+          let is = front_is j less in
+          let above : 0 < slice_index_or slots j 0 = omega (arith, is, full) in
+          let listed = in-groups slots j less above in
+          let apart : slice_index_or slots j 0 ≢ f = λ same. let also = ap (λ (n : ℕ). times n (groups_in slots)) same in omega (arith, also, none, listed) in
+          ap (λ (n : ℕ). slice_index_or (slice_set slot_of f (length slots)) n 0) is
+          ∙ get_or-set_other slot_of f (slice_index_or slots j 0) (length slots) 0 apart
+          ∙ are.placed j less above
+
+  -- the groups alone
+  pub groups-below : All (λ f. f < length slot_of) (groups_in slots)
+  groups-below =
+      All-filter (λ g. not (g == 0)) (λ f. f < length slot_of) slots
+      (λ k d less. let same = get_or_default slots k d 0 less in let below = are.below k less in omega (arith, same, below))
+
+  pub groups-apart : AllPairs (λ f g. f ≢ g) (groups_in slots)
+  groups-apart = λ i j d less there same. kept i j d less there (passed i d (omega (arith, less, there))) same
+    where
+      kept : AllPairs (λ f g. 0 < f → f ≢ g) (groups_in slots)
+      kept =
+          AllPairs-filter (λ f g. 0 < f → f ≢ g) (λ g. not (g == 0)) slots
+          (λ i j d less there above same.
+          let first = get_or_default slots i 0 d (omega (arith, less, there)) in
+          let second = get_or_default slots j 0 d there in
+          let place = stands-once i j (omega (arith, less, there)) there (omega (arith, first, above)) (second ∙ sym same ∙ sym first) in
+          omega (arith, place, less))
+
+      passed : (i : ℕ) (d : ℕ) → i < length (groups_in slots) → 0 < slice_index_or (groups_in slots) i d
+      passed i d less = above (slice_index_or (groups_in slots) i d) (filter_passes (λ g. not (g == 0)) slots i d less)
+        where
+          above : (x : ℕ) → not (x == 0) ≡ true → 0 < x
+          above zero h = absurd (cc)
+          above (suc x) h = omega arith
+
+-- the groups alone have no empty slot
+pub groups-again : (slots : List ℕ) → groups_in (groups_in slots) ≡ groups_in slots
+groups-again [] = refl
+groups-again (x ∷ xs) = by_test (x == 0) refl (groups-again xs)
+  where
+    by_test : (b : Bool) → (x == 0) ≡ b → groups_in (groups_in xs) ≡ groups_in xs
+        → groups_in (if not b then x ∷ groups_in xs else groups_in xs) ≡ (if not b then x ∷ groups_in xs else groups_in xs)
+    by_test true e rest = rest
+    by_test false e rest = rw e (ap (λ l. x ∷ l) rest)
+
+pub groups-pushed : (slots : List ℕ) (f : ℕ) → 0 < f → groups_in (slots ++ f ∷ []) ≡ groups_in slots ++ f ∷ []
+groups-pushed slots f above =
+    filter-append (λ g. not (g == 0)) slots (f ∷ []) ∙ ap (λ (b : Bool). groups_in slots ++ (if not b then f ∷ [] else [])) (full f above)
+
+-- what is read of a list that reaches so far
+pub read-told : (xs : List ℕ) (i x : ℕ) → i < length xs → x ≡ slice_index_or xs i x → x ≡ slice_index_or xs i 0
+read-told xs i x inside e = e ∙ sym (get_or_default xs i 0 x inside)
+
+-- what was written into the whole of a list
+pub all-written : (new old : List ℕ) (n : ℕ) → length new ≡ n → take n (new ++ drop (length new) old) ≡ new
+all-written new old n e = take_at new (drop (length new) old) n e
+
+-- a sum over the groups, a slot further
+pub sum-more : (h : ℕ → ℕ) (slots : List ℕ) (i : ℕ) → i < length slots
+    → sum_by h (groups_in (take (i + 1) slots)) ≡ sum_by h (groups_in (take i slots)) + (if slice_index_or slots i 0 == 0 then 0 else h (slice_index_or slots i 0))
+sum-more h slots i less =
+    ap (sum_by h) (filter_more (λ f. not (f == 0)) slots i 0 less)
+    ∙ sum_by-append h (groups_in (take i slots)) (if not (slice_index_or slots i 0 == 0) then slice_index_or slots i 0 ∷ [] else [])
+    ∙ ap (λ (n : ℕ). sum_by h (groups_in (take i slots)) + n) (by_test (slice_index_or slots i 0 == 0))
+  where
+    by_test : (b : Bool) → sum_by h (if not b then slice_index_or slots i 0 ∷ [] else []) ≡ (if b then 0 else h (slice_index_or slots i 0))
+    by_test true = refl
+    by_test false = let one = sum_by-cons h (slice_index_or slots i 0) [] in omega (arith, one)
+
+-- a full slot has a group
+pub slot-in-groups : (slots groups : List ℕ) (i : ℕ) → groups_in slots ≡ groups → i < length slots → slice_index_or slots i 0 ≢ 0 → 1 ≤ times (slice_index_or slots i 0) groups
+slot-in-groups slots groups i e less full = subst (λ (l : List ℕ). 1 ≤ times (slice_index_or slots i 0) l) e (in-groups slots i less (above (slice_index_or slots i 0) full))
+  where
+    above : (x : ℕ) → x ≢ 0 → 0 < x
+    above x ne = grind arith

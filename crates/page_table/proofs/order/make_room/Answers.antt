@@ -1,0 +1,47 @@
+use Rattle.std.proofs.Common.{◌≡◌, ◌≢◌, ◌∙◌, ◌<◌, ℕ, List, All, AllPairs, length, slice_index_or, sym, ap, subst, arith, rules}
+use Rattle.std.proofs.lemmas.Fn.{filter_same}
+use Rattle.page_table.specs.Table.{groups_in}
+use Rattle.page_table.proofs.Slots.{groups-below, groups-apart, groups-again}
+use Rattle.page_table.proofs.order.make_room.Goals as goal
+use Rattle.page_table.proofs.order.make_room.Goals.{After-deref}
+
+left : (c : After-deref) → c.retain.new.self.items ≡ groups_in c.args.slots.now.items
+left c = filter_same _ _ _ (λ x b f' k. search rules) _ _ c.retain.ensures.filtered
+
+lent : (c : After-deref) → c.deref.result.now ≡ groups_in c.args.slots.now.items
+lent c = c.deref.ensures.value ∙ left c
+
+pub place_all-requires-clause-there : goal.place_all-requires-clause-there
+place_all-requires-clause-there c =
+    subst (All (λ (f : ℕ). f < length c.args.slot_of.now)) (sym (lent (goal.at.place_all-requires-clause-there c).After-deref)) (groups-below c.args.slots.now.items c.args.slot_of.now c.requires.placed)
+
+pub place_all-requires-clause-apart : goal.place_all-requires-clause-apart
+place_all-requires-clause-apart c =
+    subst (AllPairs (λ (f g : ℕ). f ≢ g)) (sym (lent (goal.at.place_all-requires-clause-apart c).After-deref)) (groups-apart c.args.slots.now.items c.args.slot_of.now c.requires.placed)
+
+pub place_all-requires-clause-few : goal.place_all-requires-clause-few
+place_all-requires-clause-few c = let long = ap length (lent (goal.at.place_all-requires-clause-few c).After-deref) in omega (arith, long, c.requires.room, c.requires.few)
+
+below : (c : After-deref) (i : ℕ) → i < length (groups_in c.args.slots.now.items) → slice_index_or (groups_in c.args.slots.now.items) i 0 < length c.args.slot_of.now
+below c i less = groups-below c.args.slots.now.items c.args.slot_of.now c.requires.placed i 0 less
+
+pub returns-clause-placed : goal.returns-clause-placed
+returns-clause-placed c =
+    let d = (goal.at.returns-clause-placed c).After-deref in
+    record {
+      below = λ i less. let old = below d i (subst (λ (l : List ℕ). i < length l) (left d) less) in let same = ap (λ (l : List ℕ). slice_index_or l i 0) (left d) in omega (arith, old, same, c.place_all.ensures.frames);
+      placed = λ i less above.
+          let same = c.deref.ensures.value in
+          ap (λ (l : List ℕ). slice_index_or c.place_all.new.slot_of (slice_index_or l i 0) 0) (sym same) ∙ c.place_all.ensures.placed i (subst (λ (l : List ℕ). i < length l) (sym same) less);
+    }
+
+pub returns-clause-listed : goal.returns-clause-listed
+returns-clause-listed c =
+    let d = (goal.at.returns-clause-listed c).After-deref in
+    ap groups_in (left d) ∙ groups-again c.args.slots.now.items
+
+pub returns-clause-room : goal.returns-clause-room
+returns-clause-room c =
+    let d = (goal.at.returns-clause-room c).After-deref in
+    let long = ap length (left d) in
+    omega (arith, long, c.requires.room, c.place_all.ensures.frames)
