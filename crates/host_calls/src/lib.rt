@@ -1,0 +1,10 @@
+//! The host's calls on a tenant's maps: the tests and the answers of each, on a memory and a tenant. An
+//! event of a host and a turn of a worker are this one code. A refusal changes nothing, and no call changes
+//! what another tenant has.
+#![tactic(auto)]
+
+mod looking;
+mod updating;
+
+pub use looking::host_lookup;
+pub use updating::host_update;

@@ -1,0 +1,90 @@
+ghost use Rattle.std.specs.Prelude.{◌≡◌, ◌+◌, ◌<◌, ◌≤◌, [], ◌∷◌, length, IfOk, IfErr};
+ghost use Rattle.host_types.specs.Bytes.{part_of};
+ghost use Rattle.host_types.specs.Helpers.{element_at};
+ghost use Rattle.host_types.specs.Shapes.{IsShape, byte_len_of};
+ghost use Rattle.page_table.specs.State.{part, map_bytes};
+ghost use Rattle.host_calls.specs.Calls.{IsValue, RefusesLookup};
+
+use host_types::{Fault, MapNo, Shape};
+use page_table::Memory;
+use std::alloc::{AllocError, Global};
+use write_break::load;
+
+/// The value of an element of a tenant's map.
+///
+/// Refusals in their order: 42 where there is no such tenant, 34 where it has no such map, 35 where the map
+/// has no such element, 41 where memory ran out.
+pub fn host_lookup(
+    alloc: Global,
+    memory: &Memory,
+    tenant: u32,
+    map: MapNo,
+    key: u32,
+) -> Result<Vec<u8>, Fault>
+    ensures value { IfOk result (λ bytes. IsValue (part memory.now tenant) map key bytes.items) }
+    ensures refused { IfErr result (RefusesLookup (part memory.now tenant) map key) }
+{
+    memory.facts();
+    if tenant >= memory.tenants() {
+        return Err(Fault::BadTenant);
+    }
+    let Some(shape) = memory.shape(tenant, map) else {
+        return Err(Fault::NoMap);
+    };
+    if key >= shape.entries {
+        return Err(Fault::NoElement);
+    }
+    let at = element_at(shape, key);
+    let Ok(bytes) = bytes_at(alloc, memory, tenant, map, at, shape.value_size) else {
+        return Err(Fault::OutOfMemory);
+    };
+    Ok(bytes)
+}
+
+/// Where an element begins in its map.
+#[tactic(auto, using(map_helpers::proofs::Charges::charges))]
+fn element_at(shape: Shape, key: u32) -> u32
+    requires shape { IsShape shape }
+    requires there { key < shape.entries }
+    ensures place { result ≡ element_at shape key }
+    ensures within { result + shape.value_size ≤ byte_len_of shape }
+{
+    shape.stride() * key
+}
+
+/// Bytes of a tenant's map, from a place on.
+fn bytes_at(
+    alloc: Global,
+    memory: &Memory,
+    tenant: u32,
+    map: MapNo,
+    at: u32,
+    len: u32,
+) -> Result<Vec<u8>, AllocError>
+    requires within { at + len ≤ length (map_bytes (part memory.now tenant) map) }
+    requires small { at + len ≤ 1048576 }
+    ensures { IfOk result (λ bytes. bytes.items ≡ part_of (map_bytes (part memory.now tenant) map) at len) }
+{
+    let mut bytes = Vec::new(alloc);
+    for place in 0..len {
+        bytes.push(byte_at(memory, tenant, map, at + place))?;
+    }
+    Ok(bytes)
+}
+
+/// One byte of a tenant's map.
+fn byte_at(memory: &Memory, tenant: u32, map: MapNo, at: u32) -> u8
+    requires within { at < length (map_bytes (part memory.now tenant) map) }
+    ensures { result ∷ [] ≡ part_of (map_bytes (part memory.now tenant) map) at 1 }
+{
+    memory.shape(tenant, map);
+    as_byte(load(memory, tenant, map, at, 1))
+}
+
+/// A number below 256 as a byte.
+fn as_byte(number: u64) -> u8
+    requires { number < 256 }
+    ensures { result ≡ number }
+{
+    number as u8
+}

@@ -1,0 +1,76 @@
+ghost use Rattle.std.specs.Prelude.{◌≡◌, ◌+◌, ◌≤◌, OnOk, IfErr, OnErr};
+ghost use Rattle.page_table.specs.State.{part, have_of};
+ghost use Rattle.page_table.specs.Changes.{IsKeptBut, AreMapsKeptBut, KeepsSettings};
+ghost use Rattle.map_helpers.specs.Updates.{part_updated, update_cost, updated_sharing};
+ghost use Rattle.host_calls.specs.Calls.{FitsValue, IsCharged, RefusesUpdate, TellsHave};
+
+use host_types::{Fault, MapNo};
+use map_helpers::{update, update_charge};
+use page_table::Memory;
+
+/// The flag of an update by which an element may be there or not.
+const ANY: u64 = 0;
+
+/// Writes a value to an element of a tenant's map, as the update helper does without a flag. Each page of the
+/// value that shares its frame is taken out before. What is recorded for the tenant's open run stays.
+///
+/// Refusals in their order: 42 where there is no such tenant, 34 where it has no such map, 35 where the map
+/// has no such element, 33 where the value has another size than the map's, 31 just where what is charged
+/// for an update of the map is above `have()`; it tells both numbers. A refusal changes nothing.
+pub fn host_update(
+    memory: &mut Memory,
+    tenant: u32,
+    map: MapNo,
+    key: u32,
+    value: &[u8],
+) -> Result<(), Fault>
+    ensures fits { OnOk result (FitsValue (part memory.old tenant) map key value.now) }
+    ensures charged { OnOk result (IsCharged (part memory.old tenant) map (have_of memory.old)) }
+    ensures updated { OnOk result
+        (part memory.new tenant ≡ part_updated (part memory.old tenant) map key value.now 0) }
+    ensures other_maps { AreMapsKeptBut map (part memory.old tenant) (part memory.new tenant) }
+    ensures others { IsKeptBut tenant memory.old memory.new }
+    ensures sharing { OnOk result (memory.new.sharing
+        ≡ updated_sharing (part memory.old tenant) memory.old.sharing tenant map key 0) }
+    ensures have { OnOk result
+        (have_of memory.new + update_cost (part memory.old tenant) memory.old.sharing tenant map key 0
+        ≡ have_of memory.old) }
+    ensures settings { KeepsSettings memory.old memory.new }
+    ensures refused { IfErr result (RefusesUpdate (part memory.old tenant) map key value.now) }
+    ensures told { IfErr result (TellsHave memory.old) }
+    ensures unchanged { OnErr result (memory.new ≡ memory.old) }
+{
+    may_update(memory, tenant, map, key, value)?;
+    update(memory, tenant, map, key, value, ANY);
+    Ok(())
+}
+
+/// Whether a value may be written, by the tests in their order.
+fn may_update(memory: &Memory, tenant: u32, map: MapNo, key: u32, value: &[u8]) -> Result<(), Fault>
+    ensures fits { OnOk result (FitsValue (part memory.now tenant) map key value.now) }
+    ensures charged { OnOk result (IsCharged (part memory.now tenant) map (have_of memory.now)) }
+    ensures room { OnOk result
+        (update_cost (part memory.now tenant) memory.now.sharing tenant map key 0 ≤ have_of memory.now) }
+    ensures refused { IfErr result (RefusesUpdate (part memory.now tenant) map key value.now) }
+    ensures told { IfErr result (TellsHave memory.now) }
+{
+    memory.facts();
+    if tenant >= memory.tenants() {
+        return Err(Fault::BadTenant);
+    }
+    let Some(shape) = memory.shape(tenant, map) else {
+        return Err(Fault::NoMap);
+    };
+    if key >= shape.entries {
+        return Err(Fault::NoElement);
+    }
+    if value.len() != shape.value_size as usize {
+        return Err(Fault::BadShape);
+    }
+    let need = update_charge(shape);
+    let have = memory.have();
+    if have < need {
+        return Err(Fault::NoFrames { need, have });
+    }
+    Ok(())
+}
