@@ -68,7 +68,8 @@ fn measure_steps(
 /// The bytes that an accepted program keeps: its text, the slot at which each instruction begins, each
 /// instruction as a step takes it, and for each slot the kinds of its registers.
 fn kept_bytes(program: &Verified) -> usize {
-    let by_slot = size_of::<[u8; 8]>() + size_of::<Option<[Option<Kind>; 11]>>();
+    let kinds = size_of::<Option<[Option<Kind>; 11]>>();
+    let by_slot = size_of::<[u8; 8]>() + kinds + size_of::<u32>();
     let by_instruction = size_of::<u16>() + size_of::<Typed>();
     program.slots() as usize * by_slot + program.instructions() as usize * by_instruction
 }
