@@ -6,6 +6,7 @@ ghost use Rattle.tenant_workers.specs.Calls.{IsSameSeat, RefusesSetting, Refuses
 
 use crate::shared::Shared;
 use host_types::{Fault, Opt};
+use ksm_counters::Counters;
 use page_table::Memory;
 use scanner::unmerge_all;
 use std::sync::Wait;
@@ -58,5 +59,17 @@ impl Shared {
         let answer = unmerge_all(held.memory_mut());
         self.turn.give(seat, held);
         answer
+    }
+
+    /// What is told of pages that share frames, at one moment. No tenant's part changes.
+    pub fn counters(&self, rt: &impl Wait, seat: &mut HostSeat) -> Counters
+        requires idle { IsIdle self.now seat.old }
+        ensures idle { IsIdle self.now seat.new }
+        ensures same { IsSameSeat seat.old seat.new }
+    {
+        let held = self.turn.take(rt, seat);
+        let counters = ksm_counters::counters(held.memory());
+        self.turn.give(seat, held);
+        counters
     }
 }

@@ -3,6 +3,7 @@
 #![tactic(auto)]
 
 mod host;
+mod maps;
 mod scanning;
 mod shared;
 
