@@ -5,6 +5,7 @@ ghost use Rattle.page_table.specs.Changes.{IsPageOf};
 ghost use Rattle.page_table.specs.State.{part, map_bytes};
 
 use host_types::{Fault, MapNo, Opt, Options, Page, Status, Visited};
+use ksm_counters::counters;
 use page_table::{Entry, Memory};
 use plain_sharing::{PlainPage, PlainSharing};
 use scanner::{set, unmerge_all, visit};
@@ -270,12 +271,9 @@ impl Both {
         self.plain.break_pages(first + number, count)
     }
 
-    /// Whether both tell the same: the settings, the free frames, each page, and which pages share frames.
+    /// Whether both tell the same: the settings, the counters, each page, and which pages share frames.
     pub(crate) fn agree(&self, alloc: Global) -> Result<bool, AllocError> {
-        let is_alike = self.memory.options() == self.plain.options()
-            && self.memory.full_scans() == self.plain.full_scans()
-            && self.memory.free() as usize == self.plain.frames_free(self.frames as usize);
-        if !is_alike {
+        if self.memory.options() != self.plain.options() || !self.counters_agree() {
             return Ok(false);
         }
         let mut marks = vec![in alloc; false; self.frames as usize]?;
@@ -284,6 +282,20 @@ impl Both {
                 && self.pages_agree(&mut marks)
                 && unmarked(&marks) == self.memory.free() as usize + 1,
         )
+    }
+
+    /// Whether each counter is what the plain program counts.
+    fn counters_agree(&self) -> bool {
+        let told = counters(&self.memory);
+        told.pages_shared as usize == self.plain.pages_shared()
+            && u128::from(told.pages_sharing) == self.plain.pages_sharing()
+            && told.pages_unshared as usize == self.plain.pages_unshared()
+            && told.pages_volatile as usize == self.plain.pages_volatile()
+            && told.full_scans == self.plain.full_scans()
+            && told.ksm_zero_pages as usize == self.plain.zero_pages()
+            && told.stable_node_chains as usize == self.plain.node_chains(&self.contents)
+            && told.stable_node_dups as usize == self.plain.node_dups(&self.contents)
+            && told.frames_free as usize == self.plain.frames_free(self.frames as usize)
     }
 
     /// Whether the pages of each of the plain program's groups lie on one frame, that no other group has.

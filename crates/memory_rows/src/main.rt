@@ -1,6 +1,7 @@
 //! The memory beside the plain program of pages that share frames, over operations that a fixed
 //! generator draws: new maps, stores, visits, options and unmergings. After each one both have to tell the
-//! same, and each 50th time all bytes are compared with a plain copy. The file `stdout` says what is wanted.
+//! same, the counters too, and each 50th time all bytes are compared with a plain copy. The file `stdout` says
+//! what is wanted.
 #![tactic(auto)]
 
 ghost use Rattle.std.specs.Prelude.{◌<◌, ◌≤◌};

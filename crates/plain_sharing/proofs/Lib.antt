@@ -2,3 +2,4 @@ pub mod Lists
 pub mod Joins
 pub mod Next
 pub mod Visits
+pub mod Counts

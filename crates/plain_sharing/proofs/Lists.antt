@@ -5,7 +5,7 @@ use Rattle.std.proofs.lemmas.List.{take_min, drop_min, take_all, take-replicate,
 use Rattle.std.proofs.Math.ListN.{get_or-map}
 use Rattle.std.proofs.lemmas.List.Sums.{sum_by_more}
 use Rattle.host_types.specs.Pages.{page_bytes, zero_page}
-use Rattle.host_types.specs.Sharing.{own_frame}
+use Rattle.host_types.specs.Sharing.{PageState, own_frame}
 use Rattle.host_types.specs.Unmerging.{zeros_at}
 use Rattle.host_types.specs.Visits.{Contents, group_bytes}
 use Rattle.plain_sharing.specs.View.{page_of, pages_of}
@@ -51,6 +51,15 @@ own_more pages i own h e =
     sym (sum_by_more own_frame (pages_of pages) i None (omega (arith, h, long))
     ∙ ap (λ (n : ℕ). n + own_frame (slice_index_or (pages_of pages) i None)) (sym e)
     ∙ ap (λ page. own + own_frame page) (get_or-map (option_map page_of) pages i None))
+
+-- one more page is counted by its status
+pub counted_more : (f : Option PageState → ℕ) (pages : List (Option PlainPage)) (i count : ℕ) → i < length pages → count ≡ sum_by f (take i (pages_of pages))
+    → count + f (option_map page_of (slice_index_or pages i None)) ≡ sum_by f (take (i + 1) (pages_of pages))
+counted_more f pages i count h e =
+    let long = length-map pages (option_map page_of) in
+    let more = sum_by_more f (pages_of pages) i None (omega (arith, h, long)) in
+    let here = ap f (get_or-map (option_map page_of) pages i None) in
+    omega (arith, e, more, here)
 
 -- one more page of zeros is counted
 pub zeros_more : (pages : List (Option PlainPage)) (i zeros : ℕ) → i < length pages → zeros ≡ sum_by zeros_at (take i (pages_of pages))

@@ -27,6 +27,10 @@ sharing_of pages groups options =
 abbrev pub contents_of : List (Vec ℕ Global) → Contents
 contents_of pages i = slice_index_or (map (λ page. page.items) pages) i []
 
+-- the bytes of each group's pages, in order of creation
+abbrev pub bytes_of_each : Contents → List (Vec ℕ Global) → List (List ℕ)
+bytes_of_each contents groups = map (group_bytes contents) (places_of groups)
+
 -- the group has these bytes, and fewer pages than the limit
 abbrev pub is_open_below : ℕ → Contents → List ℕ → List ℕ → Bool
 is_open_below limit contents bytes group = bytes_eq (group_bytes contents group) bytes && nat_lt (length group) limit

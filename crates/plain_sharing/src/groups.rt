@@ -1,9 +1,10 @@
 // Groups of pages, each a list of places.
-ghost use Rattle.std.specs.Prelude.{◌≡◌, ◌&&◌, ◌<◌, ◌≤◌, ◌^◌, nat_lt, map, length, [], ◌∷◌, IfOk, insert, sum_by};
+ghost use Rattle.std.specs.Prelude.{◌≡◌, ◌&&◌, ◌<◌, ◌≤◌, ◌^◌, nat_lt, bytes_eq, map, length, take, slice_index_or, [], ◌∷◌, IfOk, insert, sum_by};
 ghost use Rattle.std.specs.List.{list_any};
+ghost use Rattle.host_types.specs.Counters.{times_among, repeated_among, seconds_behind};
 ghost use Rattle.host_types.specs.Sharing.{is_among, without, left_by, joined_by};
 ghost use Rattle.host_types.specs.Visits.{group_bytes, join_first};
-ghost use Rattle.plain_sharing.specs.View.{places_of, contents_of, is_open_below};
+ghost use Rattle.plain_sharing.specs.View.{places_of, contents_of, bytes_of_each, is_open_below};
 
 use crate::contents;
 use std::alloc::{AllocError, Global};
@@ -133,4 +134,63 @@ fn size(group: &[usize]) -> u128
     ensures small { result < 2 ^ 64 }
 {
     group.len() as u128
+}
+
+// Whether a group has some bytes.
+fn has_bytes(group: &[usize], contents: &[Vec<u8>], bytes: &[u8]) -> bool
+    ensures { result ≡ bytes_eq (group_bytes (contents_of contents.now) group.now) bytes.now }
+{
+    contents::are_same(contents::group_bytes(contents, group), bytes)
+}
+
+// How many groups have some bytes.
+fn count_alike(groups: &[Vec<usize>], contents: &[Vec<u8>], bytes: &[u8]) -> usize
+    ensures { result ≡ times_among bytes.now (bytes_of_each (contents_of contents.now) groups.now) }
+{
+    let mut count = 0;
+    for group in groups {
+        count += usize::from(has_bytes(group, contents, bytes));
+    }
+    count
+}
+
+// How many of the groups before one have its bytes.
+fn count_before(groups: &[Vec<usize>], contents: &[Vec<u8>], index: usize) -> usize
+    requires { index < length groups.now }
+    ensures { result ≡ times_among (slice_index_or (bytes_of_each (contents_of contents.now) groups.now) index [])
+        (take index (bytes_of_each (contents_of contents.now) groups.now)) }
+{
+    let bytes = contents::group_bytes(contents, &groups[index]);
+    count_alike(&groups[..index], contents, bytes)
+}
+
+// How many groups are the second one of their bytes.
+pub(crate) fn count_seconds(groups: &[Vec<usize>], contents: &[Vec<u8>]) -> usize
+    ensures { result ≡ seconds_behind [] (bytes_of_each (contents_of contents.now) groups.now) }
+{
+    let mut count = 0;
+    for index in 0..groups.len() {
+        count += usize::from(count_before(groups, contents, index) == 1);
+    }
+    count
+}
+
+// Whether a group's bytes are those of another group too.
+fn is_repeated(groups: &[Vec<usize>], contents: &[Vec<u8>], group: &[usize]) -> bool
+    ensures { result ≡ nat_lt 1 (times_among (group_bytes (contents_of contents.now) group.now)
+        (bytes_of_each (contents_of contents.now) groups.now)) }
+{
+    count_alike(groups, contents, contents::group_bytes(contents, group)) > 1
+}
+
+// How many groups have bytes that another group has too.
+pub(crate) fn count_repeated(groups: &[Vec<usize>], contents: &[Vec<u8>]) -> usize
+    ensures { result ≡ repeated_among (bytes_of_each (contents_of contents.now) groups.now)
+        (bytes_of_each (contents_of contents.now) groups.now) }
+{
+    let mut count = 0;
+    for group in groups {
+        count += usize::from(is_repeated(groups, contents, group));
+    }
+    count
 }

@@ -1,5 +1,6 @@
 // Pages by place.
 ghost use Rattle.std.specs.Prelude.{◌≡◌, ◌+◌, ◌<◌, ◌≤◌, length, slice_index_or, slice_set, sum_by, option_map, None, drop};
+ghost use Rattle.host_types.specs.Counters.{unshared_at, volatile_at};
 ghost use Rattle.host_types.specs.Unmerging.{zeros_at};
 ghost use Rattle.host_types.specs.Visits.{first_mergeable, is_mergeable};
 ghost use Rattle.host_types.specs.Sharing.{own_frame, with_status};
@@ -80,6 +81,52 @@ fn zeros_at(page: Option<PlainPage>) -> usize
 {
     match page {
         Some(page) if page.status == Status::Zero => 1,
+        _ => 0,
+    }
+}
+
+// How many pages wait for another one of their bytes.
+pub(crate) fn unshared_pages(pages: &[Option<PlainPage>]) -> usize
+    ensures count { result ≡ sum_by unshared_at (pages_of pages.now) }
+    ensures few { result ≤ length pages.now }
+{
+    let mut waiting = 0;
+    for page in pages {
+        waiting += unshared_at(*page);
+    }
+    waiting
+}
+
+// One for a page that waits.
+fn unshared_at(page: Option<PlainPage>) -> usize
+    ensures value { result ≡ unshared_at (option_map page_of page) }
+    ensures small { result ≤ 1 }
+{
+    match page {
+        Some(page) if page.status == Status::Waiting => 1,
+        _ => 0,
+    }
+}
+
+// How many pages changed since they were visited last.
+pub(crate) fn volatile_pages(pages: &[Option<PlainPage>]) -> usize
+    ensures count { result ≡ sum_by volatile_at (pages_of pages.now) }
+    ensures few { result ≤ length pages.now }
+{
+    let mut changed = 0;
+    for page in pages {
+        changed += volatile_at(*page);
+    }
+    changed
+}
+
+// One for a page that changed.
+fn volatile_at(page: Option<PlainPage>) -> usize
+    ensures value { result ≡ volatile_at (option_map page_of page) }
+    ensures small { result ≤ 1 }
+{
+    match page {
+        Some(page) if page.status == Status::Volatile => 1,
         _ => 0,
     }
 }

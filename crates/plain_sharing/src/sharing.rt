@@ -2,7 +2,8 @@ ghost use Rattle.std.specs.Prelude.{◌≡◌, ◌+◌, ◌^◌, ◌<◌, ◌≤
 ghost use Rattle.host_types.specs.Pages.{zero_page};
 ghost use Rattle.host_types.specs.OptionTable.{MayBe};
 ghost use Rattle.host_types.specs.Sharing.{new_page, state_at, is_in_company, break_cost, broken, broken_from, cost_from, paired, zeroed, frames_free};
-ghost use Rattle.host_types.specs.Unmerging.{unmerged, unmerge_need, with_option, MaySet, RefusesSet};
+ghost use Rattle.host_types.specs.Counters.{pages_shared, pages_sharing, pages_unshared, pages_volatile, stable_node_chains, stable_node_dups};
+ghost use Rattle.host_types.specs.Unmerging.{zero_pages, unmerged, unmerge_need, with_option, MaySet, RefusesSet};
 ghost use Rattle.host_types.specs.Visits.{visit, page_to_visit, begun, decided, looked_at, had, met, find_partner, changed, waits, joined, has_open};
 ghost use Rattle.plain_sharing.specs.View.{page_of, places_of, contents_of, sharing_of};
 
@@ -469,6 +470,63 @@ impl PlainSharing {
             Opt::PagesToScan | Opt::Run | Opt::UseZeroPages => true,
             Opt::MaxPageSharing => self.groups.is_empty(),
         }
+    }
+}
+
+impl PlainSharing {
+    /// How many frames pages share.
+    pub fn pages_shared(&self) -> usize
+        ensures { result ≡ pages_shared self.now }
+    {
+        self.groups().len()
+    }
+
+    /// How many more pages share them.
+    #[tactic(auto, unfolding(host_types::specs::Counters::pages_sharing, host_types::specs::Unmerging::members))]
+    pub fn pages_sharing(&self) -> u128
+        ensures { result ≡ pages_sharing self.now }
+    {
+        groups::members(&self.groups).saturating_sub(self.pages_shared() as u128)
+    }
+
+    /// How many pages wait for another one of their bytes.
+    #[tactic(auto, unfolding(host_types::specs::Counters::pages_unshared))]
+    pub fn pages_unshared(&self) -> usize
+        ensures { result ≡ pages_unshared self.now }
+    {
+        pages::unshared_pages(&self.pages)
+    }
+
+    /// How many pages changed since they were visited last.
+    #[tactic(auto, unfolding(host_types::specs::Counters::pages_volatile))]
+    pub fn pages_volatile(&self) -> usize
+        ensures { result ≡ pages_volatile self.now }
+    {
+        pages::volatile_pages(&self.pages)
+    }
+
+    /// How many pages lie on the frame of zeros.
+    #[tactic(auto, unfolding(host_types::specs::Unmerging::zero_pages))]
+    pub fn zero_pages(&self) -> usize
+        ensures { result ≡ zero_pages self.now }
+    {
+        pages::zero_pages(&self.pages)
+    }
+
+    /// How many contents have two groups or more. The contents are the bytes of the page at each place.
+    #[tactic(auto, unfolding(host_types::specs::Counters::group_contents))]
+    pub fn node_chains(&self, contents: &[Vec<u8>]) -> usize
+        ensures { result ≡ stable_node_chains (contents_of contents.now) self.now }
+    {
+        groups::count_seconds(&self.groups, contents)
+    }
+
+    /// How many groups such contents have.
+    #[tactic(auto, unfolding(host_types::specs::Counters::group_contents))]
+    pub fn node_dups(&self, contents: &[Vec<u8>]) -> usize
+        ensures { result ≡ stable_node_dups (contents_of contents.now) self.now }
+    {
+        groups::count_repeated(&self.groups, contents)
     }
 }
 

@@ -1,0 +1,83 @@
+-- What is counted of groups, one after another.
+use Rattle.std.proofs.Common.{◌≡◌, ◌∙◌, ℕ, zero, suc, ◌+◌, ◌<◌, ◌≤◌, ◌==◌, Bool, true, false, if◌then◌else◌, List, [], ◌∷◌, length, take, drop, sum_by, slice_index_or, Vec, refl, sym, ap, arith}
+use mir.Val.{bool_byte}
+use Rattle.std.specs.declared.alloc.Global.{Global}
+use Rattle.std.proofs.lemmas.List.{length-map, take_more, get_or_default}
+use Rattle.std.proofs.lemmas.List.Sums.{sum_by_more}
+use Rattle.std.proofs.Math.ListN.{get_or-map}
+use Rattle.host_types.specs.Counters.{times_among, seconds_behind}
+use Rattle.host_types.specs.Visits.{Contents, group_bytes}
+use Rattle.plain_sharing.specs.View.{places_of, bytes_of_each}
+
+-- a number that is one where a test holds
+pub one_of : (b : Bool) (n : ℕ) → n ≡ bool_byte b → n ≡ (if b then 1 else 0)
+one_of true n e = e
+one_of false n e = e
+
+-- a number that is one at most
+pub small_of : (b : Bool) (n : ℕ) → n ≡ bool_byte b → n ≤ 1
+small_of true n e = omega (arith, e)
+small_of false n e = omega (arith, e)
+
+pub length-each : (contents : Contents) (groups : List (Vec ℕ Global)) → length (bytes_of_each contents groups) ≡ length groups
+length-each contents groups = length-map (places_of groups) (group_bytes contents) ∙ length-map groups (λ (group : Vec ℕ Global). group.items)
+
+-- the bytes of the group at a place
+pub bytes-at : (contents : Contents) (groups : List (Vec ℕ Global)) (i : ℕ) (group : Vec ℕ Global) → slice_index_or groups i group ≡ group
+    → slice_index_or (bytes_of_each contents groups) i (group_bytes contents group.items) ≡ group_bytes contents group.items
+bytes-at contents groups i group item =
+    get_or-map (group_bytes contents) (places_of groups) i group.items
+    ∙ ap (group_bytes contents) (get_or-map (λ (other : Vec ℕ Global). other.items) groups i group ∙ ap (λ (other : Vec ℕ Global). other.items) item)
+
+-- one more group is counted
+pub counted_group : (f : List ℕ → ℕ) (contents : Contents) (groups : List (Vec ℕ Global)) (i count n : ℕ) (group : Vec ℕ Global) → i < length groups → slice_index_or groups i group ≡ group
+    → count ≡ sum_by f (take i (bytes_of_each contents groups)) → n ≡ f (group_bytes contents group.items) → count + n ≡ sum_by f (take (i + 1) (bytes_of_each contents groups))
+counted_group f contents groups i count n group inside item e g =
+    let long = length-each contents groups in
+    let more = sum_by_more f (bytes_of_each contents groups) i (group_bytes contents group.items) (omega (arith, inside, long)) in
+    let here = ap f (bytes-at contents groups i group item) in
+    omega (arith, e, g, more, here)
+
+split-drop : (xs : List (List ℕ)) (i : ℕ) → i < length xs → drop i xs ≡ slice_index_or xs i [] ∷ drop (i + 1) xs
+split-drop [] i h = absurd (omega arith)
+split-drop (x ∷ xs) zero h = refl
+split-drop (x ∷ xs) (suc i) h = let next : suc i + 1 ≡ suc (i + 1) = omega arith in rw next (split-drop xs i (omega arith))
+
+-- one more content may be the second one
+pub counted_second : (xs : List (List ℕ)) (i count n total : ℕ) → i < length xs
+    → count + seconds_behind (take i xs) (drop i xs) ≡ total
+    → n ≡ (if times_among (slice_index_or xs i []) (take i xs) == 1 then 1 else 0)
+    → count + n + seconds_behind (take (i + 1) xs) (drop (i + 1) xs) ≡ total
+unfolding seconds_behind
+counted_second xs i count n total inside e g =
+    let split : seconds_behind (take i xs) (drop i xs) ≡ seconds_behind (take i xs) (slice_index_or xs i [] ∷ drop (i + 1) xs) = ap (seconds_behind (take i xs)) (split-drop xs i inside) in
+    let next = ap (λ l. seconds_behind l (drop (i + 1) xs)) (take_more xs i [] inside) in
+    omega (arith, split, next, e, g)
+
+pub counted_all : (xs : List (List ℕ)) (i count total : ℕ) → length xs ≤ i → count + seconds_behind (take i xs) (drop i xs) ≡ total → count ≡ total
+unfolding seconds_behind
+counted_all xs i count total past e =
+    let none = ap (seconds_behind (take i xs)) (drop_past i xs past) in
+    omega (arith, e, none)
+  where
+    drop_past : (i : ℕ) (xs : List (List ℕ)) → length xs ≤ i → drop i xs ≡ []
+    drop_past zero [] h = refl
+    drop_past zero (x ∷ xs) h = absurd (omega arith)
+    drop_past (suc i) [] h = refl
+    drop_past (suc i) (x ∷ xs) h = drop_past i xs (omega arith)
+
+each-take : (contents : Contents) (i : ℕ) (groups : List (Vec ℕ Global)) → bytes_of_each contents (take i groups) ≡ take i (bytes_of_each contents groups)
+each-take contents zero groups = refl
+each-take contents (suc i) [] = refl
+each-take contents (suc i) (group ∷ groups) = ap (λ l. group_bytes contents group.items ∷ l) (each-take contents i groups)
+
+-- how often the bytes of a group occur before it
+pub counted_before : (contents : Contents) (groups before : List (Vec ℕ Global)) (i n : ℕ) (group : Vec ℕ Global) (bytes : List ℕ) → i < length groups → slice_index_or groups i group ≡ group
+    → bytes ≡ group_bytes contents group.items → before ≡ take i groups → n ≡ times_among bytes (bytes_of_each contents before)
+    → n ≡ times_among (slice_index_or (bytes_of_each contents groups) i []) (take i (bytes_of_each contents groups))
+counted_before contents groups before i n group bytes inside item e front told =
+    let long = length-each contents groups in
+    let here : bytes ≡ slice_index_or (bytes_of_each contents groups) i [] =
+    e ∙ sym (bytes-at contents groups i group item) ∙ sym (get_or_default (bytes_of_each contents groups) i [] (group_bytes contents group.items) (omega (arith, inside, long))) in
+    let all : bytes_of_each contents before ≡ take i (bytes_of_each contents groups) = ap (bytes_of_each contents) front ∙ each-take contents i groups in
+    told ∙ ap (λ (x : List ℕ). times_among x (bytes_of_each contents before)) here ∙ ap (times_among (slice_index_or (bytes_of_each contents groups) i [])) all
