@@ -8,7 +8,7 @@ mod words;
 
 use engines::check::check;
 use engines::replay::replay;
-use host_file::FileFault;
+use host_file::{FileFault, is_plain, quoted};
 use std::alloc::{AllocError, Global};
 use std::io::{self, BufWriter, Write};
 use std::process::ExitCode;
@@ -49,13 +49,21 @@ fn say<W: Write>(alloc: Global, words: &mut W, fault: &FileFault) -> io::Result<
 /// Writes a text in which no character steers a terminal: one that would is written by its number.
 fn write_plain<W: Write>(words: &mut W, text: &str) -> io::Result<()> {
     for c in text.chars() {
-        if c.is_control() && c != '\n' {
-            write!(words, "{}", c.escape_unicode())?;
-        } else {
+        if is_plain(c) || c == '\n' {
             write!(words, "{c}")?;
+        } else {
+            write!(words, "{}", c.escape_unicode())?;
         }
     }
     Ok(())
+}
+
+/// Writes which file it is that can't be read, or is bad.
+fn say_path<W: Write>(alloc: Global, words: &mut W, path: &str) -> io::Result<()> {
+    match quoted(alloc, path) {
+        Ok(path) => write!(words, "{path}: "),
+        Err(AllocError) => Ok(()),
+    }
 }
 
 /// Does what the command line asks for. What a refusal means goes to `errors`. Answers the status 0
@@ -79,8 +87,7 @@ fn run<R: AllocGlobal + Env + Files + Print, E: Write>(
         Request::Replay { path } => {
             let answer = replay_at(rt, path, &mut output, errors);
             if let Err(FileFault::Read(_) | FileFault::Bad(_)) = &answer {
-                let _ = write_plain(errors, path);
-                let _ = write!(errors, ": ");
+                let _ = say_path(alloc, errors, path);
             }
             answer
         }

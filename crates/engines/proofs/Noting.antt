@@ -1,5 +1,5 @@
 -- What a session notes and writes, one thing after the other.
-use Rattle.std.proofs.Common.{◌≡◌, ◌⊎◌, inl, inr, ℕ, zero, suc, ◌-◌, ◌≤◌, Bool, true, false, ◌||◌, List, [], ◌∷◌, ◌++◌, replicate, Option, Some, None, append_assoc, append-nil, sym, ap, refl, ◌∙◌, subst, subst₂, IfSome, IsSome, true≢false, if◌then◌else◌}
+use Rattle.std.proofs.Common.{◌≡◌, ◌⊎◌, inl, inr, ℕ, zero, suc, ◌-◌, ◌≤◌, Bool, true, false, ◌||◌, List, [], ◌∷◌, ◌++◌, replicate, length, take, min, arith, ◌+◌, option_map, length-take, Option, Some, None, Result, Ok, Err, is_ok, OnOk, append_assoc, append-nil, sym, ap, refl, ◌∙◌, subst, subst₂, IfSome, IsSome, true≢false, if◌then◌else◌}
 use mir.Val.{bool_byte}
 use Rattle.std.specs.Io.KnownBytes.{Appends, Keeps}
 use Rattle.host_types.specs.declared.fault.Fault.{Fault}
@@ -15,7 +15,8 @@ use Rattle.host_core.specs.HostView.{HostView, IsHostSize, StandsForWorld, tenan
 use Rattle.host_file.specs.declared.command.Command.{Command}
 use Rattle.host_file.specs.declared.command.Command.TheVariants.{Run}
 use Rattle.host_file.specs.declared.file.HostFile.{HostFile}
-use Rattle.host_file.specs.HostFile.{IsFileText}
+use Rattle.host_file.specs.HostFile.{IsFileText, max_bytes}
+use Rattle.std.proofs.lemmas.List.{take_all}
 use Rattle.host_core.proofs.Joined.{AllHappen-join}
 use Rattle.engines.specs.declared.session.Session.{Session}
 use Rattle.engines.specs.Lines.{line_of, refusal_text, reply_lines}
@@ -310,7 +311,21 @@ replayed-kept file was half is status kept (happened events replies w are happen
 
 -- and where what was read is known
 pub replayed-read : (read : Option (List ℕ)) (file : HostFile) (was half is : Option (List ℕ)) (status : ℕ)
-    → IfSome read (λ bytes. IsFileText bytes file) → Keeps half is → IsReplayed file was half status
-    → IfSome read (λ bytes. (f : HostFile) × IsFileText bytes f × IsReplayed f was is status)
+    → IfSome read (λ bytes. (length bytes ≤ max_bytes) × IsFileText bytes file) → Keeps half is → IsReplayed file was half status
+    → IfSome read (λ bytes. (length bytes ≤ max_bytes) × ((f : HostFile) × IsFileText bytes f × IsReplayed f was is status))
 replayed-read None file was half is status text kept replayed = tt
-replayed-read (Some bytes) file was half is status text kept replayed = (file, text, replayed-kept file was half is status kept replayed)
+replayed-read (Some bytes) file was half is status text kept replayed = (text.0, (file, text.1, replayed-kept file was half is status kept replayed))
+
+-- what was read of the front of the bytes is all of them, where it isn't longer than they may be
+pub read-all : (known : Option (List ℕ)) (limit : ℕ) (read : List ℕ) → IfSome (option_map (take (limit + 1)) known) (λ front. read ≡ front)
+    → length read ≤ limit → IfSome known (λ bytes. (length bytes ≤ limit) × (read ≡ bytes))
+read-all None limit read is short = tt
+read-all (Some bytes) limit read is short =
+    let count : length read ≡ min (limit + 1) (length bytes) = ap length is ∙ length-take (limit + 1) bytes in
+    let few : length bytes ≤ limit = omega (arith, count, short) in
+    (few, is ∙ take_all (limit + 1) bytes (omega (arith, few)))
+
+-- what holds of a result that is Ok
+pub of-ok : {T E : Type 0} (P : Type 0) (r : Result T E) → is_ok r ≡ true → OnOk r P → P
+of-ok P (Ok x) is holds = holds
+of-ok P (Err e) is holds = absurd (true≢false (sym is))

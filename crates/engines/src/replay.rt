@@ -1,10 +1,10 @@
 //! The engine of `replay`: a host file's events in their order, on one thread.
 
-ghost use Rattle.std.specs.Prelude.{◌≡◌, ◌≤◌, replicate, IfErr, IfOk, IfSome};
+ghost use Rattle.std.specs.Prelude.{◌≡◌, ◌≤◌, length, replicate, IfErr, IfOk, IfSome};
 ghost use Rattle.host_core.specs.World.{new_tenant};
 ghost use Rattle.host_core.specs.HostView.{StandsForWorld};
 ghost use Rattle.host_file.specs.Faults.{IsBad};
-ghost use Rattle.host_file.specs.HostFile.{IsFileText};
+ghost use Rattle.host_file.specs.HostFile.{IsFileText, max_bytes};
 ghost use Rattle.host_file.specs.declared.file.HostFile.{HostFile};
 ghost use Rattle.engines.specs.Replay.{IsReplayed};
 
@@ -13,7 +13,7 @@ use crate::fault::written;
 use crate::lines::write_refusal;
 use crate::session::Session;
 use host_core::Host;
-use host_file::{BadFile, Cause, FileFault, HostFile, Place, read_file};
+use host_file::{BadFile, Cause, FileFault, HostFile, MAX_BYTES, Place, read_file};
 use std::alloc::{AllocError, Global};
 use std::io;
 use std::io::{Read, Write};
@@ -30,7 +30,8 @@ pub fn replay<R: Read, W: Write, E: Write>(
 ) -> Result<u8, FileFault>
     ensures status { IfOk result (λ status. status ≤ 1) }
     ensures replayed { IfOk result (λ status. IfSome (R.remaining reader.old) (λ bytes.
-        (file : HostFile) × IsFileText bytes file × IsReplayed file (W.contents writer.old) (W.contents writer.new) status)) }
+        (length bytes ≤ max_bytes) × ((file : HostFile) × IsFileText bytes file
+        × IsReplayed file (W.contents writer.old) (W.contents writer.new) status))) }
     ensures bad { IfErr result (λ fault. IsBad fault → (writer.new ≡ writer.old) × (words.new ≡ words.old)) }
 {
     let file = file_from(alloc, reader)?;
@@ -43,17 +44,34 @@ pub fn replay<R: Read, W: Write, E: Write>(
 
 /// The host file that a reader gives.
 fn file_from<R: Read>(alloc: Global, reader: &mut R) -> Result<HostFile, FileFault>
-    ensures { IfOk result (λ file. IfSome (R.remaining reader.old) (λ bytes. IsFileText bytes file)) }
+    ensures { IfOk result (λ file. IfSome (R.remaining reader.old) (λ bytes. (length bytes ≤ max_bytes) × IsFileText bytes file)) }
 {
-    let mut bytes = Vec::new(alloc);
-    reader.read_to_end(&mut bytes).map_err(read_fault)?;
+    let bytes = bytes_from(alloc, reader)?;
     match str::from_utf8(bytes.as_slice()) {
         Ok(text) => read_file(alloc, text),
-        Err(_) => Err(FileFault::Bad(BadFile {
-            place: Place::Document,
-            cause: Cause::NotText,
-        })),
+        Err(_) => Err(bad_document(Cause::NotText)),
     }
+}
+
+/// The bytes that a reader gives, where they aren't more than a host file may have.
+fn bytes_from<R: Read>(alloc: Global, reader: &mut R) -> Result<Vec<u8>, FileFault>
+    ensures { IfOk result (λ read. IfSome (R.remaining reader.old) (λ bytes. (length bytes ≤ max_bytes) × (read.items ≡ bytes))) }
+{
+    let mut bytes = Vec::new(alloc);
+    // One byte more tells that there are more.
+    let mut front = reader.take(MAX_BYTES as u64 + 1);
+    front.read_to_end(&mut bytes).map_err(read_fault)?;
+    if bytes.len() > MAX_BYTES {
+        return Err(bad_document(Cause::TooLong));
+    }
+    Ok(bytes)
+}
+
+fn bad_document(cause: Cause) -> FileFault {
+    FileFault::Bad(BadFile {
+        place: Place::Document,
+        cause,
+    })
 }
 
 fn read_fault(error: io::Error) -> FileFault {

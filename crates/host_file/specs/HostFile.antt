@@ -131,6 +131,10 @@ pub record IsHostFile (ms : Members) (file : HostFile) : Type 0 where
   pub options : HasOptions ms file.options
   pub events : HasEvents ms file.commands
 
+-- the most bytes that a host file may have
+abbrev pub max_bytes : ℕ
+max_bytes = 67108864
+
 -- a text is a TOML document that is a host file
 abbrev pub IsFileText : List ℕ → HostFile → Type 0
 IsFileText text file = (ms : Members) × (parse_document text ≡ Some ms) × IsHostFile ms file

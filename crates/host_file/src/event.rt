@@ -5,6 +5,7 @@ ghost use Rattle.host_file.specs.Section.{members_of};
 use crate::command::Command;
 use crate::fault::{Cause, FileFault};
 use crate::key::Key;
+use crate::plain::quoted;
 use crate::section::Section;
 use host_core::Event;
 use std::alloc::Global;
@@ -19,7 +20,7 @@ pub fn command_of(alloc: Global, event: &Section<'_>) -> Result<Command, FileFau
         "step" => step(alloc, event),
         "finish" => finish(alloc, event),
         "run" => run(alloc, event),
-        other => Err(event.bad(Cause::UnknownEvent(String::from_str(alloc, other)?))),
+        other => Err(event.bad(Cause::UnknownEvent(quoted(alloc, other)?))),
     }
 }
 

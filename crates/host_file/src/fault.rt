@@ -45,6 +45,8 @@ pub enum Place {
 /// What is wrong at a place of a host file.
 #[derive(Debug, Drop, Error)]
 pub enum Cause {
+    #[error("it has more than 67108864 bytes")]
+    TooLong,
     #[error("it is no UTF-8 text")]
     NotText,
     #[error("{0}")]

@@ -13,6 +13,9 @@ use std::alloc::{AllocError, Global};
 use toml::Value;
 use toml::value::Array;
 
+/// The most bytes that a host file may have. A longer one is bad.
+pub const MAX_BYTES: usize = 64 << 20;
+
 /// What a host file says.
 #[derive(Debug, Drop)]
 pub struct HostFile {

@@ -7,6 +7,7 @@ ghost use Rattle.host_file.specs.declared.fault.FileFault.TheVariants.{Bad};
 
 use crate::fault::{BadFile, Cause, FileFault, Place};
 use crate::key::Key;
+use crate::plain::quoted;
 use hex::FromHexError;
 use host_core::Bytes;
 use std::alloc::{AllocError, Global};
@@ -50,7 +51,7 @@ impl<'a> Section<'a> {
     {
         match self.other_key(keys) {
             None => Ok(()),
-            Some(name) => Err(self.bad(Cause::Unknown(String::from_str(alloc, name)?))),
+            Some(name) => Err(self.bad(Cause::Unknown(quoted(alloc, name)?))),
         }
     }
 

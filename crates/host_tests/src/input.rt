@@ -1,7 +1,7 @@
-//! Inputs that fail, that are no text, or that are cut.
+//! Inputs that fail, that are no text, that are too long, or that are cut.
 
 use engines::replay::replay;
-use host_file::{FileFault, read_file};
+use host_file::{Cause, FileFault, Key, MAX_BYTES, read_file};
 use std::alloc::Global;
 use std::io;
 use std::io::Read;
@@ -61,6 +61,24 @@ fn a_read_that_fails_anywhere_is_the_fault(rt: HostRuntime) {
 fn bytes_that_are_no_text_are_a_bad_file(rt: HostRuntime) {
     let fault = refused(rt.alloc(), b"tenants = 1\n# \xff\nframes = 2\n", usize::MAX);
     assert!(rt; matches!(fault, Some(FileFault::Bad(_))));
+}
+
+/// What is wrong with a file that is one comment of so many bytes.
+fn wrong_with(alloc: Global, size: u64) -> Option<Cause> {
+    let mut reader = io::repeat(b'#').take(size);
+    match replay(alloc, &mut reader, &mut io::sink(), &mut io::sink()) {
+        Err(FileFault::Bad(file)) => Some(file.cause),
+        _ => None,
+    }
+}
+
+// Up to the limit it is read, and is a file without a key.
+#[test]
+fn a_file_has_a_limit(rt: HostRuntime) {
+    let most = wrong_with(rt.alloc(), MAX_BYTES as u64);
+    let more = wrong_with(rt.alloc(), MAX_BYTES as u64 + 1);
+    let is_read = matches!(&most, Some(Cause::Missing(Key::Tenants)));
+    assert!(rt; is_read && matches!(&more, Some(Cause::TooLong)));
 }
 
 const FILE: &str = "tenants = 3\nframes = 4\noptions = { run = 0, max_page_sharing = 7 }\n\

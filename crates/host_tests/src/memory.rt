@@ -26,6 +26,9 @@ const HEX: &str = "79100000000000009500000000000000";
 // The number 42.
 const CONTEXT: [u8; 8] = [42, 0, 0, 0, 0, 0, 0, 0];
 
+// A host file without events.
+const HOST: &str = "tenants = 1\nframes = 2\n";
+
 // A host file that runs the program on the number 42, and what it prints.
 const FILE: &str = "tenants = 1\nframes = 2\n\
     event = [{ do = \"load\", tenant = 0, hex = \"79100000000000009500000000000000\", context = 8 }, \
@@ -149,6 +152,27 @@ fn replayed(alloc: Global) -> Result<Vec<u8>, Fail> {
 #[test]
 fn replays_again(rt: HostRuntime) -> Result<(), Fail> {
     assert!(rt; replayed(rt.alloc())?.as_slice() == PRINTED.as_bytes());
+    Ok(())
+}
+
+// The output of a replay of a host alone. One whose memory is refused ends without a line, or with the
+// refusal that the host's line tells; then it is made again.
+fn made(alloc: Global) -> Result<Vec<u8>, Fail> {
+    let mut output = room(alloc)?;
+    match replay(alloc, &mut HOST.as_bytes(), &mut output, &mut io::sink()) {
+        Ok(0) => return Ok(output),
+        Err(FileFault::OutOfMemory(_)) if output.is_empty() => {}
+        Ok(1) if output.as_slice() == b"refused 41 OutOfMemory\n".as_slice() => {}
+        _ => return Err(Fail::from("something else happened")),
+    }
+    output.clear();
+    replay(alloc, &mut HOST.as_bytes(), &mut output, &mut io::sink())?;
+    Ok(output)
+}
+
+#[test]
+fn makes_a_host_again(rt: HostRuntime) -> Result<(), Fail> {
+    assert!(rt; made(rt.alloc())?.is_empty());
     Ok(())
 }
 

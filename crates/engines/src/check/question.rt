@@ -8,7 +8,7 @@ ghost use Rattle.host_file.specs.Faults.{IsOfWords, IsUsage};
 use crate::fault::usage;
 use hex::FromHexError;
 use host_core::Bytes;
-use host_file::FileFault;
+use host_file::{FileFault, quoted};
 use std::alloc::{AllocError, Global};
 
 /// A program to judge: its text, and the bytes of its context.
@@ -31,16 +31,30 @@ pub fn question_of(
 {
     let text = text_of(alloc, hex)?;
     if let Some(shape) = shapes.first() {
-        return Err(usage(format!(in alloc;
-            "V:E `{shape}` isn't taken: programs have no maps yet"
-        )));
+        return Err(not_taken(alloc, shape));
     }
     match number_of(context) {
         Some(context_size) => Ok(Question { text, context_size }),
-        None => Err(usage(format!(in alloc;
-            "--context `{context}` is no decimal number from 0 to 4294967295"
-        ))),
+        None => Err(no_number(alloc, context)),
     }
+}
+
+fn not_taken(alloc: Global, shape: &str) -> FileFault
+    ensures { IsOfWords result }
+{
+    let Ok(shape) = quoted(alloc, shape) else {
+        return FileFault::OutOfMemory(AllocError);
+    };
+    usage(format!(in alloc; "V:E `{shape}` isn't taken: programs have no maps yet"))
+}
+
+fn no_number(alloc: Global, context: &str) -> FileFault
+    ensures { IsOfWords result }
+{
+    let Ok(context) = quoted(alloc, context) else {
+        return FileFault::OutOfMemory(AllocError);
+    };
+    usage(format!(in alloc; "--context `{context}` is no decimal number from 0 to 4294967295"))
 }
 
 /// The bytes of a hex text.
