@@ -8,4 +8,6 @@ mod ends;
 #[cfg(test)]
 mod numbers;
 #[cfg(test)]
+mod row;
+#[cfg(test)]
 mod turns;
