@@ -22,7 +22,7 @@ const LAST_REGISTER: u8 = 10;
 
 impl Insn {
     ghost use Rattle.std.specs.Prelude.{◌≡◌, ◌<◌, ◌%◌, ◌==◌, if◌then◌else◌, length, IsSome, Some};
-    ghost use Rattle.bpf_decode.specs.Opcodes.{wide_opcode, operation_of, has_fields, has_registers, insn_fault, sign_extended, wide_immediate, distance_of};
+    ghost use Rattle.bpf_decode.specs.Opcodes.{wide_opcode, operation_of, has_fields, has_registers, insn_fault, sign_extended, wide_immediate, loaded_immediate, distance_of};
     ghost use Rattle.bpf_decode.specs.Text.{slots_of, insn_at};
 
     /// The instruction at a slot of a text of whole slots. The second immediate of a wide
@@ -68,6 +68,18 @@ impl Insn {
         ensures { result ≡ wide_immediate self.now }
     {
         u64::from(self.next_imm) << 32 | u64::from(self.imm.cast_unsigned())
+    }
+
+    /// The number that the wide instruction loads: both immediates, or where `src` is 1 the name of the
+    /// map whose number `imm` is. The map m is named by (8 + m) * 2^32 (this project's own rule).
+    pub fn loaded_immediate(&self) -> u64
+        ensures { result ≡ loaded_immediate self.now }
+    {
+        if self.src == 1 {
+            (8 + u64::from(self.imm.cast_unsigned())).wrapping_mul(1 << 32)
+        } else {
+            self.wide_immediate()
+        }
     }
 
     /// The distance of a jump that is always taken, in slots from the next instruction (RFC 9669,

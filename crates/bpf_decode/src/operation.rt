@@ -447,7 +447,7 @@ impl Operation {
         ensures { result ≡ imm_by self insn.now }
     {
         match self {
-            Operation::LoadImmediate => insn.wide_immediate(),
+            Operation::LoadImmediate => insn.loaded_immediate(),
             _ if self.uses_src() => 0,
             _ => insn.immediate(),
         }

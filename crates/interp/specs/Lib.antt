@@ -1,5 +1,6 @@
 pub mod Machine
 pub mod Runs
 pub mod Fits
+pub mod Needs
 pub mod StandsFor
 pub mod Plain
