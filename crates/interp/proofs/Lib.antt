@@ -16,11 +16,13 @@ pub mod Places
 pub mod Instructions
 pub mod Steps
 pub mod Jumps
+pub mod Calling
 pub mod Soundness
 pub mod InTable
 pub mod Starts
 pub mod Covering
 pub mod Following
+pub mod Asking
 pub mod Leading
 pub mod Advancing
 pub mod Beginning
