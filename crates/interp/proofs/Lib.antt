@@ -7,6 +7,7 @@ pub mod Bits
 pub mod Sizes
 pub mod Accesses
 pub mod Lookups
+pub mod MapStores
 pub mod Passes
 pub mod Writes
 pub mod Parts
