@@ -9,6 +9,7 @@ pub mod Accesses
 pub mod Lookups
 pub mod MapStores
 pub mod Passes
+pub mod MapAccess
 pub mod Writes
 pub mod Parts
 pub mod SlotBytes
