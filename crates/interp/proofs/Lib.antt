@@ -18,6 +18,9 @@ pub mod Places
 pub mod Instructions
 pub mod Steps
 pub mod Jumps
+pub mod KnownBytes
+pub mod MapUpdates
+pub mod Called
 pub mod Calling
 pub mod Soundness
 pub mod InTable
