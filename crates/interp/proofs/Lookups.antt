@@ -1,5 +1,5 @@
 -- The shapes of a program's maps are within the limits.
-use Rattle.std.specs.Prelude.{◌≡◌, ℕ}
+use Rattle.std.specs.Prelude.{ℕ}
 use Rattle.std.proofs.Common.{arith}
 use Rattle.verifier_kinds.specs.Kinds.{IsSetting}
 use Rattle.verifier.specs.Subject.{Subject}
