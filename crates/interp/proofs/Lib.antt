@@ -7,7 +7,9 @@ pub mod Bits
 pub mod Sizes
 pub mod Accesses
 pub mod Lookups
+pub mod MapStores
 pub mod Passes
+pub mod MapAccess
 pub mod Writes
 pub mod Parts
 pub mod SlotBytes
