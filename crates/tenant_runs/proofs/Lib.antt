@@ -1,2 +1,4 @@
 pub mod Rooms
 pub mod Shapes
+pub mod Finishing
+pub mod WholeRuns

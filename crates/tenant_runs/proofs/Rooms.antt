@@ -1,12 +1,12 @@
 -- What a run asks has its room: no more frames are needed than are charged.
-use Rattle.std.proofs.Common.{◌≡◌, ◌≤◌, ◌<◌, ◌+◌, ◌%◌, ◌==◌, ◌⊎◌, inl, inr, ℕ, Bool, true, false, if◌then◌else◌, List, length, slice_set, Option, Some, None, option_map, unwrap_or, IfSome, IsSomeAnd, refl, sym, ap, ◌∙◌, arith}
+use Rattle.std.proofs.Common.{◌≡◌, ◌≤◌, ◌<◌, ◌+◌, ◌%◌, inl, inr, ℕ, List, length, Option, Some, None, option_map, unwrap_or, refl, sym, ap, ◌∙◌, arith}
 use Rattle.std.proofs.lemmas.Bool.{cases_lt}
 use Rattle.std.proofs.lemmas.List.{get_or_past, length-set}
 use Rattle.host_types.specs.declared.shape.Shape.{Shape}
 use Rattle.host_types.specs.declared.helper.MapHelper.TheVariants.{Update as Updates}
-use Rattle.host_types.specs.Helpers.{helper, update_answer, update_charge, element_at}
+use Rattle.host_types.specs.Helpers.{helper}
 use Rattle.host_types.specs.Memory.{FlatMap, FlatMaps, map_at}
-use Rattle.host_types.specs.Sharing.{Sharing, cost_from}
+use Rattle.host_types.specs.Sharing.{Sharing}
 use Rattle.host_types.specs.Tenant.{TenantPart, IsFlatMap, AreFlatMaps}
 use Rattle.bpf_decode.specs.declared.operation.Size.{Size}
 use Rattle.bpf_decode.specs.declared.operation.Size.TheVariants.{Byte, HalfWord, Word, DoubleWord}
@@ -14,7 +14,6 @@ use Rattle.bpf_decode.specs.Opcodes.{byte_count}
 use Rattle.page_table.specs.State.{MemoryState}
 use Rattle.page_table.specs.Changes.{with_record, KeepsSettings}
 use Rattle.write_break.specs.Stores.{store_cost, place_of_byte, touched}
-use Rattle.write_break.proofs.Numbers.{access_in_page}
 use Rattle.write_break.proofs.Stores.{cost_from-few, touched-within}
 use Rattle.map_helpers.specs.Updates.{update_cost}
 use Rattle.map_helpers.proofs.Updates.{charge-enough}

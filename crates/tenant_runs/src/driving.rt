@@ -57,7 +57,7 @@ pub fn finish(memory: &mut Memory, tenant: u32, program: &Verified, run: &mut Ru
     ensures sizes { KeepsSizes memory.old memory.new }
 {
     program.facts();
-    for _ in 0..=program.instructions() {
+    loop {
         match run.advance(program, program.instructions()) {
             Need::Ended(ret) => {
                 return RunReply {
@@ -68,5 +68,4 @@ pub fn finish(memory: &mut Memory, tenant: u32, program: &Verified, run: &mut Ru
             need => answer(memory, tenant, program, run, need),
         }
     }
-    unreachable!()
 }

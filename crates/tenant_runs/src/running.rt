@@ -71,6 +71,7 @@ pub fn run(
     let mut open = Run::begin(alloc, program, context)?;
     admit(memory, tenant, program.reserve(0))?;
     let reply = finish(memory, tenant, program, &mut open);
+    memory.maps_are_flat();
     release(memory, tenant);
     Ok(reply)
 }

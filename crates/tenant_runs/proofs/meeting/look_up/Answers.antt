@@ -1,4 +1,3 @@
-use Rattle.std.proofs.Common.{sym, ◌∙◌}
 use Rattle.tenant_runs.proofs.Rooms.{there_below}
 use Rattle.tenant_runs.proofs.meeting.look_up.Goals as goal
 

@@ -1,4 +1,4 @@
-use Rattle.std.proofs.Common.{◌≡◌, ap, arith}
+use Rattle.std.proofs.Common.{ap, arith}
 use Rattle.host_types.specs.Tenant.{TenantPart}
 use Rattle.page_table.specs.State.{part}
 use Rattle.tenant_runs.proofs.Rooms.{store_room, store_charged, update_room, update_answered, record_keeps, keeps_after}

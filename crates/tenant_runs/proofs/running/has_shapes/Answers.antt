@@ -1,6 +1,6 @@
-use Rattle.std.proofs.Common.{◌≡◌, ◌≤◌, length, refl, arith}
+use Rattle.std.proofs.Common.{◌≡◌, length, refl, arith}
 use Rattle.page_table.specs.State.{part}
-use Rattle.tenant_runs.proofs.Shapes.{HaveFirst, HasShapeAt, few_shapes, have_all, have_each, have_more, any_other}
+use Rattle.tenant_runs.proofs.Shapes.{few_shapes, have_all, have_each, have_more, any_other}
 use Rattle.tenant_runs.proofs.running.has_shapes.Goals as goal
 
 pub loop-map-init : goal.loop-map-init

@@ -1,4 +1,4 @@
-use Rattle.std.proofs.Common.{◌≡◌, ◌≤◌, length}
+use Rattle.std.proofs.Common.{◌≤◌, length}
 use Rattle.page_table.specs.State.{part}
 use Rattle.tenant_runs.proofs.Shapes.{HaveFirst}
 use Rattle.tenant_runs.proofs.running.has_shapes.Given as goal

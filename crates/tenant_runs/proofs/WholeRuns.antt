@@ -1,0 +1,34 @@
+-- A run from its beginning to its end is one of the standard's machine.
+use Rattle.std.proofs.Common.{◌≡◌, ◌≤◌, ◌+◌, ℕ, List, length, sym, ap, arith}
+use Rattle.host_types.specs.Tenant.{TenantPart, AreFlatMaps}
+use Rattle.bpf_decode.specs.Text.{instructions_of}
+use Rattle.page_table.specs.Changes.{with_reserve}
+use Rattle.verifier.specs.Reserve.{reserve_from}
+use Rattle.verifier.specs.Verified.{Accepted}
+use Rattle.interp.specs.Fits.{HaveShapes}
+use Rattle.interp.specs.Machine.{MachineState, Exits, start_state}
+use Rattle.interp.specs.Runs.{Reaches}
+use Rattle.interp.specs.StandsFor.{Running, IsBegun}
+use Rattle.tenant_runs.specs.declared.driving.RunReply.{RunReply}
+use Rattle.tenant_runs.specs.UnderWay.{IsUnderWay, HasRun}
+
+pub has_run : (v : Accepted) (context : List ℕ) (old admitted finished released : TenantPart) (run : Running) (reply : RunReply) → HaveShapes v.subject.shapes old.maps → length context ≡ v.subject.context_size
+    → IsBegun v context run → run.steps ≡ 0 → AreFlatMaps old.maps → admitted ≡ with_reserve (reserve_from v 0) old
+    → ((s : MachineState) → IsUnderWay v run s admitted → (n : ℕ) × Reaches v.subject.text s n (Exits reply.ret finished.maps) × (reply.steps ≡ run.steps + n))
+    → reply.steps ≤ instructions_of v.subject.text → released ≡ with_reserve 0 finished → HasRun v context old released reply
+has_run v context old admitted finished released run reply shapes sized begun none flat admits ended few releases =
+    let stands = begun old.maps flat shapes in
+    let kept : admitted.maps ≡ old.maps = ap (λ (owned : TenantPart). owned.maps) admits in
+    let reserved : admitted.reserve ≡ reserve_from v 0 = ap (λ (owned : TenantPart). owned.reserve) admits in
+    let first : run.slot ≡ 0 = stands.slot in
+    let enough : reserve_from v run.slot ≤ admitted.reserve = rw (first, reserved) (omega arith) in
+    let (n, reaches, count) = ended (start_state context old.maps) (record { stands = stands; maps = kept; reserve = enough }) in
+    let steps : n ≡ reply.steps = omega (arith, count, none) in
+    let maps : finished.maps ≡ released.maps = sym (ap (λ (owned : TenantPart). owned.maps) releases) in
+    record {
+      shapes = shapes;
+      sized = sized;
+      runs = rw (steps, maps) at reaches;
+      few = few;
+      released = ap (λ (owned : TenantPart). owned.reserve) releases;
+    }
