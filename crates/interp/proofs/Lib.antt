@@ -7,7 +7,9 @@ pub mod Bits
 pub mod Sizes
 pub mod Accesses
 pub mod Lookups
+pub mod MapStores
 pub mod Passes
+pub mod MapAccess
 pub mod Writes
 pub mod Parts
 pub mod SlotBytes
@@ -16,6 +18,9 @@ pub mod Places
 pub mod Instructions
 pub mod Steps
 pub mod Jumps
+pub mod KnownBytes
+pub mod MapUpdates
+pub mod Called
 pub mod Calling
 pub mod Soundness
 pub mod InTable

@@ -1,6 +1,6 @@
 -- What is known of questions that broke no rule.
-use Rattle.std.specs.Prelude.{◌≡◌, ℕ, ◌+◌, ◌%◌, ◌≤◌, nat_le, ◌==◌, ℤ, pos, negsuc, ◌+ℤ◌, Bool, true, false, not, if◌then◌else◌, List, [], is_some, Option, Some, None, Result, Ok, Err, refl}
-use Rattle.std.proofs.Common.{arith}
+use Rattle.std.specs.Prelude.{◌≡◌, ℕ, ◌+◌, ◌%◌, ◌≤◌, nat_le, ◌==◌, ℤ, pos, negsuc, ◌+ℤ◌, ◌⊎◌, Bool, true, false, not, if◌then◌else◌, is_some, Option, Some, None, Result, Ok, Err, refl}
+use Rattle.std.proofs.Common.{arith, inl, inr}
 use Rattle.std.proofs.lemmas.Bool.Decides.{nat_tests}
 use Rattle.bpf_decode.specs.declared.insn.Insn.{Insn}
 use Rattle.bpf_decode.specs.Opcodes.{wide_immediate}
@@ -10,8 +10,7 @@ use Rattle.verifier_kinds.specs.declared.description.Description.{Description}
 use Rattle.verifier_kinds.specs.Kinds.{constant, shape_at}
 use Rattle.verifier_kinds.specs.Descriptions.{with_kind}
 use Rattle.verifier.specs.Flow.{◌>>=◌, both, holds_or, known_or, writable, write_kind, lies_below, aligned, context_place, stack_place, name_kind, wide_kind}
-use Rattle.verifier.specs.Subject.{Subject, all_there}
-use Rattle.interp.proofs.Lookups.{no_shape}
+use Rattle.verifier.specs.Subject.{Subject}
 
 -- both questions passed, with the parts of the answer
 pub both_passed : {A B : Type 0} (a : Result A ℕ) (b : Result B ℕ) (x : A × B) → both a b ≡ Ok x → (a ≡ Ok x.0) × (b ≡ Ok x.1)
@@ -76,18 +75,26 @@ write_passed d i given e h =
     let (known, may) = both_passed given (writable i) x passed in
     (x.0, known, held (not (i == 10)) 22 x.1 may, cc)
 
--- the wide instruction names no map where there is none
-pub wide_passed : (p : Subject) (insn : Insn) (kind : Kind) → p.shapes ≡ all_there [] → wide_kind p insn ≡ Ok kind → ((insn.src == 0) ≡ true) × (Scalar (constant (wide_immediate insn)) ≡ kind)
-wide_passed p insn kind none e = by_test (insn.src == 0) e
-  where
-    no_name : (number : ℤ) → name_kind p number ≡ Ok kind → ⊥
-    no_name (pos m) e =
-        let nowhere = no_shape m in
-        let there = then_passed (holds_or (is_some (shape_at p.shapes m)) 24) (λ there. Ok (MapName m)) kind e in
-        let found = held (is_some (shape_at p.shapes m)) 24 there.0 there.1 in
-        absurd (cc (rw (none, nowhere) at found))
-    no_name (negsuc n) e = cc
+-- the wide instruction names a map that is there
+pub record Names (p : Subject) (insn : Insn) (kind : Kind) : Type 0 where
+  pub other : (insn.src == 0) ≡ false
+  pub m : ℕ
+  pub number : insn.imm ≡ pos m
+  pub there : is_some (shape_at p.shapes m) ≡ true
+  pub is : MapName m ≡ kind
 
-    by_test : (b : Bool) → if◌then◌else◌ {A = Result Kind ℕ} b (Ok (Scalar (constant (wide_immediate insn)))) (name_kind p insn.imm) ≡ Ok kind → (b ≡ true) × (Scalar (constant (wide_immediate insn)) ≡ kind)
-    by_test true e = (refl, cc)
-    by_test false e = absurd (no_name insn.imm e)
+-- it loads both immediates, or the name of a map
+pub wide_passed : (p : Subject) (insn : Insn) (kind : Kind) → wide_kind p insn ≡ Ok kind
+    → (((insn.src == 0) ≡ true) × (Scalar (constant (wide_immediate insn)) ≡ kind)) ⊎ Names p insn kind
+wide_passed p insn kind e = by_test (insn.src == 0) refl e
+  where
+    named : (number : ℤ) → insn.imm ≡ number → (insn.src == 0) ≡ false → name_kind p number ≡ Ok kind → Names p insn kind
+    named (pos m) is other e =
+        let there = then_passed (holds_or (is_some (shape_at p.shapes m)) 24) (λ there. Ok (MapName m)) kind e in
+        record { other = other; m = m; number = is; there = held (is_some (shape_at p.shapes m)) 24 there.0 there.1; is = cc }
+    named (negsuc n) is other e = cc
+
+    by_test : (b : Bool) → (insn.src == 0) ≡ b → if◌then◌else◌ {A = Result Kind ℕ} b (Ok (Scalar (constant (wide_immediate insn)))) (name_kind p insn.imm) ≡ Ok kind
+        → (((insn.src == 0) ≡ true) × (Scalar (constant (wide_immediate insn)) ≡ kind)) ⊎ Names p insn kind
+    by_test true is e = inl (is, cc)
+    by_test false is e = inr (named insn.imm refl is e)

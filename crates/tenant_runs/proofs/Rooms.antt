@@ -1,0 +1,81 @@
+-- What a run asks has its room: no more frames are needed than are charged.
+use Rattle.std.proofs.Common.{◌≡◌, ◌≤◌, ◌<◌, ◌+◌, ◌%◌, ◌==◌, ◌⊎◌, inl, inr, ℕ, Bool, true, false, if◌then◌else◌, List, length, slice_set, Option, Some, None, option_map, unwrap_or, IfSome, IsSomeAnd, refl, sym, ap, ◌∙◌, arith}
+use Rattle.std.proofs.lemmas.Bool.{cases_lt}
+use Rattle.std.proofs.lemmas.List.{get_or_past, length-set}
+use Rattle.host_types.specs.declared.shape.Shape.{Shape}
+use Rattle.host_types.specs.declared.helper.MapHelper.TheVariants.{Update as Updates}
+use Rattle.host_types.specs.Helpers.{helper, update_answer, update_charge, element_at}
+use Rattle.host_types.specs.Memory.{FlatMap, FlatMaps, map_at}
+use Rattle.host_types.specs.Sharing.{Sharing, cost_from}
+use Rattle.host_types.specs.Tenant.{TenantPart, IsFlatMap, AreFlatMaps}
+use Rattle.bpf_decode.specs.declared.operation.Size.{Size}
+use Rattle.bpf_decode.specs.declared.operation.Size.TheVariants.{Byte, HalfWord, Word, DoubleWord}
+use Rattle.bpf_decode.specs.Opcodes.{byte_count}
+use Rattle.page_table.specs.State.{MemoryState}
+use Rattle.page_table.specs.Changes.{with_record, KeepsSettings}
+use Rattle.write_break.specs.Stores.{store_cost, place_of_byte, touched}
+use Rattle.write_break.proofs.Numbers.{access_in_page}
+use Rattle.write_break.proofs.Stores.{cost_from-few, touched-within}
+use Rattle.map_helpers.specs.Updates.{update_cost}
+use Rattle.map_helpers.proofs.Updates.{charge-enough}
+use Rattle.interp.specs.declared.need.Need.TheVariants.{Store, Update}
+use Rattle.tenant_runs.specs.Meeting.{MayMeet, answer_in, charge_in, KeepsSizes}
+
+-- a store lies in one page
+pub store_room : (sharing : Sharing) (tenant m at : ℕ) (size : Size) → at % byte_count size ≡ 0 → store_cost sharing tenant m at (byte_count size) ≤ 1
+store_room sharing tenant m at size aligned =
+    let few = cost_from-few sharing (place_of_byte tenant m at) (touched at (byte_count size)) in
+    let one = touched-within at (byte_count size) (in_page size aligned) in
+    omega (arith, few, one)
+  where
+    in_page : (size : Size) → at % byte_count size ≡ 0 → at % 4096 + byte_count size ≤ 4096
+    in_page Byte h = omega arith
+    in_page HalfWord h = omega arith
+    in_page Word h = omega arith
+    in_page DoubleWord h = omega arith
+
+-- one frame is charged for it
+pub store_charged : (owned : TenantPart) (m at number : ℕ) (size : Size) (value : List ℕ) → MayMeet owned (Store m at size number) value → (charge_in owned (Store m at size number) ≡ 1) × (at % byte_count size ≡ 0)
+store_charged owned m at number size value may = by_map (map_at owned.maps m) refl
+  where
+    by_map : (there : Option FlatMap) → map_at owned.maps m ≡ there → (charge_in owned (Store m at size number) ≡ 1) × (at % byte_count size ≡ 0)
+    by_map None e = absurd (rw e at may)
+    by_map (Some flat) e = let asked = rw e at may in (rw e refl, asked.aligned)
+
+-- so many frames as are charged are enough for an update
+pub update_room : (owned after : TenantPart) (sharing : Sharing) (tenant m key flags : ℕ) (value : List ℕ) → AreFlatMaps owned.maps → MayMeet owned (Update m key flags) value → after.maps ≡ owned.maps
+    → update_cost after sharing tenant m key flags ≤ charge_in owned (Update m key flags)
+update_room owned after sharing tenant m key flags value are may same = by_map (map_at owned.maps m) refl
+  where
+    by_map : (there : Option FlatMap) → map_at owned.maps m ≡ there → update_cost after sharing tenant m key flags ≤ charge_in owned (Update m key flags)
+    by_map None e = absurd (rw e at may)
+    by_map (Some flat) e =
+        let is : IsFlatMap flat = rw e at (are.each m) in
+        rw e (charge-enough flat.shape is.shape after sharing tenant m key flags (rw (same, e) refl))
+
+-- the answer of an update
+pub update_answered : (owned : TenantPart) (m key flags answer : ℕ) (value : List ℕ) (after : FlatMaps) → MayMeet owned (Update m key flags) value → helper Updates owned.maps m key value flags ≡ Some (answer, after)
+    → answer ≡ answer_in owned (Update m key flags)
+unfolding helper
+update_answered owned m key flags answer value after may helped = by_map (map_at owned.maps m) refl
+  where
+    by_map : (there : Option FlatMap) → map_at owned.maps m ≡ there → answer ≡ answer_in owned (Update m key flags)
+    by_map None e = absurd (rw e at may)
+    by_map (Some flat) e = rw e (sym (ap (λ (o : Option (ℕ × FlatMaps)). (unwrap_or o (answer, after)).0) (rw e at helped)))
+
+-- a map that is there has one of eight numbers
+pub there_below : (maps : FlatMaps) (m : ℕ) (shape : Shape) → length maps ≡ 8 → Some shape ≡ option_map (λ (flat : FlatMap). flat.shape) (map_at maps m) → m < 8
+there_below maps m shape eight e = elim (cases_lt m 8) [
+  | inl less ↦ less
+  | inr past ↦ let none : map_at maps m ≡ None = get_or_past maps m None (omega (arith, eight)) in absurd (cc (rw none at e))
+]
+
+-- a record of frames keeps how many tenants and frames there are
+pub record_keeps : (old new : MemoryState) (tenant left : ℕ) → new ≡ with_record old tenant left → KeepsSizes old new
+record_keeps old new tenant left e = rw e record { tenants = length-set old.tenants tenant (record { reserve = left }); frames = refl }
+
+pub keeps_after : (old middle new : MemoryState) → KeepsSizes old middle → KeepsSettings middle new → KeepsSizes old new
+keeps_after old middle new first later = record { tenants = ap length later.tenants ∙ first.tenants; frames = later.frames ∙ first.frames }
+
+pub keeps_twice : (old middle new : MemoryState) → KeepsSizes old middle → KeepsSizes middle new → KeepsSizes old new
+keeps_twice old middle new first later = record { tenants = later.tenants ∙ first.tenants; frames = later.frames ∙ first.frames }

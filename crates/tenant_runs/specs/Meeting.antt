@@ -1,0 +1,39 @@
+-- What a run asks of a tenant's part, and what becomes of it.
+use Rattle.std.specs.Prelude.{◌≡◌, ℕ, List, length, option_map, unwrap_or, IsSomeAnd}
+use Rattle.host_types.specs.Memory.{map_at}
+use Rattle.host_types.specs.Sharing.{Sharing}
+use Rattle.host_types.specs.Tenant.{TenantPart}
+use Rattle.bpf_decode.specs.Opcodes.{byte_count}
+use Rattle.map_helpers.specs.Updates.{updated_sharing}
+use Rattle.page_table.specs.State.{MemoryState}
+use Rattle.write_break.specs.Stores.{stored_sharing}
+use Rattle.interp.specs.declared.need.Need.{Need}
+use Rattle.interp.specs.declared.need.Need.TheVariants.{Store, Update}
+use Rattle.interp.specs.Needs.{map_of, MayAsk, answer_of, maps_after, charge_of}
+
+-- the tenant has the map, and what is asked may be asked of it
+abbrev pub MayMeet : TenantPart → Need → List ℕ → Type 0
+MayMeet owned need value = IsSomeAnd (map_at owned.maps (map_of need)) (MayAsk need value)
+
+-- what the tenant's map answers
+abbrev pub answer_in : TenantPart → Need → ℕ
+answer_in owned need = unwrap_or (option_map (answer_of need) (map_at owned.maps (map_of need))) 0
+
+-- how many frames are charged for it
+abbrev pub charge_in : TenantPart → Need → ℕ
+charge_in owned need = unwrap_or (option_map (charge_of need) (map_at owned.maps (map_of need))) 0
+
+-- the tenant's part afterwards, with so many frames reserved for what is left of the run
+abbrev pub part_met : TenantPart → Need → List ℕ → ℕ → TenantPart
+part_met owned need value left = record { maps = maps_after need value owned.maps; reserve = left }
+
+-- which pages share frames afterwards: those that are written are broken
+abbrev pub sharing_met : TenantPart → Sharing → ℕ → Need → Sharing
+sharing_met owned sharing tenant (Store m at size number) = stored_sharing sharing tenant m at (byte_count size)
+sharing_met owned sharing tenant (Update m key flags) = updated_sharing owned sharing tenant m key flags
+sharing_met owned sharing tenant need = sharing
+
+-- as many tenants and as many frames
+pub record KeepsSizes (old new : MemoryState) : Type 0 where
+  pub tenants : length new.tenants ≡ length old.tenants
+  pub frames : length new.arena ≡ length old.arena

@@ -1,0 +1,50 @@
+-- Runs on a tenant's part.
+use Rattle.std.specs.Prelude.{◌≡◌, ◌≢◌, ℕ, ◌<◌, ◌≤◌, List, length}
+use Rattle.host_types.specs.declared.fault.Fault.{Fault}
+use Rattle.host_types.specs.declared.fault.Fault.TheVariants.{NoFrames, NoProgram, BadContext, OutOfMemory, BadTenant}
+use Rattle.host_types.specs.Tenant.{TenantPart}
+use Rattle.bpf_decode.specs.Text.{instructions_of}
+use Rattle.page_table.specs.State.{MemoryState, part, have_of}
+use Rattle.verifier.specs.Reserve.{reserve_from}
+use Rattle.verifier.specs.Verified.{Accepted}
+use Rattle.interp.specs.declared.need.Need.{Need}
+use Rattle.interp.specs.Fits.{HaveShapes}
+use Rattle.interp.specs.Machine.{MachineState, Exits}
+use Rattle.interp.specs.Runs.{Runs}
+use Rattle.interp.specs.StandsFor.{Running, StandsFor, Asks}
+use Rattle.tenant_runs.specs.declared.driving.RunReply.{RunReply}
+
+-- A run under way stands for a state whose maps are the tenant's, and what the rest of it may need is
+-- reserved for the tenant.
+pub record IsUnderWay (v : Accepted) (run : Running) (s : MachineState) (owned : TenantPart) : Type 0 where
+  pub stands : StandsFor v run s
+  pub maps : owned.maps ≡ s.memory.maps
+  pub reserve : reserve_from v run.slot ≤ owned.reserve
+
+-- a run that was under way asks something in its state
+pub record IsAsking (v : Accepted) (s : MachineState) (need : Need) (run : Running) (owned : TenantPart) : Type 0 where
+  pub asks : Asks v s need run
+  pub eight : length owned.maps ≡ 8
+  pub maps : owned.maps ≡ s.memory.maps
+  pub reserve : reserve_from v s.slot ≤ owned.reserve
+
+-- A whole run on a tenant's part: the tenant has the program's maps, the context has its size, the reply
+-- is that of the standard's machine, whose maps are the tenant's afterwards, and nothing is reserved any
+-- more.
+pub record HasRun (v : Accepted) (context : List ℕ) (old new : TenantPart) (reply : RunReply) : Type 0 where
+  pub shapes : HaveShapes v.subject.shapes old.maps
+  pub sized : length context ≡ v.subject.context_size
+  pub runs : Runs v.subject.text context old.maps reply.steps (Exits reply.ret new.maps)
+  pub few : reply.steps ≤ instructions_of v.subject.text
+  pub released : new.reserve ≡ 0
+
+-- when a program isn't run: the first refusal, in this order, whose condition holds
+abbrev pub RefusesRun : Accepted → List ℕ → MemoryState → ℕ → Fault → Type 0
+RefusesRun v context memory tenant BadTenant = length memory.tenants ≤ tenant
+RefusesRun v context memory tenant NoProgram = (tenant < length memory.tenants) × ¬ (HaveShapes v.subject.shapes (part memory tenant).maps)
+RefusesRun v context memory tenant BadContext = HaveShapes v.subject.shapes (part memory tenant).maps × (length context ≢ v.subject.context_size)
+RefusesRun v context memory tenant (NoFrames need have) =
+    HaveShapes v.subject.shapes (part memory tenant).maps × (length context ≡ v.subject.context_size)
+    × (need ≡ reserve_from v 0) × (have ≡ have_of memory) × (have < need)
+RefusesRun v context memory tenant OutOfMemory = HaveShapes v.subject.shapes (part memory tenant).maps × (length context ≡ v.subject.context_size)
+RefusesRun v context memory tenant _ = ⊥

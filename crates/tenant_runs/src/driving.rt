@@ -1,0 +1,72 @@
+ghost use Rattle.std.specs.Prelude.{◌≡◌, ◌+◌, ◌≤◌, ℕ, Some};
+ghost use Rattle.bpf_decode.specs.Text.{instructions_of};
+ghost use Rattle.page_table.specs.State.{part};
+ghost use Rattle.page_table.specs.Changes.{IsKeptBut};
+ghost use Rattle.verifier.specs.Reserve.{reserve_from};
+ghost use Rattle.interp.specs.Machine.{MachineState, Next, Exits, step};
+ghost use Rattle.interp.specs.Runs.{Reaches};
+ghost use Rattle.tenant_runs.specs.Meeting.{sharing_met, KeepsSizes};
+ghost use Rattle.tenant_runs.specs.UnderWay.{IsUnderWay, IsAsking};
+
+use crate::meeting::meet;
+use interp::{Need, Run};
+use page_table::Memory;
+use verifier::{Verified, reserve_falls};
+
+/// How a run ended.
+#[derive(Clone, Copy, Debug, PartialEq, Eq)]
+pub struct RunReply {
+    /// What the program returned.
+    pub ret: u64,
+    /// How many steps it made.
+    pub steps: u32,
+}
+
+/// Does what a tenant's run asks, and gives it the answer: then it stands for the state to which the
+/// standard's step leads, and its maps are the tenant's. What is reserved for it is what the rest of it
+/// may need.
+pub fn answer(memory: &mut Memory, tenant: u32, program: &Verified, run: &mut Run, need: Need)
+    requires asks { (s : MachineState) × IsAsking program.now s need run.old (part memory.old tenant) }
+    ensures goes_on { (s : MachineState) → IsAsking program.now s need run.old (part memory.old tenant)
+        → (next : MachineState) × (step program.now.subject.text s ≡ Some (Next next)) × IsUnderWay program.now run.new next (part memory.new tenant) }
+    ensures reserve { (part memory.new tenant).reserve ≡ reserve_from program.now run.old.slot }
+    ensures steps { run.new.steps ≡ run.old.steps }
+    ensures others { IsKeptBut tenant memory.old memory.new }
+    ensures sharing { memory.new.sharing ≡ sharing_met (part memory.old tenant) memory.old.sharing tenant need }
+    ensures sizes { KeepsSizes memory.old memory.new }
+{
+    reserve_falls();
+    let left = program.reserve(run.slot());
+    let value: &[u8] = match need {
+        Need::Update { .. } => run.value(),
+        _ => &[],
+    };
+    let number = meet(memory, tenant, need, value, left);
+    run.answer(number);
+}
+
+/// Makes all steps that are left of a tenant's run, on the memory of its maps. Each verified program
+/// ends, with the number and the maps of the standard's machine on the tenant's maps alone, within as
+/// many steps from its beginning as it has instructions; and no other tenant's part changes.
+pub fn finish(memory: &mut Memory, tenant: u32, program: &Verified, run: &mut Run) -> RunReply
+    requires under_way { (s : MachineState) × IsUnderWay program.now run.old s (part memory.old tenant) }
+    ensures ended { (s : MachineState) → IsUnderWay program.now run.old s (part memory.old tenant)
+        → (n : ℕ) × Reaches program.now.subject.text s n (Exits result.ret (part memory.new tenant).maps) × (result.steps ≡ run.old.steps + n) }
+    ensures few { result.steps ≤ instructions_of program.now.subject.text }
+    ensures others { IsKeptBut tenant memory.old memory.new }
+    ensures sizes { KeepsSizes memory.old memory.new }
+{
+    program.facts();
+    for _ in 0..=program.instructions() {
+        match run.advance(program, program.instructions()) {
+            Need::Ended(ret) => {
+                return RunReply {
+                    ret,
+                    steps: run.steps(),
+                };
+            }
+            need => answer(memory, tenant, program, run, need),
+        }
+    }
+    unreachable!()
+}

@@ -1,0 +1,12 @@
+//! Runs of a tenant's programs on the memory of its maps: what a run asks is done on the memory, with
+//! the frames that were reserved for it, and the run goes on with the answer. An event of a host and a
+//! turn of a worker are this one code, and no call changes what another tenant has.
+#![tactic(auto)]
+
+mod driving;
+mod meeting;
+mod running;
+
+pub use driving::{RunReply, answer, finish};
+pub use meeting::meet;
+pub use running::{has_shapes, run};
