@@ -24,7 +24,7 @@ any_other shapes maps m e less h d = rw (get_or_default shapes m d e less) h
 pub few_shapes : (shapes : List Shape) → length (all_there shapes) ≡ 8 → length shapes ≤ 8
 few_shapes shapes e =
     let sized : length (all_there shapes) ≡ length shapes + (8 - length shapes) =
-        length-append (map Some shapes) (replicate (8 - length shapes) None) ∙ ap (λ n. n + length (replicate {A = Option Shape} (8 - length shapes) None)) (length-map shapes Some) ∙ ap (λ n. length shapes + n) (length-replicate {A = Option Shape} (8 - length shapes) None) in
+    length-append (map Some shapes) (replicate (8 - length shapes) None) ∙ ap (λ n. n + length (replicate {A = Option Shape} (8 - length shapes) None)) (length-map shapes Some) ∙ ap (λ n. length shapes + n) (length-replicate {A = Option Shape} (8 - length shapes) None) in
     omega (arith, sized, e)
 
 -- the places of a list, and those behind it

@@ -13,12 +13,12 @@ loop-map-preserved c =
 
 pub returns-then-not-has_shape : goal.returns-then-not-has_shape
 returns-then-not-has_shape c = (
-    (λ e. absurd (cc)),
-    λ have.
-        let there = have_each c.shapes-shapes.result.now (part c.args.memory.now c.args.tenant).maps c.loop-map.map c.loop-map-test.true (rw (c.shapes-shapes.ensures) have) in
-        let yes = c.has_shape.ensures.1 (there _) in
-        absurd (cc (yes, c.if-not-has_shape.true)),
-  )
+  (λ e. absurd (cc)),
+  λ have.
+      let there = have_each c.shapes-shapes.result.now (part c.args.memory.now c.args.tenant).maps c.loop-map.map c.loop-map-test.true (rw (c.shapes-shapes.ensures) have) in
+      let yes = c.has_shape.ensures.1 (there _) in
+      absurd (cc (yes, c.if-not-has_shape.true)),
+)
 
 pub returns : goal.returns
 returns c =
