@@ -53,7 +53,7 @@ pub(crate) enum Way {
 fn advanced(mut run: Run, program: &Verified) -> u32
     requires { (s : MachineState) × StandsFor program.now run s }
 {
-    let _number = run.finish(program);
+    let _need = run.advance(program, program.instructions());
     run.steps()
 }
 
@@ -63,8 +63,9 @@ fn stepped(mut run: Run, program: &Verified) -> u32
 {
     'steps: for _ in 0..SLOTS {
         match run.next(program) {
-            Need::Ended(_) => return run.steps(),
             Need::Private => {}
+            // The program ended; without maps it needs nothing else.
+            _ => return run.steps(),
         }
     }
     run.steps()

@@ -44,6 +44,7 @@ fn returned(mut run: Run, program: &Verified) -> Option<(u64, u32)>
         match run.next(program) {
             Need::Ended(number) => return Some((number, run.steps())),
             Need::Private => {}
+            _ => return None,
         }
     }
     None

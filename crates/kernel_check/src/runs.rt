@@ -26,6 +26,8 @@ pub(crate) enum Outcome {
     Disputed,
     /// It was at fault, or it didn't end.
     Endless,
+    /// It asked for a map, though it has none.
+    NeedsMap,
 }
 
 /// How a program goes that is decoded, judged by `verify`, perhaps by the plain verifier too, and run.
@@ -103,6 +105,7 @@ fn ended(mut run: Run, program: &Verified) -> Outcome
                 return Outcome::Returned { number, steps };
             }
             Need::Private => {}
+            _ => return Outcome::NeedsMap,
         }
     }
     Outcome::Endless

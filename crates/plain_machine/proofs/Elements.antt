@@ -7,3 +7,9 @@ pub within_map : (at size sized stride entries : ℕ) → at / stride < entries 
 within_map at size sized stride entries counted inside most least =
     let up : stride * (at / stride + 1) ≤ stride * entries = mul-le-mul_left stride (omega arith) in
     omega arith
+
+-- an element's value lies whole in all of them
+pub element_within : (key sized stride entries : ℕ) → key < entries → sized ≤ stride → stride * key + sized ≤ stride * entries
+element_within key sized stride entries counted most =
+    let up : stride * (key + 1) ≤ stride * entries = mul-le-mul_left stride (omega arith) in
+    omega arith

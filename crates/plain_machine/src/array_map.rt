@@ -1,12 +1,34 @@
 ghost use Rattle.std.specs.Prelude.{◌≡◌, ◌+◌, ◌^◌, ◌<◌, ◌≤◌, true, length};
 ghost use Rattle.host_types.specs.Bytes.{number_of, part_of};
+ghost use Rattle.host_types.specs.Helpers.{failed, lookup_answer, update_answer, delete_answer, map_updated};
 ghost use Rattle.host_types.specs.Memory.{FlatMap, is_in_value};
 ghost use Rattle.host_types.specs.Shapes.{IsShape, byte_len_of};
 ghost use Rattle.plain_machine.specs.Regions.{with_number};
 
-use crate::number::{number_of_bytes, put_bytes};
-use host_types::Shape;
+use crate::number::{number_of_bytes, put_bytes, put_part};
+use host_types::{MapNo, Shape};
 use std::marker::Model;
+
+// How many addresses a region has.
+const REGION: u64 = 4294967296;
+
+// The number of the region of map 0's values, which those of the other maps follow.
+const MAP_VALUES: u64 = 16;
+
+// The flag of an update that wants an element that isn't there.
+const NO_EXIST: u64 = 1;
+
+// The flag of an update that wants an element that is there. No flag is above it.
+const EXIST: u64 = 2;
+
+// Linux's number of the error that a key is past the end.
+const E2BIG: u64 = 7;
+
+// Linux's number of the error that an element is there.
+const EEXIST: u64 = 17;
+
+// Linux's number of the error that something isn't done at all.
+const EINVAL: u64 = 22;
 
 /// An array map, its elements one after another, a stride apart.
 #[derive(Drop)]
@@ -40,6 +62,59 @@ impl ArrayMap {
         self.bytes.as_slice()
     }
 
+    /// The shape.
+    pub fn shape(&self) -> Shape
+        ensures { result ≡ self.now.shape }
+    {
+        self.shape
+    }
+
+    /// What the helper `lookup` answers of the map with a number: the element's address, or 0 past
+    /// the end.
+    #[tactic(auto, unfolding(host_types::specs::Helpers::lookup_answer), using(crate::proofs::Elements::element_within))]
+    pub fn lookup(&self, number: MapNo, key: u32) -> u64
+        requires { number ≤ 7 }
+        ensures { result ≡ lookup_answer self.now.shape number key }
+    {
+        if key >= self.shape.entries {
+            return 0;
+        }
+        let values = (MAP_VALUES + u64::from(number)) * REGION;
+        values + u64::from(self.shape.stride()) * u64::from(key)
+    }
+
+    /// What the helper `update` answers and does: it writes a value to an element, or tells the first
+    /// error and changes nothing.
+    #[tactic(auto, unfolding(host_types::specs::Helpers::update_answer, host_types::specs::Helpers::map_updated), using(crate::proofs::Elements::element_within))]
+    pub fn update(&mut self, key: u32, value: &[u8], flags: u64) -> u64
+        requires { length value.now ≡ self.old.shape.value_size }
+        ensures answer { result ≡ update_answer self.old.shape key flags }
+        ensures map { self.new ≡ map_updated key value.now flags self.old }
+    {
+        if flags > EXIST {
+            return failed(EINVAL);
+        }
+        if key >= self.shape.entries {
+            return failed(E2BIG);
+        }
+        if flags == NO_EXIST {
+            return failed(EEXIST);
+        }
+        put_part(
+            &mut self.bytes,
+            self.shape.stride() as usize * key as usize,
+            value,
+        );
+        0
+    }
+
+    /// What the helper `delete` answers: the elements of an array map are always there.
+    pub fn delete() -> u64
+        ensures { result ≡ delete_answer }
+    {
+        failed(EINVAL)
+    }
+
     // Whether bytes lie whole in the value of one element.
     #[tactic(auto, using(crate::proofs::Elements::within_map))]
     pub(crate) fn has(&self, at: usize, size: usize) -> bool
@@ -52,9 +127,9 @@ impl ArrayMap {
             && at % stride + size <= self.shape.value_size as usize
     }
 
-    // The number of `size` bytes at a place.
+    /// The number of at most eight bytes at a place.
     #[tactic(auto, using(crate::proofs::Parts::slice_part_of))]
-    pub(crate) fn number_at(&self, at: usize, size: usize) -> u64
+    pub fn number_at(&self, at: usize, size: usize) -> u64
         requires small { size ≤ 8 }
         requires within { at + size ≤ length self.now.bytes }
         ensures number { result ≡ number_of (part_of self.now.bytes at size) }
@@ -63,13 +138,21 @@ impl ArrayMap {
         number_of_bytes(&self.bytes[at..at + size])
     }
 
-    // Writes the lowest `size` bytes of a number at a place.
+    /// Writes the lowest `size` bytes of a number, at most eight, at a place.
     #[tactic(auto, using(crate::proofs::Parts::length_bytes))]
-    pub(crate) fn put_number(&mut self, at: usize, size: usize, number: u64)
+    pub fn put_number(&mut self, at: usize, size: usize, number: u64)
         requires small { size ≤ 8 }
         requires within { at + size ≤ length self.old.bytes }
         ensures { self.new ≡ with_number self.old at size number }
     {
         put_bytes(&mut self.bytes, at, size, number);
     }
+}
+
+// The answer that tells an error.
+fn failed(error: u64) -> u64
+    requires some { 1 ≤ error }
+    ensures { result ≡ failed error }
+{
+    u64::MAX - (error - 1)
 }

@@ -1,10 +1,14 @@
-ghost use Rattle.std.specs.Prelude.{◌≡◌, ◌≤◌, ◌<◌, replicate, option_map, None, IsNone, IfSome, IsSomeAnd, ◌+◌, ◌^◌, length};
-ghost use Rattle.host_types.specs.Layout.{stack_size, region_size};
-ghost use Rattle.host_types.specs.Memory.{FlatMemory, fetch, place, map_at};
+ghost use Rattle.std.specs.Prelude.{◌≡◌, ◌≤◌, ◌<◌, replicate, option_map, None, IsNone, IsSome, IfSome, IsSomeAnd, ◌+◌, ◌^◌, length};
+ghost use Rattle.host_types.specs.Helpers.{lookup_answer, update_answer, maps_updated};
+ghost use Rattle.host_types.specs.Layout.{stack_size, region_size, map_name};
+ghost use Rattle.host_types.specs.Memory.{FlatMemory, FlatMaps, fetch, place, map_at};
+ghost use Rattle.interp.specs.Machine.{name_in, map_named};
+ghost use Rattle.plain_machine.specs.Calls.{key_at, updated_from, updated_from_context, updated_from_stack};
 ghost use Rattle.plain_machine.specs.Regions.{number_in_context, number_in_stack, number_in_map, with_number_in_stack, with_number_in_map, with_number_put};
 
 use crate::array_map::ArrayMap;
-use crate::number::{number_if_set, number_of_bytes, set_bytes};
+use crate::number::{copy_if_set, number_if_set, number_of_bytes, set_bytes};
+use host_types::MapNo;
 use std::marker::Model;
 
 // How many addresses a region has.
@@ -16,13 +20,17 @@ const CONTEXT: u64 = 1;
 // The number of the stack's region.
 const STACK: u64 = 2;
 
+// The number of the region that names map 0, which those that name the other maps follow.
+const MAP_NAMES: u64 = 8;
+
 // The number of the region of map 0's values, which those of the other maps follow.
 const MAP_VALUES: u64 = 16;
 
 // How many bytes the stack has.
 const STACK_SIZE: usize = 512;
 
-// A flat memory: the context, the stack of which each byte is set or not, and maps by number.
+// A flat memory: the context, the stack of which each byte is set or not, and at most eight maps by
+// number.
 #[derive(Drop)]
 pub(crate) struct Memory {
     context: Vec<u8>,
@@ -34,11 +42,14 @@ impl Model for Memory {
     ghost Value = { FlatMemory };
 
     ghost view = { λ memory. record { context = memory.context.items; stack = memory.stack; maps = memory.maps.items } };
+
+    ghost invariant = { λ memory. length memory.maps.items ≤ 8 };
 }
 
 impl Memory {
     // The memory at a run's beginning, where no byte of the stack is set.
     pub(crate) fn new(context: Vec<u8>, maps: Vec<Option<ArrayMap>>) -> Self
+        requires { length maps.items ≤ 8 }
         ensures { result ≡ record { context = context.items; stack = replicate stack_size None; maps = maps.items } }
     {
         Memory {
@@ -178,4 +189,149 @@ impl Memory {
         let Some(map) = slot else { unreachable!() };
         map.put_number(at, size, number);
     }
+
+    // The name of the map with a number, if it is there.
+    pub(crate) fn name(&self, number: i32) -> Option<u64>
+        ensures { result ≡ name_in self.now.maps number }
+    {
+        if number < 0 {
+            return None;
+        }
+        match self.maps.get(number as usize) {
+            Some(Some(_)) => Some((MAP_NAMES + number as u64) * REGION),
+            _ => None,
+        }
+    }
+
+    // The map whose name a number is, if it is there.
+    pub(crate) fn map_named(&self, name: u64) -> Option<MapNo>
+        ensures map { result ≡ map_named self.now.maps name }
+        ensures there { IfSome result (λ m. (m ≤ 7) × IsSome (map_at self.now.maps m)) }
+    {
+        let number = (name / REGION).saturating_sub(MAP_NAMES);
+        if name != (MAP_NAMES + number) * REGION {
+            return None;
+        }
+        match self.maps.get(number as usize) {
+            Some(Some(_)) => Some(number as MapNo),
+            _ => None,
+        }
+    }
+
+    // The key of a helper: the number of four bytes of the context or of the stack. It is aligned.
+    #[tactic(auto, unfolding(host_types::specs::Memory::place_of, host_types::specs::Memory::bytes_at), using(crate::proofs::Places::not_own))]
+    pub(crate) fn key(&self, address: u64) -> Option<u32>
+        ensures { result ≡ key_at self.now address }
+    {
+        if address % 4 != 0 {
+            return None;
+        }
+        let at = (address % REGION) as usize;
+        let number = match address / REGION {
+            CONTEXT => self.fetch_context(at, 4)?,
+            STACK => self.fetch_stack(at, 4)?,
+            _ => return None,
+        };
+        Some(number as u32)
+    }
+
+    // What `lookup` answers of a map that is there.
+    pub(crate) fn lookup(&self, number: MapNo, key: u32) -> u64
+        requires few { number ≤ 7 }
+        requires there { IsSome (map_at self.now.maps number) }
+        ensures { IfSome (map_at self.now.maps number) (λ flat. result ≡ lookup_answer flat.shape number key) }
+    {
+        match &self.maps[number as usize] {
+            Some(map) => map.lookup(number, key),
+            None => unreachable!(),
+        }
+    }
+
+    // What `update` answers of a map that is there and does to it, with the value at an address of the
+    // context or of the stack. `None` is a fault, which changes nothing.
+    #[tactic(auto, unfolding(host_types::specs::Memory::place_of, host_types::specs::Memory::bytes_at), using(crate::proofs::Places::not_own))]
+    pub(crate) fn update(
+        &mut self,
+        number: MapNo,
+        key: u32,
+        address: u64,
+        flags: u64,
+    ) -> Option<u64>
+        requires { IsSome (map_at self.old.maps number) }
+        ensures value { updated_from self.old number key address flags ≡ option_map (λ answer. (answer, self.new)) result }
+        ensures fault { IsNone result → self.new ≡ self.old }
+    {
+        let at = (address % REGION) as usize;
+        match address / REGION {
+            CONTEXT => self.update_from_context(number, key, at, flags),
+            STACK => self.update_from_stack(number, key, at, flags),
+            _ => None,
+        }
+    }
+
+    // How many bytes a value of a map has that is there.
+    fn value_size(&self, number: MapNo) -> usize
+        requires { IsSome (map_at self.now.maps number) }
+        ensures size { IsSomeAnd (map_at self.now.maps number) (λ flat. result ≡ flat.shape.value_size) }
+        ensures small { result < 2 ^ 32 }
+    {
+        match &self.maps[number as usize] {
+            Some(map) => map.shape().value_size as usize,
+            None => unreachable!(),
+        }
+    }
+
+    // The same with a value in the context.
+    #[tactic(auto, using(crate::proofs::Parts::slice_part_of, crate::proofs::Updates::by_context))]
+    fn update_from_context(&mut self, number: MapNo, key: u32, at: usize, flags: u64) -> Option<u64>
+        requires near { at < region_size }
+        requires there { IsSome (map_at self.old.maps number) }
+        ensures value { updated_from_context self.old number key at flags ≡ option_map (λ answer. (answer, self.new)) result }
+        ensures fault { IsNone result → self.new ≡ self.old }
+    {
+        let end = at + self.value_size(number);
+        if end > self.context.len() {
+            return None;
+        }
+        Some(update_in(&mut self.maps, number, key, &self.context[at..end], flags))
+    }
+
+    // The same with a value in the stack, each of whose bytes is set.
+    #[tactic(auto, using(crate::proofs::Parts::slice_part_of, crate::proofs::Updates::by_stack))]
+    fn update_from_stack(&mut self, number: MapNo, key: u32, at: usize, flags: u64) -> Option<u64>
+        requires near { at < region_size }
+        requires there { IsSome (map_at self.old.maps number) }
+        ensures value { updated_from_stack self.old number key at flags ≡ option_map (λ answer. (answer, self.new)) result }
+        ensures fault { IsNone result → self.new ≡ self.old }
+    {
+        let size = self.value_size(number);
+        if at + size > STACK_SIZE {
+            return None;
+        }
+        let mut buffer = [0; STACK_SIZE];
+        let value = &mut buffer[..size];
+        if !copy_if_set(&self.stack[at..at + size], value) {
+            return None;
+        }
+        Some(update_in(&mut self.maps, number, key, value, flags))
+    }
+}
+
+// Updates a map that is there, and tells the answer.
+#[tactic(auto, unfolding(host_types::specs::Helpers::maps_updated))]
+fn update_in(
+    maps: &mut [Option<ArrayMap>],
+    number: MapNo,
+    key: u32,
+    value: &[u8],
+    flags: u64,
+) -> u64
+    requires { IsSomeAnd (map_at maps.old number) (λ flat. length value.now ≡ flat.shape.value_size) }
+    ensures answer { IsSomeAnd (map_at maps.old number) (λ flat. result ≡ update_answer flat.shape key flags) }
+    ensures maps { maps.new ≡ maps_updated maps.old number key value.now flags }
+    ensures sized { length maps.new ≡ length maps.old }
+{
+    let slot = &mut maps[number as usize];
+    let Some(map) = slot else { unreachable!() };
+    map.update(key, value, flags)
 }

@@ -1,6 +1,6 @@
 ghost use Rattle.std.specs.Prelude.{◌≡◌, ◌+◌, ◌*◌, ◌<◌, ◌≤◌, ◌^◌, length, map, option_map, Some, IfSome};
 ghost use Rattle.host_types.specs.Bytes.{number_of, bytes_of, with_part};
-ghost use Rattle.host_types.specs.Memory.{all_set};
+ghost use Rattle.host_types.specs.Memory.{all_set, only_if};
 
 // The little-endian number of at most eight bytes.
 #[tactic(auto, unfolding(host_types::specs::Bytes::number_of), using(crate::proofs::Powers::one_more_byte))]
@@ -93,4 +93,20 @@ pub(crate) fn put_part<T: Copy>(items: &mut [T], at: usize, part: &[T])
     ensures { items.new ≡ with_part items.old at part.now }
 {
     items[at..at + part.len()].copy_from_slice(part);
+}
+
+// Copies bytes, each of which has to be set.
+#[tactic(auto, using(crate::proofs::Copies::all_copied, crate::proofs::Copies::not_set))]
+pub(crate) fn copy_if_set(bytes: &[Option<u8>], values: &mut [u8]) -> bool
+    requires { length values.old ≡ length bytes.now }
+    ensures copied { all_set bytes.now ≡ only_if result values.new }
+    ensures sized { length values.new ≡ length values.old }
+{
+    for at in 0..bytes.len() {
+        match bytes[at] {
+            Some(byte) => values[at] = byte,
+            None => return false,
+        }
+    }
+    true
 }

@@ -10,7 +10,7 @@ use crate::machine::run_on;
 use crate::text::{EXIT, context_of, text_of};
 use bpf_decode::decode;
 use host_types::{Fault, Refused};
-use interp::Run;
+use interp::{Need, Run};
 use plain_machine::{Ending, Machine};
 use std::alloc::Global;
 use std::test::Fail;
@@ -31,10 +31,12 @@ fn accepted(alloc: Global, slots: &[u64]) -> Result<Verified, Refused>
 fn ended(mut run: Run, program: &Verified) -> Ending
     requires { (s : MachineState) × StandsFor program.now run s }
 {
-    let number = run.finish(program);
-    Ending::Exited {
-        number,
-        steps: run.steps(),
+    match run.advance(program, program.instructions()) {
+        Need::Ended(number) => Ending::Exited {
+            number,
+            steps: run.steps(),
+        },
+        _ => Ending::Cut,
     }
 }
 
