@@ -6,11 +6,14 @@ use Rattle.host_types.specs.declared.fault.Fault.TheVariants as fault
 use Rattle.host_types.specs.Memory.{FlatMaps}
 use Rattle.host_types.specs.Tenant.{AreFlatMaps}
 use Rattle.bpf_decode.specs.Text.{instructions_of, instructions_before}
+use Rattle.verifier_kinds.specs.Kinds.{shape_at}
 use Rattle.verifier.specs.Verified.{Accepted}
-use Rattle.interp.specs.declared.need.Need.TheVariants.{Private, Ended as NeedEnded}
+use Rattle.interp.specs.declared.need.Need.{Need}
+use Rattle.interp.specs.declared.need.Need.TheVariants.{Private, Ended as NeedEnded, Load as AskLoad, Store as AskStore, Lookup as AskLookup, Update as AskUpdate, Delete as AskDelete}
+use Rattle.interp.specs.Needs.{map_of}
 use Rattle.interp.specs.Machine.{MachineState, Next, Exits, step}
 use Rattle.interp.specs.Runs.{Reaches, Runs}
-use Rattle.interp.specs.StandsFor.{StandsFor}
+use Rattle.interp.specs.StandsFor.{Running, StandsFor, Asks, FollowsSteps}
 use Rattle.host_core.specs.declared.event.Event.{Event}
 use Rattle.host_core.specs.declared.event.Event.TheVariants.{Step}
 use Rattle.host_core.specs.declared.event.Reply.{Reply}
@@ -21,7 +24,7 @@ use Rattle.host_core.specs.Happens.{Answers, StepHappens, Happens, IsPromised, I
 use Rattle.host_core.specs.HostView.{TenantView, HostView, StandsForAnyRun, StandsForTenant, StandsForWorld, IsKept, IsKeptProgram, IsServed, HasMadeSteps, HasAdvanced}
 use Rattle.host_core.proofs.Worlds.{set-same, slice_get-set, AllZip-set, AllZip-found, OfTenant-there}
 use Rattle.host_core.proofs.Instructions.{instructions_before-within}
-use Rattle.host_core.proofs.Tenants.{run-found, run-missing, kept-at}
+use Rattle.host_core.proofs.Tenants.{run-found, run-missing, kept-at, none-at}
 use Rattle.host_core.proofs.Hosting.{Hosts-no_tenant, AllHappen-push}
 
 -- what happens at a step of an open run, and what is promised of it
@@ -131,7 +134,7 @@ pub made-steps : (programs : List Accepted) (kept after : KeptRun) (limit : ℕ)
 made-steps programs kept after limit all same_program advanced w t tenant there s =
     let (r, is_open, stood) = run-found programs kept tenant.run s.run in
     let accepted = stood.accepted in
-    let (n, (u, led, maps, stands), made, within, whole) = advanced accepted r.state stood.numbered stood.state in
+    let (n, (u, led, maps, less, stands), made, within, whole) = advanced accepted r.state stood.numbered stood.state in
     let verified = kept-at programs kept.program accepted all stood.numbered in
     let text = accepted.subject.text in
     let same = maps_of_run tenant r s.meets is_open in
@@ -191,6 +194,38 @@ goes_on-few programs kept after limit steps counted few is advanced great =
     let (r, is_open, stood) = run-found programs kept is.tenant.run is.stands.run in
     let (n, led, made, within, whole) = advanced stood.accepted r.state stood.numbered stood.state in
     omega (arith, made, counted, few, great, whole refl)
+
+-- what is asked of the memory of maps
+abbrev pub IsAsked : Need → Type 0
+IsAsked Private = ⊥
+IsAsked (NeedEnded number) = ⊥
+IsAsked need = Unit {0}
+
+-- a program without maps asks nothing of them
+asks-nothing : (accepted : Accepted) (s : MachineState) (need : Need) (run : Running) → accepted.subject.shapes ≡ replicate 8 None → Asks accepted s need run → ⊥
+asks-nothing accepted s need run unmapped asks =
+    let missing : shape_at accepted.subject.shapes (map_of need) ≡ None = ap (λ shapes. shape_at shapes (map_of need)) unmapped ∙ none-at 8 (map_of need) in
+    absurd (let shaped = asks.shaped in cc)
+
+-- nor do many steps of a run of it
+follows-asks-nothing : (accepted : Accepted) (s : MachineState) (n : ℕ) (need : Need) (run : Running) → accepted.subject.shapes ≡ replicate 8 None → FollowsSteps accepted s n need run → IsAsked need → ⊥
+follows-asks-nothing accepted s n Private run unmapped follows asked = asked
+follows-asks-nothing accepted s n (NeedEnded number) run unmapped follows asked = asked
+follows-asks-nothing accepted s n (AskLoad m at size) run unmapped (before, t, one_more, led, maps, less, asks) asked = asks-nothing accepted t (AskLoad m at size) run unmapped asks
+follows-asks-nothing accepted s n (AskStore m at size number) run unmapped (before, t, one_more, led, maps, less, asks) asked = asks-nothing accepted t (AskStore m at size number) run unmapped asks
+follows-asks-nothing accepted s n (AskLookup m key) run unmapped (before, t, one_more, led, maps, less, asks) asked = asks-nothing accepted t (AskLookup m key) run unmapped asks
+follows-asks-nothing accepted s n (AskUpdate m key flags) run unmapped (before, t, one_more, led, maps, less, asks) asked = asks-nothing accepted t (AskUpdate m key flags) run unmapped asks
+follows-asks-nothing accepted s n (AskDelete m key) run unmapped (before, t, one_more, led, maps, less, asks) asked = asks-nothing accepted t (AskDelete m key) run unmapped asks
+
+-- no open run that a host keeps asks anything of maps
+pub never_asks : (programs : List Accepted) (kept after : KeptRun) (limit : ℕ) (need : Need) → IsKept (record { programs = programs; run = Some kept })
+    → ((accepted : Accepted) (s : MachineState) → slice_get programs kept.program ≡ Some accepted → StandsFor accepted kept.run s → HasAdvanced accepted s limit kept.run need after.run)
+    → IsAsked need → ⊥
+never_asks programs kept after limit need is advanced asked =
+    let (r, is_open, stood) = run-found programs kept is.tenant.run is.stands.run in
+    let (n, follows, made, within, whole) = advanced stood.accepted r.state stood.numbered stood.state in
+    let program = kept-at programs kept.program stood.accepted is.accepted stood.numbered in
+    follows-asks-nothing stood.accepted r.state n need after.run program.unmapped follows asked
 
 -- a tenant that made steps is still kept
 pub kept-made : (old new : TenantView) (limit : ℕ) (last : Option Reply) → HasMadeSteps old limit last new → IsKept old → All IsKeptProgram new.programs → IsKept new

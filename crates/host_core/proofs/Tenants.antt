@@ -55,7 +55,7 @@ kept-at programs k accepted all e =
     subst IsKeptProgram (get_or_from_slice_get programs k accepted accepted e) (all k accepted (slice_get_within programs k accepted e))
 
 -- nothing stands at any place
-none-at : {X : Type 0} (n m : ℕ) → get_or {A = Option X} (replicate n None) m None ≡ None
+pub none-at : {X : Type 0} (n m : ℕ) → get_or {A = Option X} (replicate n None) m None ≡ None
 none-at zero m = refl
 none-at (suc n) zero = refl
 none-at (suc n) (suc m) = none-at n m

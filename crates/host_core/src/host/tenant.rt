@@ -144,6 +144,12 @@ impl Tenant {
                 self.run = None;
                 Some(Reply::Ended { ret, steps })
             }
+            // Its program was accepted as one without maps.
+            Need::Load { .. }
+            | Need::Store { .. }
+            | Need::Lookup { .. }
+            | Need::Update { .. }
+            | Need::Delete { .. } => unreachable!(),
         }
     }
 }

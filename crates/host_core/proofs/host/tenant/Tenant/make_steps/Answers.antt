@@ -1,8 +1,8 @@
-use Rattle.std.proofs.Common.{Option, Some, None, sym, refl, subst, arith}
+use Rattle.std.proofs.Common.{Option, Some, None, inl, inr, sym, refl, subst, arith}
 use Rattle.host_types.specs.declared.fault.Fault.TheVariants.{NoRun}
 use Rattle.host_core.specs.declared.event.Reply.TheVariants.{Ended, Refused}
 use Rattle.host_core.specs.HostView.{TenantView, HasMadeSteps, IsKept}
-use Rattle.host_core.proofs.Stepping.{goes_on-few, made-no_run, made-steps, made-last_step, kept-made}
+use Rattle.host_core.proofs.Stepping.{goes_on-few, made-no_run, made-steps, made-last_step, IsAsked, never_asks, kept-made}
 use Rattle.host_core.proofs.host.tenant.Tenant.make_steps.Goals as goal
 
 pub returns-in_default : goal.returns-in_default
@@ -53,3 +53,17 @@ returns-in-Ended c =
       steps = subst (λ old. HasMadeSteps old c.args.limit (Some (Ended c.in-Ended.ret c.steps-steps.result)) new) c.self.view_is (ends c);
       ends = λ great. refl;
     }
+
+-- a program without maps asks nothing of them
+pub unreachable-requires : goal.unreachable-requires
+unreachable-requires c =
+    let asked : IsAsked c.advance-need.result = elim c.in-Load.is [
+      | inl (m, at, size, is) ↦ rw is tt
+      | inr (inl (m, at, size, number, is)) ↦ rw is tt
+      | inr (inr (inl (m, key, is))) ↦ rw is tt
+      | inr (inr (inr (inl (m, key, flags, is)))) ↦ rw is tt
+      | inr (inr (inr (inr (m, key, is)))) ↦ rw is tt
+    ] in
+    never_asks c.self.inside.programs.items c.in-Some.open c.advance-need.new.self c.args.limit c.advance-need.result (subst (λ run. IsKept (record { programs = c.self.inside.programs.items; run = run })) c.in-Some.is c.self.invariant)
+    (λ accepted s found stands. c.advance-need.ensures.advanced accepted s (rw c.as_slice.ensures.value found) stands)
+    asked
