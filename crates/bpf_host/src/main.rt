@@ -1,20 +1,17 @@
-//! The program `bpf_host`.
+//! The program `bpf_host` (docs/HOST.md).
 #![tactic(auto)]
 
-ghost use Rattle.std.specs.Prelude.{◌≡◌};
-ghost use Rattle.bpf_host.specs.Status.{status_of};
-
-mod words;
-
+use command_line::{Request, WrongWords, request_of};
 use engines::check::check;
 use engines::replay::replay;
-use host_file::{FileFault, is_plain, quoted};
+use engines::{status_of, write_fault};
+use host_file::FileFault;
+use plain_text::quoted;
 use std::alloc::{AllocError, Global};
 use std::io::{self, BufWriter, Write};
 use std::process::ExitCode;
 use std::rt::{Env, Files};
 use std::{env, fs};
-use words::{Request, request_of};
 
 fn main(rt: HostRuntime) -> ExitCode {
     let errors = rt.stderr();
@@ -22,40 +19,9 @@ fn main(rt: HostRuntime) -> ExitCode {
     let outcome = run(&rt, &mut errors);
     if let Err(fault) = &outcome {
         // The status tells it too: the words may be lost.
-        let _ = say(rt.alloc(), &mut errors, fault);
+        let _ = write_fault(rt.alloc(), &mut errors, fault);
     }
     ExitCode::from(status_of(&outcome))
-}
-
-/// The exit status: the one that was answered, or 2 for a fault.
-fn status_of(outcome: &Result<u8, FileFault>) -> u8
-    ensures { result ≡ status_of outcome.now }
-{
-    match outcome {
-        Ok(status) => *status,
-        Err(_) => 2,
-    }
-}
-
-/// Writes the words of a fault.
-fn say<W: Write>(alloc: Global, words: &mut W, fault: &FileFault) -> io::Result<()> {
-    match fault.to_string(alloc) {
-        Ok(said) => write_plain(words, said.as_str())?,
-        Err(AllocError) => write!(words, "out of memory")?,
-    }
-    writeln!(words)
-}
-
-/// Writes a text in which no character steers a terminal: one that would is written by its number.
-fn write_plain<W: Write>(words: &mut W, text: &str) -> io::Result<()> {
-    for c in text.chars() {
-        if is_plain(c) || c == '\n' {
-            write!(words, "{c}")?;
-        } else {
-            write!(words, "{}", c.escape_unicode())?;
-        }
-    }
-    Ok(())
 }
 
 /// Writes which file it is that can't be read, or is bad.
@@ -80,7 +46,7 @@ fn run<R: AllocGlobal + Env + Files + Print, E: Write>(
         }
         Err(_) => return Err(FileFault::Usage(String::from_str(alloc, "the words can't be read")?)),
     };
-    let request = request_of(alloc, words.as_slice())?;
+    let request = request_of(alloc, words.as_slice()).map_err(words_fault)?;
     let output = BufWriter::new(alloc, io::writer(rt));
     let mut output = output.map_err(|_| FileFault::OutOfMemory(AllocError))?;
     match request {
@@ -96,6 +62,14 @@ fn run<R: AllocGlobal + Env + Files + Print, E: Write>(
             shapes,
             context,
         } => check(alloc, hex, shapes.as_slice(), context, &mut output, errors),
+    }
+}
+
+/// The fault of words that ask for nothing.
+fn words_fault(wrong: WrongWords) -> FileFault {
+    match wrong {
+        WrongWords::Usage(said) => FileFault::Usage(said),
+        WrongWords::OutOfMemory(error) => FileFault::OutOfMemory(error),
     }
 }
 

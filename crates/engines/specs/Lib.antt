@@ -2,3 +2,4 @@ pub mod Check
 pub mod Lines
 pub mod Replay
 pub mod Sessions
+pub mod Status

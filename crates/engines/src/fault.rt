@@ -1,9 +1,43 @@
-ghost use Rattle.std.specs.Prelude.{IfErr, IsOk, OnOk};
+ghost use Rattle.std.specs.Prelude.{◌≡◌, IfErr, IsOk, OnOk};
 ghost use Rattle.host_file.specs.Faults.{IsBad, IsOfWords};
+ghost use Rattle.engines.specs.Status.{status_of};
 
 use host_file::FileFault;
-use std::alloc::AllocError;
+use plain_text::is_plain;
+use std::alloc::{AllocError, Global};
 use std::io;
+use std::io::Write;
+
+/// The exit status: the one that was answered, or 2 for a fault.
+pub fn status_of(outcome: &Result<u8, FileFault>) -> u8
+    ensures { result ≡ status_of outcome.now }
+{
+    match outcome {
+        Ok(status) => *status,
+        Err(_) => 2,
+    }
+}
+
+/// Writes the words of a fault, in which no character steers a terminal.
+pub fn write_fault<W: Write>(alloc: Global, words: &mut W, fault: &FileFault) -> io::Result<()> {
+    match fault.to_string(alloc) {
+        Ok(said) => write_plain(words, said.as_str())?,
+        Err(AllocError) => write!(words, "out of memory")?,
+    }
+    writeln!(words)
+}
+
+/// Writes a text in which a character that steers a terminal is written by its number.
+fn write_plain<W: Write>(words: &mut W, text: &str) -> io::Result<()> {
+    for c in text.chars() {
+        if is_plain(c) || c == '\n' {
+            write!(words, "{c}")?;
+        } else {
+            write!(words, "{}", c.escape_unicode())?;
+        }
+    }
+    Ok(())
+}
 
 /// The fault of usage with these words, where there is memory for them.
 pub fn usage(said: Result<String, AllocError>) -> FileFault

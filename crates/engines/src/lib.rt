@@ -9,4 +9,4 @@ mod lines;
 pub mod replay;
 mod session;
 
-pub use fault::usage;
+pub use fault::{status_of, write_fault};

@@ -5,9 +5,9 @@ ghost use Rattle.host_file.specs.Section.{members_of};
 use crate::command::Command;
 use crate::fault::{Cause, FileFault};
 use crate::key::Key;
-use crate::plain::quoted;
 use crate::section::Section;
 use host_core::Event;
+use plain_text::quoted;
 use std::alloc::Global;
 
 /// The command of an event's table.

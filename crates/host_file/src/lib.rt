@@ -7,11 +7,9 @@ mod event;
 mod fault;
 mod file;
 mod key;
-mod plain;
 mod section;
 
 pub use command::{Command, Commands};
 pub use fault::{BadFile, Cause, FileFault, Place};
 pub use file::{HostFile, MAX_BYTES, read_file};
 pub use key::Key;
-pub use plain::{is_plain, quoted};

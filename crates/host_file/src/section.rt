@@ -7,9 +7,9 @@ ghost use Rattle.host_file.specs.declared.fault.FileFault.TheVariants.{Bad};
 
 use crate::fault::{BadFile, Cause, FileFault, Place};
 use crate::key::Key;
-use crate::plain::quoted;
 use hex::FromHexError;
 use host_core::Bytes;
+use plain_text::quoted;
 use std::alloc::{AllocError, Global};
 use toml::value::Array;
 use toml::{Table, Value};

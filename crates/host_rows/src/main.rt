@@ -2,16 +2,18 @@
 //! request is a line `$ check` or `$ replay`. The words of a check stand behind it between tabs: HEX, the
 //! size of the context, and any V:E. A host file stands in the lines below its `$ replay`. Below each request
 //! stands what goes to the standard output, then, after `! `, what goes to standard error, and last the exit
-//! status, or the words of a fault. The file `stdout` of this crate says what is wanted; rows are cheaper
+//! status, or the words of a fault; it ends with the status of the last. The file `stdout` of this crate says what is wanted; rows are cheaper
 //! there than in tests, whose texts are proved.
 #![tactic(auto)]
 
 use engines::check::check;
 use engines::replay::replay;
+use engines::{status_of, write_fault};
 use host_file::FileFault;
 use std::alloc::Global;
 use std::io;
 use std::io::Input;
+use std::process::ExitCode;
 
 /// What the words of a check stand behind.
 const CHECK: &str = "$ check\t";
@@ -62,8 +64,8 @@ fn print_lines(rt: &impl Print, mark: &str, bytes: &[u8]) -> io::Result<()> {
     Ok(())
 }
 
-/// Prints a request and what it is answered.
-fn print_answer(rt: &(impl AllocGlobal + Print), head: &str, below: &str) -> io::Result<()> {
+/// Prints a request and what it is answered. Answers the exit status that it would have.
+fn print_answer(rt: &(impl AllocGlobal + Print), head: &str, below: &str) -> io::Result<u8> {
     let alloc = rt.alloc();
     let mut told = Told {
         output: Vec::new(alloc),
@@ -73,13 +75,24 @@ fn print_answer(rt: &(impl AllocGlobal + Print), head: &str, below: &str) -> io:
     println!(rt; "{head}")?;
     print_lines(rt, "", told.output.as_slice())?;
     print_lines(rt, "! ", told.words.as_slice())?;
-    match outcome {
-        Ok(status) => println!(rt; "= {status}"),
-        Err(fault) => println!(rt; "= {fault}"),
+    match &outcome {
+        Ok(status) => println!(rt; "= {status}")?,
+        Err(fault) => print_fault(rt, fault)?,
     }
+    Ok(status_of(&outcome))
 }
 
-fn main(rt: HostRuntime) -> io::Result<()> {
+/// Prints the words of a fault.
+fn print_fault(rt: &(impl AllocGlobal + Print), fault: &FileFault) -> io::Result<()> {
+    let mut said = Vec::new(rt.alloc());
+    write_fault(rt.alloc(), &mut said, fault)?;
+    print!(rt;
+        "= {}",
+        str::from_utf8(said.as_slice()).unwrap_or("no text")
+    )
+}
+
+fn main(rt: HostRuntime) -> io::Result<ExitCode> {
     let alloc = rt.alloc();
     let mut head = String::new(alloc);
     let mut below = String::new(alloc);
@@ -96,5 +109,6 @@ fn main(rt: HostRuntime) -> io::Result<()> {
             below.push('\n')?;
         }
     }
-    print_answer(&rt, head.as_str(), below.as_str())
+    let last = print_answer(&rt, head.as_str(), below.as_str())?;
+    Ok(ExitCode::from(last))
 }

@@ -8,7 +8,8 @@ ghost use Rattle.host_file.specs.Faults.{IsOfWords, IsUsage};
 use crate::fault::usage;
 use hex::FromHexError;
 use host_core::Bytes;
-use host_file::{FileFault, quoted};
+use host_file::FileFault;
+use plain_text::quoted;
 use std::alloc::{AllocError, Global};
 
 /// A program to judge: its text, and the bytes of its context.

@@ -1,14 +1,8 @@
-//! The words of the command line.
-
-ghost use Rattle.std.specs.Prelude.{IfErr};
-ghost use Rattle.host_file.specs.Faults.{IsOfWords};
-
-#[cfg(test)]
-mod tests;
+//! The words of the command line of `bpf_host`: what they ask for (docs/HOST.md).
+#![tactic(auto)]
 
 use clap::{Arg, ArgAction, ArgMatches, Command};
-use engines::usage;
-use host_file::FileFault;
+use plain_text::quoted;
 use std::alloc::{AllocError, Global};
 
 /// What the words of the command line ask for.
@@ -27,15 +21,20 @@ pub enum Request<'a> {
     },
 }
 
+/// Why words ask for nothing.
+#[derive(Debug, Drop)]
+pub enum WrongWords {
+    /// They make no request. What is told repeats at most 40 characters of a word.
+    Usage(String),
+    OutOfMemory(AllocError),
+}
+
 /// What words ask for, the program's name being the first of them. All that isn't a request, help
-/// among it, is a fault of usage with the words to print.
-pub fn request_of<'a>(alloc: Global, words: &'a [String]) -> Result<Request<'a>, FileFault>
-    ensures { IfErr result IsOfWords }
-{
-    let command = command(alloc).map_err(FileFault::OutOfMemory)?;
-    let matches = match command.try_get_matches_from(words) {
-        Ok(matches) => matches,
-        Err(error) => return Err(usage(error.to_string(alloc))),
+/// among it, is usage.
+pub fn request_of<'a>(alloc: Global, words: &'a [String]) -> Result<Request<'a>, WrongWords> {
+    let command = command(alloc).map_err(WrongWords::OutOfMemory)?;
+    let Ok(matches) = command.try_get_matches_from(words) else {
+        return Err(usage(said_of(alloc, words)));
     };
     if let Some(check) = matches.subcommand_matches("check") {
         return check_of(alloc, check);
@@ -47,17 +46,35 @@ pub fn request_of<'a>(alloc: Global, words: &'a [String]) -> Result<Request<'a>,
     }
 }
 
+/// What is said of words that make no request. They are cut as words from outside are, and make none either.
+fn said_of(alloc: Global, words: &[String]) -> Result<String, AllocError> {
+    let mut told = Vec::new(alloc);
+    for word in words {
+        told.push(quoted(alloc, word.as_str())?)?;
+    }
+    match command(alloc)?.try_get_matches_from(told.as_slice()) {
+        Ok(_) => String::from_str(alloc, "the words make no request"),
+        Err(error) => error.to_string(alloc),
+    }
+}
+
+/// The fault of words of which this is said, where there is memory for it.
+fn usage(said: Result<String, AllocError>) -> WrongWords {
+    match said {
+        Ok(said) => WrongWords::Usage(said),
+        Err(error) => WrongWords::OutOfMemory(error),
+    }
+}
+
 /// What the words after `check` ask for.
-fn check_of<'a>(alloc: Global, check: &ArgMatches<'a>) -> Result<Request<'a>, FileFault>
-    ensures { IfErr result IsOfWords }
-{
+fn check_of<'a>(alloc: Global, check: &ArgMatches<'a>) -> Result<Request<'a>, WrongWords> {
     let Some(hex) = check.get_str("HEX") else {
         return Err(usage(String::from_str(alloc, "no HEX is given")));
     };
     let shapes = check.get_strs("V:E").unwrap_or(&[]);
     Ok(Request::Check {
         hex,
-        shapes: shapes.to_vec(alloc).map_err(FileFault::OutOfMemory)?,
+        shapes: shapes.to_vec(alloc).map_err(WrongWords::OutOfMemory)?,
         context: check.get_str("context").unwrap_or("0"),
     })
 }
