@@ -17,9 +17,10 @@ use turn::Seat;
 impl Shared {
     /// Makes a map of zeros for the seat's tenant, at its first free number.
     ///
-    /// Refusals in their order: 42 where the tenant isn't there, 32 where it has eight maps, 33 where the
-    /// shape is out of limits, 31 just where the map's pages are more than the frames that may be had, 41
-    /// where memory ran out. A missing frame tells both numbers. A refusal leaves the seat's part.
+    /// Refusals in their order: 32 where the tenant has eight maps, 33 where the shape is out of limits, 31
+    /// just where the map's pages are more than the frames that may be had, 41 where memory ran out; 42
+    /// never, as a seat's tenant is there. A missing frame tells both numbers. A refusal leaves the seat's
+    /// part.
     pub fn create_map(
         &self,
         rt: &impl Wait,
@@ -49,10 +50,11 @@ impl Shared {
 
     /// Writes a value to an element of a map of the seat's tenant.
     ///
-    /// Refusals in their order: 42 where the tenant isn't there, 34 where it has no such map, 35 where the map
-    /// has no such element, 33 where the value has another size than the map's, 31 just where what is charged
-    /// for an update of the map is above the frames that may be had; it tells both numbers. A refusal leaves
-    /// the seat's part.
+    /// Refusals in their order: 34 where the tenant has no such map, 35 where the map has no such element, 33
+    /// where the value has another size than the map's, 31 just where what is charged for an update of the
+    /// map is above the frames that may be had; it tells both numbers. 42 never comes, as a seat's tenant is
+    /// there. A refusal leaves the seat's part.
+    #[tactic(auto, unfolding(host_types::specs::Helpers::maps_updated))]
     pub fn update(
         &self,
         rt: &impl Wait,
@@ -80,8 +82,8 @@ impl Shared {
 
     /// The value of an element of a map of the seat's tenant. The seat's part stays.
     ///
-    /// Refusals in their order: 42 where the tenant isn't there, 34 where it has no such map, 35 where the map
-    /// has no such element, 41 where memory ran out.
+    /// Refusals in their order: 34 where the tenant has no such map, 35 where the map has no such element, 41
+    /// where memory ran out; 42 never, as a seat's tenant is there.
     pub fn read(
         &self,
         rt: &impl Wait,
