@@ -1,1 +1,3 @@
 pub mod Elements
+pub mod NewMaps
+pub mod Answers

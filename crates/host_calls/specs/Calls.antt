@@ -1,13 +1,16 @@
 -- When the host's calls on a tenant's maps are refused, and what a lookup answers: over the tenant's part
 -- alone, so that an event of a host and a turn of a worker mean the same.
-use Rattle.std.specs.Prelude.{◌≡◌, ◌≢◌, ℕ, ◌<◌, ◌≤◌, List, length, IsNone, IsSomeAnd}
+use Rattle.std.specs.Prelude.{◌≡◌, ◌≢◌, ℕ, ◌<◌, ◌≤◌, List, length, IsNone, IsSome, IsSomeAnd}
 use Rattle.host_types.specs.declared.fault.Fault.{Fault}
-use Rattle.host_types.specs.declared.fault.Fault.TheVariants.{NoFrames, BadShape, NoMap, NoElement, OutOfMemory, BadTenant}
+use Rattle.host_types.specs.declared.fault.Fault.TheVariants.{NoFrames, TooManyMaps, BadShape, NoMap, NoElement, OutOfMemory, BadTenant}
+use Rattle.host_types.specs.declared.shape.Shape.{Shape}
 use Rattle.host_types.specs.Bytes.{part_of}
 use Rattle.host_types.specs.Helpers.{element_at, update_charge}
 use Rattle.host_types.specs.Memory.{map_at}
+use Rattle.host_types.specs.Shapes.{IsShape}
 use Rattle.host_types.specs.Tenant.{TenantPart}
-use Rattle.page_table.specs.State.{MemoryState, have_of}
+use Rattle.page_table.specs.Limits.{page_count}
+use Rattle.page_table.specs.State.{MemoryState, free_number, have_of}
 
 -- the tenant is there: it has its eight places for maps
 abbrev pub IsThere : TenantPart → Type 0
@@ -48,6 +51,20 @@ RefusesLookup owned m key NoMap = IsThere owned × IsNone (map_at owned.maps m)
 RefusesLookup owned m key NoElement = IsSomeAnd (map_at owned.maps m) (λ flat. flat.shape.entries ≤ key)
 RefusesLookup owned m key OutOfMemory = HasElement owned m key
 RefusesLookup owned m key _ = ⊥
+
+-- the tenant has a number for a new map, and the shape is within the limits
+pub record FitsNewMap (owned : TenantPart) (shape : Shape) : Type 0 where
+  pub numbered : IsSome (free_number owned)
+  pub shaped : IsShape shape
+
+-- when a map isn't made: the first refusal, in this order, whose condition holds
+abbrev pub RefusesNewMap : TenantPart → Shape → Fault → Type 0
+RefusesNewMap owned shape BadTenant = ¬ (IsThere owned)
+RefusesNewMap owned shape TooManyMaps = IsThere owned × IsNone (free_number owned)
+RefusesNewMap owned shape BadShape = IsSome (free_number owned) × ¬ (IsShape shape)
+RefusesNewMap owned shape (NoFrames need have) = FitsNewMap owned shape × (need ≡ page_count shape) × (have < need)
+RefusesNewMap owned shape OutOfMemory = FitsNewMap owned shape
+RefusesNewMap owned shape _ = ⊥
 
 -- where frames are missing, the frames that may be had are told
 abbrev pub TellsHave : MemoryState → Fault → Type 0

@@ -3,8 +3,12 @@
 //! what another tenant has.
 #![tactic(auto)]
 
+mod creating;
 mod looking;
+mod sharing;
 mod updating;
 
+pub use creating::host_create_map;
 pub use looking::host_lookup;
+pub use sharing::{host_set, host_unmerge};
 pub use updating::host_update;

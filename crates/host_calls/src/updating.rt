@@ -1,4 +1,6 @@
-ghost use Rattle.std.specs.Prelude.{◌≡◌, ◌+◌, ◌≤◌, OnOk, IfErr, OnErr};
+ghost use Rattle.std.specs.Prelude.{◌≡◌, ◌+◌, ◌≤◌, Some, OnOk, IfErr, OnErr};
+ghost use Rattle.host_types.specs.declared.helper.MapHelper.TheVariants.{Update};
+ghost use Rattle.host_types.specs.Helpers.{helper};
 ghost use Rattle.page_table.specs.State.{part, have_of};
 ghost use Rattle.page_table.specs.Changes.{IsKeptBut, AreMapsKeptBut, KeepsSettings};
 ghost use Rattle.map_helpers.specs.Updates.{part_updated, update_cost, updated_sharing};
@@ -17,6 +19,7 @@ const ANY: u64 = 0;
 /// Refusals in their order: 42 where there is no such tenant, 34 where it has no such map, 35 where the map
 /// has no such element, 33 where the value has another size than the map's, 31 just where what is charged
 /// for an update of the map is above `have()`; it tells both numbers. A refusal changes nothing.
+#[tactic(auto, using(crate::proofs::Answers::helps))]
 pub fn host_update(
     memory: &mut Memory,
     tenant: u32,
@@ -28,6 +31,8 @@ pub fn host_update(
     ensures charged { OnOk result (IsCharged (part memory.old tenant) map (have_of memory.old)) }
     ensures updated { OnOk result
         (part memory.new tenant ≡ part_updated (part memory.old tenant) map key value.now 0) }
+    ensures helped { OnOk result (helper Update (part memory.old tenant).maps map key value.now 0
+        ≡ Some (0, (part memory.new tenant).maps)) }
     ensures other_maps { AreMapsKeptBut map (part memory.old tenant) (part memory.new tenant) }
     ensures others { IsKeptBut tenant memory.old memory.new }
     ensures sharing { OnOk result (memory.new.sharing

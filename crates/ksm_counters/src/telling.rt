@@ -8,8 +8,8 @@ use page_table::Memory;
 use std::io;
 use std::io::Write;
 
-/// The counters of a memory as it is now. Pages that wait or changed are counted page by page, and what
-/// an unmerging takes group by group; the other numbers are kept.
+/// The counters of a memory as it is now. Each number is kept while pages change, so that no page and no
+/// group is looked at.
 #[tactic(auto, unfolding(host_types::specs::Counters::pages_sharing, host_types::specs::Unmerging::unmerge_need))]
 pub fn counters(memory: &Memory) -> Counters
     ensures { result ≡ counters_of (length memory.now.arena) (contents_now memory.now) memory.now.sharing }

@@ -1,9 +1,9 @@
 -- The slots of the groups in order of creation.
-use Rattle.std.proofs.Common.{◌≡◌, ◌≢◌, ◌∙◌, ◌⊎◌, ⊎_elim, ℕ, zero, suc, ◌+◌, ◌<◌, ◌≤◌, ◌==◌, not, Bool, true, false, if◌then◌else◌, List, [], ◌∷◌, ◌++◌, length, take, drop, sum_by, slice_index_or, slice_set, All, AllPairs, refl, sym, ap, subst, arith, length-append}
+use Rattle.std.proofs.Common.{◌≡◌, ◌≢◌, ◌∙◌, ◌⊎◌, ⊎_elim, ℕ, zero, suc, ◌+◌, ◌<◌, ◌≤◌, ◌==◌, not, Bool, true, false, if◌then◌else◌, List, [], ◌∷◌, ◌++◌, length, take, drop, slice_index_or, slice_set, All, AllPairs, refl, sym, ap, subst, arith, length-append}
 use Rattle.std.proofs.lemmas.List.{get_or-set_same, get_or-set_other, length-set, get_or_append_left, get_or-append-add, get_or_default, take_at}
-use Rattle.std.proofs.lemmas.List.Elements.{All-filter, filter-append, filter_more, filter_passes}
+use Rattle.std.proofs.lemmas.List.Elements.{All-filter, filter-append, filter_passes}
 use Rattle.std.proofs.lemmas.List.Kept.{AllPairs-filter}
-use Rattle.std.proofs.lemmas.List.Sums.{sum_by-cons, sum_by-append}
+use Rattle.std.proofs.lemmas.List.Sums.{sum_by-cons}
 use Rattle.std.proofs.lemmas.Bool.Decides.{nat_tests, eqb_tells}
 use Rattle.stable_tree.proofs.Removing.{filter-absent}
 use Rattle.page_table.specs.Table.{ArePlaced, groups_in, times}
@@ -215,22 +215,3 @@ read-told xs i x inside e = e ∙ sym (get_or_default xs i 0 x inside)
 -- what was written into the whole of a list
 pub all-written : (new old : List ℕ) (n : ℕ) → length new ≡ n → take n (new ++ drop (length new) old) ≡ new
 all-written new old n e = take_at new (drop (length new) old) n e
-
--- a sum over the groups, a slot further
-pub sum-more : (h : ℕ → ℕ) (slots : List ℕ) (i : ℕ) → i < length slots
-    → sum_by h (groups_in (take (i + 1) slots)) ≡ sum_by h (groups_in (take i slots)) + (if slice_index_or slots i 0 == 0 then 0 else h (slice_index_or slots i 0))
-sum-more h slots i less =
-    ap (sum_by h) (filter_more (λ f. not (f == 0)) slots i 0 less)
-    ∙ sum_by-append h (groups_in (take i slots)) (if not (slice_index_or slots i 0 == 0) then slice_index_or slots i 0 ∷ [] else [])
-    ∙ ap (λ (n : ℕ). sum_by h (groups_in (take i slots)) + n) (by_test (slice_index_or slots i 0 == 0))
-  where
-    by_test : (b : Bool) → sum_by h (if not b then slice_index_or slots i 0 ∷ [] else []) ≡ (if b then 0 else h (slice_index_or slots i 0))
-    by_test true = refl
-    by_test false = let one = sum_by-cons h (slice_index_or slots i 0) [] in omega (arith, one)
-
--- a full slot has a group
-pub slot-in-groups : (slots groups : List ℕ) (i : ℕ) → groups_in slots ≡ groups → i < length slots → slice_index_or slots i 0 ≢ 0 → 1 ≤ times (slice_index_or slots i 0) groups
-slot-in-groups slots groups i e less full = subst (λ (l : List ℕ). 1 ≤ times (slice_index_or slots i 0) l) e (in-groups slots i less (above (slice_index_or slots i 0) full))
-  where
-    above : (x : ℕ) → x ≢ 0 → 0 < x
-    above x ne = grind arith

@@ -3,7 +3,7 @@ use Rattle.std.proofs.Common.{◌≡◌, ◌∙◌, ⊎_elim, ℕ, zero, suc, �
 use Rattle.std.proofs.lemmas.List.Sums.{sum_by-cons}
 use Rattle.host_types.specs.declared.status.Status.{Status}
 use Rattle.host_types.specs.declared.status.Status.TheVariants.{New, Volatile, Waiting, Grouped, Zero}
-use Rattle.host_types.specs.Sharing.{Sharing, state_at, is_shared_page, broken, break_cost, broken_from, cost_from}
+use Rattle.host_types.specs.Sharing.{Sharing, PageState, state_at, is_shared_page, broken, break_cost, broken_from, cost_from}
 use Rattle.host_types.specs.Unmerging.{unmerged, members, zeros_at, one_if_zeros, zero_pages, unmerge_need, SharesNothing}
 use Rattle.host_types.proofs.Unmerging as law
 use Rattle.page_table.specs.declared.entry.Entry.{Entry}
@@ -14,14 +14,14 @@ use Rattle.page_table.specs.View.{view_of, IsMemory, IsPass}
 use Rattle.host_types.specs.declared.shape.Shape.{Shape}
 use Rattle.page_table.proofs.Free.{free_is}
 use Rattle.page_table.specs.Table.{TableState, CountsState, IsTable, IsSound, IsEntry, IsGroup, IsPageAt, LiesRight, times, entry_at, is_on, state_of, states_of, groups_of, sharing_of, used_by, new_pass, pages_on, places_on}
+use Rattle.page_table.specs.Tallies.{shared_at}
 use Rattle.page_table.proofs.Breaks.{cost_from-last, broken_from-last}
 use Rattle.page_table.proofs.Counting.{same_either_way}
 use Rattle.page_table.proofs.Creating.{length-states}
 use Rattle.page_table.proofs.Costs.{state-at}
 use Rattle.page_table.proofs.Entries.{one_when, on_one, not_equal, equal, times-head, times-tail}
 use Rattle.page_table.proofs.Groups.{length-places}
-use Rattle.page_table.proofs.Joining.{group-inside}
-use Rattle.page_table.proofs.Moving.{pages_on-le, no_holder}
+use Rattle.page_table.proofs.Moving.{pages_on-le}
 use Rattle.page_table.proofs.Putting.{entry_fits, content_at}
 
 -- a place before the first one doesn't stand among those on a frame
@@ -71,26 +71,27 @@ held : Option Entry → List ℕ → ℕ
 held None groups = 0
 held (Some entry) groups = times entry.frame groups
 
-listed-frames : (xs : List (Option Entry)) (groups : List ℕ) (i : ℕ) → law.listed i (map (λ g. places_on 0 g xs) groups) ≡ held (entry_at xs i) groups
+held-none : (x : Option Entry) → held x [] ≡ 0
 unfolding held
-listed-frames xs [] i = by_entry (entry_at xs i)
-  where
-    by_entry : (x : Option Entry) → 0 ≡ held x []
-    by_entry None = refl
-    by_entry (Some entry) = refl
+held-none None = refl
+held-none (Some entry) = refl
+
+held-cons : (x : Option Entry) (g : ℕ) (gs : List ℕ) → held x (g ∷ gs) ≡ on_one g x + held x gs
+unfolding held
+held-cons None g gs = refl
+held-cons (Some entry) g gs =
+    let split = sum_by-cons (λ (x : ℕ). one_when (x == entry.frame)) g gs in
+    let same = ap one_when (same_either_way g entry.frame) in
+    omega (arith, split, same)
+
+listed-frames : (xs : List (Option Entry)) (groups : List ℕ) (i : ℕ) → law.listed i (map (λ g. places_on 0 g xs) groups) ≡ held (entry_at xs i) groups
+listed-frames xs [] i = sym (held-none (entry_at xs i))
 listed-frames xs (g ∷ gs) i =
     let split = sum_by-cons (law.times i) (places_on 0 g xs) (map (λ g. places_on 0 g xs) gs) in
     let here = times-at_frame g xs i in
     let rest = listed-frames xs gs i in
-    let more = by_entry (entry_at xs i) in
+    let more = held-cons (entry_at xs i) g gs in
     omega (arith, split, here, rest, more)
-  where
-    by_entry : (x : Option Entry) → held x (g ∷ gs) ≡ on_one g x + held x gs
-    by_entry None = refl
-    by_entry (Some entry) =
-        let split = sum_by-cons (λ (x : ℕ). one_when (x == entry.frame)) g gs in
-        let same = ap one_when (same_either_way g entry.frame) in
-        omega (arith, split, same)
 
 -- what holds of each group's pages holds where one is left out
 some-groups : (xs : List (Option Entry)) (groups : List ℕ) → ((g : ℕ) → 1 ≤ times g groups → 1 ≤ pages_on g xs) → law.AreSome (map (λ g. places_on 0 g xs) groups)
@@ -100,16 +101,46 @@ some-groups xs (g ∷ gs) h =
     let pages = h g (times-head g gs) in
     (omega (arith, long, pages), some-groups xs gs (λ f le. let more = times-tail f g gs in h f (omega (arith, le, more))))
 
-members-frames : (xs : List (Option Entry)) (groups : List ℕ) → ((g : ℕ) → 1 ≤ times g groups → 1 ≤ pages_on g xs)
-    → sum_by (λ (group : List ℕ). length group) (map (λ g. places_on 0 g xs) groups) ≡ length groups + sum_by (λ (g : ℕ). pages_on g xs - 1) groups
-members-frames xs [] h = refl
-members-frames xs (g ∷ gs) h =
+members-frames : (xs : List (Option Entry)) (groups : List ℕ) → sum_by (λ (group : List ℕ). length group) (map (λ g. places_on 0 g xs) groups) ≡ sum_by (λ (g : ℕ). pages_on g xs) groups
+members-frames xs [] = refl
+members-frames xs (g ∷ gs) =
     let split = sum_by-cons (λ (group : List ℕ). length group) (places_on 0 g xs) (map (λ g. places_on 0 g xs) gs) in
-    let whole = sum_by-cons (λ (g : ℕ). pages_on g xs - 1) g gs in
+    let whole = sum_by-cons (λ (g : ℕ). pages_on g xs) g gs in
     let long = length-places 0 g xs in
+    let rest = members-frames xs gs in
+    omega (arith, split, whole, long, rest)
+
+some-members : (xs : List (Option Entry)) (groups : List ℕ) → ((g : ℕ) → 1 ≤ times g groups → 1 ≤ pages_on g xs) → length groups ≤ sum_by (λ (g : ℕ). pages_on g xs) groups
+some-members xs [] h = omega arith
+some-members xs (g ∷ gs) h =
+    let whole = sum_by-cons (λ (g : ℕ). pages_on g xs) g gs in
     let pages = h g (times-head g gs) in
-    let rest = members-frames xs gs (λ f le. let more = times-tail f g gs in h f (omega (arith, le, more))) in
-    omega (arith, split, whole, long, pages, rest)
+    let rest = some-members xs gs (λ f le. let more = times-tail f g gs in h f (omega (arith, le, more))) in
+    omega (arith, whole, pages, rest)
+
+-- the pages on the groups' frames, counted group by group and page by page
+held-frames : (xs : List (Option Entry)) (groups : List ℕ) → sum_by (λ (g : ℕ). pages_on g xs) groups ≡ sum_by (λ (x : Option Entry). held x groups) xs
+unfolding pages_on
+held-frames [] groups = none groups
+  where
+    none : (gs : List ℕ) → sum_by (λ (g : ℕ). 0) gs ≡ 0
+    none [] = refl
+    none (g ∷ gs) = let split = sum_by-cons (λ (g : ℕ). 0) g gs in let rest = none gs in omega (arith, split, rest)
+held-frames (x ∷ xs) groups =
+    let split = sum_by-cons (λ (y : Option Entry). held y groups) x xs in
+    let rest = held-frames xs groups in
+    let more = one_more groups in
+    omega (arith, split, rest, more)
+  where
+    one_more : (gs : List ℕ) → sum_by (λ (g : ℕ). sum_by (on_one g) (x ∷ xs)) gs ≡ held x gs + sum_by (λ (g : ℕ). sum_by (on_one g) xs) gs
+    one_more [] = let none = held-none x in omega (arith, none)
+    one_more (g ∷ gs) =
+        let whole = sum_by-cons (λ (g : ℕ). sum_by (on_one g) (x ∷ xs)) g gs in
+        let part = sum_by-cons (λ (g : ℕ). sum_by (on_one g) xs) g gs in
+        let here = sum_by-cons (on_one g) x xs in
+        let rest = one_more gs in
+        let top = held-cons x g gs in
+        omega (arith, whole, part, here, rest, top)
 
 zeros-frames : (xs : List (Option Entry)) → ((i : ℕ) → zeros_at (option_map state_of (entry_at xs i)) ≡ on_one 0 (entry_at xs i)) → sum_by zeros_at (states_of xs) ≡ pages_on 0 xs
 unfolding pages_on
@@ -120,6 +151,19 @@ zeros-frames (x ∷ xs) h =
     let first = h 0 in
     let rest = zeros-frames xs (λ i. h (suc i)) in
     omega (arith, split, whole, first, rest)
+
+-- the pages that share a frame are those of the groups and those of zeros
+shared-frames : (xs : List (Option Entry)) (groups : List ℕ)
+    → ((i : ℕ) → shared_at (option_map state_of (entry_at xs i)) ≡ held (entry_at xs i) groups + zeros_at (option_map state_of (entry_at xs i)))
+    → sum_by shared_at (states_of xs) ≡ sum_by (λ (x : Option Entry). held x groups) xs + sum_by zeros_at (states_of xs)
+shared-frames [] groups h = refl
+shared-frames (x ∷ xs) groups h =
+    let shared = sum_by-cons shared_at (option_map state_of x) (states_of xs) in
+    let grouped = sum_by-cons (λ (y : Option Entry). held y groups) x xs in
+    let zeros = sum_by-cons zeros_at (option_map state_of x) (states_of xs) in
+    let first = h 0 in
+    let rest = shared-frames xs groups (λ i. h (suc i)) in
+    omega (arith, shared, grouped, zeros, first, rest)
 
 length-map_groups : (xs : List (Option Entry)) (groups : List ℕ) → length (map (λ g. places_on 0 g xs) groups) ≡ length groups
 length-map_groups xs [] = refl
@@ -174,14 +218,32 @@ module _ (table : TableState) (is : IsTable table) where
       by_entry None e = refl
       by_entry (Some entry) e = by_status entry.frame entry.status (IsEntry.right (entry_fits table i entry is e))
 
-  -- the need, told by the pages on the groups' frames and on the zero frame
-  pub need-told : (pass : Pass) → pages_on 0 table.entries + sum_by (λ (g : ℕ). pages_on g table.entries - 1) table.groups ≡ unmerge_need (sharing_of table pass)
+  shared : (i : ℕ) → shared_at (option_map state_of (entry_at table.entries i)) ≡ held (entry_at table.entries i) table.groups + zeros_at (option_map state_of (entry_at table.entries i))
+  shared i = let own = grouped i in let split = by_page (option_map state_of (entry_at table.entries i)) in omega (arith, own, split)
+    where
+      by_status : (mergeable : Bool) (status : Status) (last : Option ℕ)
+          → shared_at (Some (record { mergeable = mergeable; status = status; last = last })) ≡ law.one_if_grouped status + one_if_zeros status
+      by_status m New l = refl
+      by_status m Volatile l = refl
+      by_status m Waiting l = refl
+      by_status m Grouped l = refl
+      by_status m Zero l = refl
+
+      by_page : (x : Option PageState) → shared_at x ≡ law.grouped_at x + zeros_at x
+      by_page None = refl
+      by_page (Some state) = by_status state.mergeable state.status state.last
+
+  -- the need, told by the pages that share a frame: one for each of them, less one for each group
+  pub need-told : (pass : Pass)
+      → (length table.groups ≤ sum_by shared_at (states_of table.entries)) × (sum_by shared_at (states_of table.entries) - length table.groups ≡ unmerge_need (sharing_of table pass))
   unfolding unmerge_need members zero_pages groups_of
   need-told pass =
-      let pages = members-frames table.entries table.groups group_pages in
+      let pages = members-frames table.entries table.groups in
+      let some = some-members table.entries table.groups group_pages in
       let few = length-map_groups table.entries table.groups in
-      let zero = zeros-frames table.entries zeros in
-      omega (arith, pages, few, zero)
+      let all = held-frames table.entries table.groups in
+      let both = shared-frames table.entries table.groups shared in
+      (omega (arith, all, both, some), omega (arith, pages, few, all, both, some))
 
   -- the pages on the zero frame, as callers see them
   pub zeros-told : (pass : Pass) → pages_on 0 table.entries ≡ zero_pages (sharing_of table pass)
@@ -202,17 +264,6 @@ module _ (table : TableState) (counts : CountsState) (is : IsSound table counts)
   zero-counted =
       let bound = pages_on-le 0 table.entries in
       (is.counted.counted 0 is.fits.some, omega (arith, bound, is.fits.few))
-
-  -- a group's frame has its pages, of which there are some
-  pub group-counted : (g : ℕ) → 1 ≤ times g table.groups
-      → (slice_index_or counts.counts g 0 ≡ pages_on g table.entries) × (1 ≤ pages_on g table.entries) × (pages_on g table.entries ≤ 32768)
-  group-counted g some =
-      let counted = is.counted.counted g (group-inside table g is.fits some) in
-      let bound = pages_on-le g table.entries in
-      ⊎_elim (λ none. absurd (omega (arith, none, some)))
-      (λ group. let above = no_holder g (IsGroup.above group) in let pages = IsGroup.some group in
-      (omega (arith, counted, above), pages, omega (arith, bound, is.fits.few)))
-      (is.fits.groups g)
 
 -- a pass, where a law holds for any
 pub some_pass : Pass

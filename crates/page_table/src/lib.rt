@@ -8,9 +8,11 @@ mod counts;
 mod entry;
 mod memory;
 mod order;
+mod page_list;
 mod pass;
 mod search;
 mod table;
+mod tally;
 mod tenant;
 
 pub use entry::Entry;

@@ -43,14 +43,6 @@ impl GroupOrder {
         Ok(GroupOrder { slots, slot_of })
     }
 
-    /// The frames of the groups in order, with empty slots between them.
-    pub(crate) fn slots(&self) -> &[u32]
-        ensures listed { groups_in result.now ≡ self.now.listed }
-        ensures few { length result.now ≤ 8192 }
-    {
-        &self.slots
-    }
-
     /// Puts a new group behind all others. It takes no memory.
     pub(crate) fn push(&mut self, frame: u32)
         requires above { 0 < frame }

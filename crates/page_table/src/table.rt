@@ -10,10 +10,13 @@ ghost use Rattle.host_types.specs.Pages.{zero_page};
 ghost use Rattle.frame_arena.specs.Pages.{IsPage, page_at};
 ghost use Rattle.page_table.specs.declared.entry.Entry.{Entry};
 ghost use Rattle.page_table.specs.Table.{TableState, CountsState, AreCounts, IsSound, IsEntry, IsPageAt, IsOwnAt, AreOwnKept, AreOthersKept, entry_at, states_of, contents_of, groups_of, sharing_of, forgets, used_by, cost_at, is_on, pages_on, one_if_zero, times, state_of, is_open_frame, joined_on, marked};
+ghost use Rattle.page_table.specs.Tallies.{IsTally};
 
 use crate::counts::FrameCounts;
 use crate::entry::Entry;
 use crate::order::GroupOrder;
+use crate::page_list::PageList;
+use crate::tally::Tally;
 use frame_arena::FrameArena;
 use host_types::Status;
 use stable_tree::StableTree;
@@ -28,7 +31,7 @@ const ZERO_FRAME: u32 = 0;
 pub(crate) struct Table {
     arena: FrameArena,
     counts: FrameCounts,
-    entries: Vec<Option<Entry>>,
+    entries: PageList,
     // the frames of the groups in order of creation
     groups: GroupOrder,
     // the same frames by the bytes of their pages, with room for all frames
@@ -41,10 +44,10 @@ impl Model for Table {
 
     ghost Value = { TableState };
 
-    ghost view = { λ t. record { arena = t.arena; entries = t.entries.items; groups = t.groups.listed } };
+    ghost view = { λ t. record { arena = t.arena; entries = t.entries; groups = t.groups.listed } };
 
     ghost invariant = { λ t.
-        IsSound (record { arena = t.arena; entries = t.entries.items; groups = t.groups.listed }) t.counts
+        IsSound (record { arena = t.arena; entries = t.entries; groups = t.groups.listed }) t.counts
         × (length t.arena ≤ t.groups.frames)
         × IsTreeOf t.arena t.groups.listed t.tree };
 }
@@ -58,7 +61,7 @@ impl Table {
     {
         let arena = FrameArena::new(alloc, frames)?;
         let counts = FrameCounts::new(alloc, frames)?;
-        let entries = vec![in alloc; None; places as usize]?;
+        let entries = PageList::new(alloc, places)?;
         let groups = GroupOrder::new(alloc, frames)?;
         let mut tree = StableTree::new(alloc);
         tree.reserve(frames as usize)?;
@@ -137,13 +140,20 @@ impl Table {
         self.tree.node_dups() as u32
     }
 
+    /// How many pages wait, changed, or share a frame. The numbers are kept, and no page is looked at.
+    pub(crate) fn tally(&self) -> Tally
+        ensures { IsTally result (states_of self.now.entries) }
+    {
+        self.entries.tally()
+    }
+
     /// What is kept of the page at a place.
     pub(crate) fn entry(&self, place: usize) -> Option<Entry>
         requires { place < length self.now.entries }
         ensures entry { result ≡ entry_at self.now.entries place }
         ensures right { IfSome result (IsEntry self.now) }
     {
-        self.entries[place]
+        self.entries.get(place)
     }
 
     /// What is kept of a page that is there.
@@ -151,7 +161,7 @@ impl Table {
         requires { IsPageAt self.now place }
         ensures { entry_at self.now.entries place ≡ Some result }
     {
-        let Some(entry) = self.entries[place] else {
+        let Some(entry) = self.entries.get(place) else {
             unreachable!()
         };
         entry
@@ -173,13 +183,14 @@ impl Table {
     {
         let frame = self.counts.take();
         self.arena.clear(frame);
-        self.entries[place] = Some(Entry {
+        let entry = Entry {
             frame,
             protected: false,
             mergeable,
             status: Status::New,
             last: None,
-        });
+        };
+        self.entries.set(place, entry);
     }
 
     /// Writes bytes into a page that has a frame of its own.
@@ -193,7 +204,7 @@ impl Table {
         ensures groups { self.new.groups ≡ self.old.groups }
         ensures arena { length self.new.arena ≡ length self.old.arena }
     {
-        let Some(entry) = self.entries[place] else {
+        let Some(entry) = self.entries.get(place) else {
             unreachable!()
         };
         self.arena.put(entry.frame, at, bytes);
@@ -205,7 +216,7 @@ impl Table {
         requires { IsPageAt self.now place }
         ensures { result ≡ cost_at self.now place }
     {
-        let Some(entry) = self.entries[place] else {
+        let Some(entry) = self.entries.get(place) else {
             unreachable!()
         };
         u32::from(entry.protected && self.counts.count(entry.frame) > 1)
@@ -232,7 +243,7 @@ impl Table {
             break_cost (broken_from (sharing_of self.now pass) first number) (first + number) }
         ensures small { result ≤ 1 }
     {
-        let (_, run) = self.entries.split_at(first);
+        let (_, run) = self.entries.all().split_at(first);
         let (before, from) = run.split_at(number);
         let Some(entry) = from[0] else {
             return 0;
@@ -256,7 +267,7 @@ impl Table {
         ensures used { used_by self.new ≡ used_by self.old + cost_at self.old place }
         ensures arena { length self.new.arena ≡ length self.old.arena }
     {
-        let Some(entry) = self.entries[place] else {
+        let Some(entry) = self.entries.get(place) else {
             unreachable!()
         };
         if !entry.protected {
@@ -286,7 +297,7 @@ impl Table {
         let frame = self.counts.take();
         self.arena.copy(entry.frame, frame);
         self.counts.release(entry.frame);
-        self.entries[place] = Some(entry.broken(frame));
+        self.entries.set(place, entry.broken(frame));
     }
 
     /// Ends the group of its last page, which keeps the frame.
@@ -302,7 +313,7 @@ impl Table {
         ensures used { used_by self.new ≡ used_by self.old }
         ensures arena { length self.new.arena ≡ length self.old.arena }
     {
-        self.entries[place] = Some(entry.broken(entry.frame));
+        self.entries.set(place, entry.broken(entry.frame));
         self.groups.remove(entry.frame);
         self.tree.remove(&self.arena, entry.frame);
     }
@@ -325,8 +336,10 @@ impl Table {
     {
         let one = self.page(first);
         let other = self.page(second);
-        self.entries[first] = Some(one.merged(one.frame, Status::Grouped));
-        self.entries[second] = Some(other.merged(one.frame, Status::Grouped));
+        self.entries
+            .set(first, one.merged(one.frame, Status::Grouped));
+        self.entries
+            .set(second, other.merged(one.frame, Status::Grouped));
         self.counts.share(one.frame);
         self.counts.release(other.frame);
         self.groups.push(one.frame);
@@ -346,7 +359,8 @@ impl Table {
         ensures arena { length self.new.arena ≡ length self.old.arena }
     {
         let entry = self.page(place);
-        self.entries[place] = Some(entry.merged(ZERO_FRAME, Status::Zero));
+        self.entries
+            .set(place, entry.merged(ZERO_FRAME, Status::Zero));
         self.counts.share(ZERO_FRAME);
         self.counts.release(entry.frame);
     }
@@ -361,7 +375,7 @@ impl Table {
             (λ i. first_mergeable from (drop from (states_of self.now.entries)) ≡ Some i) }
     {
         for place in from..end {
-            if may_merge(&self.entries[place]) {
+            if may_merge(self.entries.get(place)) {
                 return Some(place);
             }
         }
@@ -392,7 +406,8 @@ impl Table {
         ensures others { AreOthersKept place self.old self.new }
     {
         let entry = self.page(place);
-        self.entries[place] = Some(entry.merged(frame, Status::Grouped));
+        self.entries
+            .set(place, entry.merged(frame, Status::Grouped));
         self.counts.share(frame);
         self.counts.release(entry.frame);
     }
@@ -412,11 +427,12 @@ impl Table {
             entry_at self.new.entries place ≡ Some (record entry { status = status; last = Some last }) }
     {
         let entry = self.page(place);
-        self.entries[place] = Some(Entry {
+        let marked = Entry {
             status,
             last: Some(last),
             ..entry
-        });
+        };
+        self.entries.set(place, marked);
     }
 }
 
@@ -427,11 +443,7 @@ impl Table {
         ensures { (pass : Pass) → result ≡ unmerge_need (sharing_of self.now pass) }
     {
         self.facts();
-        let mut need = self.zero_pages();
-        for group in self.groups.slots() {
-            need += self.pages_but_one(*group);
-        }
-        need
+        self.tally().shared - self.groups()
     }
 
     /// How many pages lie on the zero frame.
@@ -440,18 +452,6 @@ impl Table {
         ensures few { result ≤ 32768 }
     {
         self.counts.count(ZERO_FRAME) - 1
-    }
-
-    /// How many pages the group of a slot has beside one. In an empty slot stands the zero frame.
-    fn pages_but_one(&self, group: u32) -> u32
-        requires { group ≢ 0 → 1 ≤ times group self.now.groups }
-        ensures pages { result ≡ (if group == 0 then 0 else pages_on group self.now.entries - 1) }
-        ensures few { result ≤ 32768 }
-    {
-        if group == ZERO_FRAME {
-            return 0;
-        }
-        self.counts.count(group) - 1
     }
 
     /// How many places there are.
@@ -503,8 +503,8 @@ impl Table {
 }
 
 /// Whether a page is there and may be merged.
-fn may_merge(entry: &Option<Entry>) -> bool
-    ensures { result ≡ is_mergeable (option_map state_of entry.now) }
+fn may_merge(entry: Option<Entry>) -> bool
+    ensures { result ≡ is_mergeable (option_map state_of entry) }
 {
     match entry {
         Some(entry) => entry.mergeable,

@@ -1,23 +1,22 @@
--- What a call leaves of its seat, and when it is refused, as far as a seat can know.
-use Rattle.std.specs.Prelude.{◌≡◌, ◌<◌, ℕ}
-use Rattle.host_types.specs.declared.fault.Fault.{Fault}
-use Rattle.host_types.specs.declared.fault.Fault.TheVariants.{NoFrames, BadOption, PagesShared}
-use Rattle.host_types.specs.declared.options.Opt.{Opt}
-use Rattle.host_types.specs.declared.options.Opt.TheVariants.{MaxPageSharing}
-use Rattle.host_types.specs.OptionTable.{MayBe}
+-- What a call leaves of its seat, and of the memory that it gave back.
+use Rattle.std.specs.Prelude.{◌≡◌}
+use Rattle.host_types.specs.Visits.{visit}
+use Rattle.host_types.specs.declared.visited.Visited.{Visited}
+use Rattle.page_table.specs.State.{MemoryState}
+use Rattle.page_table.specs.Changes.{contents_now}
 use Rattle.turn.specs.Seats.{SeatState, gave}
 
 -- the same seat of the same turn, with the same tenants, which holds nothing
 abbrev pub IsSameSeat : SeatState → SeatState → Type 0
 IsSameSeat old new = new ≡ gave old new.view.seen
 
--- when an option isn't set: its value isn't allowed, or there may be groups whose size it would change
-abbrev pub RefusesSetting : Opt → ℕ → Fault → Type 0
-RefusesSetting option value BadOption = ¬ (MayBe option value)
-RefusesSetting option value PagesShared = MayBe option value × (option ≡ MaxPageSharing)
-RefusesSetting option value _ = ⊥
+-- the memory as the seat's last turn left it: a call that changed nothing found it so
+abbrev pub left_by : SeatState → MemoryState
+left_by seat = seat.view.seen
 
--- when not everything is unmerged: more frames are needed than there are
-abbrev pub RefusesUnmerging : Fault → Type 0
-RefusesUnmerging (NoFrames need have) = have < need
-RefusesUnmerging _ = ⊥
+-- a visit of the scanner left the memory so
+pub record IsVisited (memory : MemoryState) : Type 0 where
+  pub before : MemoryState
+  pub visited : Visited
+  pub is : visit (contents_now before) before.sharing ≡ (visited, memory.sharing)
+  pub maps : memory.maps ≡ before.maps

@@ -1,32 +1,25 @@
-ghost use Rattle.std.specs.Prelude.{◌≡◌, OnOk, IfErr};
+ghost use Rattle.std.specs.Prelude.{◌≡◌, OnOk, IfErr, length};
 ghost use Rattle.host_types.specs.OptionTable.{MayBe};
-ghost use Rattle.page_table.specs.Changes.{AreKept};
+ghost use Rattle.host_types.specs.Unmerging.{with_option, MaySet, RefusesSet, RefusesUnmerge, SharesNothing};
+ghost use Rattle.page_table.specs.State.{have_of};
+ghost use Rattle.page_table.specs.Changes.{contents_now};
+ghost use Rattle.ksm_counters.specs.Counters.{counters_of};
 ghost use Rattle.turn.specs.Seats.{IsIdle};
-ghost use Rattle.tenant_workers.specs.Calls.{IsSameSeat, RefusesSetting, RefusesUnmerging};
+ghost use Rattle.tenant_workers.specs.Calls.{IsSameSeat, left_by};
 
 use crate::shared::Shared;
+use host_calls::{host_set, host_unmerge};
 use host_types::{Fault, Opt};
 use ksm_counters::Counters;
-use page_table::Memory;
-use scanner::unmerge_all;
 use std::sync::Wait;
 use turn::HostSeat;
-
-/// Sets one option, as far as a seat can know.
-#[tactic(auto, unfolding(page_table::specs::State::part))]
-fn set_option(memory: &mut Memory, option: Opt, value: u32) -> Result<(), Fault>
-    ensures kept { AreKept memory.old memory.new }
-    ensures may { OnOk result (MayBe option value) }
-    ensures refused { IfErr result (RefusesSetting option value) }
-{
-    scanner::set(memory, option, value)
-}
 
 impl Shared {
     /// Sets one option to a value that it may be set to. No tenant's part changes.
     ///
     /// Refusals in their order: 40 where the option can't have the value, 44 where `max_page_sharing` is
-    /// to be set while there is a group.
+    /// to be set while there is a group. A refusal changes nothing.
+    #[tactic(auto, using(crate::proofs::Options::set_again))]
     pub fn set(
         &self,
         rt: &impl Wait,
@@ -37,26 +30,33 @@ impl Shared {
         requires idle { IsIdle self.now seat.old }
         ensures idle { IsIdle self.now seat.new }
         ensures same { IsSameSeat seat.old seat.new }
-        ensures may { OnOk result (MayBe option value) }
-        ensures refused { IfErr result (RefusesSetting option value) }
+        ensures may { OnOk result (MayBe option value × MaySet (left_by seat.new).sharing option) }
+        ensures set { OnOk result ((left_by seat.new).sharing.options
+            ≡ with_option (left_by seat.new).sharing.options option value) }
+        ensures refused { IfErr result (RefusesSet (left_by seat.new).sharing option value) }
     {
         let mut held = self.turn.take(rt, seat);
-        let answer = set_option(held.memory_mut(), option, value);
+        let answer = host_set(held.memory_mut(), option, value);
         self.turn.give(seat, held);
         answer
     }
 
     /// Gives each page that shares a frame one of its own, and stops the scanner. No tenant's part changes.
     ///
-    /// The one refusal is 31, where these pages are more than the frames that may be had.
+    /// The one refusal is 31, just where the frames that this takes are more than those that may be had;
+    /// it tells both numbers, and changes nothing.
+    #[tactic(auto, unfolding(host_types::specs::Unmerging::unmerged))]
     pub fn unmerge(&self, rt: &impl Wait, seat: &mut HostSeat) -> Result<(), Fault>
         requires idle { IsIdle self.now seat.old }
         ensures idle { IsIdle self.now seat.new }
         ensures same { IsSameSeat seat.old seat.new }
-        ensures refused { IfErr result RefusesUnmerging }
+        ensures unmerged { OnOk result (SharesNothing (left_by seat.new).sharing) }
+        ensures stopped { OnOk result ((left_by seat.new).sharing.options.run ≡ 2) }
+        ensures refused { IfErr result
+            (RefusesUnmerge (left_by seat.new).sharing (have_of (left_by seat.new))) }
     {
         let mut held = self.turn.take(rt, seat);
-        let answer = unmerge_all(held.memory_mut());
+        let answer = host_unmerge(held.memory_mut());
         self.turn.give(seat, held);
         answer
     }
@@ -66,6 +66,8 @@ impl Shared {
         requires idle { IsIdle self.now seat.old }
         ensures idle { IsIdle self.now seat.new }
         ensures same { IsSameSeat seat.old seat.new }
+        ensures told { result ≡ counters_of (length (left_by seat.new).arena)
+            (contents_now (left_by seat.new)) (left_by seat.new).sharing }
     {
         let held = self.turn.take(rt, seat);
         let counters = ksm_counters::counters(held.memory());

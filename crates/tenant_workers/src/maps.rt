@@ -1,22 +1,60 @@
-ghost use Rattle.std.specs.Prelude.{◌≡◌, OnOk, IfOk, IfErr, OnErr};
+ghost use Rattle.std.specs.Prelude.{◌≡◌, Some, OnOk, IfOk, IfErr, OnErr};
+ghost use Rattle.page_table.specs.Changes.{part_created};
+ghost use Rattle.page_table.specs.Limits.{shape_of};
+ghost use Rattle.page_table.specs.State.{free_number};
 ghost use Rattle.map_helpers.specs.Updates.{part_updated};
-ghost use Rattle.host_calls.specs.Calls.{FitsValue, IsValue, RefusesUpdate, RefusesLookup};
+ghost use Rattle.host_calls.specs.Calls.{FitsNewMap, FitsValue, IsValue, RefusesNewMap, RefusesUpdate, RefusesLookup, TellsHave};
 ghost use Rattle.turn.specs.Seats.{IsIdle, part_of};
-ghost use Rattle.tenant_workers.specs.Calls.{IsSameSeat};
+ghost use Rattle.tenant_workers.specs.Calls.{IsSameSeat, left_by};
 
 use crate::shared::Shared;
-use host_calls::{host_lookup, host_update};
+use host_calls::{host_create_map, host_lookup, host_update};
 use host_types::{Fault, MapNo};
 use std::alloc::Global;
 use std::sync::Wait;
 use turn::Seat;
 
 impl Shared {
+    /// Makes a map of zeros for the seat's tenant, at its first free number.
+    ///
+    /// Refusals in their order: 32 where the tenant has eight maps, 33 where the shape is out of limits, 31
+    /// just where the map's pages are more than the frames that may be had, 41 where memory ran out; 42
+    /// never, as a seat's tenant is there. A missing frame tells both numbers. A refusal leaves the seat's
+    /// part.
+    pub fn create_map(
+        &self,
+        rt: &impl Wait,
+        seat: &mut Seat,
+        value_size: u32,
+        entries: u32,
+        mergeable: bool,
+    ) -> Result<MapNo, Fault>
+        requires idle { IsIdle self.now seat.old }
+        ensures idle { IsIdle self.now seat.new }
+        ensures same { IsSameSeat seat.old seat.new }
+        ensures fits { OnOk result (FitsNewMap (part_of seat.old) (shape_of value_size entries)) }
+        ensures number { IfOk result (λ m. free_number (part_of seat.old) ≡ Some m) }
+        ensures created { IfOk result (λ m.
+            part_of seat.new ≡ part_created (part_of seat.old) m (shape_of value_size entries)) }
+        ensures refused { IfErr result
+            (RefusesNewMap (part_of seat.old) (shape_of value_size entries)) }
+        ensures told { IfErr result (TellsHave (left_by seat.new)) }
+        ensures kept { OnErr result (part_of seat.new ≡ part_of seat.old) }
+    {
+        let tenant = seat.tenant();
+        let mut held = self.turn.take(rt, seat);
+        let answer = host_create_map(held.memory_mut(), tenant, value_size, entries, mergeable);
+        self.turn.give(seat, held);
+        answer
+    }
+
     /// Writes a value to an element of a map of the seat's tenant.
     ///
-    /// Refusals in their order: 42 where the tenant isn't there, 34 where it has no such map, 35 where the map
-    /// has no such element, 33 where the value has another size than the map's, 31 where what is charged for
-    /// an update of the map is above the frames that may be had. A refusal leaves the seat's part.
+    /// Refusals in their order: 34 where the tenant has no such map, 35 where the map has no such element, 33
+    /// where the value has another size than the map's, 31 just where what is charged for an update of the
+    /// map is above the frames that may be had; it tells both numbers. 42 never comes, as a seat's tenant is
+    /// there. A refusal leaves the seat's part.
+    #[tactic(auto, unfolding(host_types::specs::Helpers::maps_updated))]
     pub fn update(
         &self,
         rt: &impl Wait,
@@ -32,6 +70,7 @@ impl Shared {
         ensures updated { OnOk result
             (part_of seat.new ≡ part_updated (part_of seat.old) map key value.now 0) }
         ensures refused { IfErr result (RefusesUpdate (part_of seat.old) map key value.now) }
+        ensures told { IfErr result (TellsHave (left_by seat.new)) }
         ensures kept { OnErr result (part_of seat.new ≡ part_of seat.old) }
     {
         let tenant = seat.tenant();
@@ -43,8 +82,8 @@ impl Shared {
 
     /// The value of an element of a map of the seat's tenant. The seat's part stays.
     ///
-    /// Refusals in their order: 42 where the tenant isn't there, 34 where it has no such map, 35 where the map
-    /// has no such element, 41 where memory ran out.
+    /// Refusals in their order: 34 where the tenant has no such map, 35 where the map has no such element, 41
+    /// where memory ran out; 42 never, as a seat's tenant is there.
     pub fn read(
         &self,
         rt: &impl Wait,

@@ -1,6 +1,6 @@
-ghost use Rattle.std.specs.Prelude.{◌≡◌};
+ghost use Rattle.std.specs.Prelude.{◌≡◌, ◌<◌};
 ghost use Rattle.turn.specs.Seats.{IsIdle};
-ghost use Rattle.tenant_workers.specs.Calls.{IsSameSeat};
+ghost use Rattle.tenant_workers.specs.Calls.{IsSameSeat, IsVisited, left_by};
 
 use crate::shared::Shared;
 use scanner::visit;
@@ -13,6 +13,7 @@ impl Shared {
         requires idle { IsIdle self.now seat.old }
         ensures idle { IsIdle self.now seat.new }
         ensures same { IsSameSeat seat.old seat.new }
+        ensures visited { 0 < visits → IsVisited (left_by seat.new) }
     {
         for _visit in 0..visits {
             self.scan(rt, seat);
@@ -24,6 +25,7 @@ impl Shared {
         requires idle { IsIdle self.now seat.old }
         ensures idle { IsIdle self.now seat.new }
         ensures same { IsSameSeat seat.old seat.new }
+        ensures visited { IsVisited (left_by seat.new) }
     {
         let mut held = self.turn.take(rt, seat);
         let _visited = visit(held.memory_mut());

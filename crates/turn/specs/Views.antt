@@ -1,5 +1,6 @@
 -- What a seat knows of the one memory: the parts of its own tenants.
-use Rattle.std.specs.Prelude.{◌≡◌, ◌<◌, ◌≤◌, ℕ, true, false}
+use Rattle.std.specs.Prelude.{◌≡◌, ◌<◌, ◌≤◌, ℕ, length, true, false}
+use Rattle.host_types.specs.Tenant.{AreFlatMaps}
 use Rattle.page_table.specs.State.{MemoryState, part}
 use Rattle.turn.specs.declared.view.View.{View}
 
@@ -14,6 +15,18 @@ Agrees view memory = (t : ℕ) → Has view t → part memory t ≡ part view.se
 -- every other tenant has in the memory the part that the view remembers
 abbrev pub Spares : View → MemoryState → Type 0
 Spares view memory = (t : ℕ) → ¬ (Has view t) → part memory t ≡ part view.seen t
+
+-- the view's own tenants are there, with eight places for maps, and each map has as many bytes as its shape says
+abbrev pub HasMaps : View → MemoryState → Type 0
+HasMaps view memory = (t : ℕ) → Has view t → AreFlatMaps (part memory t).maps
+
+-- the same of the memory that the view remembers
+abbrev pub KnowsMaps : View → Type 0
+KnowsMaps view = HasMaps view view.seen
+
+-- the view's own tenants are there: they have eight places for maps
+abbrev pub AreThere : View → MemoryState → Type 0
+AreThere view memory = (t : ℕ) → Has view t → length (part memory t).maps ≡ 8
 
 -- the view of a new seat: its tenants' parts of a memory
 abbrev pub new_view : ℕ → ℕ → MemoryState → View

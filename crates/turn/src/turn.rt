@@ -1,7 +1,8 @@
 ghost use Rattle.std.specs.Prelude.{◌≡◌, ◌+◌, ◌<◌, ◌≤◌, ℕ, true, false, [], ◌∷◌, length, Some, None, slice_get, IfOk, OnOk, IfErr, IfSome, IfNone};
 ghost use Rattle.atomic_table.specs.Seated.{TableId};
-ghost use Rattle.page_table.specs.State.{MemoryState};
-ghost use Rattle.turn.specs.Views.{Agrees, Spares, new_view, holding, resting};
+ghost use Rattle.page_table.specs.State.{MemoryState, part};
+ghost use Rattle.host_types.specs.Tenant.{AreFlatMaps};
+ghost use Rattle.turn.specs.Views.{Agrees, AreThere, HasMaps, Spares, new_view, holding, resting};
 ghost use Rattle.turn.specs.Seats.{SeatState, took, gave, IsNewSeat, RefusesTurn};
 ghost use Rattle.turn.specs.Held.{memory_of, IsBy};
 
@@ -68,6 +69,7 @@ impl Turn {
         ensures tenants { OnOk result (tenants ≡ length memory.tenants) }
         ensures err { IfErr result (RefusesTurn memory tenants) }
     {
+        memory.maps_are_flat();
         if tenants != memory.tenants() {
             return Err(Fault::BadShape);
         }
@@ -82,7 +84,8 @@ impl Turn {
         memory: Memory,
         tenants: u32,
     ) -> Result<(Turn, Vec<Seat>, ScanSeat, HostSeat), AllocError>
-        requires { tenants ≡ length memory.tenants }
+        requires tenants { tenants ≡ length memory.tenants }
+        requires maps { (t : ℕ) → t < tenants → AreFlatMaps (part memory t).maps }
         ensures count { IfOk result (λ r. length r.1.items ≡ tenants) }
         ensures seats { IfOk result (λ r. (t : ℕ) →
             IfSome (slice_get r.1.items t) (IsNewSeat r.0 t (t + 1) memory)) }
@@ -128,6 +131,7 @@ impl Turn {
         requires first { rest.old.me.0.first ≡ tenant }
         requires some { tenant < rest.old.me.0.end }
         requires idle { rest.old.me.0.holds ≡ false }
+        requires maps { AreFlatMaps (part rest.old.me.0.seen tenant).maps }
         ensures turn { rest.new.table_id ≡ rest.old.table_id }
         ensures rest { rest.new.me ≡ (new_view (tenant + 1) rest.old.me.0.end rest.old.me.0.seen, rest.old.me.1) }
         ensures seat { IsNewSeat self.now tenant (tenant + 1) rest.old.me.0.seen result }
@@ -162,6 +166,7 @@ impl Turn {
         ensures seat { seat.new ≡ took seat.old (memory_of result) }
         ensures by { IsBy result seat.old }
         ensures known { Agrees seat.old.view (memory_of result) }
+        ensures maps { HasMaps seat.old.view (memory_of result) }
     {
         if let Some(held) = self.try_take(seat) {
             return held;
@@ -180,6 +185,7 @@ impl Turn {
         ensures seat { IfSome result (λ held. seat.new ≡ took seat.old (memory_of held)) }
         ensures by { IfSome result (λ held. IsBy held seat.old) }
         ensures known { IfSome result (λ held. Agrees seat.old.view (memory_of held)) }
+        ensures maps { IfSome result (λ held. HasMaps seat.old.view (memory_of held)) }
     {
         for _try in 0..TRIES {
             self.look();
@@ -198,6 +204,7 @@ impl Turn {
         ensures seat { seat.new ≡ took seat.old (memory_of result) }
         ensures by { IsBy result seat.old }
         ensures known { Agrees seat.old.view (memory_of result) }
+        ensures maps { HasMaps seat.old.view (memory_of result) }
     {
         for _ in rt.forever() {
             self.bell.ask();
@@ -231,6 +238,7 @@ impl Turn {
         ensures seat { IfSome result (λ held. seat.new ≡ took seat.old (memory_of held)) }
         ensures by { IfSome result (λ held. IsBy held seat.old) }
         ensures known { IfSome result (λ held. Agrees seat.old.view (memory_of held)) }
+        ensures maps { IfSome result (λ held. HasMaps seat.old.view (memory_of held)) }
     {
         let memory = self.take_out(&mut seat.token)?;
         let by = Snapshot::of(&seat.token);
@@ -262,8 +270,10 @@ impl Turn {
         requires holds { seat.old.view.holds ≡ true }
         requires by { IsBy held seat.old }
         requires others { Spares seat.old.view (memory_of held) }
+        requires own { AreThere seat.old.view (memory_of held) }
         ensures { seat.new ≡ gave seat.old (memory_of held) }
     {
+        held.memory().maps_are_flat();
         let Held { memory, by: _ } = held;
         self.put_back(&mut seat.token, memory);
         self.bell.ring();

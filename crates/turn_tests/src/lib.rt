@@ -4,10 +4,14 @@
 #[cfg(test)]
 mod calls;
 #[cfg(test)]
+mod creating;
+#[cfg(test)]
 mod ends;
 #[cfg(test)]
 mod numbers;
 #[cfg(test)]
 mod row;
+#[cfg(test)]
+mod settings;
 #[cfg(test)]
 mod turns;

@@ -46,7 +46,8 @@ pub(crate) fn number(memory: &Memory, tenant: u32) -> Option<u64> {
 
 /// Adds to the number of a tenant's map 0, where there are frames for it.
 fn add(memory: &mut Memory, tenant: u32, more: u64)
-    ensures { IsKeptBut tenant memory.old memory.new }
+    ensures others { IsKeptBut tenant memory.old memory.new }
+    ensures there { length (part memory.new tenant).maps ≡ length (part memory.old tenant).maps }
 {
     if !has_number(memory, tenant) {
         return;

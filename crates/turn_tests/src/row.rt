@@ -14,12 +14,12 @@ use tenant_workers::Shared;
 use turn::{HostSeat, ScanSeat, Seat, Turn};
 
 /// Two tenants of the same number, shared.
-struct Two {
-    shared: Shared,
-    first: Seat,
-    second: Seat,
-    scanner: ScanSeat,
-    host: HostSeat,
+pub(crate) struct Two {
+    pub(crate) shared: Shared,
+    pub(crate) first: Seat,
+    pub(crate) second: Seat,
+    pub(crate) scanner: ScanSeat,
+    pub(crate) host: HostSeat,
 }
 
 /// What the calls answer.
@@ -49,7 +49,8 @@ const ROW: Row = Row {
 
 const FIVE: [u8; 8] = [5, 0, 0, 0, 0, 0, 0, 0];
 
-fn two_tenants(alloc: Global, frames: u32) -> Result<Two, Fault>
+/// Two tenants on so many frames, two of which their numbers have.
+pub(crate) fn two_tenants(alloc: Global, frames: u32) -> Result<Two, Fault>
     ensures first { IfOk result (λ two. IsIdle two.shared two.first) }
     ensures second { IfOk result (λ two. IsIdle two.shared two.second) }
     ensures scanner { IfOk result (λ two. IsIdle two.shared two.scanner) }
@@ -68,7 +69,8 @@ fn two_tenants(alloc: Global, frames: u32) -> Result<Two, Fault>
     })
 }
 
-fn told(counters: Counters) -> [u32; 4] {
+/// Shared, sharing and volatile pages, and free frames.
+pub(crate) fn told(counters: Counters) -> [u32; 4] {
     [
         counters.pages_shared,
         counters.pages_sharing,

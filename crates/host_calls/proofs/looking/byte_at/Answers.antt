@@ -1,4 +1,4 @@
-use Rattle.std.proofs.Common.{◌≡◌, ◌∙◌, ◌∷◌, ℕ, ◌<◌, [], ap, subst, sym}
+use Rattle.std.proofs.Common.{◌∙◌, ◌∷◌, ℕ, ◌<◌, [], ap, subst, sym}
 use Rattle.host_types.specs.Memory.{map_at}
 use Rattle.page_table.specs.State.{part, map_bytes}
 use Rattle.host_calls.proofs.Elements.{byte-small, byte-same}

@@ -1,4 +1,4 @@
-use Rattle.std.proofs.Common.{◌≡◌, ◌∙◌, ◌+◌, ◌<◌, ◌++◌, ◌∷◌, [], List, ℕ, length, ap, sym, arith}
+use Rattle.std.proofs.Common.{◌∙◌, ◌+◌, ◌<◌, ◌++◌, ◌∷◌, [], List, ℕ, length, ap, sym, arith}
 use Rattle.host_types.specs.Bytes.{part_of}
 use Rattle.page_table.specs.State.{part, map_bytes}
 use Rattle.host_calls.proofs.Elements.{part-none, part-more}

@@ -7,39 +7,39 @@ use Rattle.page_table.proofs.Entries.{kept-empty}
 use Rattle.page_table.proofs.Trees.{tree-set}
 use Rattle.page_table.proofs.table.Table.add.Goals as goal
 
-abbrev table : goal.After-self-1 → TableState
-table c = record { arena = c.self.inside.arena; entries = c.self.inside.entries.items; groups = c.self.inside.groups.listed }
+abbrev table : goal.After-set → TableState
+table c = record { arena = c.self.inside.arena; entries = c.self.inside.entries; groups = c.self.inside.groups.listed }
 
-unused : (c : goal.After-self-1) → IsUnused (table c) c.take-frame.result
+unused : (c : goal.After-set) → IsUnused (table c) c.take-frame.result
 unused c = unused-frame (table c) c.self.inside.counts c.take-frame.result c.self.invariant.0 c.take-frame.ensures.unused
 
-there : (c : goal.After-self-1) → c.args.place < length (table c).entries
+there : (c : goal.After-set) → c.args.place < length (table c).entries
 there c = rw (← c.self.view_is) at c.requires.there
 
-empty : (c : goal.After-self-1) → entry_at (table c).entries c.args.place ≡ None
+empty : (c : goal.After-set) → entry_at (table c).entries c.args.place ≡ None
 empty c =
     let none : slice_index_or (contents_of (table c)) c.args.place [] ≡ [] = rw (← c.self.view_is) at c.requires.empty in
     no_entry_of_content (table c) c.args.place c.self.invariant.0.fits none
 
 pub invariant_of-self : goal.invariant_of-self
 invariant_of-self c = (
-  rw c.clear.ensures (sound-added (table c) c.args.place c.take-frame.result c.args.mergeable c.self.invariant.0.fits (unused c) (there c) (empty c)
+  rw (c.set.ensures, c.clear.ensures) (sound-added (table c) c.args.place c.take-frame.result c.args.mergeable c.self.invariant.0.fits (unused c) (there c) (empty c)
       c.self.inside.counts c.take-frame.new.self c.self.invariant.0.counted c.take-frame.ensures.counts c.take-frame.ensures.fewer),
   rw (c.clear.ensures, length-set) c.self.invariant.1,
   rw c.clear.ensures (tree-set c.self.inside.arena c.self.inside.groups.listed c.self.inside.tree c.take-frame.result zero_page c.self.invariant.2 (unused c).no_group),
 )
 
 pub returns-clause-contents : goal.returns-clause-contents
-returns-clause-contents c = rw (c.clear.ensures, ← c.self.view_is) (contents-added (table c) c.args.place c.take-frame.result c.args.mergeable c.self.invariant.0.fits (unused c) (there c) (empty c))
+returns-clause-contents c = rw (c.set.ensures, c.clear.ensures, ← c.self.view_is) (contents-added (table c) c.args.place c.take-frame.result c.args.mergeable c.self.invariant.0.fits (unused c) (there c) (empty c))
 
 pub returns-clause-states : goal.returns-clause-states
-returns-clause-states c = rw (← c.self.view_is) (states-added (table c) c.args.place c.take-frame.result c.args.mergeable c.self.invariant.0.fits (unused c) (there c) (empty c))
+returns-clause-states c = rw (c.set.ensures, ← c.self.view_is) (states-added (table c) c.args.place c.take-frame.result c.args.mergeable c.self.invariant.0.fits (unused c) (there c) (empty c))
 
 pub returns-clause-groups : goal.returns-clause-groups
-returns-clause-groups c = rw (c.clear.ensures, ← c.self.view_is) (groups-added (table c) c.args.place c.take-frame.result c.args.mergeable c.self.invariant.0.fits (unused c) (there c) (empty c))
+returns-clause-groups c = rw (c.set.ensures, c.clear.ensures, ← c.self.view_is) (groups-added (table c) c.args.place c.take-frame.result c.args.mergeable c.self.invariant.0.fits (unused c) (there c) (empty c))
 
 pub returns-clause-used : goal.returns-clause-used
-returns-clause-used c = rw (← c.self.view_is) (used-added (table c) c.args.place c.take-frame.result c.args.mergeable c.self.invariant.0.fits (unused c) (there c) (empty c))
+returns-clause-used c = rw (c.set.ensures, ← c.self.view_is) (used-added (table c) c.args.place c.take-frame.result c.args.mergeable c.self.invariant.0.fits (unused c) (there c) (empty c))
 
 pub returns-clause-kept : goal.returns-clause-kept
-returns-clause-kept c = rw (← c.self.view_is) (kept-empty (table c).entries c.args.place _ (empty c))
+returns-clause-kept c = rw (c.set.ensures, ← c.self.view_is) (kept-empty (table c).entries c.args.place _ (empty c))

@@ -1,29 +1,28 @@
-use Rattle.std.proofs.Common.{◌≡◌, ◌∙◌, None, Some, ⊎_elim, sym, arith}
-use Rattle.std.proofs.lemmas.List.{get_or_default}
+use Rattle.std.proofs.Common.{◌≡◌, ◌∙◌, Some, ⊎_elim, sym, arith}
 use Rattle.page_table.specs.Table.{TableState, IsPageAt, entry_at}
 use Rattle.page_table.proofs.Costs.{cost-own, cost-counted}
 use Rattle.page_table.proofs.Putting.{entry_fits, page_inside, page_there}
 use Rattle.page_table.proofs.table.Table.break_cost.Goals as goal
 use Rattle.page_table.proofs.table.Table.break_cost.Goals.{then-entry, else-entry}
 
-pub index-requires : goal.index-requires
-index-requires c =
-    let there : IsPageAt (record { arena = c.self.inside.arena; entries = c.self.inside.entries.items; groups = c.self.inside.groups.listed }) c.args.place = rw (← c.self.view_is) at c.requires in
+pub get-requires : goal.get-requires
+get-requires c =
+    let there : IsPageAt (record { arena = c.self.inside.arena; entries = c.self.inside.entries; groups = c.self.inside.groups.listed }) c.args.place = rw (← c.self.view_is) at c.requires in
     let inside = page_inside _ c.args.place there in omega (arith, inside)
 
 pub unreachable-requires : goal.unreachable-requires
 unreachable-requires c =
-    let there : IsPageAt (record { arena = c.self.inside.arena; entries = c.self.inside.entries.items; groups = c.self.inside.groups.listed }) c.args.place = rw (← c.self.view_is) at c.requires in
+    let there : IsPageAt (record { arena = c.self.inside.arena; entries = c.self.inside.entries; groups = c.self.inside.groups.listed }) c.args.place = rw (← c.self.view_is) at c.requires in
     page_there _ c.args.place there
-    (get_or_default c.self.inside.entries.items c.args.place None c.index.result.now (page_inside _ c.args.place there) ∙ sym c.index.ensures ∙ c.in_default.is)
+    (sym c.get.ensures ∙ c.in_default.is)
 
 abbrev table : goal.Then-entry → TableState
-table c = record { arena = c.self.inside.arena; entries = c.self.inside.entries.items; groups = c.self.inside.groups.listed }
+table c = record { arena = c.self.inside.arena; entries = c.self.inside.entries; groups = c.self.inside.groups.listed }
 
 here : (c : goal.Then-entry) → entry_at (table c).entries c.args.place ≡ Some c.in-Some.entry
 here c =
     let there : IsPageAt (table c) c.args.place = rw (← c.self.view_is) at c.requires in
-    get_or_default c.self.inside.entries.items c.args.place None c.index.result.now (page_inside (table c) c.args.place there) ∙ sym c.index.ensures ∙ c.in-Some.is
+    sym c.get.ensures ∙ c.in-Some.is
 
 pub count-requires : goal.count-requires
 count-requires c =
@@ -32,9 +31,9 @@ count-requires c =
 
 pub returns : goal.returns
 returns c =
-    let whole : TableState = record { arena = c.self.inside.arena; entries = c.self.inside.entries.items; groups = c.self.inside.groups.listed } in
+    let whole : TableState = record { arena = c.self.inside.arena; entries = c.self.inside.entries; groups = c.self.inside.groups.listed } in
     let there : IsPageAt whole c.args.place = rw (← c.self.view_is) at c.requires in
-    let here = get_or_default c.self.inside.entries.items c.args.place None c.index.result.now (page_inside whole c.args.place there) ∙ sym c.index.ensures ∙ c.in-Some.is in
+    let here = sym c.get.ensures ∙ c.in-Some.is in
     rw (← c.self.view_is) (elim c.if-entry.branch [
       | then-entry w ↦ ⊎_elim
           (λ more. rw (c.from.ensures, w.from-is, w.count.ensures, more.0) (sym more.1))

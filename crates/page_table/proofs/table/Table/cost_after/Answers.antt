@@ -21,25 +21,25 @@ as-number false = refl
 
 pub returns-in_default-clause-cost : goal.returns-in_default-clause-cost
 returns-in_default-clause-cost c =
-    let behind = entry-behind c.self.inside.entries.items c.deref.result.now c.split_at.result.1.now c.split_at-2.result.1.now c.args.first c.args.number
-    c.deref.ensures.value c.split_at.ensures.back c.split_at-2.ensures.back in
+    let behind = entry-behind c.self.inside.entries c.all.result.now c.split_at.result.1.now c.split_at-2.result.1.now c.args.first c.args.number
+    c.all.ensures c.split_at.ensures.back c.split_at-2.ensures.back in
     rw (← c.self.view_is) (λ pass. sym (cost-after-none _ pass c.args.first c.args.number c.self.invariant.0.fits (sym behind ∙ c.in_default.is)))
 
 abbrev table : In-Some → TableState
-table c = record { arena = c.self.inside.arena; entries = c.self.inside.entries.items; groups = c.self.inside.groups.listed }
+table c = record { arena = c.self.inside.arena; entries = c.self.inside.entries; groups = c.self.inside.groups.listed }
 
-inside : (c : In-Some) → c.args.first + c.args.number < length c.self.inside.entries.items
+inside : (c : In-Some) → c.args.first + c.args.number < length c.self.inside.entries
 inside c = rw (← c.self.view_is) at c.requires
 
-here : (c : In-Some) → entry_at c.self.inside.entries.items (c.args.first + c.args.number) ≡ Some c.in-Some.entry
+here : (c : In-Some) → entry_at c.self.inside.entries (c.args.first + c.args.number) ≡ Some c.in-Some.entry
 here c =
-    sym (entry-behind c.self.inside.entries.items c.deref.result.now c.split_at.result.1.now c.split_at-2.result.1.now c.args.first c.args.number
-    c.deref.ensures.value c.split_at.ensures.back c.split_at-2.ensures.back) ∙ c.in-Some.is
+    sym (entry-behind c.self.inside.entries c.all.result.now c.split_at.result.1.now c.split_at-2.result.1.now c.args.first c.args.number
+    c.all.ensures c.split_at.ensures.back c.split_at-2.ensures.back) ∙ c.in-Some.is
 
-before : (c : In-Some) → pages_on c.in-Some.entry.frame c.split_at-2.result.0.now ≡ pages_on c.in-Some.entry.frame (part_of c.self.inside.entries.items c.args.first c.args.number)
+before : (c : In-Some) → pages_on c.in-Some.entry.frame c.split_at-2.result.0.now ≡ pages_on c.in-Some.entry.frame (part_of c.self.inside.entries c.args.first c.args.number)
 before c =
-    pages-before c.self.inside.entries.items c.deref.result.now c.split_at.result.1.now c.split_at-2.result.0.now c.args.first c.args.number c.in-Some.entry.frame
-    c.deref.ensures.value c.split_at.ensures.back c.split_at-2.ensures.front
+    pages-before c.self.inside.entries c.all.result.now c.split_at.result.1.now c.split_at-2.result.0.now c.args.first c.args.number c.in-Some.entry.frame
+    c.all.ensures c.split_at.ensures.back c.split_at-2.ensures.front
 
 pub returns-then-not-entry-clause-cost : goal.returns-then-not-entry-clause-cost
 returns-then-not-entry-clause-cost c =
@@ -58,7 +58,7 @@ overflow_sub-left c =
 
 pub returns-clause-cost : goal.returns-clause-cost
 returns-clause-cost c =
-    let left = ap (λ (n : ℕ). c.count.result - n) (c.count_on.ensures ∙ before (goal.at.returns-clause-cost c).In-Some) ∙ ap (λ (n : ℕ). n - pages_on c.in-Some.entry.frame (part_of c.self.inside.entries.items c.args.first c.args.number)) c.count.ensures in
+    let left = ap (λ (n : ℕ). c.count.result - n) (c.count_on.ensures ∙ before (goal.at.returns-clause-cost c).In-Some) ∙ ap (λ (n : ℕ). n - pages_on c.in-Some.entry.frame (part_of c.self.inside.entries c.args.first c.args.number)) c.count.ensures in
     rw (← c.self.view_is) (λ pass.
     c.from.ensures
     ∙ as-number (nat_lt 1 (c.count.result - c.count_on.result))

@@ -7,7 +7,7 @@ use Rattle.page_table.proofs.table.Table.end_group.Goals as goal
 use Rattle.page_table.proofs.table.Table.end_group.Goals.{After-remove-2}
 
 abbrev table : After-remove-2 → TableState
-table c = record { arena = c.self.inside.arena; entries = c.self.inside.entries.items; groups = c.self.inside.groups.listed }
+table c = record { arena = c.self.inside.arena; entries = c.self.inside.entries; groups = c.self.inside.groups.listed }
 
 left : (c : After-remove-2) → c.remove.new.self.listed ≡ but c.args.entry.frame (table c).groups
 left c = ap (λ (groups : GroupsState). groups.listed) c.remove.ensures
@@ -20,7 +20,7 @@ last c = rw (← c.self.view_is) at c.requires.last
 
 pub invariant_of-self : goal.invariant_of-self
 invariant_of-self c = (
-  rw (left c) (sound-ended (table c) c.args.place c.args.entry c.broken.result c.self.invariant.0.fits (here c) c.requires.shared (last c) c.broken.ensures.state c.broken.ensures.frame
+  rw (c.set.ensures, left c) (sound-ended (table c) c.args.place c.args.entry c.broken.result c.self.invariant.0.fits (here c) c.requires.shared (last c) c.broken.ensures.state c.broken.ensures.frame
       c.self.inside.counts c.broken.ensures.protected c.self.invariant.0.counted),
   rw c.remove.ensures c.self.invariant.1,
   rw (left c)
@@ -29,25 +29,25 @@ invariant_of-self c = (
 
 pub returns-clause-contents : goal.returns-clause-contents
 returns-clause-contents c =
-    rw (left c, ← c.self.view_is)
+    rw (c.set.ensures, left c, ← c.self.view_is)
     (contents-ended (table c) c.args.place c.args.entry c.broken.result c.self.invariant.0.fits (here c) c.requires.shared (last c) c.broken.ensures.state c.broken.ensures.frame)
 
 pub returns-clause-sharing : goal.returns-clause-sharing
 returns-clause-sharing c pass =
-    rw (left c, ← c.self.view_is)
+    rw (c.set.ensures, left c, ← c.self.view_is)
     (sharing-ended (table c) c.args.place c.args.entry c.broken.result c.self.invariant.0.fits (here c) c.requires.shared (last c) c.broken.ensures.state c.broken.ensures.frame pass)
 
 pub returns-clause-used : goal.returns-clause-used
 returns-clause-used c =
-    rw (left c, ← c.self.view_is)
+    rw (c.set.ensures, left c, ← c.self.view_is)
     (used-ended (table c) c.args.place c.args.entry c.broken.result c.self.invariant.0.fits (here c) c.requires.shared (last c) c.broken.ensures.state c.broken.ensures.frame)
 
 pub returns-clause-kept : goal.returns-clause-kept
-returns-clause-kept c = rw (← c.self.view_is) (kept-shared (table c).entries c.args.place c.args.entry _ (here c) c.requires.shared)
+returns-clause-kept c = rw (c.set.ensures, ← c.self.view_is) (kept-shared (table c).entries c.args.place c.args.entry _ (here c) c.requires.shared)
 
 pub remove-requires : goal.remove-requires
 remove-requires c =
-    let before : TableState = record { arena = c.self.inside.arena; entries = c.self.inside.entries.items; groups = c.self.inside.groups.listed } in
+    let before : TableState = record { arena = c.self.inside.arena; entries = c.self.inside.entries; groups = c.self.inside.groups.listed } in
     let there : entry_at before.entries c.args.place ≡ Some c.args.entry = rw (← c.self.view_is) at c.requires.there in
     let last : one_if_zero c.args.entry.frame + pages_on c.args.entry.frame before.entries ≡ 1 = rw (← c.self.view_is) at c.requires.last in
     let one = one_group before c.args.place c.args.entry c.broken.result c.self.invariant.0.fits there c.requires.shared last c.broken.ensures.state c.broken.ensures.frame in

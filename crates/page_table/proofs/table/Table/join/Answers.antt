@@ -6,13 +6,13 @@ use Rattle.page_table.proofs.table.Table.join.Goals as goal
 
 pub share-requires-clause-few : goal.share-requires-clause-few
 share-requires-clause-few c =
-    let table : TableState = record { arena = c.self.inside.arena; entries = c.self.inside.entries.items; groups = c.self.inside.groups.listed } in
+    let table : TableState = record { arena = c.self.inside.arena; entries = c.self.inside.entries; groups = c.self.inside.groups.listed } in
     let to : IsGroupEntry c.page-entry.result c.merged.result c.args.frame = record { state = c.merged.ensures.state; frame = c.merged.ensures.frame; status = c.merged.ensures.status; protected = c.merged.ensures.protected } in
     let move = move-joined table c.args.self.now c.args.place c.page-entry.result c.merged.result c.args.frame c.self.view_is c.self.invariant.0.fits c.page-entry.ensures c.requires.own c.requires.group c.requires.same to in
     rw c.merged.ensures.frame at (few table c.args.place c.page-entry.result c.merged.result move c.self.inside.counts c.self.invariant.0.counted)
 
 abbrev table : goal.After-release → TableState
-table c = record { arena = c.self.inside.arena; entries = c.self.inside.entries.items; groups = c.self.inside.groups.listed }
+table c = record { arena = c.self.inside.arena; entries = c.self.inside.entries; groups = c.self.inside.groups.listed }
 
 to : (c : goal.After-release) → IsGroupEntry c.page-entry.result c.merged.result c.args.frame
 to c = record { state = c.merged.ensures.state; frame = c.merged.ensures.frame; status = c.merged.ensures.status; protected = c.merged.ensures.protected }
@@ -23,20 +23,20 @@ move c =
 
 pub invariant_of-self : goal.invariant_of-self
 invariant_of-self c = (
-  sound-moved (table c) c.args.place c.page-entry.result c.merged.result (move c) c.self.inside.counts c.share.new.self c.release.new.self c.self.invariant.0.counted
-      (rw c.merged.ensures.frame c.share.ensures.counts) c.share.ensures.unused c.release.ensures.counts c.release.ensures.unused,
+  rw c.set.ensures (sound-moved (table c) c.args.place c.page-entry.result c.merged.result (move c) c.self.inside.counts c.share.new.self c.release.new.self c.self.invariant.0.counted
+      (rw c.merged.ensures.frame c.share.ensures.counts) c.share.ensures.unused c.release.ensures.counts c.release.ensures.unused),
   c.self.invariant.1,
   c.self.invariant.2,
 )
 
 pub returns-clause-contents : goal.returns-clause-contents
-returns-clause-contents c = rw (← c.self.view_is) (contents-moved (table c) c.args.place c.page-entry.result c.merged.result (move c))
+returns-clause-contents c = rw (c.set.ensures, ← c.self.view_is) (contents-moved (table c) c.args.place c.page-entry.result c.merged.result (move c))
 
 pub returns-clause-states : goal.returns-clause-states
-returns-clause-states c = rw (← c.self.view_is) (states-joined (table c) c.args.place c.page-entry.result c.merged.result c.args.frame (move c) (to c))
+returns-clause-states c = rw (c.set.ensures, ← c.self.view_is) (states-joined (table c) c.args.place c.page-entry.result c.merged.result c.args.frame (move c) (to c))
 
 pub returns-clause-groups : goal.returns-clause-groups
-returns-clause-groups c = rw (← c.self.view_is) (groups-joined (table c) c.args.place c.page-entry.result c.merged.result c.args.frame (move c) (to c))
+returns-clause-groups c = rw (c.set.ensures, ← c.self.view_is) (groups-joined (table c) c.args.place c.page-entry.result c.merged.result c.args.frame (move c) (to c))
 
 pub returns-clause-used : goal.returns-clause-used
-returns-clause-used c = rw (← c.self.view_is) (used-moved (table c) c.args.place c.page-entry.result c.merged.result (move c))
+returns-clause-used c = rw (c.set.ensures, ← c.self.view_is) (used-moved (table c) c.args.place c.page-entry.result c.merged.result (move c))

@@ -7,21 +7,21 @@ use Rattle.page_table.proofs.Entries.{kept-shared}
 use Rattle.page_table.proofs.Trees.{tree-set}
 use Rattle.page_table.proofs.table.Table.leave.Goals as goal
 
-abbrev table : goal.After-self-1 → TableState
-table c = record { arena = c.self.inside.arena; entries = c.self.inside.entries.items; groups = c.self.inside.groups.listed }
+abbrev table : goal.After-set → TableState
+table c = record { arena = c.self.inside.arena; entries = c.self.inside.entries; groups = c.self.inside.groups.listed }
 
-unused : (c : goal.After-self-1) → IsUnused (table c) c.broken.result.frame
+unused : (c : goal.After-set) → IsUnused (table c) c.broken.result.frame
 unused c = rw (c.broken.ensures.frame) (unused-frame (table c) c.self.inside.counts c.take-frame.result c.self.invariant.0 c.take-frame.ensures.unused)
 
-here : (c : goal.After-self-1) → entry_at (table c).entries c.args.place ≡ Some c.args.entry
+here : (c : goal.After-set) → entry_at (table c).entries c.args.place ≡ Some c.args.entry
 here c = rw (← c.self.view_is) at c.requires.there
 
-company : (c : goal.After-self-1) → 1 < one_if_zero c.args.entry.frame + pages_on c.args.entry.frame (table c).entries
+company : (c : goal.After-set) → 1 < one_if_zero c.args.entry.frame + pages_on c.args.entry.frame (table c).entries
 company c = rw (← c.self.view_is) at c.requires.company
 
 pub invariant_of-self : goal.invariant_of-self
 invariant_of-self c = (
-  rw (c.copy.ensures, ← c.broken.ensures.frame)
+  rw (c.set.ensures, c.copy.ensures, ← c.broken.ensures.frame)
       (sound-left (table c) c.args.place c.args.entry c.broken.result c.self.invariant.0.fits (unused c) (here c) c.requires.shared (company c) c.broken.ensures.state c.broken.ensures.own
       c.self.inside.counts c.take-frame.new.self c.release.new.self c.broken.ensures.protected c.self.invariant.0.counted (rw c.broken.ensures.frame c.take-frame.ensures.counts) c.take-frame.ensures.fewer c.release.ensures.counts c.release.ensures.unused),
   rw (c.copy.ensures, length-set) c.self.invariant.1,
@@ -31,18 +31,18 @@ invariant_of-self c = (
 
 pub returns-clause-contents : goal.returns-clause-contents
 returns-clause-contents c =
-    rw (c.copy.ensures, ← c.broken.ensures.frame, ← c.self.view_is)
+    rw (c.set.ensures, c.copy.ensures, ← c.broken.ensures.frame, ← c.self.view_is)
     (contents-left (table c) c.args.place c.args.entry c.broken.result c.self.invariant.0.fits (unused c) (here c) c.requires.shared (company c) c.broken.ensures.state c.broken.ensures.own)
 
 pub returns-clause-sharing : goal.returns-clause-sharing
 returns-clause-sharing c =
-    rw (c.copy.ensures, ← c.broken.ensures.frame, ← c.self.view_is)
+    rw (c.set.ensures, c.copy.ensures, ← c.broken.ensures.frame, ← c.self.view_is)
     (sharing-left (table c) c.args.place c.args.entry c.broken.result c.self.invariant.0.fits (unused c) (here c) c.requires.shared (company c) c.broken.ensures.state c.broken.ensures.own)
 
 pub returns-clause-used : goal.returns-clause-used
 returns-clause-used c =
-    rw (← c.self.view_is)
+    rw (c.set.ensures, ← c.self.view_is)
     (used-left (table c) c.args.place c.args.entry c.broken.result c.self.invariant.0.fits (unused c) (here c) c.requires.shared (company c) c.broken.ensures.state c.broken.ensures.own)
 
 pub returns-clause-kept : goal.returns-clause-kept
-returns-clause-kept c = rw (← c.self.view_is) (kept-shared (table c).entries c.args.place c.args.entry _ (here c) c.requires.shared)
+returns-clause-kept c = rw (c.set.ensures, ← c.self.view_is) (kept-shared (table c).entries c.args.place c.args.entry _ (here c) c.requires.shared)

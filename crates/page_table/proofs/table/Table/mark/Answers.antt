@@ -2,25 +2,25 @@ use Rattle.page_table.specs.Table.{TableState}
 use Rattle.page_table.proofs.Marking.{IsMarking, marking-from, contents-marked, sharing-marked, used-marked, sound-marked}
 use Rattle.page_table.proofs.table.Table.mark.Goals as goal
 
-abbrev table : goal.After-self-1 → TableState
-table c = record { arena = c.self.inside.arena; entries = c.self.inside.entries.items; groups = c.self.inside.groups.listed }
+abbrev table : goal.After-set → TableState
+table c = record { arena = c.self.inside.arena; entries = c.self.inside.entries; groups = c.self.inside.groups.listed }
 
-marking : (c : goal.After-self-1) → IsMarking (table c) c.args.place c.page-entry.result c.args.status
+marking : (c : goal.After-set) → IsMarking (table c) c.args.place c.page-entry.result c.args.status
 marking c =
     marking-from (table c) c.args.self.now c.args.place c.page-entry.result c.args.status c.self.view_is c.self.invariant.0.fits c.page-entry.ensures c.requires.own c.requires.status
 
 pub invariant_of-self : goal.invariant_of-self
 invariant_of-self c = (
-  sound-marked (table c) c.args.place c.page-entry.result c.args.status c.args.last (marking c) c.self.inside.counts c.self.invariant.0.counted,
+  rw c.set.ensures (sound-marked (table c) c.args.place c.page-entry.result c.args.status c.args.last (marking c) c.self.inside.counts c.self.invariant.0.counted),
   c.self.invariant.1,
   c.self.invariant.2,
 )
 
 pub returns-clause-contents : goal.returns-clause-contents
-returns-clause-contents c = rw (← c.self.view_is) (contents-marked (table c) c.args.place c.page-entry.result c.args.status c.args.last (marking c))
+returns-clause-contents c = rw (c.set.ensures, ← c.self.view_is) (contents-marked (table c) c.args.place c.page-entry.result c.args.status c.args.last (marking c))
 
 pub returns-clause-sharing : goal.returns-clause-sharing
-returns-clause-sharing c pass = rw (← c.self.view_is) (sharing-marked (table c) c.args.place c.page-entry.result c.args.status c.args.last (marking c) pass)
+returns-clause-sharing c pass = rw (c.set.ensures, ← c.self.view_is) (sharing-marked (table c) c.args.place c.page-entry.result c.args.status c.args.last (marking c) pass)
 
 pub returns-clause-used : goal.returns-clause-used
-returns-clause-used c = rw (← c.self.view_is) (used-marked (table c) c.args.place c.page-entry.result c.args.status c.args.last (marking c))
+returns-clause-used c = rw (c.set.ensures, ← c.self.view_is) (used-marked (table c) c.args.place c.page-entry.result c.args.status c.args.last (marking c))

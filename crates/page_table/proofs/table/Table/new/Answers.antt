@@ -1,4 +1,4 @@
-use Rattle.std.proofs.Common.{◌≡◌, ◌∙◌, max, replicate, None, ap, arith, rules}
+use Rattle.std.proofs.Common.{◌∙◌, max, replicate, ap, arith}
 use Rattle.host_types.specs.Pages.{zero_page}
 use Rattle.stable_tree.specs.Groups.{Groups}
 use Rattle.std.proofs.lemmas.List.{length-replicate}
@@ -8,7 +8,7 @@ use Rattle.page_table.proofs.table.Table.new.Goals as goal
 
 pub invariant_of-result : goal.invariant_of-result
 invariant_of-result c =
-    let entries : c.in_ok-entries.entries.items ≡ replicate c.args.places None = search rules in
+    let entries = c.in_ok-entries.ensures in
     let groups = c.in_ok-groups.ensures in
     let long = length-replicate c.args.frames zero_page in
     let tree = c.in_ok-reserve.ensures.reserved ∙ ap (λ (t : Groups). record t { room = max t.room c.args.frames }) c.new-tree.ensures in (

@@ -1,5 +1,5 @@
 use Rattle.std.proofs.Common.{◌≡◌, ◌≢◌, ◌∙◌, ⊎_elim, ℕ, ◌+◌, ◌<◌, false, length, slice_index_or, None, option_map, sym, ap, subst, arith}
-use Rattle.std.proofs.lemmas.List.{get_or_default, length-map}
+use Rattle.std.proofs.lemmas.List.{length-map}
 use Rattle.std.proofs.lemmas.Bool.Decides.{eqb_tells}
 use Rattle.std.proofs.Math.ListN.{get_or-map}
 use Rattle.host_types.specs.Visits.{is_mergeable}
@@ -8,14 +8,14 @@ use Rattle.page_table.proofs.Next.{next-over, next-here}
 use Rattle.page_table.proofs.table.Table.next_mergeable.Goals as goal
 use Rattle.page_table.proofs.table.Table.next_mergeable.Goals.{After-may_merge}
 
-inside : (c : After-may_merge) → c.loop-place.place < length c.self.inside.entries.items
+inside : (c : After-may_merge) → c.loop-place.place < length c.self.inside.entries
 inside c = let end = rw (← c.self.view_is) at c.requires in omega (arith, end, c.loop-place-test.true)
 
 told : (c : After-may_merge) → is_mergeable (slice_index_or (states_of c.args.self.now.entries) c.loop-place.place None) ≡ c.may_merge.result
 told c =
     rw (← c.self.view_is)
-    (ap is_mergeable (get_or-map (option_map state_of) c.self.inside.entries.items c.loop-place.place None
-    ∙ ap (option_map state_of) (get_or_default c.self.inside.entries.items c.loop-place.place None c.index.result.now (inside c) ∙ sym c.index.ensures))
+    (ap is_mergeable (get_or-map (option_map state_of) c.self.inside.entries c.loop-place.place None
+    ∙ ap (option_map state_of) (sym c.get.ensures))
     ∙ sym c.may_merge.ensures)
 
 pub loop-place-init : goal.loop-place-init
@@ -24,7 +24,7 @@ loop-place-init c = λ i le less. absurd (omega (arith, le, less))
 pub returns-then-may_merge : goal.returns-then-may_merge
 returns-then-may_merge c =
     let d = (goal.at.returns-then-may_merge c).After-may_merge in
-    let long = length-map c.self.inside.entries.items (option_map state_of) in
+    let long = length-map c.self.inside.entries (option_map state_of) in
     let there : c.loop-place.place < length (states_of c.args.self.now.entries) = rw (← c.self.view_is) (omega (arith, long, inside d)) in
     next-over (states_of c.args.self.now.entries) c.args.from c.loop-place.place c.loop-place.auto.place c.loop-place.invariant
     ∙ next-here (states_of c.args.self.now.entries) c.loop-place.place there (told d ∙ c.if-may_merge.true)

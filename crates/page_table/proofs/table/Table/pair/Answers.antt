@@ -11,14 +11,14 @@ use Rattle.page_table.proofs.table.Table.pair.Goals.{After-release}
 
 fits_first : (c : After-release) → c.page-one.result.frame < length c.self.inside.arena
 fits_first c =
-    let before : TableState = record { arena = c.self.inside.arena; entries = c.self.inside.entries.items; groups = c.self.inside.groups.listed } in
+    let before : TableState = record { arena = c.self.inside.arena; entries = c.self.inside.entries; groups = c.self.inside.groups.listed } in
     let there : entry_at before.entries c.args.first ≡ Some c.page-one.result = rw (← c.self.view_is) at c.page-one.ensures in
     (entry_fits before c.args.first c.page-one.result c.self.invariant.0.fits there).frame
 
 -- the first page is alone on its frame
-alone_first : (c : After-release) → IsAlone (record { arena = c.self.inside.arena; entries = c.self.inside.entries.items; groups = c.self.inside.groups.listed }) c.page-one.result.frame
+alone_first : (c : After-release) → IsAlone (record { arena = c.self.inside.arena; entries = c.self.inside.entries; groups = c.self.inside.groups.listed }) c.page-one.result.frame
 alone_first c =
-    let before : TableState = record { arena = c.self.inside.arena; entries = c.self.inside.entries.items; groups = c.self.inside.groups.listed } in
+    let before : TableState = record { arena = c.self.inside.arena; entries = c.self.inside.entries; groups = c.self.inside.groups.listed } in
     let there : entry_at before.entries c.args.first ≡ Some c.page-one.result = rw (← c.self.view_is) at c.page-one.ensures in
     let own : IsOwnAt before c.args.first = rw (← c.self.view_is) at c.requires.own_first in
     is_alone before c.page-one.result (entry_fits before c.args.first c.page-one.result c.self.invariant.0.fits there)
@@ -43,10 +43,10 @@ insert-requires-clause-new c = tree-absent c.self.inside.arena c.self.inside.gro
 
 pub insert-requires-clause-room : goal.insert-requires-clause-room
 insert-requires-clause-room c =
-    tree-room (record { arena = c.self.inside.arena; entries = c.self.inside.entries.items; groups = c.self.inside.groups.listed }) c.self.inside.counts c.self.inside.tree c.self.invariant.0 c.self.invariant.2
+    tree-room (record { arena = c.self.inside.arena; entries = c.self.inside.entries; groups = c.self.inside.groups.listed }) c.self.inside.counts c.self.inside.tree c.self.invariant.0 c.self.invariant.2
 
 abbrev table : goal.After-insert → TableState
-table c = record { arena = c.self.inside.arena; entries = c.self.inside.entries.items; groups = c.self.inside.groups.listed }
+table c = record { arena = c.self.inside.arena; entries = c.self.inside.entries; groups = c.self.inside.groups.listed }
 
 pairs : (c : goal.After-insert) → IsPairing (table c) c.args.first c.args.second c.page-one.result c.page-other.result c.merged.result c.merged-2.result
 pairs c =
@@ -64,7 +64,7 @@ pushed c =
 
 pub invariant_of-self : goal.invariant_of-self
 invariant_of-self c = (
-  rw (pushed c)
+  rw (c.set-2.ensures, c.set.ensures, pushed c)
       (sound-pair (table c) c.args.first c.args.second c.page-one.result c.page-other.result c.merged.result c.merged-2.result (pairs c)
       c.self.inside.counts c.share.new.self c.release.new.self c.self.invariant.0.counted c.share.ensures.counts c.share.ensures.unused c.release.ensures.counts c.release.ensures.unused),
   rw c.push.ensures c.self.invariant.1,
@@ -74,21 +74,21 @@ invariant_of-self c = (
 
 pub returns-clause-contents : goal.returns-clause-contents
 returns-clause-contents c =
-    rw (← c.self.view_is, pushed c)
+    rw (c.set-2.ensures, c.set.ensures, ← c.self.view_is, pushed c)
     (contents-pair (table c) c.args.first c.args.second c.page-one.result c.page-other.result c.merged.result c.merged-2.result (pairs c))
 
 pub returns-clause-sharing : goal.returns-clause-sharing
 returns-clause-sharing c pass =
-    rw (← c.self.view_is, pushed c)
+    rw (c.set-2.ensures, c.set.ensures, ← c.self.view_is, pushed c)
     (sharing-pair (table c) c.args.first c.args.second c.page-one.result c.page-other.result c.merged.result c.merged-2.result (pairs c) pass)
 
 pub returns-clause-used : goal.returns-clause-used
 returns-clause-used c =
-    rw (← c.self.view_is, pushed c)
+    rw (c.set-2.ensures, c.set.ensures, ← c.self.view_is, pushed c)
     (used-pair (table c) c.args.first c.args.second c.page-one.result c.page-other.result c.merged.result c.merged-2.result (pairs c))
 
 pub returns-clause-others : goal.returns-clause-others
 returns-clause-others c i ne_first ne_second =
-    rw (← c.self.view_is)
+    rw (c.set-2.ensures, c.set.ensures, ← c.self.view_is)
     (get_or-set_other (slice_set (table c).entries c.args.first (Some c.merged.result)) c.args.second i (Some c.merged-2.result) None ne_second
     ∙ get_or-set_other (table c).entries c.args.first i (Some c.merged.result) None ne_first)

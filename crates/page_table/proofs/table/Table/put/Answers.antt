@@ -1,5 +1,4 @@
-use Rattle.std.proofs.Common.{◌≡◌, ◌∙◌, false, List, length, Option, Some, None, IfSome, ℕ, sym, subst, arith, length-set}
-use Rattle.std.proofs.lemmas.List.{get_or_default}
+use Rattle.std.proofs.Common.{◌≡◌, ◌∙◌, false, List, length, Option, Some, IfSome, ℕ, sym, subst, arith, length-set}
 use Rattle.host_types.specs.Bytes.{with_part}
 use Rattle.host_types.specs.Sharing.{is_shared}
 use Rattle.frame_arena.specs.Pages.{page_at}
@@ -10,28 +9,28 @@ use Rattle.page_table.proofs.Putting.{is_alone, entry_fits, contents-put, sound-
 use Rattle.page_table.proofs.Trees.{tree-set}
 use Rattle.page_table.proofs.table.Table.put.Goals as goal
 
-pub index-requires : goal.index-requires
-index-requires c =
-    let there : IsPageAt (record { arena = c.self.inside.arena; entries = c.self.inside.entries.items; groups = c.self.inside.groups.listed }) c.args.place = rw (← c.self.view_is) at c.requires.there in
+pub get-requires : goal.get-requires
+get-requires c =
+    let there : IsPageAt (record { arena = c.self.inside.arena; entries = c.self.inside.entries; groups = c.self.inside.groups.listed }) c.args.place = rw (← c.self.view_is) at c.requires.there in
     let inside = page_inside _ c.args.place there in omega (arith, inside)
 
 pub unreachable-requires : goal.unreachable-requires
 unreachable-requires c =
-    let there : IsPageAt (record { arena = c.self.inside.arena; entries = c.self.inside.entries.items; groups = c.self.inside.groups.listed }) c.args.place = rw (← c.self.view_is) at c.requires.there in
+    let there : IsPageAt (record { arena = c.self.inside.arena; entries = c.self.inside.entries; groups = c.self.inside.groups.listed }) c.args.place = rw (← c.self.view_is) at c.requires.there in
     page_there _ c.args.place there
-    (get_or_default c.self.inside.entries.items c.args.place None c.index.result.now (page_inside _ c.args.place there) ∙ sym c.index.ensures ∙ c.in_default.is)
+    (sym c.get.ensures ∙ c.in_default.is)
 
 abbrev table : goal.After-put → TableState
-table c = record { arena = c.self.inside.arena; entries = c.self.inside.entries.items; groups = c.self.inside.groups.listed }
+table c = record { arena = c.self.inside.arena; entries = c.self.inside.entries; groups = c.self.inside.groups.listed }
 
 here : (c : goal.After-put) → entry_at (table c).entries c.args.place ≡ Some c.in-Some.entry
 here c =
     let there : IsPageAt (table c) c.args.place = rw (← c.self.view_is) at c.requires.there in
-    get_or_default c.self.inside.entries.items c.args.place None c.index.result.now (page_inside (table c) c.args.place there) ∙ sym c.index.ensures ∙ c.in-Some.is
+    sym c.get.ensures ∙ c.in-Some.is
 
 lone : (c : goal.After-put) → IsAlone (table c) c.in-Some.entry.frame
 lone c =
-    let own : IfSome (entry_at c.self.inside.entries.items c.args.place) (λ (entry : Entry). is_shared entry.status ≡ false) = rw (← c.self.view_is) at c.requires.own in
+    let own : IfSome (entry_at c.self.inside.entries c.args.place) (λ (entry : Entry). is_shared entry.status ≡ false) = rw (← c.self.view_is) at c.requires.own in
     is_alone (table c) c.in-Some.entry (entry_fits (table c) c.args.place c.in-Some.entry c.self.invariant.0.fits (here c))
     (subst (λ (x : Option Entry). IfSome x (λ (entry : Entry). is_shared entry.status ≡ false)) (here c) own)
 
@@ -58,7 +57,7 @@ returns-clause-contents c =
 
 pub put-requires-clause-frame : goal.put-requires-clause-frame
 put-requires-clause-frame c =
-    let whole : TableState = record { arena = c.self.inside.arena; entries = c.self.inside.entries.items; groups = c.self.inside.groups.listed } in
+    let whole : TableState = record { arena = c.self.inside.arena; entries = c.self.inside.entries; groups = c.self.inside.groups.listed } in
     let there : IsPageAt whole c.args.place = rw (← c.self.view_is) at c.requires.there in
-    let here = get_or_default c.self.inside.entries.items c.args.place None c.index.result.now (page_inside whole c.args.place there) ∙ sym c.index.ensures ∙ c.in-Some.is in
+    let here = sym c.get.ensures ∙ c.in-Some.is in
     (entry_fits whole c.args.place c.in-Some.entry c.self.invariant.0.fits here).frame

@@ -1,5 +1,4 @@
-use Rattle.std.proofs.Common.{◌≡◌, ◌∙◌, ◌+◌, ◌≤◌, ◌<◌, ℕ, not, slice_index_or, Bool, true, false, Some, None, refl, sym, arith}
-use Rattle.std.proofs.lemmas.List.{get_or_default}
+use Rattle.std.proofs.Common.{◌≡◌, ◌∙◌, ◌+◌, ◌≤◌, ◌<◌, ℕ, not, slice_index_or, Bool, true, false, Some, refl, sym, arith}
 use Rattle.host_types.specs.Sharing.{is_shared}
 use Rattle.page_table.specs.Table.{TableState, IsEntry, IsPageAt, entry_at, pages_on, one_if_zero, cost_at}
 use Rattle.page_table.proofs.Costs.{cost-own, cost-one, cost-last, count-some}
@@ -8,24 +7,24 @@ use Rattle.page_table.proofs.Putting.{entry_fits, page_inside, page_there}
 use Rattle.page_table.proofs.table.Table.take_out.Goals as goal
 use Rattle.page_table.proofs.table.Table.take_out.Goals.{In-Some}
 
-pub index-requires : goal.index-requires
-index-requires c =
-    let there : IsPageAt (record { arena = c.self.inside.arena; entries = c.self.inside.entries.items; groups = c.self.inside.groups.listed }) c.args.place = rw (← c.self.view_is) at c.requires.there in
+pub get-requires : goal.get-requires
+get-requires c =
+    let there : IsPageAt (record { arena = c.self.inside.arena; entries = c.self.inside.entries; groups = c.self.inside.groups.listed }) c.args.place = rw (← c.self.view_is) at c.requires.there in
     let inside = page_inside _ c.args.place there in omega (arith, inside)
 
 pub unreachable-requires : goal.unreachable-requires
 unreachable-requires c =
-    let there : IsPageAt (record { arena = c.self.inside.arena; entries = c.self.inside.entries.items; groups = c.self.inside.groups.listed }) c.args.place = rw (← c.self.view_is) at c.requires.there in
+    let there : IsPageAt (record { arena = c.self.inside.arena; entries = c.self.inside.entries; groups = c.self.inside.groups.listed }) c.args.place = rw (← c.self.view_is) at c.requires.there in
     page_there _ c.args.place there
-    (get_or_default c.self.inside.entries.items c.args.place None c.index.result.now (page_inside _ c.args.place there) ∙ sym c.index.ensures ∙ c.in_default.is)
+    (sym c.get.ensures ∙ c.in_default.is)
 
 abbrev table : In-Some → TableState
-table c = record { arena = c.self.inside.arena; entries = c.self.inside.entries.items; groups = c.self.inside.groups.listed }
+table c = record { arena = c.self.inside.arena; entries = c.self.inside.entries; groups = c.self.inside.groups.listed }
 
 here : (c : In-Some) → entry_at (table c).entries c.args.place ≡ Some c.in-Some.entry
 here c =
     let there : IsPageAt (table c) c.args.place = rw (← c.self.view_is) at c.requires.there in
-    get_or_default c.self.inside.entries.items c.args.place None c.index.result.now (page_inside (table c) c.args.place there) ∙ sym c.index.ensures ∙ c.in-Some.is
+    sym c.get.ensures ∙ c.in-Some.is
 
 fits : (c : In-Some) → IsEntry (table c) c.in-Some.entry
 fits c = entry_fits (table c) c.args.place c.in-Some.entry c.self.invariant.0.fits (here c)

@@ -1,0 +1,46 @@
+ghost use Rattle.std.specs.Prelude.{◌≡◌, ◌+◌, ◌*◌, ◌≤◌, Some, IfOk, OnOk, IfErr, OnErr};
+ghost use Rattle.host_types.specs.Memory.{map_at};
+ghost use Rattle.host_types.specs.Pages.{map_place};
+ghost use Rattle.page_table.specs.Limits.{page_count, shape_of};
+ghost use Rattle.page_table.specs.State.{part, free_number, have_of};
+ghost use Rattle.page_table.specs.Changes.{IsKeptBut, AreMapsKeptBut, KeepsSettings, part_created, with_new_pages, zero_map};
+ghost use Rattle.host_calls.specs.Calls.{FitsNewMap, RefusesNewMap, TellsHave};
+
+use host_types::{Fault, MapNo};
+use page_table::Memory;
+
+/// Makes a map of zeros for a tenant, at its first free number. Its pages were never visited.
+///
+/// Refusals in their order: 42 where there is no such tenant, 32 where it has eight maps, 33 where the
+/// shape is out of limits, 31 just where the map's pages are more than `have()`, 41 where memory ran out.
+/// A missing frame tells both numbers. A refusal changes nothing.
+#[tactic(auto, using(crate::proofs::NewMaps::new_map_refused, crate::proofs::NewMaps::new_map_told))]
+pub fn host_create_map(
+    memory: &mut Memory,
+    tenant: u32,
+    value_size: u32,
+    entries: u32,
+    mergeable: bool,
+) -> Result<MapNo, Fault>
+    ensures fits { OnOk result (FitsNewMap (part memory.old tenant) (shape_of value_size entries)) }
+    ensures enough { OnOk result (page_count (shape_of value_size entries) ≤ have_of memory.old) }
+    ensures number { IfOk result (λ m. free_number (part memory.old tenant) ≡ Some m) }
+    ensures created { IfOk result (λ m.
+        part memory.new tenant ≡ part_created (part memory.old tenant) m (shape_of value_size entries)) }
+    ensures there { IfOk result (λ m.
+        map_at (part memory.new tenant).maps m ≡ Some (zero_map (shape_of value_size entries))) }
+    ensures other_maps { IfOk result (λ m.
+        AreMapsKeptBut m (part memory.old tenant) (part memory.new tenant)) }
+    ensures others { IsKeptBut tenant memory.old memory.new }
+    ensures sharing { IfOk result (λ m. memory.new.sharing ≡ with_new_pages memory.old.sharing
+        (map_place tenant m * 256) (page_count (shape_of value_size entries)) mergeable) }
+    ensures have { OnOk result
+        (have_of memory.new + page_count (shape_of value_size entries) ≡ have_of memory.old) }
+    ensures settings { KeepsSettings memory.old memory.new }
+    ensures refused { IfErr result (RefusesNewMap (part memory.old tenant) (shape_of value_size entries)) }
+    ensures told { IfErr result (TellsHave memory.old) }
+    ensures unchanged { OnErr result (memory.new ≡ memory.old) }
+{
+    memory.facts();
+    memory.create_map(tenant, value_size, entries, mergeable)
+}

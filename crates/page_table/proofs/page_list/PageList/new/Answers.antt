@@ -1,0 +1,13 @@
+use Rattle.std.proofs.Common.{◌≡◌, replicate, Option, None, arith, rules}
+use Rattle.std.proofs.lemmas.List.{length-replicate}
+use Rattle.page_table.specs.declared.entry.Entry.{Entry}
+use Rattle.page_table.proofs.Tallying.{counted-none}
+use Rattle.page_table.proofs.page_list.PageList.new.Goals as goal
+
+pub invariant_of-result : goal.invariant_of-result
+invariant_of-result c =
+    let pages : c.in_ok-pages.pages.items ≡ replicate c.args.places None = search rules in
+    rw pages (
+      let long = length-replicate {A = Option Entry} c.args.places None in omega (arith, long, c.requires),
+      counted-none c.args.places,
+    )
