@@ -1,7 +1,6 @@
 //! The memory beside the plain program of pages that share frames, over operations that a fixed
 //! generator draws: new maps, stores, visits, options and unmergings. After each one both have to tell the
-//! same, the counters too, and each 50th time all bytes are compared with a plain copy. The file `stdout` says
-//! what is wanted.
+//! same, the counters too, and all bytes are those of a plain copy. The file `stdout` says what is wanted.
 #![tactic(auto)]
 
 ghost use Rattle.std.specs.Prelude.{◌<◌, ◌≤◌};
@@ -16,10 +15,7 @@ use std::alloc::{AllocError, Global};
 use std::io;
 
 /// How many operations are drawn for each number of frames.
-const OPERATIONS: u32 = 2500;
-
-/// After how many operations all bytes are compared.
-const BYTES_EACH: u32 = 50;
+const OPERATIONS: u32 = 10_000;
 
 /// Draws a map and makes it, by a tenant that may not be there: of one short value, or of some pages.
 fn map(alloc: Global, both: &mut Both, draws: &mut Draws, pages: u32) -> Result<bool, AllocError>
@@ -91,10 +87,7 @@ fn first_wrong(alloc: Global, frames: u32) -> Result<Option<u32>, AllocError> {
     };
     for number in 0..OPERATIONS {
         let is_told = operate(alloc, &mut both, &mut draws, pages)?;
-        if !is_told || !both.agree(alloc)? {
-            return Ok(Some(number));
-        }
-        if number % BYTES_EACH == 0 && !both.bytes_agree() {
+        if !is_told || !both.agree(alloc)? || !both.bytes_agree() {
             return Ok(Some(number));
         }
     }

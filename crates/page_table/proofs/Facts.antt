@@ -13,7 +13,7 @@ use Rattle.host_types.specs.declared.shape.Page.{Page}
 use Rattle.host_types.specs.Memory.{map_at}
 use Rattle.host_types.specs.Pages.{map_place, page_place}
 use Rattle.host_types.specs.Sharing.{PageState, is_among}
-use Rattle.host_types.specs.Visits.{contents_in}
+use Rattle.host_types.specs.Visits.{contents_in, next_from}
 use Rattle.frame_arena.specs.Pages.{page_at}
 use Rattle.page_table.specs.declared.entry.Entry.{Entry}
 use Rattle.page_table.specs.declared.tenant.Tenant.{Tenant}
@@ -328,9 +328,9 @@ module _ (table : TableState) (shapes : List (Option Shape)) (tenants : List Ten
           let same : slice_index_or counts.counts f 1 ≡ pages_on f table.entries = omega (arith, count, none) in
           ap one_if_zero same ∙ empty-frame f table.entries
 
-  pub reads_as : ReadsAs (view_of table shapes tenants pass)
+  pub reads_as : IfSome pass.cursor (λ c. IsSome (next_from (sharing_of table pass) (c + 1))) → ReadsAs (view_of table shapes tenants pass)
   unfolding view_of
-  reads_as =
+  reads_as ahead =
       record {
         one_frame = one_frame table pass sound.fits;
         zero_frame = λ i. (λ h. to_zero i (lies table i 0 sound.fits h), λ h. from_zero i (told table pass i Zero sound.fits h));
@@ -343,6 +343,7 @@ module _ (table : TableState) (shapes : List (Option Shape)) (tenants : List Ten
         paged = paged_there table shapes tenants pass reserved is sound.fits;
         eight = length-maps_of shapes (contents_of table) ∙ is.numbers;
         groups = are_groups table pass sound.fits;
+        ahead = ahead;
       }
     where
       to_zero : (i : ℕ) → Lies table i 0 → status_at (sharing_of table pass) i ≡ Some Zero

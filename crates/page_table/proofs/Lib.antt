@@ -33,3 +33,4 @@ pub mod Partners
 pub mod Trees
 pub mod Nodes
 pub mod Slots
+pub mod Ahead

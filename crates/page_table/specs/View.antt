@@ -1,8 +1,10 @@
 -- How a memory's parts read together, and what holds of them.
-use Rattle.std.specs.Prelude.{◌≡◌, ℕ, ◌+◌, ◌*◌, ◌<◌, ◌≤◌, ◌==◌, nat_le, Bool, true, false, List, [], ◌∷◌, length, sum_by, Option, None, Some, IfSome, ⊤}
+use Rattle.std.specs.Prelude.{◌≡◌, ℕ, ◌+◌, ◌*◌, ◌<◌, ◌≤◌, ◌==◌, nat_le, Bool, true, false, List, [], ◌∷◌, length, sum_by, slice_index_or, Option, None, Some, IfSome, ⊤}
 use Rattle.std.specs.List.{list_any}
 use Rattle.host_types.specs.declared.shape.Shape.{Shape}
 use Rattle.host_types.specs.declared.status.Status.TheVariants.{Waiting}
+use Rattle.host_types.specs.Sharing.{PageState}
+use Rattle.host_types.specs.Visits.{is_mergeable}
 use Rattle.unstable_tree.specs.declared.tree.Waiter.{Waiter}
 use Rattle.page_table.specs.declared.entry.Entry.{Entry}
 use Rattle.page_table.specs.declared.pass.Pass.{Pass}
@@ -52,6 +54,11 @@ pub record IsWaiter (entries : List (Option Entry)) (cursor : Option ℕ) (w : W
 abbrev pub AreWaiters : List (Option Entry) → Option ℕ → List Waiter → Type 0
 AreWaiters entries cursor [] = ⊤
 AreWaiters entries cursor (w ∷ ws) = IsWaiter entries cursor w × (is_listed w.place ws ≡ false) × AreWaiters entries cursor ws
+
+-- unless a pass begins, a page behind the cursor may be merged
+abbrev pub IsAhead : List (Option PageState) → Option ℕ → Type 0
+IsAhead pages None = ⊤
+IsAhead pages (Some c) = (i : ℕ) × (c < i) × (is_mergeable (slice_index_or pages i None) ≡ true)
 
 -- the pass fits the table
 pub record IsPass (table : TableState) (pass : Pass) : Type 0 where

@@ -57,14 +57,17 @@ pub struct Memory {
 
 impl Model for Memory {
     ghost use Rattle.page_table.specs.State.{MemoryState};
-    ghost use Rattle.page_table.specs.View.{view_of, IsMemory, IsPass};
+    ghost use Rattle.page_table.specs.Table.{states_of};
+    ghost use Rattle.page_table.specs.View.{view_of, IsMemory, IsPass, IsAhead};
 
     ghost Value = { MemoryState };
 
     ghost view = { λ m. view_of m.table m.shapes.items m.tenants.items m.pass };
 
     ghost invariant = { λ m.
-        IsMemory m.table m.shapes.items m.tenants.items m.reserved × IsPass m.table m.pass };
+        IsMemory m.table m.shapes.items m.tenants.items m.reserved
+        × IsPass m.table m.pass
+        × IsAhead (states_of m.table.entries) m.pass.cursor };
 }
 
 /// Whether a memory may have this size.

@@ -1,11 +1,10 @@
 -- The definition of a visit, case by case.
-use Rattle.std.proofs.Common.{◌≡◌, ◌≢◌, ◌∙◌, ℕ, ◌+◌, ◌≤◌, ◌==◌, ◌&&◌, bytes_eq, not, Bool, true, false, if◌then◌else◌, List, length, Option, Some, None, IfSome, option_map, is_some, slice_index_or, refl, sym, ap, subst, arith}
+use Rattle.std.proofs.Common.{◌≡◌, ◌≢◌, ◌∙◌, ℕ, ◌+◌, ◌≤◌, ◌==◌, ◌&&◌, bytes_eq, Bool, true, false, if◌then◌else◌, List, Option, Some, None, IfSome, option_map, is_some, slice_index_or, refl, sym, ap, subst, arith}
 use Rattle.std.proofs.lemmas.Bool.Decides.{nat_tests}
-use Rattle.host_types.specs.declared.visited.Visited.{Visited}
 use Rattle.host_types.specs.declared.visited.Visited.TheVariants as visited
 use Rattle.host_types.specs.Pages.{zero_page, fingerprint_of}
 use Rattle.host_types.specs.Sharing.{Sharing, PageState, state_at, is_shared, paired, zeroed}
-use Rattle.host_types.specs.Visits.{Contents, Visit, visit, visit_of, begun, moved_on, waiting_at, page_to_visit, next_from, decided, looked_at, has_open, joined, changed, had, met, find_partner, waits}
+use Rattle.host_types.specs.Visits.{Contents, visit, visit_of, begun, moved_on, page_to_visit, next_from, decided, looked_at, has_open, joined, changed, had, met, find_partner, waits}
 
 -- the scanner is stopped
 pub visit-stopped : (contents : Contents) (s : Sharing) → (s.options.run == 1) ≡ false → visit contents s ≡ (visited.Idle, s)

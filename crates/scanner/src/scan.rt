@@ -1,10 +1,12 @@
 ghost use Rattle.std.specs.Prelude.{◌≡◌, ◌≤◌, ◌<◌, length, true, false, None, IfSome, IsTrue, ◌↔◌, ◌==◌, ◌&&◌, bytes_eq};
 ghost use Rattle.host_types.specs.Pages.{page_place, zero_page, fingerprint_of};
 ghost use Rattle.host_types.specs.Sharing.{state_at};
+ghost use Rattle.host_types.specs.declared.visited.Visited.TheVariants.{Idle};
 ghost use Rattle.host_types.specs.Visits.{visit, decided, had, met, find_partner, waiting_at, is_mergeable, contents_in};
 ghost use Rattle.frame_arena.specs.Pages.{page_at};
 ghost use Rattle.page_table.specs.State.{MemoryState, part, frame_at};
 ghost use Rattle.page_table.specs.Changes.{AreKept, KeepsSettings, IsPageOf, MayMerge, IsNotWaiting, HadFingerprint, contents_now};
+ghost use Rattle.scanner.specs.Idle.{IsIdle};
 
 use host_types::{Page, Visited};
 use page_table::{Entry, Memory};
@@ -15,14 +17,17 @@ const RUN: u32 = 1;
 /// The value of the option `use_zero_pages` at which pages of zeros go to the zero frame.
 const USE_ZERO_PAGES: u32 = 1;
 
-/// One visit: of the next page that may be merged, where the scanner runs and there is one. What it did
-/// and what it left is the definition's function of the sharing state and the pages' bytes.
+/// One visit: of the next page that may be merged. What it did and what it left is the definition's
+/// function of the sharing state and the pages' bytes. It is idle exactly where the scanner is stopped or
+/// no page may be merged.
 pub fn visit(memory: &mut Memory) -> Visited
     ensures visited { visit (contents_in memory.old.maps) memory.old.sharing ≡ (result, memory.new.sharing) }
+    ensures idle { result ≡ Idle ↔ IsIdle memory.old.sharing }
     ensures maps { memory.new.maps ≡ memory.old.maps }
     ensures kept { AreKept memory.old memory.new }
     ensures settings { KeepsSettings memory.old memory.new }
 {
+    memory.facts();
     if memory.options().run != RUN {
         return Visited::Idle;
     }

@@ -1,4 +1,4 @@
-use Rattle.std.proofs.Common.{◌≡◌, ◌∙◌, ◌==◌, ◌&&◌, bytes_eq, is_some, Bool, true, false, sym, ap}
+use Rattle.std.proofs.Common.{◌≡◌, ◌∙◌, ◌==◌, ◌&&◌, bytes_eq, is_some, sym, ap}
 use Rattle.host_types.specs.declared.visited.Visited.TheVariants as visited
 use Rattle.host_types.specs.Pages.{page_place, fingerprint_of, zero_page}
 use Rattle.host_types.specs.Visits.{had, met, find_partner, changed}

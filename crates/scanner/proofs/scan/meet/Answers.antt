@@ -1,4 +1,4 @@
-use Rattle.std.proofs.Common.{◌≡◌, ◌∙◌, ℕ, sym, ap, Some, option_map}
+use Rattle.std.proofs.Common.{◌∙◌, sym, ap, option_map}
 use Rattle.host_types.specs.declared.visited.Visited.TheVariants as visited
 use Rattle.host_types.specs.Pages.{page_place}
 use Rattle.host_types.specs.Visits.{find_partner}

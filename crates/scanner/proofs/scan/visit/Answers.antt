@@ -1,11 +1,12 @@
-use Rattle.std.proofs.Common.{◌≡◌, ◌∙◌, ◌==◌, Bool, true, false, None, Some, ℕ, IfSome, ◌≤◌, option_map, refl, sym, ap, subst}
+use Rattle.std.proofs.Common.{◌≡◌, ◌∙◌, ◌==◌, ℕ, IfSome, ◌≤◌, option_map, refl, sym, ap, subst}
 use Rattle.host_types.specs.declared.options.Options.{Options}
 use Rattle.host_types.specs.Pages.{page_place}
-use Rattle.host_types.specs.Sharing.{Sharing, state_at}
+use Rattle.host_types.specs.Sharing.{state_at}
 use Rattle.host_types.specs.Visits.{begun, decided, is_mergeable, contents_in}
-use Rattle.page_table.specs.State.{MemoryState, part, bytes_of_map}
+use Rattle.page_table.specs.State.{MemoryState, part}
 use Rattle.page_table.specs.Changes.{IsPageOf}
 use Rattle.scanner.proofs.Visits.{visit-stopped, visit-none, visit-page, begun-pages, moved-behind, is-same, is-other}
+use Rattle.scanner.proofs.Idle.{idle-law}
 use Rattle.scanner.proofs.scan.visit.Goals as goal
 use Rattle.scanner.proofs.scan.visit.Goals.{After-advance}
 
@@ -22,6 +23,12 @@ pub returns-in_default-clause-visited : goal.returns-in_default-clause-visited
 returns-in_default-clause-visited c =
     visit-none (contents_in c.args.memory.now.maps) c.args.memory.now.sharing (ap (λ (o : Options). o.run == 1) (sym c.options.ensures) ∙ is-same c.options.result.run 1 c.if-options-ne-RUN.false)
     (sym c.next_page.ensures.place ∙ ap (option_map page_place) c.in_default.is)
+
+pub returns-then-options-ne-RUN-clause-idle : goal.returns-then-options-ne-RUN-clause-idle
+returns-then-options-ne-RUN-clause-idle c = idle-law (contents_in c.args.memory.now.maps) c.args.memory.now.sharing _ _ c.facts.ensures.ahead (returns-then-options-ne-RUN-clause-visited c)
+
+pub returns-in_default-clause-idle : goal.returns-in_default-clause-idle
+returns-in_default-clause-idle c = idle-law (contents_in c.args.memory.now.maps) c.args.memory.now.sharing _ _ c.facts.ensures.ahead (returns-in_default-clause-visited c)
 
 pub look_at-requires-clause-there : goal.look_at-requires-clause-there
 unfolding part
@@ -46,6 +53,9 @@ returns-clause-visited c =
     ∙ ap (decided (contents_in c.args.memory.now.maps) (begun c.args.memory.now.sharing i) i) (sym (begun-pages c.args.memory.now.sharing i i))
     ∙ ap (λ (memory : MemoryState). decided (contents_in memory.maps) memory.sharing i (state_at memory.sharing i)) (sym begun_here)
     ∙ c.look_at.ensures.decided
+
+pub returns-clause-idle : goal.returns-clause-idle
+returns-clause-idle c = idle-law (contents_in c.args.memory.now.maps) c.args.memory.now.sharing _ _ c.facts.ensures.ahead (returns-clause-visited c)
 
 pub returns-clause-kept : goal.returns-clause-kept
 unfolding part

@@ -7,6 +7,7 @@ use Rattle.page_table.specs.Table.{contents_of, states_of, used_by}
 use Rattle.page_table.specs.View.{view_of}
 use Rattle.page_table.proofs.Creating.{Creates, memory_created, creates, index_inside, places_inside, few_entries, no_contents, tenant_inside, number_empty, room_inside}
 use Rattle.page_table.proofs.Waiters.{pass-kept, kept-own}
+use Rattle.page_table.proofs.Ahead.{ahead-more}
 use Rattle.page_table.proofs.memory.Memory.add_map.Goals as goal
 
 pub add_pages-requires-clause-there : goal.add_pages-requires-clause-there
@@ -44,6 +45,7 @@ invariant_of-self c = (
   rw c.map_index-index.ensures (memory_created c.self.inside.table c.add_pages.new.table c.self.inside.shapes.items c.self.inside.tenants.items c.self.inside.pass c.self.inside.reserved c.args.tenant c.args.number c.args.shape c.args.mergeable
       c.self.invariant.0 c.requires.number (tenant_inside c.self.inside.table c.self.inside.shapes.items c.self.inside.tenants.items c.self.inside.pass c.args.self.now c.self.view_is c.args.tenant c.requires.tenant) (number_empty c.self.inside.table c.self.inside.shapes.items c.self.inside.tenants.items c.self.inside.pass c.args.self.now c.self.view_is c.args.tenant c.args.number c.requires.number c.requires.none) c.requires.shape (contents c) (states c) c.add_pages.ensures.groups (used c) c.add_pages.ensures.arena (room_inside c.self.inside.table c.self.inside.shapes.items c.self.inside.tenants.items c.self.inside.pass c.args.self.now c.self.view_is c.self.inside.reserved (page_count c.args.shape) c.self.invariant.0 c.requires.room)),
   pass-kept c.self.inside.table c.add_pages.new.table c.self.inside.pass c.self.invariant.1 (kept-own c.self.inside.table c.add_pages.new.table c.add_pages.ensures.kept) c.add_pages.ensures.arena,
+  ahead-more c.self.inside.table c.add_pages.new.table c.self.inside.pass c.self.inside.pass.cursor c.add_pages.ensures.kept c.self.invariant.2,
 )
 
 told : (c : goal.After-self-1) → Creates (view_of c.self.inside.table c.self.inside.shapes.items c.self.inside.tenants.items c.self.inside.pass) (view_of c.add_pages.new.table (slice_set c.self.inside.shapes.items (map_place c.args.tenant c.args.number) (Some c.args.shape)) c.self.inside.tenants.items c.self.inside.pass) c.args.tenant c.args.number c.args.shape c.args.mergeable

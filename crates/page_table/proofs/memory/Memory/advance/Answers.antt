@@ -7,6 +7,7 @@ use Rattle.page_table.specs.View.{view_of, AreWaiters, is_listed}
 use Rattle.page_table.proofs.Creating.{length-contents}
 use Rattle.page_table.proofs.Next.{next-is}
 use Rattle.page_table.proofs.Partners.{advanced, moved-on, moved-ended, pass-on, pass-ended, waits-not}
+use Rattle.page_table.proofs.Ahead.{ahead-next}
 use Rattle.page_table.proofs.memory.Memory.advance.Goals as goal
 use Rattle.page_table.proofs.memory.Memory.advance.Goals.{After-is_some}
 
@@ -36,10 +37,10 @@ more c = rw (← c.place_of-place.ensures) (ap is_some (sym c.next_mergeable.ens
 pub invariant_of-self : goal.invariant_of-self
 invariant_of-self c =
     let d = (goal.at.invariant_of-self c).After-is_some in
-    (c.self.invariant.0, rw c.place_of-place.ensures (pass-on c.self.inside.table c.self.inside.pass (page_place c.args.page) c.self.invariant.1 (gone d).0 (small d)))
+    (c.self.invariant.0, rw c.place_of-place.ensures (pass-on c.self.inside.table c.self.inside.pass (page_place c.args.page) c.self.invariant.1 (gone d).0 (small d)), rw c.place_of-place.ensures (ahead-next (states_of c.self.inside.table.entries) (page_place c.args.page) (more d ∙ c.if-is_some.true)))
 
 pub invariant_of-self-else-is_some : goal.invariant_of-self-else-is_some
-invariant_of-self-else-is_some c = (c.self.invariant.0, rw c.end.ensures (pass-ended c.self.inside.table c.self.inside.pass _ c.self.invariant.1))
+invariant_of-self-else-is_some c = (c.self.invariant.0, rw c.end.ensures (pass-ended c.self.inside.table c.self.inside.pass _ c.self.invariant.1), rw c.end.ensures tt)
 
 pub returns-then-is_some-clause-moved : goal.returns-then-is_some-clause-moved
 unfolding view_of

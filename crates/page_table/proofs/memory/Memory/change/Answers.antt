@@ -7,6 +7,8 @@ use Rattle.page_table.proofs.Writing.{own_entry}
 use Rattle.page_table.proofs.Merging.{maps_kept, parts_kept, settings_kept, memory_kept, have_less, may_is_own}
 use Rattle.page_table.proofs.Partners.{not-waiting}
 use Rattle.page_table.proofs.Waiters.{pass-others}
+use Rattle.page_table.proofs.Ahead.{ahead-told, stay-marked}
+use Rattle.page_table.specs.Table.{sharing_of}
 use Rattle.page_table.proofs.memory.Memory.change.Goals as goal
 
 pub mark-requires-clause-there : goal.mark-requires-clause-there
@@ -28,6 +30,7 @@ invariant_of-self c =
       memory_kept c.self.inside.table c.mark.new.self c.self.inside.shapes.items c.self.inside.tenants.items c.self.inside.pass c.self.inside.pass c.mark.ensures.contents (arena c)
           c.self.inside.reserved c.self.invariant.0 (omega (arith, c.mark.ensures.used, c.self.invariant.0.room)),
       pass-others c.self.inside.table c.mark.new.self c.self.inside.pass c.place_of.result c.self.invariant.1 (rw c.place_of.ensures (not-waiting c.self.inside.table c.self.inside.shapes.items c.self.inside.tenants.items c.self.inside.pass c.args.page free)) c.mark.ensures.others (arena c),
+      ahead-told c.self.inside.table c.mark.new.self c.self.inside.pass _ c.self.inside.pass.cursor (c.mark.ensures.sharing c.self.inside.pass) (stay-marked (sharing_of c.self.inside.table c.self.inside.pass) c.place_of.result _ _) c.self.invariant.2,
     )
 
 pub returns-clause-maps : goal.returns-clause-maps

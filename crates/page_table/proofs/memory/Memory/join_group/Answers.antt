@@ -1,7 +1,9 @@
-use Rattle.std.proofs.Common.{◌≡◌, ◌∙◌, ◌≤◌, true, find, Some, sym, arith}
+use Rattle.std.proofs.Common.{◌≡◌, ◌∙◌, ◌≤◌, true, find, Some, refl, sym, arith}
 use Rattle.host_types.specs.Pages.{page_place}
 use Rattle.page_table.specs.Changes.{IsPageOf, MayMerge, IsNotWaiting, contents_now, open_frame}
-use Rattle.page_table.specs.Table.{is_open_frame, times}
+use Rattle.host_types.specs.declared.status.Status.TheVariants.{Grouped}
+use Rattle.host_types.specs.Sharing.{with_status}
+use Rattle.page_table.specs.Table.{is_open_frame, times, states_of}
 use Rattle.page_table.specs.View.{view_of}
 use Rattle.page_table.proofs.Reading.{is_page_at, content_is}
 use Rattle.page_table.proofs.Writing.{own_entry}
@@ -9,6 +11,7 @@ use Rattle.page_table.proofs.Merging.{maps_kept, parts_kept, settings_kept, memo
 use Rattle.page_table.proofs.Partners.{not-waiting}
 use Rattle.page_table.proofs.Scanning.{bytes_here, open-frame, find-in, open-bytes, sharing-joins}
 use Rattle.page_table.proofs.Waiters.{pass-others}
+use Rattle.page_table.proofs.Ahead.{ahead-kept, stay-set}
 use Rattle.page_table.proofs.memory.Memory.join_group.Goals as goal
 use Rattle.page_table.proofs.memory.Memory.join_group.Goals.{After-place_of}
 
@@ -48,6 +51,7 @@ invariant_of-self c =
       memory_kept c.self.inside.table c.join.new.self c.self.inside.shapes.items c.self.inside.tenants.items c.self.inside.pass c.self.inside.pass c.join.ensures.contents c.join.ensures.arena
           c.self.inside.reserved c.self.invariant.0 (omega (arith, c.join.ensures.used, c.self.invariant.0.room)),
       pass-others c.self.inside.table c.join.new.self c.self.inside.pass c.place_of.result c.self.invariant.1 (rw c.place_of.ensures (not-waiting c.self.inside.table c.self.inside.shapes.items c.self.inside.tenants.items c.self.inside.pass c.args.page free)) c.join.ensures.others c.join.ensures.arena,
+      rw c.join.ensures.states (ahead-kept _ _ c.self.inside.pass.cursor (stay-set (states_of c.self.inside.table.entries) c.place_of.result (with_status Grouped) (λ state. refl)) c.self.invariant.2),
     )
 
 pub returns-clause-maps : goal.returns-clause-maps

@@ -1,15 +1,16 @@
-use Rattle.std.proofs.Common.{◌≡◌, ◌∙◌, ℕ, ap, arith}
+use Rattle.std.proofs.Common.{◌≡◌, ◌≢◌, ◌∙◌, ℕ, ap, arith}
 use Rattle.host_types.specs.Pages.{page_place, page_bytes}
 use Rattle.page_table.specs.State.{MemoryState, bytes_of_map}
 use Rattle.page_table.specs.Changes.{IsPageOf, MayMerge}
 use Rattle.unstable_tree.specs.WaitingList.{WaitingList}
 use Rattle.host_types.specs.Sharing.{paired}
-use Rattle.page_table.specs.Table.{sharing_of}
+use Rattle.page_table.specs.Table.{sharing_of, forgets}
 use Rattle.page_table.specs.View.{view_of}
 use Rattle.page_table.proofs.Reading.{is_page_at}
 use Rattle.page_table.proofs.Writing.{own_entry}
 use Rattle.page_table.proofs.Merging.{maps_kept, parts_kept, settings_kept, memory_kept, free_more, have_more, may_is_own, places_apart, contents_equal}
 use Rattle.page_table.proofs.Waiters.{pass-left-both, others_of}
+use Rattle.page_table.proofs.Ahead.{ahead-told, stay-paired}
 use Rattle.page_table.proofs.memory.Memory.pair.Goals as goal
 
 abbrev before : goal.After-pair-arg-1 → MemoryState
@@ -50,11 +51,19 @@ pair-requires-clause-same c =
     rw (c.place_of-first.ensures, c.place_of-second.ensures)
     (contents_equal c.self.inside.table c.self.inside.shapes.items c.self.inside.tenants.items c.self.inside.pass c.self.inside.reserved c.self.invariant.0 c.args.first c.args.second (one c) (other c) same)
 
+apart : (c : goal.After-forget-2) → c.place_of-first.result ≢ c.place_of-second.result
+apart c =
+    let first : IsPageOf (view_of c.self.inside.table c.self.inside.shapes.items c.self.inside.tenants.items c.self.inside.pass) c.args.first = rw (← c.self.view_is) at c.requires.first in
+    let second : IsPageOf (view_of c.self.inside.table c.self.inside.shapes.items c.self.inside.tenants.items c.self.inside.pass) c.args.second = rw (← c.self.view_is) at c.requires.second in
+    rw (c.place_of-first.ensures, c.place_of-second.ensures)
+    (places_apart c.self.inside.table c.self.inside.shapes.items c.self.inside.tenants.items c.self.inside.pass c.self.inside.reserved c.self.invariant.0 c.args.first c.args.second first second c.requires.apart)
+
 pub invariant_of-self : goal.invariant_of-self
 invariant_of-self c = (
   memory_kept c.self.inside.table c.pair.new.self c.self.inside.shapes.items c.self.inside.tenants.items c.self.inside.pass c.self.inside.pass c.pair.ensures.contents c.pair.ensures.arena
       c.self.inside.reserved c.self.invariant.0 (omega (arith, c.pair.ensures.used, c.self.invariant.0.room)),
   rw (c.forget-2.ensures, c.forget.ensures) (pass-left-both c.self.inside.table c.pair.new.self c.self.inside.pass c.place_of-first.result c.place_of-second.result c.self.invariant.1 c.pair.ensures.others c.pair.ensures.arena),
+  ahead-told c.self.inside.table c.pair.new.self (forgets c.place_of-first.result (forgets c.place_of-second.result c.self.inside.pass)) _ c.self.inside.pass.cursor (c.pair.ensures.sharing c.self.inside.pass) (stay-paired (sharing_of c.self.inside.table c.self.inside.pass) c.place_of-first.result c.place_of-second.result (apart c)) c.self.invariant.2,
 )
 
 pub returns-clause-maps : goal.returns-clause-maps

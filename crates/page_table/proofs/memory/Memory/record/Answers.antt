@@ -16,7 +16,7 @@ index_mut-requires c =
     omega (arith, there)
 
 pub invariant_of-self : goal.invariant_of-self
-invariant_of-self c = (record_memory c.self.inside.table c.self.inside.shapes.items c.self.inside.tenants.items c.self.inside.pass c.self.inside.reserved c.self.invariant.0 c.args.self.now c.self.view_is c.args.tenant c.args.reserve c.reserve-before.result c.requires.there c.requires.room c.reserve-before.ensures, c.self.invariant.1)
+invariant_of-self c = (record_memory c.self.inside.table c.self.inside.shapes.items c.self.inside.tenants.items c.self.inside.pass c.self.inside.reserved c.self.invariant.0 c.args.self.now c.self.view_is c.args.tenant c.args.reserve c.reserve-before.result c.requires.there c.requires.room c.reserve-before.ensures, c.self.invariant.1, c.self.invariant.2)
 
 pub returns-clause-recorded : goal.returns-clause-recorded
 returns-clause-recorded c = (records c.self.inside.table c.self.inside.shapes.items c.self.inside.tenants.items c.self.inside.pass c.self.inside.reserved c.self.invariant.0 c.args.self.now c.self.view_is c.args.tenant c.args.reserve c.reserve-before.result c.requires.there c.requires.room c.reserve-before.ensures).recorded_part

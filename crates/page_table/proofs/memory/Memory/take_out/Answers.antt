@@ -3,11 +3,12 @@ use Rattle.host_types.specs.Pages.{page_place}
 use Rattle.host_types.specs.Sharing.{break_cost}
 use Rattle.page_table.specs.State.{MemoryState, have_of}
 use Rattle.page_table.specs.Changes.{IsPageOf}
-use Rattle.page_table.specs.Table.{used_by, cost_at}
+use Rattle.page_table.specs.Table.{used_by, cost_at, sharing_of}
 use Rattle.page_table.specs.View.{view_of}
 use Rattle.page_table.proofs.Reading.{is_page_at}
 use Rattle.page_table.proofs.Merging.{maps_kept, parts_kept, settings_kept, memory_kept, free_less, have_less, cost_told, cost_fits, cost_reserved, own_told}
 use Rattle.page_table.proofs.Waiters.{pass-kept}
+use Rattle.page_table.proofs.Ahead.{ahead-told, stay-broken}
 use Rattle.page_table.proofs.memory.Memory.take_out.Goals as goal
 
 pub take_out-requires-clause-there : goal.take_out-requires-clause-there
@@ -40,6 +41,7 @@ invariant_of-self c =
       memory_kept c.self.inside.table c.take_out.new.self c.self.inside.shapes.items c.self.inside.tenants.items c.self.inside.pass c.self.inside.pass c.take_out.ensures.contents c.take_out.ensures.arena
           c.self.inside.reserved c.self.invariant.0 (omega (arith, used c, told c, reserved)),
       pass-kept c.self.inside.table c.take_out.new.self c.self.inside.pass c.self.invariant.1 c.take_out.ensures.kept c.take_out.ensures.arena,
+      ahead-told c.self.inside.table c.take_out.new.self c.self.inside.pass _ c.self.inside.pass.cursor (c.take_out.ensures.sharing c.self.inside.pass) (stay-broken (sharing_of c.self.inside.table c.self.inside.pass) _) c.self.invariant.2,
     )
 
 pub returns-clause-maps : goal.returns-clause-maps

@@ -1,11 +1,12 @@
 use Rattle.std.proofs.Common.{◌≡◌, ◌≤◌, ◌+◌, length, arith}
 use Rattle.host_types.specs.Unmerging.{unmerge_need}
 use Rattle.page_table.specs.State.{MemoryState, have_of}
-use Rattle.page_table.specs.Table.{used_by}
+use Rattle.page_table.specs.Table.{used_by, sharing_of}
 use Rattle.page_table.specs.View.{view_of}
 use Rattle.page_table.proofs.Merging.{maps_kept, parts_kept, settings_kept, memory_kept, free_less, have_less}
 use Rattle.page_table.proofs.Unmerging.{need_reserved, need_fits, unmerged_is, unmerged_apart, pass_stopped}
 use Rattle.page_table.proofs.Waiters.{pass-kept}
+use Rattle.page_table.proofs.Ahead.{ahead-told, stay-broken_from}
 use Rattle.page_table.proofs.memory.Memory.unmerge.Goals as goal
 
 pub take_out_all-requires : goal.take_out_all-requires
@@ -34,6 +35,7 @@ invariant_of-self c =
           c.self.inside.reserved c.self.invariant.0 (omega (arith, used c, room)),
       pass_stopped c.take_out_all.new.self c.self.inside.pass c.set.new.self c.set.ensures
           (pass-kept c.self.inside.table c.take_out_all.new.self c.self.inside.pass c.self.invariant.1 c.take_out_all.ensures.kept c.take_out_all.ensures.arena),
+      rw c.set.ensures (ahead-told c.self.inside.table c.take_out_all.new.self c.self.inside.pass _ c.self.inside.pass.cursor (c.take_out_all.ensures.sharing c.self.inside.pass) (stay-broken_from (sharing_of c.self.inside.table c.self.inside.pass) 0 _) c.self.invariant.2),
     )
 
 pub returns-clause-maps : goal.returns-clause-maps

@@ -11,6 +11,7 @@ use Rattle.page_table.proofs.Writing.{own_entry}
 use Rattle.page_table.proofs.Merging.{maps_kept, parts_kept, settings_kept, memory_kept, have_less, may_is_own}
 use Rattle.page_table.proofs.Marking.{marked_entry}
 use Rattle.page_table.proofs.Partners.{not-waiting, room-left, pass-waits, is-behind, may-entry, sharing-waits}
+use Rattle.page_table.proofs.Ahead.{ahead-told, stay-marked}
 use Rattle.page_table.proofs.memory.Memory.wait.Goals as goal
 
 pub page-frame-requires : goal.page-frame-requires
@@ -60,6 +61,7 @@ invariant_of-self c = (
   rw c.insert.ensures
       (pass-waits c.self.inside.table c.mark.new.self c.self.inside.pass (record { place = c.place_of-place.result; frame = c.page-frame.result.frame; fingerprint = c.args.fingerprint })
       (marked_entry c.page-frame.result Waiting c.args.fingerprint) c.self.invariant.1 (free c) c.mark.ensures.others (arena c) (c.mark.ensures.here c.page-frame.result c.page-frame.ensures) refl refl (mergeable c) (behind c)),
+  ahead-told c.self.inside.table c.mark.new.self c.self.inside.pass _ c.self.inside.pass.cursor (c.mark.ensures.sharing c.self.inside.pass) (stay-marked (sharing_of c.self.inside.table c.self.inside.pass) c.place_of-place.result _ _) c.self.invariant.2,
 )
 
 pub returns-clause-maps : goal.returns-clause-maps

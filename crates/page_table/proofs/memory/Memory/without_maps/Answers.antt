@@ -13,6 +13,7 @@ pub invariant_of-result : goal.invariant_of-result
 invariant_of-result c = (
   rw (c.in_ok-table.ensures, shapes c, tenants c) (memory_new c.args.frames c.args.tenants c.args.options c.requires),
   rw (c.in_ok-table.ensures, c.in_ok-pass.ensures) (pass_new c.args.frames c.args.tenants c.args.options c.requires),
+  rw c.in_ok-pass.ensures tt,
 )
 
 pub returns : goal.returns

@@ -4,12 +4,13 @@ use Rattle.page_table.specs.State.{MemoryState, bytes_of_map}
 use Rattle.page_table.specs.Changes.{IsPageOf, MayMerge}
 use Rattle.unstable_tree.specs.WaitingList.{WaitingList}
 use Rattle.host_types.specs.Sharing.{zeroed}
-use Rattle.page_table.specs.Table.{sharing_of}
+use Rattle.page_table.specs.Table.{sharing_of, forgets}
 use Rattle.page_table.specs.View.{view_of}
 use Rattle.page_table.proofs.Reading.{is_page_at, content_is}
 use Rattle.page_table.proofs.Writing.{own_entry}
 use Rattle.page_table.proofs.Merging.{maps_kept, parts_kept, settings_kept, memory_kept, free_more, have_more, may_is_own}
 use Rattle.page_table.proofs.Waiters.{pass-left}
+use Rattle.page_table.proofs.Ahead.{ahead-told, stay-zeroed}
 use Rattle.page_table.proofs.memory.Memory.zero.Goals as goal
 
 abbrev first : goal.After-zero-arg-1 → MemoryState
@@ -37,6 +38,7 @@ invariant_of-self c = (
   memory_kept c.self.inside.table c.zero.new.self c.self.inside.shapes.items c.self.inside.tenants.items c.self.inside.pass c.self.inside.pass c.zero.ensures.contents c.zero.ensures.arena
       c.self.inside.reserved c.self.invariant.0 (omega (arith, c.zero.ensures.used, c.self.invariant.0.room)),
   rw c.forget.ensures (pass-left c.self.inside.table c.zero.new.self c.self.inside.pass c.place_of-place.result c.self.invariant.1 c.zero.ensures.others c.zero.ensures.arena),
+  ahead-told c.self.inside.table c.zero.new.self (forgets c.place_of-place.result c.self.inside.pass) _ c.self.inside.pass.cursor (c.zero.ensures.sharing c.self.inside.pass) (stay-zeroed (sharing_of c.self.inside.table c.self.inside.pass) c.place_of-place.result) c.self.invariant.2,
 )
 
 pub returns-clause-maps : goal.returns-clause-maps

@@ -1,0 +1,125 @@
+-- Unless a pass begins, a page behind the cursor may be merged: what keeps that.
+use Rattle.std.proofs.Common.{◌≡◌, ◌≢◌, ◌∙◌, ℕ, zero, suc, ◌+◌, ◌-◌, Bool, true, false, if◌then◌else◌, List, [], ◌∷◌, drop, slice_index_or, slice_set, Option, Some, None, IsSome, IfSome, is_some, option_map, refl, sym, ap, subst, arith}
+use Rattle.std.proofs.lemmas.List.{get_or-drop, get_or-set_other}
+use Rattle.host_types.specs.declared.status.Status.{Status}
+use Rattle.host_types.specs.declared.status.Status.TheVariants.{Grouped, Zero}
+use Rattle.host_types.specs.Sharing.{Sharing, PageState, state_at, is_shared_page, broken_page, with_status, broken, broken_from, left_by, paired, zeroed}
+use Rattle.host_types.specs.Visits.{is_mergeable, first_mergeable, with_page}
+use Rattle.page_table.specs.declared.entry.Entry.{Entry}
+use Rattle.page_table.specs.declared.pass.Pass.{Pass}
+use Rattle.page_table.specs.Table.{TableState, entry_at, state_of, states_of, sharing_of, marked}
+use Rattle.page_table.specs.View.{IsAhead}
+use Rattle.page_table.proofs.Facts.{told_at}
+use Rattle.page_table.proofs.Next.{next-is}
+use Rattle.page_table.proofs.Partners.{entry-may}
+
+-- what may be merged stays so
+abbrev pub StayMergeable : List (Option PageState) → List (Option PageState) → Type 0
+StayMergeable old new = (j : ℕ) → is_mergeable (slice_index_or old j None) ≡ true → is_mergeable (slice_index_or new j None) ≡ true
+
+pub ahead-kept : (old new : List (Option PageState)) (c : Option ℕ) → StayMergeable old new → IsAhead old c → IsAhead new c
+ahead-kept old new None stay is = tt
+ahead-kept old new (Some c) stay is = (is.0, is.1, stay is.0 is.2)
+
+-- one page changes
+pub stay-put : (pages : List (Option PageState)) (i : ℕ) (x : Option PageState) → (is_mergeable (slice_index_or pages i None) ≡ true → is_mergeable x ≡ true) → StayMergeable pages (slice_set pages i x)
+stay-put [] i x same j may = may
+stay-put (y ∷ ys) zero x same zero may = same may
+stay-put (y ∷ ys) zero x same (suc j) may = may
+stay-put (y ∷ ys) (suc i) x same zero may = may
+stay-put (y ∷ ys) (suc i) x same (suc j) may = stay-put ys i x same j may
+
+-- a change that leaves whether a page may be merged
+pub flag-kept : (change : PageState → PageState) → ((state : PageState) → (change state).mergeable ≡ state.mergeable) → (x : Option PageState) → is_mergeable x ≡ true → is_mergeable (option_map change x) ≡ true
+flag-kept change same None may = may
+flag-kept change same (Some state) may = same state ∙ may
+
+pub stay-set : (pages : List (Option PageState)) (i : ℕ) (change : PageState → PageState) → ((state : PageState) → (change state).mergeable ≡ state.mergeable)
+    → StayMergeable pages (slice_set pages i (option_map change (slice_index_or pages i None)))
+stay-set pages i change same = stay-put pages i (option_map change (slice_index_or pages i None)) (flag-kept change same (slice_index_or pages i None))
+
+pub stay-broken : (s : Sharing) (i : ℕ) → StayMergeable s.pages (broken s i).pages
+unfolding broken
+stay-broken s i = by_test (is_shared_page (state_at s i))
+  where
+    by_test : (b : Bool) → StayMergeable s.pages (if b then record s { pages = slice_set s.pages i (option_map broken_page (state_at s i)); groups = left_by i s.groups } else s).pages
+    by_test true = stay-set s.pages i broken_page (λ state. refl)
+    by_test false = λ j may. may
+
+pub stay-broken_from : (s : Sharing) (i n : ℕ) → StayMergeable s.pages (broken_from s i n).pages
+unfolding broken_from
+stay-broken_from s i zero j may = may
+stay-broken_from s i (suc n) j may = stay-broken_from (broken s i) (i + 1) n j (stay-broken s i j may)
+
+pub stay-zeroed : (s : Sharing) (i : ℕ) → StayMergeable s.pages (zeroed s i).pages
+unfolding zeroed
+stay-zeroed s i = stay-set s.pages i (with_status Zero) (λ state. refl)
+
+pub stay-marked : (s : Sharing) (i : ℕ) (status : Status) (last : ℕ) → StayMergeable s.pages (with_page s i (marked status last)).pages
+stay-marked s i status last = stay-set s.pages i (marked status last) (λ state. refl)
+
+pub stay-paired : (s : Sharing) (i j : ℕ) → i ≢ j → StayMergeable s.pages (paired s i j).pages
+unfolding paired
+stay-paired s i j apart k may =
+    stay-put first j (option_map (with_status Grouped) (state_at s j)) second k (stay-set s.pages i (with_status Grouped) (λ state. refl) k may)
+  where
+    first : List (Option PageState)
+    first = slice_set s.pages i (option_map (with_status Grouped) (state_at s i))
+
+    second : is_mergeable (slice_index_or first j None) ≡ true → is_mergeable (option_map (with_status Grouped) (state_at s j)) ≡ true
+    second h =
+        let same = get_or-set_other s.pages i j (option_map (with_status Grouped) (state_at s i)) None (λ e. apart (sym e)) in
+        flag-kept (with_status Grouped) (λ state. refl) (state_at s j) (sym (ap is_mergeable same) ∙ h)
+
+-- what callers are told of a change tells it
+pub ahead-told : (old new : TableState) (pass : Pass) (s : Sharing) (c : Option ℕ) → sharing_of new pass ≡ s → StayMergeable (states_of old.entries) s.pages → IsAhead (states_of old.entries) c
+    → IsAhead (states_of new.entries) c
+ahead-told old new pass s c told stay is =
+    ahead-kept (states_of old.entries) (states_of new.entries) c
+    (λ j may. subst (λ (t : Sharing). is_mergeable (slice_index_or t.pages j None) ≡ true) (sym told) (stay j may)) is
+
+-- every page stays that was there
+pub ahead-more : (old new : TableState) (pass : Pass) (c : Option ℕ) → ((i : ℕ) (entry : Entry) → entry_at old.entries i ≡ Some entry → entry_at new.entries i ≡ Some entry) → IsAhead (states_of old.entries) c
+    → IsAhead (states_of new.entries) c
+ahead-more old new pass c kept is = ahead-kept (states_of old.entries) (states_of new.entries) c stay is
+  where
+    stay : StayMergeable (states_of old.entries) (states_of new.entries)
+    stay j may =
+        let found = entry-may old pass j may in
+        let before : slice_index_or (states_of old.entries) j None ≡ Some (state_of found.0) = told_at state_of old.entries j ∙ ap (option_map state_of) found.1 in
+        let after : slice_index_or (states_of new.entries) j None ≡ Some (state_of found.0) = told_at state_of new.entries j ∙ ap (option_map state_of) (kept j found.0 found.1) in
+        ap is_mergeable (after ∙ sym before) ∙ may
+
+-- the cursor goes on where there is a next page
+pub ahead-next : (pages : List (Option PageState)) (i : ℕ) → is_some (first_mergeable (i + 1) (drop (i + 1) pages)) ≡ true → IsAhead pages (Some i)
+ahead-next pages i more = by_next (first_mergeable (i + 1) (drop (i + 1) pages)) refl more
+  where
+    by_next : (x : Option ℕ) → first_mergeable (i + 1) (drop (i + 1) pages) ≡ x → is_some x ≡ true → IsAhead pages (Some i)
+    by_next None e h = absurd (cc)
+    by_next (Some j) e h = let next = next-is pages (i + 1) j e in (j, omega (arith, next.behind), next.mergeable)
+
+-- where nothing is found, no page may be merged
+pub none-mergeable : (n : ℕ) (ys : List (Option PageState)) (k : ℕ) → first_mergeable n ys ≡ None → is_mergeable (slice_index_or ys k None) ≡ false
+unfolding first_mergeable
+none-mergeable n [] k e = refl
+none-mergeable n (y ∷ ys) k e = by_head (is_mergeable y) refl k (λ j. none-mergeable (n + 1) ys j) e
+  where
+    by_head : (b : Bool) → is_mergeable y ≡ b → (k : ℕ) → ((j : ℕ) → first_mergeable (n + 1) ys ≡ None → is_mergeable (slice_index_or ys j None) ≡ false)
+        → (if b then Some n else first_mergeable (n + 1) ys) ≡ None → is_mergeable (slice_index_or (y ∷ ys) k None) ≡ false
+    by_head true h k rest e = absurd (cc)
+    by_head false h zero rest e = h
+    by_head false h (suc k) rest e = rest k e
+
+-- a page that may be merged is found
+pub ahead-found : (pages : List (Option PageState)) (c : Option ℕ) → IsAhead pages c → IfSome c (λ n. IsSome (first_mergeable (n + 1) (drop (n + 1) pages)))
+ahead-found pages None is = tt
+ahead-found pages (Some n) is = by_next (first_mergeable (n + 1) (drop (n + 1) pages)) refl
+  where
+    by_next : (x : Option ℕ) → first_mergeable (n + 1) (drop (n + 1) pages) ≡ x → IsSome x
+    by_next (Some j) e = refl
+    by_next None e =
+        let k : ℕ = is.0 - (n + 1) in
+        let place : n + 1 + k ≡ is.0 = omega (arith, is.1) in
+        let none : is_mergeable (slice_index_or pages is.0 None) ≡ false =
+        ap (λ m. is_mergeable (slice_index_or pages m None)) (sym place) ∙ ap is_mergeable (sym (get_or-drop (n + 1) pages k None)) ∙ none-mergeable (n + 1) (drop (n + 1) pages) k e in
+        absurd (let no : true ≡ false = sym is.2 ∙ none in cc)
