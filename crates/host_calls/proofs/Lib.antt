@@ -1,3 +1,4 @@
 pub mod Elements
 pub mod NewMaps
 pub mod Answers
+pub mod Begins

@@ -3,12 +3,16 @@
 //! what another tenant has.
 #![tactic(auto)]
 
+mod beginning;
 mod creating;
+mod loading;
 mod looking;
 mod sharing;
 mod updating;
 
+pub use beginning::host_begin;
 pub use creating::host_create_map;
+pub use loading::{host_shapes, is_context_size, judge};
 pub use looking::host_lookup;
 pub use sharing::{host_set, host_unmerge};
 pub use updating::host_update;

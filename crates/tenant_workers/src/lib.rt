@@ -4,6 +4,7 @@
 
 mod host;
 mod maps;
+mod programs;
 mod scanning;
 mod shared;
 

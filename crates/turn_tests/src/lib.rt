@@ -10,6 +10,8 @@ mod ends;
 #[cfg(test)]
 mod numbers;
 #[cfg(test)]
+mod programs;
+#[cfg(test)]
 mod row;
 #[cfg(test)]
 mod settings;

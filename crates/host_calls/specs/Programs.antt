@@ -1,0 +1,44 @@
+-- What a tenant's programs are judged by, and when a run of one may not begin: over the tenant's part alone.
+use Rattle.std.specs.Prelude.{◌≡◌, ◌⊎◌, ℕ, ◌<◌, List, [], ◌∷◌, None, Some}
+use Rattle.host_types.specs.declared.fault.Fault.{Fault}
+use Rattle.host_types.specs.declared.fault.Fault.TheVariants.{Program, NoFrames, BadContext, OutOfMemory}
+use Rattle.host_types.specs.declared.fault.Refused.{Refused}
+use Rattle.host_types.specs.declared.shape.Shape.{Shape}
+use Rattle.host_types.specs.Memory.{FlatMaps}
+use Rattle.host_types.specs.Tenant.{TenantPart}
+use Rattle.bpf_decode.specs.Text.{IsWellFormed, IsFirstFault}
+use Rattle.verifier.specs.Subject.{Subject, IsContextSize, all_there}
+use Rattle.verifier.specs.Reserve.{reserve_from}
+use Rattle.verifier.specs.Table.{IsRefusal}
+use Rattle.verifier.specs.Verified.{Accepted}
+
+-- The shapes of a tenant's maps by number, up to the first number that no map has: those are all, as a new
+-- map gets that number and no map is ever deleted.
+abbrev pub shapes_of : FlatMaps → List Shape
+shapes_of [] = []
+shapes_of (None ∷ maps) = []
+shapes_of (Some flat ∷ maps) = flat.shape ∷ shapes_of maps
+
+-- a text as a program for maps of these shapes
+abbrev pub subject_for : List Shape → List ℕ → ℕ → Subject
+subject_for shapes text size = record { text = text; shapes = all_there shapes; context_size = size }
+
+-- a text as a program of the tenant
+abbrev pub subject_of : TenantPart → List ℕ → ℕ → Subject
+subject_of owned text size = subject_for (shapes_of owned.maps) text size
+
+-- Why a text isn't accepted: by its first fault, or else by the first rule that it breaks; or for want of
+-- memory.
+abbrev pub IsJudgement : Subject → Fault → Type 0
+IsJudgement p fault = (fault ≡ OutOfMemory)
+    ⊎ ((refusal : Refused) × (fault ≡ Program refusal) × (IsFirstFault p.text refusal ⊎ (IsWellFormed p.text × IsRefusal p refusal)))
+
+-- why a program isn't loaded: its context is out of limits, or else its text isn't accepted
+abbrev pub RefusesProgram : Subject → Fault → Type 0
+RefusesProgram p fault =
+    ((fault ≡ BadContext) × ¬ (IsContextSize p.context_size)) ⊎ (IsContextSize p.context_size × IsJudgement p fault)
+
+-- when a run doesn't begin for want of frames: fewer may be had than are reserved for the whole program
+abbrev pub RefusesBegin : Accepted → Fault → Type 0
+RefusesBegin v (NoFrames need have) = (need ≡ reserve_from v 0) × (have < need)
+RefusesBegin v _ = ⊥

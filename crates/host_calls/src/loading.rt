@@ -1,0 +1,78 @@
+ghost use Rattle.std.specs.Prelude.{◌≡◌, ◌≤◌, ◌↔◌, ◌==◌, if◌then◌else◌, length, IfOk, IfErr, IsTrue};
+ghost use Rattle.host_types.specs.declared.fault.Fault.TheVariants.{OutOfMemory, Program};
+ghost use Rattle.page_table.specs.State.{part};
+ghost use Rattle.bpf_decode.specs.Text.{IsWellFormed};
+ghost use Rattle.verifier.specs.Subject.{IsContextSize};
+ghost use Rattle.verifier.specs.Verified.{AreShapes, IsVerified};
+ghost use Rattle.host_calls.specs.Calls.{IsThere};
+ghost use Rattle.host_calls.specs.Programs.{IsJudgement, shapes_of, subject_for};
+
+use bpf_decode::decode;
+use host_types::{Fault, MapNo, Refused, Shape};
+use page_table::Memory;
+use std::alloc::{AllocError, Global};
+use verifier::{Verified, verify};
+
+/// The most bytes of a context.
+const MAX_CONTEXT: u32 = 256;
+
+/// How many map numbers a tenant has.
+const MAX_MAPS: MapNo = 8;
+
+/// Whether a context may have so many bytes.
+pub fn is_context_size(size: u32) -> bool
+    ensures { IsTrue result ↔ IsContextSize size }
+{
+    size <= MAX_CONTEXT && size % 8 == 0
+}
+
+/// The shapes of a tenant's maps by number, up to the first number that no map has. It fails where memory
+/// ran out.
+pub fn host_shapes(alloc: Global, memory: &Memory, tenant: u32) -> Result<Vec<Shape>, AllocError>
+    requires { IsThere (part memory.now tenant) }
+    ensures shapes { IfOk result (λ shapes. shapes.items ≡ shapes_of (part memory.now tenant).maps) }
+    ensures valid { IfOk result (λ shapes. AreShapes shapes.items) }
+{
+    let mut shapes = Vec::with_capacity(alloc, MAX_MAPS as usize)?;
+    for map in 0..MAX_MAPS {
+        let Some(shape) = memory.shape(tenant, map) else {
+            return Ok(shapes);
+        };
+        shapes.push_reserved(shape);
+    }
+    Ok(shapes)
+}
+
+/// Judges a text as a program that may use maps of these shapes by number, and whose context has so many
+/// bytes: it is accepted if it is well formed and breaks no rule.
+///
+/// A refusal is the text's first fault, 1 to 5, or else the first rule that it breaks, 11 to 25; or 41 where
+/// memory ran out.
+pub fn judge(alloc: Global, shapes: &[Shape], text: &[u8], ctx_size: u32) -> Result<Verified, Fault>
+    requires shapes { AreShapes shapes.now }
+    requires context { IsContextSize ctx_size }
+    ensures subject { IfOk result (λ v. v.subject ≡ subject_for shapes.now text.now ctx_size) }
+    ensures well_formed { IfOk result (λ _. IsWellFormed text.now) }
+    ensures verified { IfOk result IsVerified }
+    ensures refused { IfErr result (IsJudgement (subject_for shapes.now text.now ctx_size)) }
+{
+    let program = match decode(alloc, text) {
+        Ok(program) => program,
+        Err(refused) => return Err(fault_of(refused)),
+    };
+    match verify(alloc, program, shapes, ctx_size) {
+        Ok(program) => Ok(program),
+        Err(refused) => Err(fault_of(refused)),
+    }
+}
+
+/// A program's refusal as a host answers it.
+fn fault_of(refused: Refused) -> Fault
+    ensures { result ≡ (if refused.number == 41 then OutOfMemory else Program refused) }
+{
+    if refused.number == Refused::OUT_OF_MEMORY.number {
+        Fault::OutOfMemory
+    } else {
+        Fault::Program(refused)
+    }
+}

@@ -1,0 +1,68 @@
+ghost use Rattle.std.specs.Prelude.{◌≡◌, IfOk, IfErr};
+ghost use Rattle.bpf_decode.specs.Text.{IsWellFormed};
+ghost use Rattle.verifier.specs.Verified.{AreShapes, IsVerified};
+ghost use Rattle.host_calls.specs.Programs.{RefusesProgram, shapes_of, subject_of};
+ghost use Rattle.turn.specs.Seats.{IsIdle, part_of};
+ghost use Rattle.tenant_workers.specs.Calls.{IsSameSeat};
+
+use crate::shared::Shared;
+use host_calls::{host_shapes, is_context_size, judge};
+use host_types::{Fault, Shape};
+use std::alloc::{AllocError, Global};
+use std::sync::Wait;
+use turn::Seat;
+use verifier::Verified;
+
+impl Shared {
+    /// Judges a text as a program of the seat's tenant, with the maps that it has and a context of so many
+    /// bytes. The seat's part stays, and no turn is held while the text is judged.
+    ///
+    /// Refusals in their order: 39 where the context's size is above 256 or no multiple of 8, the text's
+    /// first fault, 1 to 5, or else the first rule that it breaks, 11 to 25; 41 where memory ran out.
+    pub fn load_program(
+        &self,
+        rt: &impl Wait,
+        alloc: Global,
+        seat: &mut Seat,
+        text: &[u8],
+        ctx_size: u32,
+    ) -> Result<Verified, Fault>
+        requires idle { IsIdle self.now seat.old }
+        ensures idle { IsIdle self.now seat.new }
+        ensures same { IsSameSeat seat.old seat.new }
+        ensures kept { part_of seat.new ≡ part_of seat.old }
+        ensures subject { IfOk result (λ v. v.subject ≡ subject_of (part_of seat.old) text.now ctx_size) }
+        ensures well_formed { IfOk result (λ _. IsWellFormed text.now) }
+        ensures verified { IfOk result IsVerified }
+        ensures refused { IfErr result (RefusesProgram (subject_of (part_of seat.old) text.now ctx_size)) }
+    {
+        if !is_context_size(ctx_size) {
+            return Err(Fault::BadContext);
+        }
+        let Ok(shapes) = self.shapes(rt, alloc, seat) else {
+            return Err(Fault::OutOfMemory);
+        };
+        judge(alloc, shapes.as_slice(), text, ctx_size)
+    }
+
+    /// The shapes of the maps of the seat's tenant by number.
+    fn shapes(
+        &self,
+        rt: &impl Wait,
+        alloc: Global,
+        seat: &mut Seat,
+    ) -> Result<Vec<Shape>, AllocError>
+        requires idle { IsIdle self.now seat.old }
+        ensures idle { IsIdle self.now seat.new }
+        ensures same { IsSameSeat seat.old seat.new }
+        ensures kept { part_of seat.new ≡ part_of seat.old }
+        ensures shapes { IfOk result (λ shapes. shapes.items ≡ shapes_of (part_of seat.old).maps) }
+        ensures valid { IfOk result (λ shapes. AreShapes shapes.items) }
+    {
+        let tenant = seat.tenant();
+        let held = self.turn.take(rt, seat);
+        let answer = host_shapes(alloc, held.memory(), tenant);
+        self.turn.give(seat, held);
+        answer
+    }
+}
