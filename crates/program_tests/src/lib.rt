@@ -7,14 +7,8 @@ mod agreement;
 #[cfg(test)]
 mod arithmetic;
 #[cfg(test)]
-mod flat_maps;
-#[cfg(test)]
 mod machine;
 #[cfg(test)]
 mod text;
 #[cfg(test)]
-mod trial;
-#[cfg(test)]
 mod verified;
-#[cfg(test)]
-mod with_maps;
