@@ -1,4 +1,5 @@
 pub mod Machine
+pub mod Written
 pub mod Runs
 pub mod Fits
 pub mod Needs
