@@ -24,6 +24,8 @@ pub mod Called
 pub mod Calling
 pub mod Soundness
 pub mod InTable
+pub mod Writing
+pub mod Quiet
 pub mod Starts
 pub mod Covering
 pub mod Following

@@ -11,9 +11,10 @@ use Rattle.bpf_decode.proofs.Placing.{instructions_later}
 use Rattle.interp.specs.declared.need.Need.{Need}
 use Rattle.interp.specs.declared.need.Need.TheVariants.{Private, Ended, Load, Store, Lookup, Update, Delete}
 use Rattle.interp.proofs.Following.{is_at_instruction}
+use Rattle.interp.proofs.Quiet.{reached_quietly, ended_reaches}
 use Rattle.interp.specs.Machine.{MachineState, Outcome, Next, Exits, step}
 use Rattle.interp.specs.Runs.{Reaches}
-use Rattle.interp.specs.StandsFor.{Running, StandsFor, Asks, IsNoMore, FollowsSteps}
+use Rattle.interp.specs.StandsFor.{Running, StandsFor, Asks, IsNoMore, ReachesQuietly, FollowsSteps}
 use Rattle.tenant_runs.specs.Meeting.{KeepsSizes}
 use Rattle.tenant_runs.specs.UnderWay.{IsUnderWay, IsAsking}
 
@@ -64,7 +65,7 @@ pub record IsAskedOn (v : Accepted) (s : MachineState) (n : ℕ) (need : Need) (
   pub reaches : Reaches v.subject.text s before (Next state)
   pub asking : IsAsking v state need run owned
 
-asked_by : (v : Accepted) (run after : Running) (s t : MachineState) (need : Need) (owned : TenantPart) (n before : ℕ) → IsUnderWay v run s owned → n ≡ suc before → Reaches v.subject.text s before (Next t)
+asked_by : (v : Accepted) (run after : Running) (s t : MachineState) (need : Need) (owned : TenantPart) (n before : ℕ) → IsUnderWay v run s owned → n ≡ suc before → ReachesQuietly v s before t
     → t.memory.maps ≡ s.memory.maps → IsNoMore v s t → Asks v t need after → IsAskedOn v s n need after owned
 asked_by v run after s t need owned n before under_way count reaches maps less asks =
     let reserve : reserve_from v s.slot ≤ owned.reserve = rw under_way.stands.slot at under_way.reserve in
@@ -72,7 +73,7 @@ asked_by v run after s t need owned n before under_way count reaches maps less a
       before = before;
       state = t;
       count = count;
-      reaches = reaches;
+      reaches = reached_quietly v s before t reaches;
       asking = record {
         asks = asks;
         eight = rw under_way.maps under_way.stands.state.maps.eight;
@@ -110,8 +111,9 @@ followed_on v start run after answered s need n owned next followed asked more s
 -- the last steps
 pub ended_on : (v : Accepted) (start run after : Running) (s : MachineState) (number n : ℕ) (owned : TenantPart) → (followed : IsFollowed v start run s owned) → FollowsSteps v followed.state n (Ended number) after
     → after.steps ≡ run.steps + n → (m : ℕ) × Reaches v.subject.text s m (Exits number owned.maps) × (after.steps ≡ start.steps + m)
-ended_on v start run after s number n owned followed (reaches, few) more = (
-  followed.count + n,
-  rw followed.under_way.maps (reaches_on v.subject.text s followed.state followed.count n (Exits number followed.state.memory.maps) followed.reaches reaches),
-  omega (arith, more, followed.steps),
-)
+ended_on v start run after s number n owned followed ends more =
+    let (reaches, few) = ended_reaches v followed.state n number after ends in (
+      followed.count + n,
+      rw followed.under_way.maps (reaches_on v.subject.text s followed.state followed.count n (Exits number followed.state.memory.maps) followed.reaches reaches),
+      omega (arith, more, followed.steps),
+    )

@@ -1,6 +1,7 @@
 use Rattle.std.proofs.Common.{◌∙◌, arith}
 use Rattle.page_table.specs.State.{part}
 use Rattle.interp.proofs.Advancing.{never_private}
+use Rattle.interp.proofs.Quiet.{ended_reaches}
 use Rattle.tenant_runs.proofs.Rooms.{keeps_twice}
 use Rattle.tenant_runs.proofs.Finishing.{steps_below, asked_on, followed_on, ended_on}
 use Rattle.tenant_runs.proofs.driving.finish.Goals as goal
@@ -23,7 +24,8 @@ pub returns-in-Ended-clause-few : goal.returns-in-Ended-clause-few
 returns-in-Ended-clause-few c =
     let (s, under_way) = c.loop-ret.invariant.some in
     let followed = c.loop-ret.invariant.followed s under_way in
-    let (n, (reaches, few), more) = c.in-Ended.ensures.follows followed.state followed.under_way.stands in
+    let (n, ends, more) = c.in-Ended.ensures.follows followed.state followed.under_way.stands in
+    let (reaches, few) = ended_reaches c.args.program.now followed.state n c.in-Ended.ret c.advance.new.self ends in
     rw c.steps.ensures few
 
 pub answer-requires : goal.answer-requires
