@@ -38,13 +38,18 @@ pub record HasRun (v : Accepted) (context : List ℕ) (old new : TenantPart) (re
   pub few : reply.steps ≤ instructions_of v.subject.text
   pub released : new.reserve ≡ 0
 
+-- a tenant may run a program: it is there, and the shapes of the program's maps are a beginning of its own
+pub record MayRun (v : Accepted) (memory : MemoryState) (tenant : ℕ) : Type 0 where
+  pub there : tenant < length memory.tenants
+  pub shapes : HaveShapes v.subject.shapes (part memory tenant).maps
+
 -- when a program isn't run: the first refusal, in this order, whose condition holds
 abbrev pub RefusesRun : Accepted → List ℕ → MemoryState → ℕ → Fault → Type 0
 RefusesRun v context memory tenant BadTenant = length memory.tenants ≤ tenant
 RefusesRun v context memory tenant NoProgram = (tenant < length memory.tenants) × ¬ (HaveShapes v.subject.shapes (part memory tenant).maps)
-RefusesRun v context memory tenant BadContext = HaveShapes v.subject.shapes (part memory tenant).maps × (length context ≢ v.subject.context_size)
+RefusesRun v context memory tenant BadContext = MayRun v memory tenant × (length context ≢ v.subject.context_size)
 RefusesRun v context memory tenant (NoFrames need have) =
-    HaveShapes v.subject.shapes (part memory tenant).maps × (length context ≡ v.subject.context_size)
+    MayRun v memory tenant × (length context ≡ v.subject.context_size)
     × (need ≡ reserve_from v 0) × (have ≡ have_of memory) × (have < need)
-RefusesRun v context memory tenant OutOfMemory = HaveShapes v.subject.shapes (part memory tenant).maps × (length context ≡ v.subject.context_size)
+RefusesRun v context memory tenant OutOfMemory = MayRun v memory tenant × (length context ≡ v.subject.context_size)
 RefusesRun v context memory tenant _ = ⊥

@@ -1,10 +1,11 @@
-ghost use Rattle.std.specs.Prelude.{◌≡◌, ◌↔◌, true, IfOk, IfErr, OnErr, IsSomeAnd};
+ghost use Rattle.std.specs.Prelude.{◌≡◌, ◌≤◌, ◌↔◌, true, IfOk, OnOk, IfErr, OnErr, IsSomeAnd};
 ghost use Rattle.host_types.specs.Memory.{map_at};
-ghost use Rattle.page_table.specs.State.{part};
+ghost use Rattle.page_table.specs.State.{part, have_of};
 ghost use Rattle.page_table.specs.Changes.{IsKeptBut};
+ghost use Rattle.verifier.specs.Reserve.{reserve_from};
 ghost use Rattle.interp.specs.Fits.{HaveShapes};
 ghost use Rattle.tenant_runs.specs.Meeting.{KeepsSizes};
-ghost use Rattle.tenant_runs.specs.UnderWay.{HasRun, RefusesRun};
+ghost use Rattle.tenant_runs.specs.UnderWay.{HasRun, MayRun, RefusesRun};
 
 use crate::driving::{RunReply, finish};
 use admission::{admit, release};
@@ -55,6 +56,8 @@ pub fn run(
     context: &[u8],
 ) -> Result<RunReply, Fault>
     requires none { (part memory.old tenant).reserve ≡ 0 }
+    ensures admitted { OnOk result (MayRun program.now memory.old tenant) }
+    ensures enough { OnOk result (reserve_from program.now 0 ≤ have_of memory.old) }
     ensures ran { IfOk result (HasRun program.now context.now (part memory.old tenant) (part memory.new tenant)) }
     ensures refused { IfErr result (RefusesRun program.now context.now memory.old tenant) }
     ensures unchanged { OnErr result (memory.new ≡ memory.old) }

@@ -2,10 +2,14 @@
 //! gives the turn back.
 #![tactic(auto)]
 
+mod driving;
+mod gate;
 mod host;
 mod maps;
 mod programs;
+mod running;
 mod scanning;
 mod shared;
 
+pub use gate::Gate;
 pub use shared::Shared;

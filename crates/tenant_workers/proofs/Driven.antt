@@ -1,0 +1,120 @@
+-- A run that a worker drives, from one step to the next.
+use Rattle.std.proofs.Common.{◌≡◌, ◌≤◌, ◌<◌, ◌+◌, ℕ, suc, Some, refl, sym, ap, ◌∙◌, arith}
+use Rattle.host_types.specs.Tenant.{TenantPart}
+use Rattle.bpf_decode.specs.Text.{instructions_of}
+use Rattle.verifier.specs.Reserve.{reserve_from}
+use Rattle.verifier.specs.Verified.{Accepted, IsVerified}
+use Rattle.interp.specs.declared.need.Need.{Need}
+use Rattle.interp.specs.declared.need.Need.TheVariants.{Private, Ended, Load, Store, Lookup, Update, Delete}
+use Rattle.interp.specs.Machine.{MachineState, Next, Exits, step}
+use Rattle.interp.specs.Runs.{Reaches}
+use Rattle.interp.specs.StandsFor.{Running, StandsFor, Asks, Follows}
+use Rattle.tenant_runs.specs.UnderWay.{IsUnderWay, IsAsking}
+use Rattle.turn.specs.Seats.{SeatState, gave}
+use Rattle.tenant_workers.specs.Calls.{IsSameSeat}
+use Rattle.tenant_runs.proofs.Finishing.{IsFollowed, steps_below}
+
+-- the same seat of the same seat
+pub same_on : (first middle last : SeatState) → IsSameSeat first middle → IsSameSeat middle last → IsSameSeat first last
+same_on first middle last same later = later ∙ ap (λ (seat : SeatState). gave seat last.view.seen) same
+
+-- what a driven run keeps, of what it was with its tenant's part at first
+pub record IsDriven (v : Accepted) (start : Running) (owned : TenantPart) (run : Running) (now : TenantPart) : Type 0 where
+  pub verified : IsVerified v
+  pub some : (s : MachineState) × IsUnderWay v start s owned
+  pub followed : (s : MachineState) → IsUnderWay v start s owned → IsFollowed v start run s now
+
+-- a step in private
+pub private_on : (v : Accepted) (start run after : Running) (s : MachineState) (now : TenantPart) → (followed : IsFollowed v start run s now) → Follows v followed.state Private after → after.steps ≡ run.steps + 1
+    → IsFollowed v start after s now
+private_on v start run after s now followed (t, makes, maps, less, stands) more =
+    let reserve : reserve_from v followed.state.slot ≤ now.reserve = rw followed.under_way.stands.slot at followed.under_way.reserve in
+    let slot : after.slot ≡ t.slot = stands.slot in
+    record {
+      state = t;
+      count = suc followed.count;
+      reaches = (followed.state, followed.reaches, makes);
+      steps = omega (arith, more, followed.steps);
+      under_way = record { stands = stands; maps = followed.under_way.maps ∙ sym maps; reserve = rw slot (omega (arith, less, reserve)) };
+    }
+
+asks_of : (v : Accepted) (s : MachineState) (need : Need) (after : Running) → (need ≡ Private → ⊥) → ((number : ℕ) → need ≡ Ended number → ⊥) → Follows v s need after → Asks v s need after
+asks_of v s Private after some going follows = absurd (some refl)
+asks_of v s (Ended number) after some going follows = absurd (going number refl)
+asks_of v s (Load m at size) after some going follows = follows
+asks_of v s (Store m at size number) after some going follows = follows
+asks_of v s (Lookup m key) after some going follows = follows
+asks_of v s (Update m key flags) after some going follows = follows
+asks_of v s (Delete m key) after some going follows = follows
+
+-- what a run asks in the state that it stood for
+pub asks_now : (v : Accepted) (run after : Running) (s : MachineState) (need : Need) (now : TenantPart) → IsUnderWay v run s now → (need ≡ Private → ⊥) → ((number : ℕ) → need ≡ Ended number → ⊥) → Follows v s need after
+    → IsAsking v s need after now
+asks_now v run after s need now under_way some going follows = record {
+  asks = asks_of v s need after some going follows;
+  eight = rw under_way.maps under_way.stands.state.maps.eight;
+  maps = under_way.maps;
+  reserve = rw under_way.stands.slot at under_way.reserve;
+}
+
+-- a step with the memory's answer
+pub answered_on : (v : Accepted) (start run after answered : Running) (s : MachineState) (need : Need) (now next : TenantPart) → (followed : IsFollowed v start run s now) → IsAsking v followed.state need after now
+    → after.steps ≡ run.steps + 1 → answered.steps ≡ after.steps
+    → ((t : MachineState) → IsAsking v t need after now → (u : MachineState) × (step v.subject.text t ≡ Some (Next u)) × IsUnderWay v answered u next)
+    → IsFollowed v start answered s next
+answered_on v start run after answered s need now next followed asking more same goes_on =
+    let (u, makes, under_way) = goes_on followed.state asking in
+    record {
+      state = u;
+      count = suc followed.count;
+      reaches = (followed.state, followed.reaches, makes);
+      steps = omega (arith, more, same, followed.steps);
+      under_way = under_way;
+    }
+
+-- the last step
+pub ended_now : (v : Accepted) (start run after : Running) (s : MachineState) (number : ℕ) (now : TenantPart) → (followed : IsFollowed v start run s now) → Follows v followed.state (Ended number) after
+    → after.steps ≡ run.steps + 1 → (n : ℕ) × Reaches v.subject.text s n (Exits number now.maps) × (after.steps ≡ start.steps + n)
+ended_now v start run after s number now followed (makes, few) more = (
+  suc followed.count,
+  rw followed.under_way.maps (followed.state, followed.reaches, makes),
+  omega (arith, more, followed.steps),
+)
+
+-- what a driven run keeps, after a step in private
+pub drives_private : (v : Accepted) (start : Running) (owned : TenantPart) (run after : Running) (now : TenantPart) → IsDriven v start owned run now → ((s : MachineState) → StandsFor v run s → Follows v s Private after)
+    → after.steps ≡ run.steps + 1 → IsDriven v start owned after now
+drives_private v start owned run after now driven follows more = record {
+  verified = driven.verified;
+  some = driven.some;
+  followed = λ s under_way.
+      let followed = driven.followed s under_way in
+      private_on v start run after s now followed (follows followed.state followed.under_way.stands) more;
+}
+
+-- after a step with the memory's answer
+pub drives_on : (v : Accepted) (start : Running) (owned : TenantPart) (run after answered : Running) (need : Need) (now next : TenantPart) → IsDriven v start owned run now → (need ≡ Private → ⊥) → ((number : ℕ) → need ≡ Ended number → ⊥)
+    → ((s : MachineState) → StandsFor v run s → Follows v s need after) → after.steps ≡ run.steps + 1 → answered.steps ≡ after.steps
+    → ((t : MachineState) → IsAsking v t need after now → (u : MachineState) × (step v.subject.text t ≡ Some (Next u)) × IsUnderWay v answered u next)
+    → IsDriven v start owned answered next
+drives_on v start owned run after answered need now next driven some going follows more same goes_on = record {
+  verified = driven.verified;
+  some = driven.some;
+  followed = λ s under_way.
+      let followed = driven.followed s under_way in
+      let asking = asks_now v run after followed.state need now followed.under_way some going (follows followed.state followed.under_way.stands) in
+      answered_on v start run after answered s need now next followed asking more same goes_on;
+}
+
+-- a driven run is under way
+pub is_under_way : (v : Accepted) (start : Running) (owned : TenantPart) (run : Running) (now : TenantPart) → IsDriven v start owned run now → (s : MachineState) × IsUnderWay v run s now
+is_under_way v start owned run now driven =
+    let (s, under_way) = driven.some in
+    let followed = driven.followed s under_way in
+    (followed.state, followed.under_way)
+
+-- and has made fewer steps than there are instructions
+pub drives_below : (v : Accepted) (start : Running) (owned : TenantPart) (run : Running) (now : TenantPart) → IsDriven v start owned run now → run.steps < instructions_of v.subject.text
+drives_below v start owned run now driven =
+    let (s, under_way) = is_under_way v start owned run now driven in
+    steps_below v run s driven.verified under_way.stands

@@ -1,0 +1,12 @@
+use Rattle.std.proofs.Common.{◌-◌}
+use Rattle.bpf_decode.specs.Text.{instructions_of}
+use Rattle.turn.specs.Seats.{IsIdle, part_of}
+use Rattle.tenant_workers.specs.Calls.{IsSameSeat}
+use Rattle.tenant_workers.proofs.Driven.{IsDriven}
+use Rattle.tenant_workers.proofs.driving.drive.Given as goal
+
+abbrev pub decreases-loop-ret : goal.decreases-loop-ret
+decreases-loop-ret g l = instructions_of l.program.subject.text - l.run.steps
+
+abbrev pub invariant-loop-ret : goal.invariant-loop-ret
+invariant-loop-ret g l = IsIdle l.shared l.seat × IsSameSeat l.fn.seat l.seat × IsDriven l.program l.fn.run (part_of l.fn.seat) l.run (part_of l.seat)

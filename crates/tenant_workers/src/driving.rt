@@ -1,0 +1,73 @@
+ghost use Rattle.std.specs.Prelude.{◌≡◌, ◌+◌, ◌≤◌, ℕ, Some};
+ghost use Rattle.bpf_decode.specs.Text.{instructions_of};
+ghost use Rattle.interp.specs.Machine.{MachineState, Next, Exits, step};
+ghost use Rattle.interp.specs.Runs.{Reaches};
+ghost use Rattle.tenant_runs.specs.UnderWay.{IsUnderWay, IsAsking};
+ghost use Rattle.turn.specs.Seats.{IsIdle, part_of};
+ghost use Rattle.tenant_workers.specs.Calls.{IsSameSeat};
+
+use crate::gate::Gate;
+use crate::shared::Shared;
+use interp::{Need, Run};
+use std::sync::Wait;
+use tenant_runs::{RunReply, answer};
+use turn::Seat;
+use verifier::Verified;
+
+/// Makes all steps that are left of a run of the seat's tenant. Registers, context and stack are the
+/// worker's own; what else the run asks is done in one turn, and the gate is called before each step,
+/// between the turns.
+pub(crate) fn drive(
+    shared: &Shared,
+    rt: &impl Wait,
+    seat: &mut Seat,
+    program: &Verified,
+    run: &mut Run,
+    gate: &impl Gate,
+) -> RunReply
+    requires idle { IsIdle shared.now seat.old }
+    requires under_way { (s : MachineState) × IsUnderWay program.now run.old s (part_of seat.old) }
+    ensures idle { IsIdle shared.now seat.new }
+    ensures same { IsSameSeat seat.old seat.new }
+    ensures ended { (s : MachineState) → IsUnderWay program.now run.old s (part_of seat.old)
+        → (n : ℕ) × Reaches program.now.subject.text s n (Exits result.ret (part_of seat.new).maps) × (result.steps ≡ run.old.steps + n) }
+    ensures few { result.steps ≤ instructions_of program.now.subject.text }
+{
+    program.facts();
+    loop {
+        gate.at(rt, seat.tenant(), run.slot());
+        match run.next(program) {
+            Need::Private => {}
+            Need::Ended(ret) => {
+                return RunReply {
+                    ret,
+                    steps: run.steps(),
+                };
+            }
+            need => meet(shared, rt, seat, program, run, need),
+        }
+    }
+}
+
+/// The one turn in which what a run asks is done and answered.
+fn meet(
+    shared: &Shared,
+    rt: &impl Wait,
+    seat: &mut Seat,
+    program: &Verified,
+    run: &mut Run,
+    need: Need,
+)
+    requires idle { IsIdle shared.now seat.old }
+    requires asks { (s : MachineState) × IsAsking program.now s need run.old (part_of seat.old) }
+    ensures idle { IsIdle shared.now seat.new }
+    ensures same { IsSameSeat seat.old seat.new }
+    ensures goes_on { (s : MachineState) → IsAsking program.now s need run.old (part_of seat.old)
+        → (next : MachineState) × (step program.now.subject.text s ≡ Some (Next next)) × IsUnderWay program.now run.new next (part_of seat.new) }
+    ensures steps { run.new.steps ≡ run.old.steps }
+{
+    let tenant = seat.tenant();
+    let mut held = shared.turn.take(rt, seat);
+    answer(held.memory_mut(), tenant, program, run, need);
+    shared.turn.give(seat, held);
+}

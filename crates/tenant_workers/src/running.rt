@@ -1,0 +1,111 @@
+ghost use Rattle.std.specs.Prelude.{◌≡◌, IfOk, OnOk, IfErr, OnErr};
+ghost use Rattle.interp.specs.Fits.{HaveShapes};
+ghost use Rattle.page_table.specs.State.{part};
+ghost use Rattle.page_table.specs.Changes.{IsKeptBut, with_reserve};
+ghost use Rattle.verifier.specs.Reserve.{reserve_from};
+ghost use Rattle.host_calls.specs.Calls.{IsThere, TellsHave};
+ghost use Rattle.tenant_runs.specs.UnderWay.{HasRun};
+ghost use Rattle.turn.specs.Seats.{IsIdle, part_of};
+ghost use Rattle.tenant_workers.specs.Calls.{IsSameSeat, left_by};
+ghost use Rattle.tenant_workers.specs.Runs.{IsFresh, IsResting, RefusesRun};
+
+use crate::driving::drive;
+use crate::gate::Gate;
+use crate::shared::Shared;
+use admission::release;
+use host_calls::host_begin;
+use host_types::Fault;
+use interp::Run;
+use page_table::Memory;
+use std::sync::Wait;
+use tenant_runs::{RunReply, has_shapes};
+use turn::Seat;
+use verifier::Verified;
+
+impl Shared {
+    /// Makes a whole run of a program by the seat's tenant, as `Run::begin` gave it for this program: it
+    /// begins and ends in a turn each, and each load from a map, store to one and call of a helper takes a
+    /// turn; no other step takes one. The gate is called before each step, between the turns. The run
+    /// returns what the standard's machine returns on the maps of the seat, whatever others do between the
+    /// turns, within as many steps as the program has instructions.
+    ///
+    /// Refusals in their order: 38 where the shapes of the program's maps are no beginning of the tenant's,
+    /// 31 just where the program's reserve is above the frames that may be had; it tells both numbers. A
+    /// refusal leaves the seat's part. The tenant has no other open run.
+    pub fn run(
+        &self,
+        rt: &impl Wait,
+        seat: &mut Seat,
+        program: &Verified,
+        mut run: Run,
+        gate: &impl Gate,
+    ) -> Result<RunReply, Fault>
+        requires idle { IsIdle self.now seat.old }
+        requires resting { IsResting (part_of seat.old) }
+        requires fresh { IsFresh program.now run }
+        ensures idle { IsIdle self.now seat.new }
+        ensures same { IsSameSeat seat.old seat.new }
+        ensures resting { IsResting (part_of seat.new) }
+        ensures ran { IfOk result (HasRun program.now run.context (part_of seat.old) (part_of seat.new)) }
+        ensures refused { IfErr result (RefusesRun program.now (part_of seat.old)) }
+        ensures told { IfErr result (TellsHave (left_by seat.new)) }
+        ensures kept { OnErr result (part_of seat.new ≡ part_of seat.old) }
+    {
+        seat.facts();
+        self.begin(rt, seat, program)?;
+        let reply = drive(self, rt, seat, program, &mut run, gate);
+        self.end(rt, seat);
+        Ok(reply)
+    }
+
+    /// The turn in which a run begins: its frames are reserved.
+    fn begin(&self, rt: &impl Wait, seat: &mut Seat, program: &Verified) -> Result<(), Fault>
+        requires idle { IsIdle self.now seat.old }
+        requires resting { IsResting (part_of seat.old) }
+        ensures idle { IsIdle self.now seat.new }
+        ensures same { IsSameSeat seat.old seat.new }
+        ensures shapes { OnOk result (HaveShapes program.now.subject.shapes (part_of seat.old).maps) }
+        ensures recorded { OnOk result
+            (part_of seat.new ≡ with_reserve (reserve_from program.now 0) (part_of seat.old)) }
+        ensures refused { IfErr result (RefusesRun program.now (part_of seat.old)) }
+        ensures told { IfErr result (TellsHave (left_by seat.new)) }
+        ensures kept { OnErr result (part_of seat.new ≡ part_of seat.old) }
+    {
+        let tenant = seat.tenant();
+        let mut held = self.turn.take(rt, seat);
+        let answer = begin_run(held.memory_mut(), tenant, program);
+        self.turn.give(seat, held);
+        answer
+    }
+
+    /// The turn in which a run ends: nothing is reserved for it any more.
+    fn end(&self, rt: &impl Wait, seat: &mut Seat)
+        requires idle { IsIdle self.now seat.old }
+        ensures idle { IsIdle self.now seat.new }
+        ensures same { IsSameSeat seat.old seat.new }
+        ensures released { part_of seat.new ≡ with_reserve 0 (part_of seat.old) }
+    {
+        let tenant = seat.tenant();
+        let mut held = self.turn.take(rt, seat);
+        release(held.memory_mut(), tenant);
+        self.turn.give(seat, held);
+    }
+}
+
+/// Reserves the frames of a run, where the tenant has the program's maps.
+fn begin_run(memory: &mut Memory, tenant: u32, program: &Verified) -> Result<(), Fault>
+    requires there { IsThere (part memory.old tenant) }
+    requires resting { IsResting (part memory.old tenant) }
+    ensures shapes { OnOk result (HaveShapes program.now.subject.shapes (part memory.old tenant).maps) }
+    ensures recorded { OnOk result
+        (part memory.new tenant ≡ with_reserve (reserve_from program.now 0) (part memory.old tenant)) }
+    ensures others { IsKeptBut tenant memory.old memory.new }
+    ensures refused { IfErr result (RefusesRun program.now (part memory.old tenant)) }
+    ensures told { IfErr result (TellsHave memory.old) }
+    ensures unchanged { OnErr result (memory.new ≡ memory.old) }
+{
+    if !has_shapes(memory, tenant, program) {
+        return Err(Fault::NoProgram);
+    }
+    host_begin(memory, tenant, program)
+}
