@@ -1,16 +1,18 @@
 -- Host files (this project's own format, docs/HOST.md): what a TOML document says.
-use Rattle.std.specs.Prelude.{◌≡◌, ℕ, ◌≤◌, pos, List, [], ◌∷◌, codes, ◌⊎◌, Any, MatchOption, Option, Some, Ok}
+use Rattle.std.specs.Prelude.{◌≡◌, ℕ, ◌≤◌, pos, List, [], ◌∷◌, codes, ◌⊎◌, Any, MatchOption, Option, Some, None, Ok, Bool, true}
+use Rattle.host_types.specs.declared.options.Opt.{Opt}
+use Rattle.host_types.specs.declared.options.Opt.TheVariants as option
 use Rattle.host_types.specs.declared.options.Options.{Options}
 use Rattle.host_types.specs.OptionTable.{default_options}
 use Rattle.hex.specs.Hex.{decode_of}
 use Rattle.host_core.specs.declared.event.Event.{Event}
 use Rattle.host_core.specs.declared.event.Event.TheVariants.{Load, Begin}
 use Rattle.toml.specs.Parse.{parse_document}
-use Rattle.toml.specs.Data.{Data, string, integer, array, table, Items, no_items, item, Members, no_members, member, get_member}
+use Rattle.toml.specs.Data.{Data, string, integer, boolean, array, table, Items, no_items, item, Members, no_members, member, get_member}
 use Rattle.host_file.specs.declared.key.Key.{Key}
 use Rattle.host_file.specs.declared.key.Key.TheVariants as key
 use Rattle.host_file.specs.declared.command.Command.{Command}
-use Rattle.host_file.specs.declared.command.Command.TheVariants.{Apply, Step, Finish, Run}
+use Rattle.host_file.specs.declared.command.Command.TheVariants.{Apply, Step, Finish, Run, Map, Visit, Update, Lookup, Set, Unmerge, Counters}
 use Rattle.host_file.specs.declared.file.HostFile.{HostFile}
 
 -- the keys as they are written
@@ -29,6 +31,13 @@ key_name key.Hex = codes "hex"
 key_name key.Context = codes "context"
 key_name key.Program = codes "program"
 key_name key.Count = codes "count"
+key_name key.ValueSize = codes "value_size"
+key_name key.Entries = codes "entries"
+key_name key.Mergeable = codes "mergeable"
+key_name key.Map = codes "map"
+key_name key.Key = codes "key"
+key_name key.Value = codes "value"
+key_name key.Option = codes "option"
 
 -- the value at a key of a table
 abbrev pub value_at : Members → Key → Option Data
@@ -51,6 +60,15 @@ HasNumber ms key n = MatchOption (value_at ms key) ⊥ (λ value. IsNumber value
 abbrev pub HasNumberOr : ℕ → Members → Key → ℕ → Type 0
 HasNumberOr default ms key n = MatchOption (value_at ms key) (n ≡ default) (λ value. IsNumber value n)
 
+-- a table has a number at a key, or none where the key is missing
+abbrev pub HasAnyNumber : Members → Key → Option ℕ → Type 0
+HasAnyNumber ms key None = value_at ms key ≡ None
+HasAnyNumber ms key (Some n) = HasNumber ms key n
+
+-- a table has true or false at a key, or the key is missing and it is the default
+abbrev pub HasFlagOr : Bool → Members → Key → Bool → Type 0
+HasFlagOr default ms key flag = MatchOption (value_at ms key) (flag ≡ default) (λ value. value ≡ boolean flag)
+
 -- a table has a string at a key
 abbrev pub HasString : Members → Key → List ℕ → Type 0
 HasString ms key text = value_at ms key ≡ Some (string text)
@@ -58,6 +76,17 @@ HasString ms key text = value_at ms key ≡ Some (string text)
 -- a table has bytes at a key, as hex text
 abbrev pub HasHex : Members → Key → List ℕ → Type 0
 HasHex ms key bytes = (text : List ℕ) × HasString ms key text × (decode_of text ≡ Ok bytes)
+
+-- the options as they are written
+abbrev pub option_name : Opt → List ℕ
+option_name option.PagesToScan = codes "pages_to_scan"
+option_name option.Run = codes "run"
+option_name option.UseZeroPages = codes "use_zero_pages"
+option_name option.MaxPageSharing = codes "max_page_sharing"
+
+-- a table names an option
+abbrev pub HasOption : Members → Opt → Type 0
+HasOption ms opt = HasString ms key.Option (option_name opt)
 
 -- a table of options; an option that it doesn't name is as by default
 pub record IsOptionTable (ms : Members) (options : Options) : Type 0 where
@@ -103,6 +132,21 @@ IsEvent ms (Step tenant count) =
 IsEvent ms (Finish tenant) =
     IsRow ms (codes "finish") (key.Do ∷ key.Tenant ∷ []) × HasNumber ms key.Tenant tenant
 IsEvent ms (Run event) = HasString ms key.Do (codes "run") × IsBeginning ms event
+IsEvent ms (Map tenant value_size entries mergeable) =
+    IsRow ms (codes "map") (key.Do ∷ key.Tenant ∷ key.ValueSize ∷ key.Entries ∷ key.Mergeable ∷ [])
+    × HasNumber ms key.Tenant tenant × HasNumber ms key.ValueSize value_size × HasNumber ms key.Entries entries
+    × HasFlagOr true ms key.Mergeable mergeable
+IsEvent ms (Visit count) = IsRow ms (codes "visit") (key.Do ∷ key.Count ∷ []) × HasAnyNumber ms key.Count count
+IsEvent ms (Update tenant map number value) =
+    IsRow ms (codes "update") (key.Do ∷ key.Tenant ∷ key.Map ∷ key.Key ∷ key.Value ∷ [])
+    × HasNumber ms key.Tenant tenant × HasNumber ms key.Map map × HasNumber ms key.Key number × HasHex ms key.Value value
+IsEvent ms (Lookup tenant map number) =
+    IsRow ms (codes "lookup") (key.Do ∷ key.Tenant ∷ key.Map ∷ key.Key ∷ [])
+    × HasNumber ms key.Tenant tenant × HasNumber ms key.Map map × HasNumber ms key.Key number
+IsEvent ms (Set opt value) =
+    IsRow ms (codes "set") (key.Do ∷ key.Option ∷ key.Value ∷ []) × HasOption ms opt × HasNumber ms key.Value value
+IsEvent ms Unmerge = IsRow ms (codes "unmerge") (key.Do ∷ [])
+IsEvent ms Counters = IsRow ms (codes "counters") (key.Do ∷ [])
 
 abbrev pub IsEventTable : Data → Command → Type 0
 IsEventTable (table ms) command = IsEvent ms command

@@ -1,5 +1,5 @@
 ghost use Rattle.std.specs.Prelude.{codes, IfOk};
-ghost use Rattle.host_file.specs.HostFile.{HasString, IsBeginning, IsEvent};
+ghost use Rattle.host_file.specs.HostFile.{HasOption, HasString, IsBeginning, IsEvent};
 ghost use Rattle.host_file.specs.Section.{members_of};
 
 use crate::command::Command;
@@ -7,6 +7,7 @@ use crate::fault::{Cause, FileFault};
 use crate::key::Key;
 use crate::section::Section;
 use host_core::Event;
+use host_types::Opt;
 use plain_text::quoted;
 use std::alloc::Global;
 
@@ -15,13 +16,42 @@ pub fn command_of(alloc: Global, event: &Section<'_>) -> Result<Command, FileFau
     ensures { IfOk result (IsEvent (members_of event.now)) }
 {
     match event.text(Key::Do)? {
+        "map" => map(alloc, event),
         "load" => load(alloc, event),
         "begin" => begin(alloc, event),
         "step" => step(alloc, event),
         "finish" => finish(alloc, event),
         "run" => run(alloc, event),
+        "visit" => visit(alloc, event),
+        "update" => update(alloc, event),
+        "lookup" => lookup(alloc, event),
+        "set" => set(alloc, event),
+        "unmerge" => unmerge(alloc, event),
+        "counters" => counters(alloc, event),
         other => Err(event.bad(Cause::UnknownEvent(quoted(alloc, other)?))),
     }
+}
+
+fn map(alloc: Global, event: &Section<'_>) -> Result<Command, FileFault>
+    requires { HasString (members_of event.now) Key.Do (codes "map") }
+    ensures { IfOk result (IsEvent (members_of event.now)) }
+{
+    event.require_only(
+        alloc,
+        &[
+            Key::Do,
+            Key::Tenant,
+            Key::ValueSize,
+            Key::Entries,
+            Key::Mergeable,
+        ],
+    )?;
+    Ok(Command::Map {
+        tenant: event.number(Key::Tenant)?,
+        value_size: event.number(Key::ValueSize)?,
+        entries: event.number(Key::Entries)?,
+        mergeable: event.flag_or(Key::Mergeable, true)?,
+    })
 }
 
 fn load(alloc: Global, event: &Section<'_>) -> Result<Command, FileFault>
@@ -81,4 +111,82 @@ fn beginning(alloc: Global, event: &Section<'_>) -> Result<Event, FileFault>
         program: event.number(Key::Program)?,
         context: event.bytes(alloc, Key::Context)?,
     })
+}
+
+fn visit(alloc: Global, event: &Section<'_>) -> Result<Command, FileFault>
+    requires { HasString (members_of event.now) Key.Do (codes "visit") }
+    ensures { IfOk result (IsEvent (members_of event.now)) }
+{
+    event.require_only(alloc, &[Key::Do, Key::Count])?;
+    Ok(Command::Visit {
+        count: event.any_number(Key::Count)?,
+    })
+}
+
+fn update(alloc: Global, event: &Section<'_>) -> Result<Command, FileFault>
+    requires { HasString (members_of event.now) Key.Do (codes "update") }
+    ensures { IfOk result (IsEvent (members_of event.now)) }
+{
+    event.require_only(
+        alloc,
+        &[Key::Do, Key::Tenant, Key::Map, Key::Key, Key::Value],
+    )?;
+    Ok(Command::Update {
+        tenant: event.number(Key::Tenant)?,
+        map: event.number(Key::Map)?,
+        key: event.number(Key::Key)?,
+        value: event.bytes(alloc, Key::Value)?,
+    })
+}
+
+fn lookup(alloc: Global, event: &Section<'_>) -> Result<Command, FileFault>
+    requires { HasString (members_of event.now) Key.Do (codes "lookup") }
+    ensures { IfOk result (IsEvent (members_of event.now)) }
+{
+    event.require_only(alloc, &[Key::Do, Key::Tenant, Key::Map, Key::Key])?;
+    Ok(Command::Lookup {
+        tenant: event.number(Key::Tenant)?,
+        map: event.number(Key::Map)?,
+        key: event.number(Key::Key)?,
+    })
+}
+
+fn set(alloc: Global, event: &Section<'_>) -> Result<Command, FileFault>
+    requires { HasString (members_of event.now) Key.Do (codes "set") }
+    ensures { IfOk result (IsEvent (members_of event.now)) }
+{
+    event.require_only(alloc, &[Key::Do, Key::Option, Key::Value])?;
+    Ok(Command::Set {
+        option: option(alloc, event)?,
+        value: event.number(Key::Value)?,
+    })
+}
+
+/// The option that an event names.
+fn option(alloc: Global, event: &Section<'_>) -> Result<Opt, FileFault>
+    ensures { IfOk result (HasOption (members_of event.now)) }
+{
+    match event.text(Key::Option)? {
+        "pages_to_scan" => Ok(Opt::PagesToScan),
+        "run" => Ok(Opt::Run),
+        "use_zero_pages" => Ok(Opt::UseZeroPages),
+        "max_page_sharing" => Ok(Opt::MaxPageSharing),
+        other => Err(event.bad(Cause::UnknownOption(quoted(alloc, other)?))),
+    }
+}
+
+fn unmerge(alloc: Global, event: &Section<'_>) -> Result<Command, FileFault>
+    requires { HasString (members_of event.now) Key.Do (codes "unmerge") }
+    ensures { IfOk result (IsEvent (members_of event.now)) }
+{
+    event.require_only(alloc, &[Key::Do])?;
+    Ok(Command::Unmerge)
+}
+
+fn counters(alloc: Global, event: &Section<'_>) -> Result<Command, FileFault>
+    requires { HasString (members_of event.now) Key.Do (codes "counters") }
+    ensures { IfOk result (IsEvent (members_of event.now)) }
+{
+    event.require_only(alloc, &[Key::Do])?;
+    Ok(Command::Counters)
 }

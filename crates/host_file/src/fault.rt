@@ -57,6 +57,8 @@ pub enum Cause {
     Unknown(String),
     #[error("`{0}` is no number from 0 to 4294967295")]
     NotNumber(Key),
+    #[error("`{0}` is neither true nor false")]
+    NotBoolean(Key),
     #[error("`{0}` is no string")]
     NotString(Key),
     #[error("`{0}` is no hex text: {1}")]
@@ -65,8 +67,10 @@ pub enum Cause {
     NotTable(Key),
     #[error("`{0}` is no array of tables")]
     NotTables(Key),
-    #[error("no event does `{0}`; an event does load, begin, step, finish or run")]
+    #[error("no event does `{0}`; an event does map, load, begin, step, finish, run, visit, update, lookup, set, unmerge or counters")]
     UnknownEvent(String),
+    #[error("no option is `{0}`; the options are pages_to_scan, run, use_zero_pages and max_page_sharing")]
+    UnknownOption(String),
 }
 
 impl fmt::Display for Place {

@@ -20,6 +20,13 @@ pub enum Key {
     Context,
     Program,
     Count,
+    ValueSize,
+    Entries,
+    Mergeable,
+    Map,
+    Key,
+    Value,
+    Option,
 }
 
 impl Key {
@@ -42,6 +49,13 @@ impl Key {
             Key::Context => "context",
             Key::Program => "program",
             Key::Count => "count",
+            Key::ValueSize => "value_size",
+            Key::Entries => "entries",
+            Key::Mergeable => "mergeable",
+            Key::Map => "map",
+            Key::Key => "key",
+            Key::Value => "value",
+            Key::Option => "option",
         }
     }
 }

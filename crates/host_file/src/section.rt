@@ -1,7 +1,7 @@
 ghost use Rattle.std.specs.Prelude.{◌≡◌, ◌↔◌, ℕ, option_map, Any, IfNone, IfOk, IfSome, IsTrue, OnOk};
 ghost use Rattle.toml.specs.Data.{array, table};
 ghost use Rattle.toml.specs.View.{view, array_view, table_view};
-ghost use Rattle.host_file.specs.HostFile.{HasHex, HasNumber, HasNumberOr, HasOnly, HasString, IsNumber, key_name, value_at};
+ghost use Rattle.host_file.specs.HostFile.{HasAnyNumber, HasFlagOr, HasHex, HasNumber, HasNumberOr, HasOnly, HasString, IsNumber, key_name, value_at};
 ghost use Rattle.host_file.specs.Section.{members_of};
 ghost use Rattle.host_file.specs.declared.fault.FileFault.TheVariants.{Bad};
 
@@ -118,6 +118,32 @@ impl<'a> Section<'a> {
         match self.get(key) {
             None => Ok(default),
             Some(value) => number_of(value).ok_or(self.bad(Cause::NotNumber(key))),
+        }
+    }
+
+    /// The number at a key, if there is one.
+    pub fn any_number(&self, key: Key) -> Result<Option<u32>, FileFault>
+        ensures { IfOk result (HasAnyNumber (members_of self.now) key) }
+    {
+        match self.get(key) {
+            None => Ok(None),
+            Some(value) => match number_of(value) {
+                Some(number) => Ok(Some(number)),
+                None => Err(self.bad(Cause::NotNumber(key))),
+            },
+        }
+    }
+
+    /// Whether it is true at a key, or a default where the key is missing.
+    pub fn flag_or(&self, key: Key, default: bool) -> Result<bool, FileFault>
+        ensures { IfOk result (HasFlagOr default (members_of self.now) key) }
+    {
+        match self.get(key) {
+            None => Ok(default),
+            Some(value) => match value {
+                Value::Boolean(flag) => Ok(*flag),
+                _ => Err(self.bad(Cause::NotBoolean(key))),
+            },
         }
     }
 
