@@ -1,5 +1,5 @@
 -- The numbers of the refusals that a host of today can answer, or a `check`. Of the others there is no
--- advice yet: they speak of maps, which programs don't have, and of frames, which nothing takes.
+-- advice yet: they speak of a tenant's maps, which a host of today doesn't make, and of frames.
 use Rattle.std.specs.Prelude.{ℕ, Bool, ◌==◌, ◌||◌}
 
 -- what is wrong with an instruction alone, or with the text's length
@@ -12,19 +12,19 @@ is_of_way n = n == 11 || (n == 12 || n == 13)
 
 -- which registers and kinds of values an instruction may take
 abbrev pub is_of_value : ℕ → Bool
-is_of_value n = n == 14 || (n == 15 || (n == 22 || n == 25))
+is_of_value n = n == 14 || (n == 15 || (n == 21 || (n == 22 || n == 25)))
 
 -- which bytes an instruction may read and write
 abbrev pub is_of_access : ℕ → Bool
-is_of_access n = n == 16 || (n == 17 || (n == 18 || n == 20))
+is_of_access n = n == 16 || (n == 17 || (n == 18 || (n == 19 || n == 20)))
 
 -- which helpers and maps there are
 abbrev pub is_of_call : ℕ → Bool
 is_of_call n = n == 23 || n == 24
 
--- what a host's shape, options, sizes and memory may be
+-- what the shapes of a host and of maps, options, sizes and memory may be
 abbrev pub is_of_limits : ℕ → Bool
-is_of_limits n = n == 33 || (n == 39 || (n == 40 || n == 41))
+is_of_limits n = n == 32 || (n == 33 || (n == 39 || (n == 40 || n == 41)))
 
 -- which tenants, programs and runs there are
 abbrev pub is_of_tenants : ℕ → Bool

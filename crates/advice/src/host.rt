@@ -6,14 +6,16 @@ ghost use Rattle.advice.specs.Answered.{is_of_limits, is_of_tenants};
 use crate::Advice;
 use host_types::Opt;
 
-/// What a host's shape, options, sizes and memory may be.
+/// What the shapes of a host and of maps, options, sizes and memory may be.
 pub fn on_limits(number: u32) -> Option<Advice>
     ensures { IsSome result ↔ IsTrue (is_of_limits number) }
 {
     let (wrong, mend) = match number {
+        32 => ("there are more than eight maps", "use fewer"),
         33 => (
-            "`frames` isn't from 2 to 4096, or `tenants` not from 1 to 16",
-            "mend the top of the host file",
+            "`frames` isn't from 2 to 4096, `tenants` not from 1 to 16, or no map has such a shape",
+            "mend the top of the host file, or the shape: values of 1 to 4096 bytes, 1 to 65536 \
+            elements, and no more than 256 pages",
         ),
         39 => (
             "a context size above 256 or no multiple of 8, or a context of another length than the \
@@ -51,6 +53,23 @@ pub fn on_tenants(number: u32) -> Option<Advice>
         _ => return None,
     };
     Some(Advice { wrong, mend })
+}
+
+/// A host of so many frames or tenants as none has.
+pub fn on_host_size() -> Advice {
+    Advice {
+        wrong: "`frames` isn't from 2 to 4096, or `tenants` not from 1 to 16",
+        mend: "mend the top of the host file",
+    }
+}
+
+/// A shape that no map has.
+pub fn on_shape() -> Advice {
+    Advice {
+        wrong: "no map has such a shape",
+        mend: "give values of 1 to 4096 bytes, 1 to 65536 elements, and no more than 256 pages of \
+            4096 bytes; each element takes a multiple of 8",
+    }
 }
 
 /// A size of contexts that no program can be loaded with.

@@ -6,8 +6,8 @@ ghost use Rattle.bpf_decode.specs.Text.{slots_of};
 ghost use Rattle.advice.specs.Answered.{is_answered};
 
 use crate::Advice;
-use bpf_decode::{AluCode, Insn, Operation, Source};
-use host_types::Refused;
+use bpf_decode::{AluCode, Insn, Operation, Size, Source};
+use host_types::{MapHelper, Refused};
 
 // The most bytes of a text.
 const LONGEST_TEXT: usize = 32768;
@@ -95,7 +95,7 @@ fn on_field(insn: &Insn) -> Option<Advice> {
         ),
         Operation::LoadImmediate => (
             "this form of the wide instruction isn't taken",
-            "load a number with src 0, the second half's other fields 0",
+            "load a number with src 0, or name a map with src 1, the second half's other fields 0",
         ),
         Operation::Alu {
             code: AluCode::Div | AluCode::Mod,
@@ -152,23 +152,41 @@ fn on_target(insn: &Insn, text: &[u8], slot: u32) -> Option<Advice> {
 fn on_kind(insn: &Insn) -> Option<Advice> {
     let (wrong, mend) = match Operation::of(insn.opcode)? {
         Operation::Load { .. } => (
-            "a load goes through a number",
-            "load through R1, R10, or a copy of one of them",
+            "a load goes through a number or a map's name",
+            "load through R1, R10, a lookup's answer, or a copy of one of them",
         ),
         Operation::Store { .. } => (
-            "a store goes through a number or into the context",
-            "store to the stack, through R10 or a copy of it",
+            "a store goes through a number or a map's name, or into the context",
+            "store to the stack, through R10 or a copy of it, or through a lookup's answer",
         ),
-        Operation::Branch { .. } => ("an address is compared", "compare numbers"),
+        Operation::Branch { .. } => (
+            "an address is compared",
+            "compare numbers, and a lookup's answer with 0 once",
+        ),
         Operation::Alu { .. } => (
             "this arithmetic isn't taken on an address",
-            "copy an address with 64 bits, and add or subtract constants alone",
+            "copy an address with 64 bits, and add or subtract constants alone; to one in a map's \
+            value numbers may be added",
         ),
-        Operation::Call => (
-            "R1 doesn't hold the name of a map, which the helper wants",
-            "leave the call out: programs have no maps yet",
-        ),
+        Operation::Call => return on_arguments(insn),
         _ => return None,
+    };
+    Some(Advice { wrong, mend })
+}
+
+/// An argument of a call of a kind that the helper doesn't take.
+fn on_arguments(insn: &Insn) -> Option<Advice> {
+    let (wrong, mend) = match MapHelper::of(insn.immediate())? {
+        MapHelper::Lookup | MapHelper::Delete => (
+            "R1 doesn't hold a map's name, or R2 no address of the stack or the context",
+            "name the map by the wide instruction with src 1, and store the key on the stack",
+        ),
+        MapHelper::Update => (
+            "R1 doesn't hold a map's name, R2 or R3 no address of the stack or the context, or R4 \
+            no number",
+            "name the map by the wide instruction with src 1, store key and value on the stack, \
+            and give 0 as flags",
+        ),
     };
     Some(Advice { wrong, mend })
 }
@@ -177,13 +195,24 @@ fn on_kind(insn: &Insn) -> Option<Advice> {
 fn on_leak(insn: &Insn) -> Option<Advice> {
     let (wrong, mend) = match Operation::of(insn.opcode)? {
         Operation::Exit => ("the program returns an address", "return a number in R0"),
+        Operation::Store {
+            size: Size::DoubleWord,
+            ..
+        } => (
+            "an address is stored in a map",
+            "store numbers in maps, and addresses on the stack",
+        ),
         Operation::Store { .. } => (
             "an address is stored in fewer than eight bytes",
-            "store it as a double word",
+            "store it as a double word on the stack",
         ),
         Operation::Load { .. } => (
             "a part of an address is loaded from the stack",
             "load it as a double word",
+        ),
+        Operation::Call => (
+            "the helper would read a part of an address from the stack",
+            "store the key, or the value, there first",
         ),
         _ => return None,
     };

@@ -11,7 +11,7 @@ mod tests;
 ghost use Rattle.std.specs.Prelude.{◌↔◌, IsSome, IsTrue};
 ghost use Rattle.advice.specs.Answered.{is_answered};
 
-pub use host::{on_context_length, on_context_size, on_option};
+pub use host::{on_context_length, on_context_size, on_host_size, on_option, on_shape};
 use host_types::Refused;
 
 /// What a refusal says.

@@ -65,23 +65,31 @@ pub fn on_value(number: u32) -> Option<Advice>
             "a register is read that isn't set on every way to the slot, or holds an address on one \
             and another value on another",
             "set it first on every way, to numbers or to the same address; at the start only R1 and \
-            R10 are set; EXIT reads R0",
+            R10 are set; a call unsets R1 to R5; EXIT reads R0",
         ),
         15 => (
-            "an access through a number, a store to the context, a comparison with an address, \
-            arithmetic on one other than a copy of 64 bits and adding or subtracting a constant \
-            with 64 bits, or a call, which wants the name of a map",
-            "keep the base in a copy of R1 or R10, add constants alone, store to the stack alone, \
-            compare numbers, and leave calls out",
+            "an access through a number or a map's name, a store to the context, a comparison with \
+            an address, arithmetic on one other than a copy of 64 bits and adding or subtracting a \
+            constant with 64 bits, or a call without a map's name in R1, addresses of the stack or \
+            the context for key and value, and a number for flags",
+            "keep the base in a copy of R1, R10 or a lookup's answer, add constants alone, and other \
+            numbers to an address in a map's value, store to the stack and to maps, compare \
+            numbers, and name the map right before the call",
+        ),
+        21 => (
+            "a lookup's answer is used that may be 0",
+            "compare it with 0 first, by JEQ or JNE with 64 bits, and use it on the way on which it \
+            isn't 0",
         ),
         22 => (
             "R10 is written",
             "copy R10 to another register and change that",
         ),
         25 => (
-            "the program returns an address, stores one in fewer than eight bytes, or loads a part \
-            of one from the stack",
-            "return a number; store and load addresses as double words",
+            "the program returns an address, stores one in fewer than eight bytes or in a map, loads \
+            a part of one from the stack, or has a helper read it there",
+            "return a number; store addresses as double words on the stack, and load them so; give \
+            helpers numbers",
         ),
         _ => return None,
     };
@@ -94,22 +102,29 @@ pub fn on_access(number: u32) -> Option<Advice>
 {
     let (wrong, mend) = match number {
         16 => (
-            "a load that isn't whole in the context, or an address more than 65536 bytes from its \
-            beginning",
+            "a load, or a helper's key or value, that isn't whole in the context, or an address more \
+            than 65536 bytes from its beginning",
             "lower the offset, or load the program with a larger context size",
         ),
         17 => (
-            "an access that isn't whole in the 512 bytes below R10, or an address more than 65536 \
-            bytes from R10",
+            "an access, or a helper's key or value, that isn't whole in the 512 bytes below R10, or \
+            an address more than 65536 bytes from R10",
             "use offsets from -512 to less than 0, the whole access below 0",
         ),
         18 => (
             "bytes of the stack are read that weren't all stored",
             "store them first, on every way that leads here",
         ),
+        19 => (
+            "an access that may lie outside a map's value, or an address that may be more than 65536 \
+            bytes from the value's beginning",
+            "compare the index with the value's size before it is added, or mask it, so that the \
+            whole access lies in the value; or make the map with larger values",
+        ),
         20 => (
-            "the place of an access is no multiple of its size",
-            "use multiples of the access's size",
+            "the place of an access may be no multiple of its size, or that of a key none of 4",
+            "use multiples of the access's size; an index that isn't constant keeps them by a mask \
+            without the low bits, or a shift to the left",
         ),
         _ => return None,
     };
@@ -123,11 +138,11 @@ pub fn on_call(number: u32) -> Option<Advice>
     let (wrong, mend) = match number {
         23 => (
             "a helper other than 1, 2 and 3 is called",
-            "leave the call out: these three want maps, and programs have none yet",
+            "call 1 to look an element of a map up, 2 to update it, 3 to delete it",
         ),
         24 => (
             "a map is named that isn't there",
-            "leave it out: programs have no maps yet",
+            "count maps from 0, and give `check` a V:E for each",
         ),
         _ => return None,
     };

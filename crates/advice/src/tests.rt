@@ -9,7 +9,7 @@ type Row = (u32, u64, &'static str);
 
 #[test]
 fn words_go_by_the_instruction(rt: HostRuntime) -> Result<(), Fail> {
-    let rows: [Row; 21] = [
+    let rows: [Row; 24] = [
         (2, 0x8d00000000000000, "a call by a register isn't taken"),
         (2, 0xdb01000000000000, "an atomic instruction isn't taken"),
         (
@@ -67,11 +67,15 @@ fn words_go_by_the_instruction(rt: HostRuntime) -> Result<(), Fail> {
             0x0500000000000000,
             "a jump leads into the second half of a wide instruction",
         ),
-        (15, 0x7900000000000000, "a load goes through a number"),
+        (
+            15,
+            0x7900000000000000,
+            "a load goes through a number or a map's name",
+        ),
         (
             15,
             0x7b11000000000000,
-            "a store goes through a number or into the context",
+            "a store goes through a number or a map's name, or into the context",
         ),
         (15, 0x1d1a000000000000, "an address is compared"),
         (
@@ -82,13 +86,25 @@ fn words_go_by_the_instruction(rt: HostRuntime) -> Result<(), Fail> {
         (
             15,
             0x8500000001000000,
-            "R1 doesn't hold the name of a map, which the helper wants",
+            "R1 doesn't hold a map's name, or R2 no address of the stack or the context",
+        ),
+        (
+            15,
+            0x8500000002000000,
+            "R1 doesn't hold a map's name, R2 or R3 no address of the stack or the context, or R4 \
+            no number",
         ),
         (25, 0x9500000000000000, "the program returns an address"),
         (
             25,
             0x631a000000000000,
             "an address is stored in fewer than eight bytes",
+        ),
+        (25, 0x7b10000000000000, "an address is stored in a map"),
+        (
+            25,
+            0x8500000001000000,
+            "the helper would read a part of an address from the stack",
         ),
         (
             25,

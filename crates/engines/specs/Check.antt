@@ -1,54 +1,79 @@
 -- What `check` judges (this project's own command, docs/HOST.md).
-use Rattle.std.specs.Prelude.{◌≡◌, ℕ, ◌≤◌, not, List, [], ◌∷◌, ◌⊎◌, MatchOption, Option, Ok}
+use Rattle.std.specs.Prelude.{◌≡◌, ℕ, ◌<◌, ◌≤◌, ◌==◌, Bool, List, ◌++◌, length, codes, decimal, All, ◌⊎◌, Option, Ok}
+use Rattle.std.specs.Borrow.{Bor}
 use Rattle.std.specs.Io.KnownBytes.{Appends}
+use Rattle.std.specs.List.{AllZip, before_first, after_first}
 use Rattle.std.specs.Str.Parse.{IsNumeral, digits_value}
 use Rattle.hex.specs.Hex.{decode_of}
 use Rattle.host_types.specs.declared.fault.Fault.{Fault}
-use Rattle.host_types.specs.declared.fault.Fault.TheVariants.{BadContext}
-use Rattle.verifier.specs.Subject.{Subject}
-use Rattle.verifier.specs.Verified.{Accepted, IsVerified}
+use Rattle.host_types.specs.declared.fault.Fault.TheVariants.{TooManyMaps, BadShape, BadContext}
+use Rattle.host_types.specs.declared.shape.Shape.{Shape}
+use Rattle.host_types.specs.Shapes.{IsShape}
+use Rattle.bpf_decode.specs.Text.{slots_of, instructions_of}
+use Rattle.verifier.specs.Subject.{Subject, IsContextSize}
+use Rattle.verifier.specs.Reserve.{reserve_from}
+use Rattle.verifier.specs.Verified.{Accepted, AreShapes, IsVerified}
+use Rattle.host_calls.specs.Programs.{IsJudgement, subject_for}
 use Rattle.engines.specs.declared.check.question.Question.{Question}
-use Rattle.host_core.specs.Happens.{first_refusal, is_context_size}
-use Rattle.host_core.specs.HostView.{unmapped, IsJudgement}
-use Rattle.engines.specs.Lines.{line_of, accepted_text, refusal_text}
+use Rattle.engines.specs.Lines.{line_of, refusal_text}
 
 -- a word is a decimal number up to 4294967295: digits alone
 abbrev pub IsDecimal : List ℕ → ℕ → Type 0
 IsDecimal word n = IsNumeral 10 word × (digits_value 10 word ≡ n) × (n ≤ 4294967295)
 
--- what the words ask for: a text as hex, no maps, and the size of its context as a decimal number
-abbrev pub IsAsked : List ℕ → ℕ → List ℕ → Question → Type 0
-IsAsked hex maps context asked = (decode_of hex ≡ Ok asked.text) × (maps ≡ 0) × IsDecimal context asked.context_size
+abbrev pub is_colon : ℕ → Bool
+is_colon c = c == 58
 
--- the program that is judged; it has no maps
-abbrev pub subject_of : Question → Subject
-subject_of asked = unmapped asked.text asked.context_size
+-- a word V:E gives the shape of a map: the numbers before and behind its first colon
+abbrev pub IsShapeWord : List ℕ → Shape → Type 0
+IsShapeWord word shape = IsDecimal (before_first is_colon word) shape.value_size × IsDecimal (after_first is_colon word) shape.entries
 
--- what is refused before the text is looked at
-abbrev pub check_refusal : ℕ → Option Fault
-check_refusal size = first_refusal ((not (is_context_size size), BadContext) ∷ [])
+-- words give the shapes of maps, each that of the map with its number
+abbrev pub AreShapeWords : List (Bor (List ℕ)) → List Shape → Type 0
+AreShapeWords words shapes = AllZip (λ word shape. IsShapeWord word.now shape) words shapes
 
--- a program is refused: for the size of its context, or by its judgement
-abbrev pub IsCheckRefusal : Subject → Fault → Type 0
-IsCheckRefusal p fault = MatchOption (check_refusal p.context_size) (IsJudgement p fault) (λ refusal. fault ≡ refusal)
+-- what the words ask for: a text as hex, the shapes of its maps, and the size of its context as a decimal number
+abbrev pub IsAsked : List ℕ → List (Bor (List ℕ)) → List ℕ → Question → Type 0
+IsAsked hex maps context asked =
+    (decode_of hex ≡ Ok asked.text) × AreShapeWords maps asked.shapes.items × IsDecimal context asked.context_size
+
+-- the program that is judged
+abbrev pub subject_asked : Question → Subject
+subject_asked asked = subject_for asked.shapes.items asked.text asked.context_size
+
+-- why a program is refused: the first refusal, in this order, whose condition holds; that of its text comes last
+abbrev pub IsCheckRefusal : Question → Fault → Type 0
+IsCheckRefusal asked TooManyMaps = 8 < length asked.shapes.items
+IsCheckRefusal asked BadShape = (length asked.shapes.items ≤ 8) × ¬ (All IsShape asked.shapes.items)
+IsCheckRefusal asked BadContext = AreShapes asked.shapes.items × ¬ (IsContextSize asked.context_size)
+IsCheckRefusal asked fault = AreShapes asked.shapes.items × IsContextSize asked.context_size × IsJudgement (subject_asked asked) fault
 
 -- a program is accepted: it has a lawful table
 abbrev pub IsAccepted : Subject → Accepted → Type 0
 IsAccepted p accepted = (accepted.subject ≡ p) × IsVerified accepted
 
+-- a program of so many slots and instructions is accepted, for a run of which so many frames are reserved
+abbrev pub acceptance_text : ℕ → ℕ → ℕ → List ℕ
+acceptance_text slots instructions reserve =
+    codes "accepted slots " ++ decimal slots ++ codes " instructions " ++ decimal instructions ++ codes " reserve " ++ decimal reserve
+
+-- what is told of an accepted program; its reserve is that from slot 0 on
+abbrev pub acceptance_of : Accepted → List ℕ
+acceptance_of v = acceptance_text (slots_of v.subject.text) (instructions_of v.subject.text) (reserve_from v 0)
+
 -- A status and a line tell the judgement: 0 that the program is accepted; 1 that it is refused, with the refusal
 -- that was found, which may be want of memory.
-abbrev pub TellsJudgement : Subject → ℕ → List ℕ → Type 0
-TellsJudgement p status line =
-    ((status ≡ 0) × (line ≡ line_of (accepted_text p.text)) × ((accepted : Accepted) × IsAccepted p accepted))
-    ⊎ ((status ≡ 1) × ((fault : Fault) × (line ≡ line_of (refusal_text fault)) × IsCheckRefusal p fault))
+abbrev pub TellsJudgement : Question → ℕ → List ℕ → Type 0
+TellsJudgement asked status line =
+    ((status ≡ 0) × ((accepted : Accepted) × (line ≡ line_of (acceptance_of accepted)) × IsAccepted (subject_asked asked) accepted))
+    ⊎ ((status ≡ 1) × ((fault : Fault) × (line ≡ line_of (refusal_text fault)) × IsCheckRefusal asked fault))
 
 -- a status and what an output took tell the judgement of what the words ask for
-abbrev pub AnswersWords : List ℕ → ℕ → List ℕ → Option (List ℕ) → Option (List ℕ) → ℕ → Type 0
+abbrev pub AnswersWords : List ℕ → List (Bor (List ℕ)) → List ℕ → Option (List ℕ) → Option (List ℕ) → ℕ → Type 0
 AnswersWords hex maps context old new status =
     (asked : Question) × (line : List ℕ) × IsAsked hex maps context asked
-    × TellsJudgement (subject_of asked) status line × Appends old new line
+    × TellsJudgement asked status line × Appends old new line
 
 -- the words ask for nothing that can be judged
-abbrev pub AskNothing : List ℕ → ℕ → List ℕ → Type 0
+abbrev pub AskNothing : List ℕ → List (Bor (List ℕ)) → List ℕ → Type 0
 AskNothing hex maps context = (asked : Question) → IsAsked hex maps context asked → ⊥

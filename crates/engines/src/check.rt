@@ -1,17 +1,19 @@
 //! The engine of `check`: one program, judged and not run.
 
-ghost use Rattle.std.specs.Prelude.{◌≡◌, ◌≤◌, length, IfErr, IfOk, OnErr, OnOk};
+ghost use Rattle.std.specs.Prelude.{◌≡◌, ◌≤◌, IfErr, IfOk, OnErr, OnOk};
 ghost use Rattle.std.specs.Io.KnownBytes.{Appends};
 ghost use Rattle.host_file.specs.Faults.{IsBad, IsOfWords, IsUsage};
-ghost use Rattle.engines.specs.Check.{AnswersWords, AskNothing, IsAccepted, IsCheckRefusal, subject_of};
-ghost use Rattle.engines.specs.Lines.{accepted_text, line_of, refusal_text};
+ghost use Rattle.engines.specs.Check.{AnswersWords, AskNothing, IsAccepted, IsCheckRefusal, acceptance_of, subject_asked};
+ghost use Rattle.engines.specs.Lines.{line_of, refusal_text};
 
+mod acceptance;
 mod question;
 
 use crate::explanation::explain;
 use crate::fault::written;
-use crate::lines::{write_accepted, write_refusal};
-use host_core::{accepted, is_context_size};
+use crate::lines::write_refusal;
+use acceptance::Acceptance;
+use host_calls::{is_context_size, judge};
 use host_file::FileFault;
 use host_types::Fault;
 use question::{Question, question_of};
@@ -19,10 +21,13 @@ use std::alloc::Global;
 use std::io::Write;
 use verifier::Verified;
 
+/// The most maps of a program.
+const MAX_MAPS: usize = 8;
+
 /// Judges the program that the words of a command line ask for: hex text, the shapes of its maps,
-/// and the size of its context. The output gets one line: that it is accepted, with its slots and
-/// instructions, or the refusal; and what the refusal means goes to `words`. Answers the status: 0,
-/// or 1 for a refusal. Words that can't be read write nothing.
+/// and the size of its context. The output gets one line: that it is accepted, with its slots, its
+/// instructions and its reserve, or the refusal; and what the refusal means goes to `words`. Answers
+/// the status: 0, or 1 for a refusal. Words that can't be read write nothing.
 pub fn check<W: Write, E: Write>(
     alloc: Global,
     hex: &str,
@@ -32,8 +37,8 @@ pub fn check<W: Write, E: Write>(
     words: &mut E,
 ) -> Result<u8, FileFault>
     ensures status { IfOk result (λ status. status ≤ 1) }
-    ensures judged { IfOk result (AnswersWords hex.now (length shapes.now) context.now (W.contents output.old) (W.contents output.new)) }
-    ensures usage { IfErr result (λ fault. IsUsage fault → AskNothing hex.now (length shapes.now) context.now) }
+    ensures judged { IfOk result (AnswersWords hex.now shapes.now context.now (W.contents output.old) (W.contents output.new)) }
+    ensures usage { IfErr result (λ fault. IsUsage fault → AskNothing hex.now shapes.now context.now) }
     ensures unwritten { IfErr result (λ fault. IsOfWords fault → output.new ≡ output.old) }
     ensures silent { OnErr result (words.new ≡ words.old) }
 {
@@ -52,24 +57,33 @@ pub fn check<W: Write, E: Write>(
     }
 }
 
-/// Judges a program. The size of its context is looked at first.
+/// Judges a program. How many maps it has is looked at first, then their shapes, then the size of its
+/// context.
 fn judgement(alloc: Global, asked: &Question) -> Result<Verified, Fault>
-    ensures accepted { IfOk result (IsAccepted (subject_of asked.now)) }
-    ensures refused { IfErr result (IsCheckRefusal (subject_of asked.now)) }
+    ensures accepted { IfOk result (IsAccepted (subject_asked asked.now)) }
+    ensures refused { IfErr result (IsCheckRefusal asked.now) }
 {
+    let shapes = asked.shapes.as_slice();
+    if shapes.len() > MAX_MAPS {
+        return Err(Fault::TooManyMaps);
+    }
+    if !shapes.iter().all(|shape| shape.is_valid()) {
+        return Err(Fault::BadShape);
+    }
     if !is_context_size(asked.context_size) {
         return Err(Fault::BadContext);
     }
-    accepted(alloc, asked.text.as_slice(), asked.context_size)
+    judge(alloc, shapes, asked.text.as_slice(), asked.context_size)
 }
 
 /// Writes that a program is accepted, and passes it on.
 fn tell_accepted<W: Write>(output: &mut W, program: &Verified) -> Result<(), FileFault>
-    ensures line { OnOk result (Appends (W.contents output.old) (W.contents output.new) (line_of (accepted_text program.now.subject.text))) }
+    ensures line { OnOk result (Appends (W.contents output.old) (W.contents output.new) (line_of (acceptance_of program.now))) }
     ensures bad { IfErr result (λ fault. ¬ IsBad fault) }
     ensures words { IfErr result (λ fault. ¬ IsOfWords fault) }
 {
-    write_accepted(output, program)?;
+    let acceptance = Acceptance::of(program);
+    written(writeln!(output, "{acceptance}"))?;
     written(output.flush())
 }
 

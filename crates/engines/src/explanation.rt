@@ -3,7 +3,10 @@
 ghost use Rattle.std.specs.Prelude.{◌≡◌, ◌<◌, ◌%◌, length};
 ghost use Rattle.bpf_decode.specs.Text.{slots_of};
 
-use advice::{Advice, advice_on, advice_on_text, on_context_length, on_context_size, on_option};
+use advice::{
+    Advice, advice_on, advice_on_text, on_context_length, on_context_size, on_host_size, on_option,
+    on_shape,
+};
 use bpf_decode::Insn;
 use disassembly::Assembly;
 use host_types::{Fault, Opt, Options, Refused};
@@ -25,6 +28,7 @@ pub fn explain<W: Write>(words: &mut W, text: Option<&[u8]>, fault: Fault) -> io
             write_what_stands(words, text, refused)?;
             write_advice(words, fault, advice_on_text(refused, text))
         }
+        (Fault::BadShape, Some(_)) => write_advice(words, fault, Some(on_shape())),
         (Fault::BadContext, Some(_)) => write_advice(words, fault, Some(on_context_size())),
         (Fault::BadContext, None) => write_advice(words, fault, Some(on_context_length())),
         _ => write_advice(words, fault, advice_on(fault.number())),
@@ -34,6 +38,7 @@ pub fn explain<W: Write>(words: &mut W, text: Option<&[u8]>, fault: Fault) -> io
 /// Writes what the refusal of a host with these options means.
 pub fn explain_host<W: Write>(words: &mut W, options: &Options, fault: Fault) -> io::Result<()> {
     match (fault, wrong_option(options)) {
+        (Fault::BadShape, _) => write_advice(words, fault, Some(on_host_size())),
         (Fault::BadOption, Some(option)) => write_advice(words, fault, Some(on_option(option))),
         _ => explain(words, None, fault),
     }

@@ -26,7 +26,8 @@ fn fault_of(number: u32) -> Option<Fault>
     ensures number { IfSome result (λ fault. fault_number fault ≡ number) }
 {
     match number {
-        1..=5 | 11..=18 | 20 | 22..=25 => Some(Fault::Program(Refused { number, slot: 0 })),
+        1..=5 | 11..=25 => Some(Fault::Program(Refused { number, slot: 0 })),
+        32 => Some(Fault::TooManyMaps),
         33 => Some(Fault::BadShape),
         36 => Some(Fault::Busy),
         37 => Some(Fault::NoRun),

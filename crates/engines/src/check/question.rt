@@ -1,21 +1,24 @@
 //! What the words of a command line ask `check` for.
 
-ghost use Rattle.std.specs.Prelude.{◌≡◌, ℕ, List, length, IfErr, IfNone, IfOk, IfSome, Ok};
+ghost use Rattle.std.specs.Prelude.{◌≡◌, ℕ, List, IfErr, IfNone, IfOk, IfSome, Ok};
 ghost use Rattle.hex.specs.Hex.{decode_of};
-ghost use Rattle.engines.specs.Check.{AskNothing, IsAsked, IsDecimal};
+ghost use Rattle.host_types.specs.declared.shape.Shape.{Shape};
+ghost use Rattle.engines.specs.Check.{AreShapeWords, AskNothing, IsAsked, IsDecimal, IsShapeWord};
 ghost use Rattle.host_file.specs.Faults.{IsOfWords, IsUsage};
 
 use crate::fault::usage;
 use hex::FromHexError;
 use host_core::Bytes;
 use host_file::FileFault;
+use host_types::Shape;
 use plain_text::quoted;
 use std::alloc::{AllocError, Global};
 
-/// A program to judge: its text, and the bytes of its context.
+/// A program to judge: its text, the shapes of its maps by number, and the bytes of its context.
 #[derive(Debug, Drop)]
 pub struct Question {
     pub text: Bytes,
+    pub shapes: Vec<Shape>,
     pub context_size: u32,
 }
 
@@ -26,27 +29,31 @@ pub fn question_of(
     shapes: &[&str],
     context: &str,
 ) -> Result<Question, FileFault>
-    ensures asked { IfOk result (IsAsked hex.now (length shapes.now) context.now) }
-    ensures usage { IfErr result (λ fault. IsUsage fault → AskNothing hex.now (length shapes.now) context.now) }
+    ensures asked { IfOk result (IsAsked hex.now shapes.now context.now) }
+    ensures usage { IfErr result (λ fault. IsUsage fault → AskNothing hex.now shapes.now context.now) }
     ensures words { IfErr result IsOfWords }
 {
     let text = text_of(alloc, hex)?;
-    if let Some(shape) = shapes.first() {
-        return Err(not_taken(alloc, shape));
-    }
+    let shapes = shapes_of(alloc, shapes)?;
     match number_of(context) {
-        Some(context_size) => Ok(Question { text, context_size }),
+        Some(context_size) => Ok(Question {
+            text,
+            shapes,
+            context_size,
+        }),
         None => Err(no_number(alloc, context)),
     }
 }
 
-fn not_taken(alloc: Global, shape: &str) -> FileFault
+fn no_shape(alloc: Global, word: &str) -> FileFault
     ensures { IsOfWords result }
 {
-    let Ok(shape) = quoted(alloc, shape) else {
+    let Ok(word) = quoted(alloc, word) else {
         return FileFault::OutOfMemory(AllocError);
     };
-    usage(format!(in alloc; "V:E `{shape}` isn't taken: programs have no maps yet"))
+    usage(format!(in alloc;
+        "V:E `{word}` isn't two decimal numbers from 0 to 4294967295 with a colon between them"
+    ))
 }
 
 fn no_number(alloc: Global, context: &str) -> FileFault
@@ -69,6 +76,36 @@ fn text_of(alloc: Global, hex: &str) -> Result<Bytes, FileFault>
         Err(FromHexError::OutOfMemory) => Err(FileFault::OutOfMemory(AllocError)),
         Err(error) => Err(usage(format!(in alloc; "HEX is no hex text: {error}"))),
     }
+}
+
+/// The shapes of maps that words V:E give. A fault names the first word that gives none.
+fn shapes_of(alloc: Global, words: &[&str]) -> Result<Vec<Shape>, FileFault>
+    ensures ok { IfOk result (λ shapes. AreShapeWords words.now shapes.items) }
+    ensures usage { IfErr result (λ fault. IsUsage fault → (shapes : List Shape) → AreShapeWords words.now shapes → ⊥) }
+    ensures words { IfErr result IsOfWords }
+{
+    let mut shapes = Vec::new(alloc);
+    for word in words {
+        let Some(shape) = shape_of(word) else {
+            return Err(no_shape(alloc, word));
+        };
+        let Ok(()) = shapes.push(shape) else {
+            return Err(FileFault::OutOfMemory(AllocError));
+        };
+    }
+    Ok(shapes)
+}
+
+/// The shape that a word V:E gives. It may be one that no map has.
+fn shape_of(word: &str) -> Option<Shape>
+    ensures some { IfSome result (IsShapeWord word.now) }
+    ensures none { IfNone result ((shape : Shape) → IsShapeWord word.now shape → ⊥) }
+{
+    let (value_size, entries) = word.split_once(':')?;
+    Some(Shape {
+        value_size: number_of(value_size)?,
+        entries: number_of(entries)?,
+    })
 }
 
 /// The decimal number that a word is.

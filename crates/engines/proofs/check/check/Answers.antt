@@ -1,0 +1,22 @@
+use Rattle.std.proofs.Common.{refl, inl, inr}
+use Rattle.engines.specs.Check.{acceptance_of}
+use Rattle.engines.specs.Lines.{line_of, refusal_text}
+use Rattle.engines.proofs.check.check.Goals as goal
+
+pub returns-in-Ok-clause-judged : goal.returns-in-Ok-clause-judged
+returns-in-Ok-clause-judged g c = (
+  c.in_ok-asked.asked,
+  line_of (acceptance_of c.in-Ok.program),
+  c.in_ok-asked.ensures.asked,
+  inl (refl, (c.in-Ok.program, refl, c.in-Ok.ensures.accepted)),
+  c.in_ok-tell_accepted-in-Ok.ensures.line,
+)
+
+pub returns-clause-judged : goal.returns-clause-judged
+returns-clause-judged g c = (
+  c.in_ok-asked.asked,
+  line_of (refusal_text c.in-Err.fault),
+  c.in_ok-asked.ensures.asked,
+  inr (refl, (c.in-Err.fault, refl, c.in-Err.ensures.refused)),
+  c.in_ok-tell_refusal-in-Err.ensures.line,
+)

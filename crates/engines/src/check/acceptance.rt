@@ -1,0 +1,46 @@
+//! The line of a program that is accepted.
+
+ghost use Rattle.std.specs.Prelude.{◌≡◌, Some};
+ghost use Rattle.verifier.specs.Reserve.{reserve_from};
+ghost use Rattle.bpf_decode.specs.Text.{instructions_of, slots_of};
+ghost use Rattle.engines.specs.Check.{acceptance_text};
+
+use std::fmt;
+use verifier::Verified;
+
+/// What is told of a program that is accepted.
+#[derive(Clone, Copy, Debug)]
+pub struct Acceptance {
+    slots: u32,
+    instructions: u32,
+    /// The frames that a run of it may take, whichever pages share frames.
+    reserve: u32,
+}
+
+impl Acceptance {
+    pub fn of(program: &Verified) -> Self
+        ensures slots { result.slots ≡ slots_of program.now.subject.text }
+        ensures instructions { result.instructions ≡ instructions_of program.now.subject.text }
+        ensures reserve { result.reserve ≡ reserve_from program.now 0 }
+    {
+        Acceptance {
+            slots: program.slots(),
+            instructions: program.instructions(),
+            reserve: program.reserve(0),
+        }
+    }
+}
+
+impl fmt::Display for Acceptance {
+    ghost output = { λ acceptance. Some (acceptance_text acceptance.slots acceptance.instructions acceptance.reserve) };
+
+    fn fmt<W: fmt::Write>(&self, f: &mut fmt::Formatter<W>) -> fmt::Result {
+        let slots = self.slots;
+        let instructions = self.instructions;
+        let reserve = self.reserve;
+        write!(
+            f,
+            "accepted slots {slots} instructions {instructions} reserve {reserve}"
+        )
+    }
+}
