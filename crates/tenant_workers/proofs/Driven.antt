@@ -1,5 +1,5 @@
 -- A run that a worker drives, from one step to the next.
-use Rattle.std.proofs.Common.{◌≡◌, ◌≤◌, ◌<◌, ◌+◌, ℕ, suc, Some, refl, sym, ap, ◌∙◌, arith}
+use Rattle.std.proofs.Common.{◌≡◌, ◌≤◌, ◌<◌, ◌+◌, ℕ, List, suc, Some, refl, sym, ap, ◌∙◌, arith}
 use Rattle.host_types.specs.Tenant.{TenantPart}
 use Rattle.bpf_decode.specs.Text.{instructions_of}
 use Rattle.verifier.specs.Reserve.{reserve_from}
@@ -8,7 +8,7 @@ use Rattle.interp.specs.declared.need.Need.{Need}
 use Rattle.interp.specs.declared.need.Need.TheVariants.{Private, Ended, Load, Store, Lookup, Update, Delete}
 use Rattle.interp.specs.Machine.{MachineState, Next, Exits, step}
 use Rattle.interp.specs.Runs.{Reaches}
-use Rattle.interp.specs.StandsFor.{Running, StandsFor, Asks, Follows}
+use Rattle.interp.specs.StandsFor.{Running, StandsFor, IsBegun, Asks, Follows}
 use Rattle.tenant_runs.specs.UnderWay.{IsUnderWay, IsAsking}
 use Rattle.turn.specs.Seats.{SeatState, gave}
 use Rattle.tenant_workers.specs.Calls.{IsSameSeat}
@@ -118,3 +118,7 @@ pub drives_below : (v : Accepted) (start : Running) (owned : TenantPart) (run : 
 drives_below v start owned run now driven =
     let (s, under_way) = is_under_way v start owned run now driven in
     steps_below v run s driven.verified under_way.stands
+
+-- a run that began with a context has it, and so is fresh
+pub is_fresh : (v : Accepted) (context own : List ℕ) (run : Running) → IsBegun v context run → own ≡ context → IsBegun v own run
+is_fresh v context own run begun same = rw same begun

@@ -1,7 +1,7 @@
 -- Runs of a seat's tenant: how they are handed over, and when they aren't made.
-use Rattle.std.specs.Prelude.{◌≡◌, ◌⊎◌}
+use Rattle.std.specs.Prelude.{◌≡◌, ◌≢◌, ◌⊎◌, ℕ, List, length}
 use Rattle.host_types.specs.declared.fault.Fault.{Fault}
-use Rattle.host_types.specs.declared.fault.Fault.TheVariants.{NoProgram}
+use Rattle.host_types.specs.declared.fault.Fault.TheVariants.{NoProgram, BadContext, OutOfMemory}
 use Rattle.host_types.specs.Tenant.{TenantPart}
 use Rattle.verifier.specs.Verified.{Accepted}
 use Rattle.interp.specs.Fits.{HaveShapes}
@@ -22,3 +22,9 @@ IsResting owned = owned.reserve ≡ 0
 abbrev pub RefusesRun : Accepted → TenantPart → Fault → Type 0
 RefusesRun v owned fault =
     ((fault ≡ NoProgram) × ¬ (HaveShapes v.subject.shapes owned.maps)) ⊎ (HaveShapes v.subject.shapes owned.maps × RefusesBegin v fault)
+
+-- why a run of a program isn't made on a context: the context hasn't the program's size, memory ran out, or the
+-- run itself isn't made
+abbrev pub RefusesProgram : Accepted → List ℕ → TenantPart → Fault → Type 0
+RefusesProgram v context owned fault =
+    ((fault ≡ BadContext) × (length context ≢ v.subject.context_size)) ⊎ ((fault ≡ OutOfMemory) ⊎ ((length context ≡ v.subject.context_size) × RefusesRun v owned fault))

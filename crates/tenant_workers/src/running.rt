@@ -7,7 +7,7 @@ ghost use Rattle.host_calls.specs.Calls.{IsThere, TellsHave};
 ghost use Rattle.tenant_runs.specs.UnderWay.{HasRun};
 ghost use Rattle.turn.specs.Seats.{IsIdle, part_of};
 ghost use Rattle.tenant_workers.specs.Calls.{IsSameSeat, left_by};
-ghost use Rattle.tenant_workers.specs.Runs.{IsFresh, IsResting, RefusesRun};
+ghost use Rattle.tenant_workers.specs.Runs.{IsFresh, IsResting, RefusesProgram, RefusesRun};
 
 use crate::driving::drive;
 use crate::gate::Gate;
@@ -17,6 +17,7 @@ use host_calls::host_begin;
 use host_types::Fault;
 use interp::Run;
 use page_table::Memory;
+use std::alloc::Global;
 use std::sync::Wait;
 use tenant_runs::{RunReply, has_shapes};
 use turn::Seat;
@@ -56,6 +57,32 @@ impl Shared {
         let reply = drive(self, rt, seat, program, &mut run, gate);
         self.end(rt, seat);
         Ok(reply)
+    }
+
+    /// Makes a whole run of a program on a context, from its beginning.
+    ///
+    /// Refusals in their order: 39 where the context hasn't the program's size, 41 where memory ran out, and
+    /// those of `run`. A refusal leaves the seat's part.
+    pub fn run_program(
+        &self,
+        rt: &impl Wait,
+        alloc: Global,
+        seat: &mut Seat,
+        program: &Verified,
+        context: &[u8],
+        gate: &impl Gate,
+    ) -> Result<RunReply, Fault>
+        requires idle { IsIdle self.now seat.old }
+        requires resting { IsResting (part_of seat.old) }
+        ensures idle { IsIdle self.now seat.new }
+        ensures same { IsSameSeat seat.old seat.new }
+        ensures resting { IsResting (part_of seat.new) }
+        ensures ran { IfOk result (HasRun program.now context.now (part_of seat.old) (part_of seat.new)) }
+        ensures refused { IfErr result (RefusesProgram program.now context.now (part_of seat.old)) }
+        ensures kept { OnErr result (part_of seat.new ≡ part_of seat.old) }
+    {
+        let run = Run::begin(alloc, program, context)?;
+        self.run(rt, seat, program, run, gate)
     }
 
     /// The turn in which a run begins: its frames are reserved.
