@@ -1,26 +1,25 @@
 -- What a session notes and writes, one thing after the other.
-use Rattle.std.proofs.Common.{◌≡◌, ◌⊎◌, inl, inr, ℕ, zero, suc, ◌-◌, ◌≤◌, Bool, true, false, ◌||◌, List, [], ◌∷◌, ◌++◌, replicate, length, take, min, arith, ◌+◌, option_map, length-take, Option, Some, None, Result, Ok, Err, is_ok, OnOk, append_assoc, append-nil, sym, ap, refl, ◌∙◌, subst, subst₂, IfSome, IsSome, true≢false, if◌then◌else◌}
+use Rattle.std.proofs.Common.{◌≡◌, ℕ, zero, suc, ◌≤◌, Bool, true, false, ◌||◌, List, [], ◌∷◌, ◌++◌, replicate, length, take, min, arith, ◌+◌, option_map, length-take, length-append, Option, Some, None, Result, Ok, Err, is_ok, OnOk, append_assoc, append-nil, sym, ap, ap₂, refl, ◌∙◌, subst, subst₂, unwrap_or, IfSome, IsSome, true≢false, if◌then◌else◌}
 use mir.Val.{bool_byte}
 use Rattle.std.specs.Io.KnownBytes.{Appends, Keeps}
-use Rattle.host_types.specs.declared.fault.Fault.{Fault}
-use Rattle.host_types.specs.declared.fault.Fault.TheVariants.{BadShape, BadOption, OutOfMemory}
-use Rattle.host_types.specs.OptionTable.{AreOptions}
 use Rattle.host_core.specs.declared.event.Event.{Event}
-use Rattle.host_core.specs.declared.event.Event.TheVariants.{Step}
+use Rattle.host_core.specs.declared.event.Event.TheVariants.{Step, Visit}
 use Rattle.host_core.specs.declared.event.Reply.{Reply}
-use Rattle.host_core.specs.declared.event.Reply.TheVariants.{Program, Begun, Stepped, Ended, Refused}
-use Rattle.host_core.specs.World.{World, new_tenant}
+use Rattle.host_core.specs.declared.event.Reply.TheVariants.{Map, Program, Begun, Stepped, Ended, Visited, Done, Value, Counters, Refused}
+use Rattle.host_core.specs.World.{System, IsCovered, new_system}
 use Rattle.host_core.specs.Happens.{Happens, IsPromised, AllHappen, AreSteps, StepsHappen}
-use Rattle.host_core.specs.HostView.{HostView, IsHostSize, StandsForWorld, tenant_of}
+use Rattle.host_core.specs.HostView.{HostView, StandsForSystem, tenant_of}
 use Rattle.host_file.specs.declared.command.Command.{Command}
-use Rattle.host_file.specs.declared.command.Command.TheVariants.{Run}
+use Rattle.host_file.specs.declared.command.Command.TheVariants.{Apply, Finish, Run}
+use Rattle.host_file.specs.declared.command.Command.TheVariants as command
 use Rattle.host_file.specs.declared.file.HostFile.{HostFile}
 use Rattle.host_file.specs.HostFile.{IsFileText, max_bytes}
-use Rattle.std.proofs.lemmas.List.{take_all}
+use Rattle.std.proofs.lemmas.List.{take_all, length-replicate, replicate-append-replicate}
+use Rattle.std.proofs.Math.Nat.{suc-ne-zero}
 use Rattle.host_core.proofs.Joined.{AllHappen-join}
 use Rattle.engines.specs.declared.session.Session.{Session}
 use Rattle.engines.specs.Lines.{line_of, refusal_text, reply_lines}
-use Rattle.engines.specs.Replay.{AreOf, AreOfAll, AreIfBegun, AreStepsUpTo, AreStepsToEnd, IsReplayed, IsHostRefusal, refused, happened, runs_begun, begun_after, lines_from, is_refusal, has_refusal}
+use Rattle.engines.specs.Replay.{AreOf, AreOfAll, AreIfBegun, AreStepsUpTo, AreStepsToEnd, AreVisits, IsReplayed, refused, happened, latest_run, begun_after, pages_after, pages_by, lines_from, is_refusal, has_refusal}
 use Rattle.engines.specs.Sessions.{AreStepsMade, HasTold, HasNoted, IsAlone, Performs, begun_by}
 
 -- an output that took nothing
@@ -50,38 +49,55 @@ refusal-join (reply ∷ replies) further =
     ap (λ b. is_refusal reply || b) (refusal-join replies further) ∙ sym (or-assoc (is_refusal reply) (has_refusal replies) (has_refusal further))
 
 -- the lines of two lists
-lines-join : (w next : World) (events more : List Event) (replies further : List Reply) (begun : List ℕ) → AllHappen w events replies next
+lines-join : (w next : System) (events more : List Event) (replies further : List Reply) (begun : List ℕ) → AllHappen w events replies next
     → lines_from begun (events ++ more) (replies ++ further) ≡ lines_from begun events replies ++ lines_from (begun_by begun events replies) more further
 lines-join w next [] more [] further begun happen = refl
 lines-join w next [] more (reply ∷ replies) further begun happen = absurd happen
 lines-join w next (event ∷ events) more [] further begun happen = absurd happen
 lines-join w next (event ∷ events) more (reply ∷ replies) further begun happen =
-    let line = reply_lines (tenant_of event) (runs_begun begun (tenant_of event) - 1) reply in
-    let after = begun_after begun (tenant_of event) reply in
-    ap (λ xs. line ++ xs) (lines-join happen.0 next events more replies further after happen.3)
+    let line = reply_lines event (latest_run begun (tenant_of event)) reply in
+    let after = begun_after begun event reply in
+    ap (λ xs. line ++ xs) (lines-join happen.0 next events more replies further after happen.4)
     ∙ sym (append_assoc line (lines_from after events replies) (lines_from (begun_by after events replies) more further))
 
 -- the runs begun after two lists
-begun-join : (w next : World) (events more : List Event) (replies further : List Reply) (begun : List ℕ) → AllHappen w events replies next
+begun-join : (w next : System) (events more : List Event) (replies further : List Reply) (begun : List ℕ) → AllHappen w events replies next
     → begun_by begun (events ++ more) (replies ++ further) ≡ begun_by (begun_by begun events replies) more further
 begun-join w next [] more [] further begun happen = refl
 begun-join w next [] more (reply ∷ replies) further begun happen = absurd happen
 begun-join w next (event ∷ events) more [] further begun happen = absurd happen
 begun-join w next (event ∷ events) more (reply ∷ replies) further begun happen =
-    begun-join happen.0 next events more replies further (begun_after begun (tenant_of event) reply) happen.3
+    begun-join happen.0 next events more replies further (begun_after begun event reply) happen.4
+
+-- there are as many replies as events
+happen-as_long : (w next : System) (events : List Event) (replies : List Reply) → AllHappen w events replies next → length events ≡ length replies
+happen-as_long w next [] [] happen = refl
+happen-as_long w next [] (reply ∷ replies) happen = absurd happen
+happen-as_long w next (event ∷ events) [] happen = absurd happen
+happen-as_long w next (event ∷ events) (reply ∷ replies) happen = ap suc (happen-as_long happen.0 next events replies happen.4)
+
+-- pages_to_scan after two lists
+pages-join : (events more : List Event) (replies further : List Reply) (pages : ℕ) → length events ≡ length replies
+    → pages_by pages (events ++ more) (replies ++ further) ≡ pages_by (pages_by pages events replies) more further
+pages-join [] more [] further pages long = refl
+pages-join [] more (reply ∷ replies) further pages long = absurd (suc-ne-zero (length replies) (sym long))
+pages-join (event ∷ events) more [] further pages long = absurd (suc-ne-zero (length events) long)
+pages-join (event ∷ events) more (reply ∷ replies) further pages long =
+    pages-join events more replies further (pages_after pages event reply) (omega (arith, long))
 
 -- nothing happened
-pub noted-none : (w : World) (s : Session) (was : Option (List ℕ)) → StandsForWorld s.host w → HasNoted [] [] w w s s was was
+pub noted-none : (w : System) (s : Session) (was : Option (List ℕ)) → StandsForSystem s.host w → HasNoted [] [] w w s s was was
 noted-none w s was stands = record {
   stands = stands;
   happen = refl;
   begun = refl;
+  pages = refl;
   refused = sym (or-false s.has_refused);
   written = Appends-none was;
 }
 
 -- one thing happened and then another
-pub noted-join : (w mid next : World) (old half new : Session) (was mid_way is : Option (List ℕ)) (events more : List Event) (replies further : List Reply)
+pub noted-join : (w mid next : System) (old half new : Session) (was mid_way is : Option (List ℕ)) (events more : List Event) (replies further : List Reply)
     → HasNoted events replies w mid old half was mid_way → HasNoted more further mid next half new mid_way is
     → HasNoted (events ++ more) (replies ++ further) w next old new was is
 noted-join w mid next old half new was mid_way is events more replies further first second =
@@ -90,6 +106,8 @@ noted-join w mid next old half new was mid_way is events more replies further fi
       stands = second.stands;
       happen = AllHappen-join w mid next events more replies further first.happen second.happen;
       begun = second.begun ∙ ap (λ xs. begun_by xs more further) first.begun ∙ sym (begun-join w mid events more replies further begun first.happen);
+      pages = second.pages ∙ ap (λ p. pages_by p more further) first.pages
+          ∙ sym (pages-join events more replies further old.pages_to_scan (happen-as_long w mid events replies first.happen));
       refused = second.refused ∙ ap (λ b. b || has_refusal further) first.refused
           ∙ or-assoc old.has_refused (has_refusal replies) (has_refusal further)
           ∙ ap (λ b. old.has_refused || b) (sym (refusal-join replies further));
@@ -100,14 +118,19 @@ noted-join w mid next old half new was mid_way is events more replies further fi
 
 -- steps that are answered Stepped, and then one more: the lines, the runs and the refusals are those of the last reply
 lines-steps : (n t : ℕ) (last : Reply) (begun : List ℕ)
-    → lines_from begun (replicate n (Step t) ++ Step t ∷ []) (replicate n Stepped ++ last ∷ []) ≡ reply_lines t (runs_begun begun t - 1) last
-lines-steps zero t last begun = append-nil (reply_lines t (runs_begun begun t - 1) last)
+    → lines_from begun (replicate n (Step t) ++ Step t ∷ []) (replicate n Stepped ++ last ∷ []) ≡ reply_lines (Step t) (latest_run begun (Some t)) last
+lines-steps zero t last begun = append-nil (reply_lines (Step t) (latest_run begun (Some t)) last)
 lines-steps (suc n) t last begun = lines-steps n t last begun
 
 begun-steps : (n t : ℕ) (last : Reply) (begun : List ℕ)
-    → begun_by begun (replicate n (Step t) ++ Step t ∷ []) (replicate n Stepped ++ last ∷ []) ≡ begun_after begun t last
+    → begun_by begun (replicate n (Step t) ++ Step t ∷ []) (replicate n Stepped ++ last ∷ []) ≡ begun_after begun (Step t) last
 begun-steps zero t last begun = refl
 begun-steps (suc n) t last begun = begun-steps n t last begun
+
+pages-steps : (n t : ℕ) (last : Reply) (pages : ℕ)
+    → pages_by pages (replicate n (Step t) ++ Step t ∷ []) (replicate n Stepped ++ last ∷ []) ≡ pages_after pages (Step t) last
+pages-steps zero t last pages = refl
+pages-steps (suc n) t last pages = pages-steps n t last pages
 
 refusal-steps : (n : ℕ) (last : Reply) → has_refusal (replicate n Stepped ++ last ∷ []) ≡ is_refusal last
 refusal-steps zero last = or-false (is_refusal last)
@@ -122,6 +145,10 @@ begun-stepped : (n t : ℕ) (begun : List ℕ) → begun_by begun (replicate n (
 begun-stepped zero t begun = refl
 begun-stepped (suc n) t begun = begun-stepped n t begun
 
+pages-stepped : (n t pages : ℕ) → pages_by pages (replicate n (Step t)) (replicate n Stepped) ≡ pages
+pages-stepped zero t pages = refl
+pages-stepped (suc n) t pages = pages-stepped n t pages
+
 refusal-stepped : (n : ℕ) → has_refusal (replicate n Stepped) ≡ false
 refusal-stepped zero = refl
 refusal-stepped (suc n) = refusal-stepped n
@@ -131,36 +158,38 @@ abbrev pub with_host : Session → HostView → Session
 with_host s host = record s { host = host }
 
 -- one event whose reply was told
-pub noted-told : (w next : World) (host : HostView) (event : Event) (reply : Reply) (old new : Session) (was is : Option (List ℕ))
-    → StandsForWorld host next → Happens w event reply next → IsPromised w event reply next
-    → HasTold (tenant_of event) reply (with_host old host) new was is → HasNoted (event ∷ []) (reply ∷ []) w next old new was is
-noted-told w next host event reply old new was is stands happens promised told = record {
-  stands = subst (λ h. StandsForWorld h next) (sym told.host) stands;
-  happen = (next, happens, promised, refl);
+pub noted-told : (w next : System) (host : HostView) (event : Event) (reply : Reply) (old new : Session) (was is : Option (List ℕ))
+    → StandsForSystem host next → Happens w event reply next → IsPromised w event reply next → IsCovered next
+    → HasTold event reply (with_host old host) new was is → HasNoted (event ∷ []) (reply ∷ []) w next old new was is
+noted-told w next host event reply old new was is stands happens promised covered told = record {
+  stands = subst (λ h. StandsForSystem h next) (sym told.host) stands;
+  happen = (next, happens, promised, covered, refl);
   begun = told.begun;
+  pages = told.pages;
   refused = told.refused ∙ ap (λ b. old.has_refused || b) (sym (or-false (is_refusal reply)));
-  written = subst (Appends was is) (sym (append-nil (reply_lines (tenant_of event) (runs_begun old.begun.items (tenant_of event) - 1) reply))) told.written;
+  written = subst (Appends was is) (sym (append-nil (reply_lines event (latest_run old.begun.items (tenant_of event)) reply))) told.written;
 }
 
 -- steps the last of which was told
-pub noted-steps : (w next : World) (host : HostView) (t limit : ℕ) (last : Reply) (events : List Event) (replies : List Reply) (old new : Session) (was is : Option (List ℕ))
-    → StandsForWorld host next → AreSteps t limit (Some last) events replies → AllHappen w events replies next
-    → HasTold t last (with_host old host) new was is → HasNoted events replies w next old new was is
+pub noted-steps : (w next : System) (host : HostView) (t limit : ℕ) (last : Reply) (events : List Event) (replies : List Reply) (old new : Session) (was is : Option (List ℕ))
+    → StandsForSystem host next → AreSteps t limit (Some last) events replies → AllHappen w events replies next
+    → HasTold (Step t) last (with_host old host) new was is → HasNoted events replies w next old new was is
 noted-steps w next host t limit last events replies old new was is stands (n, few, other, steps, answers) happen told =
     let begun = old.begun.items in
     let some = replicate n (Step t) ++ Step t ∷ [] in
     let answered = replicate n Stepped ++ last ∷ [] in
     subst₂ (λ es rs. HasNoted es rs w next old new was is) (sym steps) (sym answers) (record {
-      stands = subst (λ h. StandsForWorld h next) (sym told.host) stands;
+      stands = subst (λ h. StandsForSystem h next) (sym told.host) stands;
       happen = subst₂ (λ es rs. AllHappen w es rs next) steps answers happen;
       begun = told.begun ∙ sym (begun-steps n t last begun);
+      pages = told.pages ∙ sym (pages-steps n t last old.pages_to_scan);
       refused = told.refused ∙ ap (λ b. old.has_refused || b) (sym (refusal-steps n last));
       written = subst (Appends was is) (sym (lines-steps n t last begun)) told.written;
     })
 
 -- steps that are answered Stepped alone
-pub noted-stepped : (w next : World) (host : HostView) (t limit : ℕ) (events : List Event) (replies : List Reply) (old : Session) (was : Option (List ℕ))
-    → StandsForWorld host next → AreSteps t limit None events replies → AllHappen w events replies next
+pub noted-stepped : (w next : System) (host : HostView) (t limit : ℕ) (events : List Event) (replies : List Reply) (old : Session) (was : Option (List ℕ))
+    → StandsForSystem host next → AreSteps t limit None events replies → AllHappen w events replies next
     → HasNoted events replies w next old (with_host old host) was was
 noted-stepped w next host t limit events replies old was stands (steps, answers) happen =
     let begun = old.begun.items in
@@ -168,6 +197,7 @@ noted-stepped w next host t limit events replies old was stands (steps, answers)
       stands = stands;
       happen = subst₂ (λ es rs. AllHappen w es rs next) steps answers happen;
       begun = sym (begun-stepped limit t begun);
+      pages = sym (pages-stepped limit t old.pages_to_scan);
       refused = sym (or-false old.has_refused) ∙ ap (λ b. old.has_refused || b) (sym (refusal-stepped limit));
       written = subst (Appends was was) (sym (lines-stepped limit t begun)) (Appends-none was);
     })
@@ -191,11 +221,11 @@ made-to_end t limit great events replies (Some last, steps, ends) = (limit, last
 
 -- the host made steps, up to a limit
 abbrev pub Makes : HostView → HostView → ℕ → ℕ → Option Reply → Type 0
-Makes old new t limit last = (w : World) → StandsForWorld old w → (next : World) × StandsForWorld new next × StepsHappen w t limit last next
+Makes old new t limit last = (w : System) → StandsForSystem old w → (next : System) × StandsForSystem new next × StepsHappen w t limit last next
 
 -- steps of which the last was told
 pub performs-steps : (host : HostView) (t limit : ℕ) (last : Reply) (old new : Session) (was is : Option (List ℕ))
-    → Makes old.host host t limit (Some last) → HasTold t last (with_host old host) new was is → Performs (AreStepsMade t limit) old new was is
+    → Makes old.host host t limit (Some last) → HasTold (Step t) last (with_host old host) new was is → Performs (AreStepsMade t limit) old new was is
 performs-steps host t limit last old new was is makes told w stands =
     let (next, stands', (events, replies, steps, happen)) = makes w stands in
     (events, replies, next, (Some last, steps, λ great. refl), noted-steps w next host t limit last events replies old new was is stands' steps happen told)
@@ -207,70 +237,168 @@ performs-stepped host t limit old was makes ends w stands =
     let (next, stands', (events, replies, steps, happen)) = makes w stands in
     (events, replies, next, (None, steps, ends), noted-stepped w next host t limit events replies old was stands' steps happen)
 
+-- an event that happened alone
+pub performs-told : (host : HostView) (event : Event) (reply : Reply) (old new : Session) (was is : Option (List ℕ))
+    → ((x : System) → StandsForSystem old.host x
+    → (next : System) × StandsForSystem host next × Happens x event reply next × IsPromised x event reply next × IsCovered next)
+    → HasTold event reply (with_host old host) new was is → Performs (IsAlone event reply) old new was is
+performs-told host event reply old new was is happens told w stands =
+    let (next, stands', happen, promised, covered) = happens w stands in
+    (event ∷ [], reply ∷ [], next, (refl, refl), noted-told w next host event reply old new was is stands' happen promised covered told)
+
 -- a run that began and went on
-pub performs-run : (event : Event) (old half new : Session) (was mid_way is : Option (List ℕ))
-    → Performs (IsAlone event Begun) old half was mid_way → Performs (AreStepsToEnd (tenant_of event)) half new mid_way is → Performs (AreOf (Run event)) old new was is
-performs-run event old half new was mid_way is begins goes w stands =
+pub performs-run : (pages t : ℕ) (event : Event) (old half new : Session) (was mid_way is : Option (List ℕ)) → tenant_of event ≡ Some t
+    → Performs (IsAlone event Begun) old half was mid_way → Performs (AreStepsToEnd t) half new mid_way is → Performs (AreOf pages (Run event)) old new was is
+performs-run pages t event old half new was mid_way is named begins goes w stands =
     let (first, replied, mid, (one, answer), noted) = begins w stands in
     let (more, further, next, steps, noted') = goes mid noted.stands in (
       first ++ more,
       replied ++ further,
       next,
-      (Begun, more, further, ap (λ es. es ++ more) one, ap (λ rs. rs ++ further) answer, steps),
+      (Begun, more, further, ap (λ es. es ++ more) one, ap (λ rs. rs ++ further) answer, subst (λ o. AreIfBegun o Begun more further) (sym named) steps),
       noted-join w mid next old half new was mid_way is first more replied further noted noted',
     )
 
-not_begun : (t : ℕ) (reply : Reply) → (reply ≡ Begun → ⊥) → AreIfBegun t reply [] []
+unnamed : (reply : Reply) → AreIfBegun None reply [] []
+unnamed (Map m) = (refl, refl)
+unnamed (Program k) = (refl, refl)
+unnamed Begun = (refl, refl)
+unnamed Stepped = (refl, refl)
+unnamed (Ended ret steps) = (refl, refl)
+unnamed (Visited visited) = (refl, refl)
+unnamed Done = (refl, refl)
+unnamed (Value value) = (refl, refl)
+unnamed (Counters counters) = (refl, refl)
+unnamed (Refused fault) = (refl, refl)
+
+not_begun : (t : ℕ) (reply : Reply) → (reply ≡ Begun → ⊥) → AreIfBegun (Some t) reply [] []
+not_begun t (Map m) other = (refl, refl)
 not_begun t (Program k) other = (refl, refl)
 not_begun t Begun other = absurd (other refl)
 not_begun t Stepped other = (refl, refl)
 not_begun t (Ended ret steps) other = (refl, refl)
+not_begun t (Visited visited) other = (refl, refl)
+not_begun t Done other = (refl, refl)
+not_begun t (Value value) other = (refl, refl)
+not_begun t (Counters counters) other = (refl, refl)
 not_begun t (Refused fault) other = (refl, refl)
 
+nothing-more : (named : Option ℕ) (reply : Reply) → (reply ≡ Begun → IsSome named → ⊥) → AreIfBegun named reply [] []
+nothing-more None reply other = unnamed reply
+nothing-more (Some t) reply other = not_begun t reply (λ e. other e refl)
+
 -- a run that didn't begin
-pub performs-no_run : (event : Event) (reply : Reply) (old new : Session) (was is : Option (List ℕ))
-    → (reply ≡ Begun → ⊥) → Performs (IsAlone event reply) old new was is → Performs (AreOf (Run event)) old new was is
-performs-no_run event reply old new was is other =
-    performs-as (IsAlone event reply) (AreOf (Run event)) old new was is
-    (λ events replies alone. (reply, [], [], alone.0, alone.1, not_begun (tenant_of event) reply other))
+pub performs-no_run : (pages : ℕ) (event : Event) (reply : Reply) (old new : Session) (was is : Option (List ℕ)) → (reply ≡ Begun → IsSome (tenant_of event) → ⊥)
+    → Performs (IsAlone event reply) old new was is → Performs (AreOf pages (Run event)) old new was is
+performs-no_run pages event reply old new was is other =
+    performs-as (IsAlone event reply) (AreOf pages (Run event)) old new was is
+    (λ events replies alone. (reply, [], [], alone.0, alone.1, nothing-more (tenant_of event) reply other))
+
+-- no visits, and one more visit
+pub performs-no_visit : (old : Session) (was : Option (List ℕ)) → Performs (AreVisits 0) old old was was
+performs-no_visit old was w stands = ([], [], w, (refl, refl), noted-none w old was stands)
+
+one-more : (n : ℕ) → replicate n Visit ++ Visit ∷ [] ≡ replicate (n + 1) Visit
+one-more n = replicate-append-replicate n 1 Visit
+
+pub performs-visit : (n : ℕ) (reply : Reply) (old half new : Session) (was mid_way is : Option (List ℕ))
+    → Performs (AreVisits n) old half was mid_way → Performs (IsAlone Visit reply) half new mid_way is → Performs (AreVisits (n + 1)) old new was is
+performs-visit n reply old half new was mid_way is before last w stands =
+    let (first, replied, mid, (visits, counted), noted) = before w stands in
+    let (more, further, next, (one, answer), noted') = last mid noted.stands in (
+      first ++ more,
+      replied ++ further,
+      next,
+      (
+        ap (λ es. es ++ more) visits ∙ ap (λ es. replicate n Visit ++ es) one ∙ one-more n,
+        length-append replied further ∙ ap (λ k. k + length further) counted ∙ ap (λ rs. n + length rs) answer,
+      ),
+      noted-join w mid next old half new was mid_way is first more replied further noted noted',
+    )
+
+-- steps have as many replies
+steps-as_long : (t limit : ℕ) (last : Option Reply) (events : List Event) (replies : List Reply) → AreSteps t limit last events replies → length events ≡ length replies
+steps-as_long t limit None events replies (steps, answers) =
+    ap length steps ∙ length-replicate limit (Step t) ∙ sym (length-replicate limit Stepped) ∙ sym (ap length answers)
+steps-as_long t limit (Some last) events replies (n, few, other, steps, answers) =
+    ap length steps ∙ length-append (replicate n (Step t)) (Step t ∷ []) ∙ ap (λ k. k + 1) (length-replicate n (Step t))
+    ∙ sym (ap (λ k. k + 1) (length-replicate n Stepped)) ∙ sym (length-append (replicate n Stepped) (last ∷ [])) ∙ sym (ap length answers)
+
+begun-as_long : (named : Option ℕ) (reply : Reply) (events : List Event) (replies : List Reply) → AreIfBegun named reply events replies → length events ≡ length replies
+begun-as_long None (Map m) events replies none = ap length none.0 ∙ sym (ap length none.1)
+begun-as_long None (Program k) events replies none = ap length none.0 ∙ sym (ap length none.1)
+begun-as_long None Begun events replies none = ap length none.0 ∙ sym (ap length none.1)
+begun-as_long None Stepped events replies none = ap length none.0 ∙ sym (ap length none.1)
+begun-as_long None (Ended ret steps) events replies none = ap length none.0 ∙ sym (ap length none.1)
+begun-as_long None (Visited visited) events replies none = ap length none.0 ∙ sym (ap length none.1)
+begun-as_long None Done events replies none = ap length none.0 ∙ sym (ap length none.1)
+begun-as_long None (Value value) events replies none = ap length none.0 ∙ sym (ap length none.1)
+begun-as_long None (Counters counters) events replies none = ap length none.0 ∙ sym (ap length none.1)
+begun-as_long None (Refused fault) events replies none = ap length none.0 ∙ sym (ap length none.1)
+begun-as_long (Some t) (Map m) events replies none = ap length none.0 ∙ sym (ap length none.1)
+begun-as_long (Some t) (Program k) events replies none = ap length none.0 ∙ sym (ap length none.1)
+begun-as_long (Some t) Begun events replies (limit, last, steps) = steps-as_long t limit (Some last) events replies steps
+begun-as_long (Some t) Stepped events replies none = ap length none.0 ∙ sym (ap length none.1)
+begun-as_long (Some t) (Ended ret steps) events replies none = ap length none.0 ∙ sym (ap length none.1)
+begun-as_long (Some t) (Visited visited) events replies none = ap length none.0 ∙ sym (ap length none.1)
+begun-as_long (Some t) Done events replies none = ap length none.0 ∙ sym (ap length none.1)
+begun-as_long (Some t) (Value value) events replies none = ap length none.0 ∙ sym (ap length none.1)
+begun-as_long (Some t) (Counters counters) events replies none = ap length none.0 ∙ sym (ap length none.1)
+begun-as_long (Some t) (Refused fault) events replies none = ap length none.0 ∙ sym (ap length none.1)
+
+-- the events of a command have as many replies
+of-as_long : (pages : ℕ) (command : Command) (events : List Event) (replies : List Reply) → AreOf pages command events replies → length events ≡ length replies
+of-as_long pages (Apply event) events replies (reply, one, answer) = ap length one ∙ sym (ap length answer)
+of-as_long pages (command.Step t count) events replies (last, steps) = steps-as_long t count last events replies steps
+of-as_long pages (Finish t) events replies (limit, last, steps) = steps-as_long t limit (Some last) events replies steps
+of-as_long pages (Run event) events replies (reply, more, further, are, tell, begun) =
+    ap length are ∙ ap suc (begun-as_long (tenant_of event) reply more further begun) ∙ sym (ap length tell)
+of-as_long pages (command.Visit count) events replies (visits, counted) =
+    ap length visits ∙ length-replicate (unwrap_or count pages) Visit ∙ sym counted
 
 -- no commands
-pub performs-none : (old : Session) (was : Option (List ℕ)) → Performs (AreOfAll []) old old was was
-performs-none old was w stands = ([], [], w, (refl, refl), noted-none w old was stands)
+pub performs-none : (pages : ℕ) (old : Session) (was : Option (List ℕ)) → Performs (AreOfAll pages []) old old was was
+performs-none pages old was w stands = ([], [], w, (refl, refl), noted-none w old was stands)
 
 -- one more command
-are_of-push : (commands : List Command) (command : Command) (events more : List Event) (replies further : List Reply)
-    → AreOfAll commands events replies → AreOf command more further → AreOfAll (commands ++ command ∷ []) (events ++ more) (replies ++ further)
-are_of-push [] command events more replies further (none, no_reply) one = (
+are_of-push : (pages : ℕ) (commands : List Command) (command : Command) (events more : List Event) (replies further : List Reply)
+    → AreOfAll pages commands events replies → AreOf (pages_by pages events replies) command more further
+    → AreOfAll pages (commands ++ command ∷ []) (events ++ more) (replies ++ further)
+are_of-push pages [] command events more replies further (none, no_reply) one = (
   more,
   [],
   further,
   [],
   ap (λ es. es ++ more) none ∙ sym (append-nil more),
   ap (λ rs. rs ++ further) no_reply ∙ sym (append-nil further),
-  one,
+  subst₂ (λ es rs. AreOf (pages_by pages es rs) command more further) none no_reply one,
   (refl, refl),
 )
-are_of-push (c ∷ commands) command events more replies further (first, rest, replied, answered, are, tell, of_first, of_rest) one = (
-  first,
-  rest ++ more,
-  replied,
-  answered ++ further,
-  ap (λ es. es ++ more) are ∙ append_assoc first rest more,
-  ap (λ rs. rs ++ further) tell ∙ append_assoc replied answered further,
-  of_first,
-  are_of-push commands command rest more answered further of_rest one,
-)
+are_of-push pages (c ∷ commands) command events more replies further (first, rest, replied, answered, are, tell, of_first, of_rest) one =
+    let after : pages_by pages events replies ≡ pages_by (pages_by pages first replied) rest answered =
+    ap₂ (λ es rs. pages_by pages es rs) are tell ∙ pages-join first rest replied answered pages (of-as_long pages c first replied of_first) in (
+      first,
+      rest ++ more,
+      replied,
+      answered ++ further,
+      ap (λ es. es ++ more) are ∙ append_assoc first rest more,
+      ap (λ rs. rs ++ further) tell ∙ append_assoc replied answered further,
+      of_first,
+      are_of-push (pages_by pages first replied) commands command rest more answered further of_rest
+          (subst (λ p. AreOf p command more further) after one),
+    )
 
 pub performs-push : (commands : List Command) (command : Command) (old half new : Session) (was mid_way is : Option (List ℕ))
-    → Performs (AreOfAll commands) old half was mid_way → Performs (AreOf command) half new mid_way is → Performs (AreOfAll (commands ++ command ∷ [])) old new was is
+    → Performs (AreOfAll old.pages_to_scan commands) old half was mid_way → Performs (AreOf half.pages_to_scan command) half new mid_way is
+    → Performs (AreOfAll old.pages_to_scan (commands ++ command ∷ [])) old new was is
 performs-push commands command old half new was mid_way is before last w stands =
     let (first, replied, mid, of_first, noted) = before w stands in
     let (more, further, next, of_last, noted') = last mid noted.stands in (
       first ++ more,
       replied ++ further,
       next,
-      are_of-push commands command first more replied further of_first of_last,
+      are_of-push old.pages_to_scan commands command first more replied further of_first
+          (subst (λ pages. AreOf pages command more further) noted.pages of_last),
       noted-join w mid next old half new was mid_way is first more replied further noted noted',
     )
 
@@ -281,21 +409,14 @@ byte-status false = refl
 
 -- a new session that performed all commands of a file
 pub replayed-performed : (file : HostFile) (old new : Session) (was is : Option (List ℕ)) (status : ℕ)
-    → StandsForWorld old.host (replicate file.tenants new_tenant) → old.begun.items ≡ replicate file.tenants 0 → old.has_refused ≡ false
-    → Performs (AreOfAll file.commands) old new was is → status ≡ (if new.has_refused then 1 else 0) → IsReplayed file was is status
-replayed-performed file old new was is status stands begun clean performs told =
-    let (events, replies, next, are, noted) = performs (replicate file.tenants new_tenant) stands in
-    happened events replies next are noted.happen
+    → StandsForSystem old.host (new_system file.frames file.tenants file.options) → old.begun.items ≡ replicate file.tenants 0
+    → old.pages_to_scan ≡ file.options.pages_to_scan → old.has_refused ≡ false
+    → Performs (AreOfAll old.pages_to_scan file.commands) old new was is → status ≡ (if new.has_refused then 1 else 0) → IsReplayed file was is status
+replayed-performed file old new was is status stands begun pages clean performs told =
+    let (events, replies, next, are, noted) = performs (new_system file.frames file.tenants file.options) stands in
+    happened events replies next (subst (λ p. AreOfAll p file.commands events replies) pages are) noted.happen
     (told ∙ ap (λ b. if b then 1 else 0) (noted.refused ∙ ap (λ b. b || has_refusal replies) clean))
     (subst (λ counts. Appends was is (lines_from counts events replies)) begun noted.written)
-
--- why a host was refused
-pub host_refused : (file : HostFile) (fault : Fault) → (fault ≡ BadShape) ⊎ (fault ≡ BadOption) ⊎ (fault ≡ OutOfMemory)
-    → (fault ≡ BadShape → IsHostSize file.frames file.tenants → ⊥)
-    → (fault ≡ BadOption → IsHostSize file.frames file.tenants × (AreOptions file.options → ⊥)) → IsHostRefusal file fault
-host_refused file fault (inl e) shape options = inl (e, shape e)
-host_refused file fault (inr (inl e)) shape options = inr (inl (e, (options e).0, (options e).1))
-host_refused file fault (inr (inr e)) shape options = inr (inr e)
 
 Appends-kept : (was half is : Option (List ℕ)) (xs : List ℕ) → Appends was half xs → Keeps half is → Appends was is xs
 Appends-kept None half is xs first kept = tt

@@ -1,11 +1,15 @@
 -- The lines that the program prints (docs/HOST.md).
-use Rattle.std.specs.Prelude.{ℕ, nat_le, if◌then◌else◌, List, [], ◌∷◌, ◌++◌, codes, decimal}
+use Rattle.std.specs.Prelude.{ℕ, nat_le, if◌then◌else◌, List, [], ◌∷◌, ◌++◌, codes, decimal, Option, Some, None}
 use Rattle.host_types.specs.declared.fault.Fault.{Fault}
 use Rattle.host_types.specs.declared.fault.Fault.TheVariants.{Program, NoFrames}
 use Rattle.host_types.specs.Refusals.{fault_number, fault_name}
-use Rattle.bpf_decode.specs.Text.{slots_of, instructions_of}
+use Rattle.hex.specs.Hex.{encode_lower}
+use Rattle.ksm_counters.specs.Counters.{counters_text}
+use Rattle.host_core.specs.declared.event.Event.{Event}
+use Rattle.host_core.specs.declared.event.Event.TheVariants.{HostLookup}
 use Rattle.host_core.specs.declared.event.Reply.{Reply}
-use Rattle.host_core.specs.declared.event.Reply.TheVariants.{Ended, Refused}
+use Rattle.host_core.specs.declared.event.Reply.TheVariants.{Ended, Value, Counters, Refused}
+use Rattle.host_core.specs.HostView.{tenant_of}
 
 -- a text and its newline
 abbrev pub line_of : List ℕ → List ℕ
@@ -21,20 +25,26 @@ detail_text fault = []
 abbrev pub refusal_text : Fault → List ℕ
 refusal_text fault = codes "refused " ++ decimal (fault_number fault) ++ codes " " ++ fault_name fault ++ detail_text fault
 
--- a program of so many slots and instructions is accepted; it has no maps to store to, so that it reserves
--- nothing
-abbrev pub acceptance_text : ℕ → ℕ → List ℕ
-acceptance_text slots instructions =
-    codes "accepted slots " ++ decimal slots ++ codes " instructions " ++ decimal instructions ++ codes " reserve 0"
+-- the front of a line that speaks of a tenant, where one is named
+abbrev pub tenant_front : Option ℕ → List ℕ
+tenant_front None = []
+tenant_front (Some t) = codes "tenant " ++ decimal t ++ codes " "
 
--- the program of a text is accepted
-abbrev pub accepted_text : List ℕ → List ℕ
-accepted_text text = acceptance_text (slots_of text) (instructions_of text)
+-- where a value stands
+abbrev pub place_text : ℕ → ℕ → ℕ → List ℕ
+place_text t m key = codes "tenant " ++ decimal t ++ codes " map " ++ decimal m ++ codes " key " ++ decimal key ++ codes " "
 
--- what is written of a reply to an event of a tenant whose latest run has a number: a line of a run's end or
--- of a refusal, and nothing of other replies
-abbrev pub reply_lines : ℕ → ℕ → Reply → List ℕ
-reply_lines tenant run (Ended ret steps) =
-    line_of (codes "tenant " ++ decimal tenant ++ codes " run " ++ decimal run ++ codes " ret " ++ decimal ret ++ codes " steps " ++ decimal steps)
-reply_lines tenant run (Refused fault) = line_of (codes "tenant " ++ decimal tenant ++ codes " " ++ refusal_text fault)
-reply_lines tenant run reply = []
+-- the line of a value that an event looked up: its place, and the bytes as hex text in lower case
+abbrev pub value_line : Event → List ℕ → List ℕ
+value_line (HostLookup t m key) value = line_of (place_text t m key ++ encode_lower value)
+value_line event value = []
+
+-- what is written of a reply to an event whose tenant's latest run has a number: the line of a run's end, of a
+-- value or of a refusal, the lines of the counters, and nothing of other replies
+abbrev pub reply_lines : Event → ℕ → Reply → List ℕ
+reply_lines event run (Ended ret steps) =
+    line_of (tenant_front (tenant_of event) ++ codes "run " ++ decimal run ++ codes " ret " ++ decimal ret ++ codes " steps " ++ decimal steps)
+reply_lines event run (Refused fault) = line_of (tenant_front (tenant_of event) ++ refusal_text fault)
+reply_lines event run (Value value) = value_line event value
+reply_lines event run (Counters counters) = counters_text counters
+reply_lines event run reply = []

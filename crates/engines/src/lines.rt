@@ -1,17 +1,19 @@
 //! The lines of the output (docs/HOST.md).
 
-ghost use Rattle.std.specs.Prelude.{Some, IfErr, OnOk};
+ghost use Rattle.std.specs.Prelude.{[], ◌∷◌, Some, IfErr, OnOk};
 ghost use Rattle.std.specs.Io.KnownBytes.{Appends};
+ghost use Rattle.hex.specs.Hex.{encode_lower};
 ghost use Rattle.host_file.specs.Faults.{IsBad, IsOfWords};
-ghost use Rattle.engines.specs.Lines.{acceptance_text, accepted_text, detail_text, line_of, refusal_text, reply_lines};
+ghost use Rattle.engines.specs.Lines.{detail_text, line_of, place_text, refusal_text, reply_lines, tenant_front, value_line};
 
 use crate::fault::written;
-use host_core::Reply;
+use hex::encode_to_slice;
+use host_core::{Event, Reply};
 use host_file::FileFault;
-use host_types::Fault;
+use host_types::{Fault, MapNo};
+use ksm_counters::text;
 use std::fmt;
 use std::io::Write;
-use verifier::Verified;
 
 // The last number of a program's refusal, which names a slot.
 const LAST_OF_PROGRAM: u32 = 25;
@@ -24,12 +26,9 @@ struct Refusal(Fault);
 #[derive(Clone, Copy, Debug)]
 struct Detail(Fault);
 
-/// A program that is accepted. It has no maps to store to, so that it reserves nothing.
+/// The front of a line that speaks of a tenant, where one is named.
 #[derive(Clone, Copy, Debug)]
-struct Acceptance {
-    slots: u32,
-    instructions: u32,
-}
+struct Front(Option<u32>);
 
 impl fmt::Display for Refusal {
     ghost output = { λ refusal. Some (refusal_text refusal.0) };
@@ -56,20 +55,18 @@ impl fmt::Display for Detail {
     }
 }
 
-impl fmt::Display for Acceptance {
-    ghost output = { λ acceptance. Some (acceptance_text acceptance.slots acceptance.instructions) };
+impl fmt::Display for Front {
+    ghost output = { λ front. Some (tenant_front front.0) };
 
     fn fmt<W: fmt::Write>(&self, f: &mut fmt::Formatter<W>) -> fmt::Result {
-        let slots = self.slots;
-        let instructions = self.instructions;
-        write!(
-            f,
-            "accepted slots {slots} instructions {instructions} reserve 0"
-        )
+        match self.0 {
+            Some(tenant) => write!(f, "tenant {tenant} "),
+            None => Ok(()),
+        }
     }
 }
 
-/// Writes the line of a refusal.
+/// Writes the line of a refusal of the host itself.
 pub fn write_refusal<W: Write>(writer: &mut W, fault: Fault) -> Result<(), FileFault>
     ensures line { OnOk result (Appends (W.contents writer.old) (W.contents writer.new) (line_of (refusal_text fault))) }
     ensures bad { IfErr result (λ fault. ¬ IsBad fault) }
@@ -79,39 +76,85 @@ pub fn write_refusal<W: Write>(writer: &mut W, fault: Fault) -> Result<(), FileF
     written(writeln!(writer, "{refusal}"))
 }
 
-/// Writes the line of a reply to an event of a tenant, where it has one. `run` is the number of the
-/// tenant's latest run.
+/// Writes the lines of a reply to an event, where it has any. `run` is the number of the latest run of
+/// the event's tenant.
 pub fn write_reply<W: Write>(
     writer: &mut W,
-    tenant: u32,
+    event: &Event,
     run: u64,
-    reply: Reply,
+    reply: &Reply,
 ) -> Result<(), FileFault>
-    ensures lines { OnOk result (Appends (W.contents writer.old) (W.contents writer.new) (reply_lines tenant run reply)) }
+    ensures lines { OnOk result (Appends (W.contents writer.old) (W.contents writer.new) (reply_lines event.now run reply.now)) }
     ensures bad { IfErr result (λ fault. ¬ IsBad fault) }
-    ensures words { IfErr result (λ fault. ¬ IsOfWords fault) }
 {
+    let front = Front(event.tenant());
     match reply {
         Reply::Ended { ret, steps } => {
-            written(writeln!(writer, "tenant {tenant} run {run} ret {ret} steps {steps}"))
+            written(writeln!(writer, "{front}run {run} ret {ret} steps {steps}"))
         }
         Reply::Refused(fault) => {
-            let refusal = Refusal(fault);
-            written(writeln!(writer, "tenant {tenant} {refusal}"))
+            let refusal = Refusal(*fault);
+            written(writeln!(writer, "{front}{refusal}"))
         }
-        Reply::Program(_) | Reply::Begun | Reply::Stepped => Ok(()),
+        Reply::Value(value) => write_value(writer, event, value.as_slice()),
+        Reply::Counters(counters) => written(text(counters, writer)),
+        Reply::Map(_)
+        | Reply::Program(_)
+        | Reply::Begun
+        | Reply::Stepped
+        | Reply::Visited(_)
+        | Reply::Done => Ok(()),
     }
 }
 
-/// Writes the line of a program that is accepted.
-pub fn write_accepted<W: Write>(writer: &mut W, program: &Verified) -> Result<(), FileFault>
-    ensures line { OnOk result (Appends (W.contents writer.old) (W.contents writer.new) (line_of (accepted_text program.now.subject.text))) }
+/// Writes the line of the value that an event looked up.
+fn write_value<W: Write>(writer: &mut W, event: &Event, value: &[u8]) -> Result<(), FileFault>
+    ensures line { OnOk result (Appends (W.contents writer.old) (W.contents writer.new) (value_line event.now value.now)) }
     ensures bad { IfErr result (λ fault. ¬ IsBad fault) }
-    ensures words { IfErr result (λ fault. ¬ IsOfWords fault) }
 {
-    let acceptance = Acceptance {
-        slots: program.slots(),
-        instructions: program.instructions(),
+    let Event::HostLookup { tenant, map, key } = event else {
+        return Ok(());
     };
-    written(writeln!(writer, "{acceptance}"))
+    write_place(writer, *tenant, *map, *key)?;
+    write_hex(writer, value)?;
+    end_line(writer)
+}
+
+/// Writes where a value stands.
+fn write_place<W: Write>(writer: &mut W, tenant: u32, map: MapNo, key: u32) -> Result<(), FileFault>
+    ensures place { OnOk result (Appends (W.contents writer.old) (W.contents writer.new) (place_text tenant map key)) }
+    ensures bad { IfErr result (λ fault. ¬ IsBad fault) }
+{
+    written(write!(writer, "tenant {tenant} map {map} key {key} "))
+}
+
+/// Ends a line.
+fn end_line<W: Write>(writer: &mut W) -> Result<(), FileFault>
+    ensures newline { OnOk result (Appends (W.contents writer.old) (W.contents writer.new) (10 ∷ [])) }
+    ensures bad { IfErr result (λ fault. ¬ IsBad fault) }
+{
+    written(writeln!(writer))
+}
+
+/// Writes bytes as hex text in lower case.
+fn write_hex<W: Write>(writer: &mut W, bytes: &[u8]) -> Result<(), FileFault>
+    ensures digits { OnOk result (Appends (W.contents writer.old) (W.contents writer.new) (encode_lower bytes.now)) }
+    ensures bad { IfErr result (λ fault. ¬ IsBad fault) }
+{
+    for byte in bytes {
+        write_byte(writer, *byte)?;
+    }
+    Ok(())
+}
+
+/// Writes a byte as two hex digits.
+fn write_byte<W: Write>(writer: &mut W, byte: u8) -> Result<(), FileFault>
+    ensures digits { OnOk result (Appends (W.contents writer.old) (W.contents writer.new) (encode_lower (byte ∷ []))) }
+    ensures bad { IfErr result (λ fault. ¬ IsBad fault) }
+{
+    let mut digits = [0; 2];
+    match encode_to_slice([byte], &mut digits) {
+        Ok(()) => written(writer.write_all(&digits)),
+        Err(_) => unreachable!(),
+    }
 }

@@ -1,8 +1,8 @@
 //! The engine of `replay`: a host file's events in their order, on one thread.
 
-ghost use Rattle.std.specs.Prelude.{◌≡◌, ◌≤◌, length, replicate, IfErr, IfOk, IfSome};
-ghost use Rattle.host_core.specs.World.{new_tenant};
-ghost use Rattle.host_core.specs.HostView.{StandsForWorld};
+ghost use Rattle.std.specs.Prelude.{◌≡◌, ◌≤◌, length, IfErr, IfOk, IfSome};
+ghost use Rattle.host_core.specs.World.{new_system};
+ghost use Rattle.host_core.specs.HostView.{StandsForSystem};
 ghost use Rattle.host_file.specs.Faults.{IsBad};
 ghost use Rattle.host_file.specs.HostFile.{IsFileText, max_bytes};
 ghost use Rattle.host_file.specs.declared.file.HostFile.{HostFile};
@@ -19,8 +19,9 @@ use std::io;
 use std::io::{Read, Write};
 
 /// Applies the events of the host file that the reader gives, in their order, to a new host. Each run that
-/// ends and each refusal is one line of the output, and nothing else is written there; which event was
-/// refused, and what that means, goes to `words`. Answers the status: 0, or 1 if a refusal was written. A
+/// ends, each value that is looked up and each refusal is one line of the output, each counter that is
+/// asked for too, and nothing else is written there; which event was refused, and what that means, goes
+/// to `words`. Answers the status: 0, or 1 if a refusal was written. A
 /// bad file applies nothing; after a write that fails no further event is applied.
 pub fn replay<R: Read, W: Write, E: Write>(
     alloc: Global,
@@ -111,11 +112,11 @@ fn replay_commands<W: Write, E: Write>(
     writer: &mut W,
     words: &mut E,
 ) -> Result<u8, FileFault>
-    requires { StandsForWorld host (replicate file.now.tenants new_tenant) }
+    requires { StandsForSystem host (new_system file.now.frames file.now.tenants file.now.options) }
     ensures replayed { IfOk result (IsReplayed file.now (W.contents writer.old) (W.contents writer.new)) }
     ensures fault { IfErr result (λ fault. ¬ IsBad fault) }
 {
-    let mut session = Session::new(alloc, host, file.tenants)?;
+    let mut session = Session::new(alloc, host, file)?;
     session.perform_all(file.commands.as_slice(), writer, words)?;
     Ok(u8::from(session.has_refused()))
 }

@@ -1,41 +1,47 @@
 //! A host at work on the commands of a host file, and what is written of it.
 
-ghost use Rattle.std.specs.Prelude.{◌≡◌, false, replicate, IfErr, IfOk, OnOk};
-ghost use Rattle.host_core.specs.declared.event.Reply.TheVariants.{Begun};
+ghost use Rattle.std.specs.Prelude.{◌≡◌, ◌↔◌, false, replicate, IfErr, IfOk, IsTrue, OnOk};
+ghost use Rattle.host_core.specs.declared.event.Reply.TheVariants.{Begun, Done};
+ghost use Rattle.host_core.specs.HostView.{tenant_of};
 ghost use Rattle.host_file.specs.Faults.{IsBad};
 ghost use Rattle.host_file.specs.declared.command.Command.TheVariants.{Run};
-ghost use Rattle.engines.specs.Replay.{AreOf, AreOfAll, AreStepsToEnd, begun_after, runs_begun};
+ghost use Rattle.engines.specs.Replay.{AreOf, AreOfAll, AreStepsToEnd, AreVisits, latest_run, one_more_run, pages_after, runs_begun};
 ghost use Rattle.engines.specs.Sessions.{AreStepsMade, HasTold, IsAlone, Performs};
 
 use crate::explanation::explain;
 use crate::lines::write_reply;
 use host_core::{Event, Host, Reply};
-use host_file::{Command, FileFault};
-use host_types::Fault;
+use host_file::{Command, FileFault, HostFile};
+use host_types::{Fault, Opt};
 use std::alloc::Global;
 use std::io;
 use std::io::Write;
 
-/// A host at work, and what its output needs to know.
+/// A host at work, and what its output and its visits need to know.
 #[derive(Drop)]
 pub struct Session {
     host: Host,
     /// How many runs each tenant has begun.
     begun: Vec<u64>,
+    /// How many pages a visit without a count visits.
+    pages_to_scan: u32,
     has_refused: bool,
 }
 
 impl Session {
-    pub fn new(alloc: Global, host: Host, tenants: u32) -> Result<Self, FileFault>
+    /// A session of a new host that was made for a file.
+    pub fn new(alloc: Global, host: Host, file: &HostFile) -> Result<Self, FileFault>
         ensures host { IfOk result (λ session. session.host ≡ host) }
-        ensures begun { IfOk result (λ session. session.begun.items ≡ replicate tenants 0) }
+        ensures begun { IfOk result (λ session. session.begun.items ≡ replicate file.now.tenants 0) }
+        ensures pages { IfOk result (λ session. session.pages_to_scan ≡ file.now.options.pages_to_scan) }
         ensures refused { IfOk result (λ session. session.has_refused ≡ false) }
         ensures bad { IfErr result (λ fault. ¬ IsBad fault) }
     {
-        match vec![in alloc; 0; tenants as usize] {
+        match vec![in alloc; 0; file.tenants as usize] {
             Ok(begun) => Ok(Session {
                 host,
                 begun,
+                pages_to_scan: file.options.pages_to_scan,
                 has_refused: false,
             }),
             Err(error) => Err(FileFault::OutOfMemory(error)),
@@ -56,7 +62,7 @@ impl Session {
         writer: &mut W,
         words: &mut E,
     ) -> Result<(), FileFault>
-        ensures performs { OnOk result (Performs (AreOfAll commands.now) self.old self.new (W.contents writer.old) (W.contents writer.new)) }
+        ensures performs { OnOk result (Performs (AreOfAll self.old.pages_to_scan commands.now) self.old self.new (W.contents writer.old) (W.contents writer.new)) }
         ensures bad { IfErr result (λ fault. ¬ IsBad fault) }
     {
         for (number, command) in commands.iter().enumerate() {
@@ -73,7 +79,7 @@ impl Session {
         writer: &mut W,
         words: &mut E,
     ) -> Result<(), FileFault>
-        ensures performs { OnOk result (Performs (AreOf command.now) self.old self.new (W.contents writer.old) (W.contents writer.new)) }
+        ensures performs { OnOk result (Performs (AreOf self.old.pages_to_scan command.now) self.old self.new (W.contents writer.old) (W.contents writer.new)) }
         ensures bad { IfErr result (λ fault. ¬ IsBad fault) }
     {
         match command {
@@ -86,7 +92,28 @@ impl Session {
             }
             Command::Finish { tenant } => self.finish(number, *tenant, writer, words),
             Command::Run(event) => self.run(number, event, writer, words),
+            Command::Visit { count } => {
+                let count = count.unwrap_or(self.pages_to_scan);
+                self.visit(number, count, writer, words)
+            }
         }
+    }
+
+    /// Lets the scanner make visits.
+    fn visit<W: Write, E: Write>(
+        &mut self,
+        number: usize,
+        count: u32,
+        writer: &mut W,
+        words: &mut E,
+    ) -> Result<(), FileFault>
+        ensures performs { OnOk result (Performs (AreVisits count) self.old self.new (W.contents writer.old) (W.contents writer.new)) }
+        ensures bad { IfErr result (λ fault. ¬ IsBad fault) }
+    {
+        for _visit in 0..count {
+            self.apply(number, &Event::Visit, writer, words)?;
+        }
+        Ok(())
     }
 
     /// Applies the event that is to open a run, and makes the run's steps where it did.
@@ -97,16 +124,20 @@ impl Session {
         writer: &mut W,
         words: &mut E,
     ) -> Result<(), FileFault>
-        ensures performs { OnOk result (Performs (AreOf (Run event.now)) self.old self.new (W.contents writer.old) (W.contents writer.new)) }
+        ensures performs { OnOk result (Performs (AreOf self.old.pages_to_scan (Run event.now)) self.old self.new (W.contents writer.old) (W.contents writer.new)) }
         ensures bad { IfErr result (λ fault. ¬ IsBad fault) }
     {
-        match self.apply(number, event, writer, words)? {
-            Reply::Begun => self.finish(number, event.tenant(), writer, words),
-            _ => Ok(()),
+        let reply = self.apply(number, event, writer, words)?;
+        let Some(tenant) = event.tenant() else {
+            return Ok(());
+        };
+        if !is_begun(&reply) {
+            return Ok(());
         }
+        self.finish(number, tenant, writer, words)
     }
 
-    /// Applies an event, and writes its line if it has one.
+    /// Applies an event, and writes its lines if it has any.
     fn apply<W: Write, E: Write>(
         &mut self,
         number: usize,
@@ -118,12 +149,12 @@ impl Session {
         ensures bad { IfErr result (λ fault. ¬ IsBad fault) }
     {
         let reply = self.host.apply(event);
-        self.tell(event.tenant(), reply, writer)?;
+        self.tell(event, &reply, writer)?;
         let text = match event {
             Event::Load { text, .. } => Some(text.as_slice()),
             _ => None,
         };
-        explain_reply(words, number, text, reply);
+        explain_reply(words, number, text, &reply);
         Ok(reply)
     }
 
@@ -156,24 +187,45 @@ impl Session {
         let Some(reply) = self.host.make_steps(tenant, limit) else {
             return Ok(());
         };
-        self.tell(tenant, reply, writer)?;
-        explain_reply(words, number, None, reply);
+        self.tell(&Event::Step { tenant }, &reply, writer)?;
+        explain_reply(words, number, None, &reply);
         Ok(())
     }
 
-    /// Writes the line of a reply if it has one, and notes what later lines need to know.
-    fn tell<W: Write>(&mut self, tenant: u32, reply: Reply, writer: &mut W) -> Result<(), FileFault>
-        ensures told { OnOk result (HasTold tenant reply self.old self.new (W.contents writer.old) (W.contents writer.new)) }
+    /// Writes the lines of a reply if it has any, and notes what later events and lines need to know.
+    fn tell<W: Write>(
+        &mut self,
+        event: &Event,
+        reply: &Reply,
+        writer: &mut W,
+    ) -> Result<(), FileFault>
+        ensures told { OnOk result (HasTold event.now reply.now self.old self.new (W.contents writer.old) (W.contents writer.new)) }
         ensures bad { IfErr result (λ fault. ¬ IsBad fault) }
     {
-        let run = self.runs_begun(tenant).saturating_sub(1);
-        write_reply(writer, tenant, run, reply)?;
+        write_reply(writer, event, self.latest_run(event), reply)?;
         match reply {
-            Reply::Begun => self.count_run(tenant),
+            Reply::Begun => self.count_run(event),
+            Reply::Done => self.note_option(event),
             Reply::Refused(_) => self.has_refused = true,
-            Reply::Program(_) | Reply::Stepped | Reply::Ended { .. } => {}
+            Reply::Map(_)
+            | Reply::Program(_)
+            | Reply::Stepped
+            | Reply::Ended { .. }
+            | Reply::Visited(_)
+            | Reply::Value(_)
+            | Reply::Counters(_) => {}
         }
         Ok(())
+    }
+
+    /// The number of the latest run of an event's tenant.
+    fn latest_run(&self, event: &Event) -> u64
+        ensures { result ≡ latest_run self.now.begun.items (tenant_of event.now) }
+    {
+        match event.tenant() {
+            Some(tenant) => self.runs_begun(tenant).saturating_sub(1),
+            None => 0,
+        }
     }
 
     fn runs_begun(&self, tenant: u32) -> u64
@@ -182,22 +234,48 @@ impl Session {
         self.begun.get(tenant as usize).copied().unwrap_or(0)
     }
 
-    fn count_run(&mut self, tenant: u32)
-        ensures begun { self.new.begun.items ≡ begun_after self.old.begun.items tenant Begun }
+    /// Notes that an event's tenant began a run.
+    fn count_run(&mut self, event: &Event)
+        ensures begun { self.new.begun.items ≡ one_more_run self.old.begun.items (tenant_of event.now) }
         ensures host { self.new.host ≡ self.old.host }
+        ensures pages { self.new.pages_to_scan ≡ self.old.pages_to_scan }
         ensures refused { self.new.has_refused ≡ self.old.has_refused }
     {
+        let Some(tenant) = event.tenant() else {
+            return;
+        };
         if let Some(begun) = self.begun.get_mut(tenant as usize) {
             *begun = begun.saturating_add(1);
         }
     }
+
+    /// Notes what an event that was done set.
+    fn note_option(&mut self, event: &Event)
+        ensures pages { self.new.pages_to_scan ≡ pages_after self.old.pages_to_scan event.now Done }
+        ensures begun { self.new.begun.items ≡ self.old.begun.items }
+        ensures host { self.new.host ≡ self.old.host }
+        ensures refused { self.new.has_refused ≡ self.old.has_refused }
+    {
+        if let Event::Set { option, value } = event {
+            if *option == Opt::PagesToScan {
+                self.pages_to_scan = *value;
+            }
+        }
+    }
+}
+
+/// Whether a run is open now that wasn't.
+fn is_begun(reply: &Reply) -> bool
+    ensures { IsTrue result ↔ (reply.now ≡ Begun) }
+{
+    matches!(reply, Reply::Begun)
 }
 
 /// Writes, of a refusal, which event of the file was refused, and what that means. The line is written: the
 /// words may be lost.
-fn explain_reply<W: Write>(words: &mut W, number: usize, text: Option<&[u8]>, reply: Reply) {
+fn explain_reply<W: Write>(words: &mut W, number: usize, text: Option<&[u8]>, reply: &Reply) {
     if let Reply::Refused(fault) = reply {
-        let _ = explain_event(words, number, text, fault);
+        let _ = explain_event(words, number, text, *fault);
     }
 }
 

@@ -1,18 +1,18 @@
 -- Host files (this project's own format, docs/HOST.md): what a TOML document says.
-use Rattle.std.specs.Prelude.{◌≡◌, ℕ, ◌≤◌, pos, List, [], ◌∷◌, codes, ◌⊎◌, Any, MatchOption, Option, Some, None, Ok, Bool, true}
+use Rattle.std.specs.Prelude.{◌≡◌, ℕ, ◌≤◌, pos, List, [], ◌∷◌, codes, Any, MatchOption, Option, Some, None, Ok, Bool, true}
 use Rattle.host_types.specs.declared.options.Opt.{Opt}
 use Rattle.host_types.specs.declared.options.Opt.TheVariants as option
 use Rattle.host_types.specs.declared.options.Options.{Options}
 use Rattle.host_types.specs.OptionTable.{default_options}
 use Rattle.hex.specs.Hex.{decode_of}
 use Rattle.host_core.specs.declared.event.Event.{Event}
-use Rattle.host_core.specs.declared.event.Event.TheVariants.{Load, Begin}
+use Rattle.host_core.specs.declared.event.Event.TheVariants.{CreateMap, Load, Begin, HostUpdate, HostLookup, Set, Unmerge, Counters}
 use Rattle.toml.specs.Parse.{parse_document}
 use Rattle.toml.specs.Data.{Data, string, integer, boolean, array, table, Items, no_items, item, Members, no_members, member, get_member}
 use Rattle.host_file.specs.declared.key.Key.{Key}
 use Rattle.host_file.specs.declared.key.Key.TheVariants as key
 use Rattle.host_file.specs.declared.command.Command.{Command}
-use Rattle.host_file.specs.declared.command.Command.TheVariants.{Apply, Step, Finish, Run, Map, Visit, Update, Lookup, Set, Unmerge, Counters}
+use Rattle.host_file.specs.declared.command.Command.TheVariants.{Apply, Step, Finish, Run, Visit}
 use Rattle.host_file.specs.declared.file.HostFile.{HostFile}
 
 -- the keys as they are written
@@ -108,13 +108,6 @@ HasOptions ms options = MatchOption (value_at ms key.Options) (options ≡ defau
 abbrev pub IsRow : Members → List ℕ → List Key → Type 0
 IsRow ms kind keys = HasString ms key.Do kind × HasOnly ms keys
 
--- the table has what loads a program: a tenant, a text, and the size of its contexts
-abbrev pub IsLoading : Members → Event → Type 0
-IsLoading ms (Load tenant text context_size) =
-    HasOnly ms (key.Do ∷ key.Tenant ∷ key.Hex ∷ key.Context ∷ [])
-    × HasNumber ms key.Tenant tenant × HasHex ms key.Hex text × HasNumber ms key.Context context_size
-IsLoading ms _ = ⊥
-
 -- the table has what opens a run: a tenant, one of its programs, and the bytes of a context
 abbrev pub IsBeginning : Members → Event → Type 0
 IsBeginning ms (Begin tenant program context) =
@@ -122,31 +115,39 @@ IsBeginning ms (Begin tenant program context) =
     × HasNumber ms key.Tenant tenant × HasNumber ms key.Program program × HasHex ms key.Context context
 IsBeginning ms _ = ⊥
 
+-- the table of an event of the host, by what it does
+abbrev pub IsHostEvent : Members → Event → Type 0
+IsHostEvent ms (CreateMap tenant value_size entries mergeable) =
+    IsRow ms (codes "map") (key.Do ∷ key.Tenant ∷ key.ValueSize ∷ key.Entries ∷ key.Mergeable ∷ [])
+    × HasNumber ms key.Tenant tenant × HasNumber ms key.ValueSize value_size × HasNumber ms key.Entries entries
+    × HasFlagOr true ms key.Mergeable mergeable
+IsHostEvent ms (Load tenant text context_size) =
+    IsRow ms (codes "load") (key.Do ∷ key.Tenant ∷ key.Hex ∷ key.Context ∷ [])
+    × HasNumber ms key.Tenant tenant × HasHex ms key.Hex text × HasNumber ms key.Context context_size
+IsHostEvent ms (Begin tenant program context) =
+    HasString ms key.Do (codes "begin") × IsBeginning ms (Begin tenant program context)
+IsHostEvent ms (HostUpdate tenant map number value) =
+    IsRow ms (codes "update") (key.Do ∷ key.Tenant ∷ key.Map ∷ key.Key ∷ key.Value ∷ [])
+    × HasNumber ms key.Tenant tenant × HasNumber ms key.Map map × HasNumber ms key.Key number × HasHex ms key.Value value
+IsHostEvent ms (HostLookup tenant map number) =
+    IsRow ms (codes "lookup") (key.Do ∷ key.Tenant ∷ key.Map ∷ key.Key ∷ [])
+    × HasNumber ms key.Tenant tenant × HasNumber ms key.Map map × HasNumber ms key.Key number
+IsHostEvent ms (Set opt value) =
+    IsRow ms (codes "set") (key.Do ∷ key.Option ∷ key.Value ∷ []) × HasOption ms opt × HasNumber ms key.Value value
+IsHostEvent ms Unmerge = IsRow ms (codes "unmerge") (key.Do ∷ [])
+IsHostEvent ms Counters = IsRow ms (codes "counters") (key.Do ∷ [])
+IsHostEvent ms _ = ⊥
+
 -- the table of an event, by what it does
 abbrev pub IsEvent : Members → Command → Type 0
-IsEvent ms (Apply event) =
-    (HasString ms key.Do (codes "load") × IsLoading ms event) ⊎ (HasString ms key.Do (codes "begin") × IsBeginning ms event)
+IsEvent ms (Apply event) = IsHostEvent ms event
 IsEvent ms (Step tenant count) =
     IsRow ms (codes "step") (key.Do ∷ key.Tenant ∷ key.Count ∷ [])
     × HasNumber ms key.Tenant tenant × HasNumberOr 1 ms key.Count count
 IsEvent ms (Finish tenant) =
     IsRow ms (codes "finish") (key.Do ∷ key.Tenant ∷ []) × HasNumber ms key.Tenant tenant
 IsEvent ms (Run event) = HasString ms key.Do (codes "run") × IsBeginning ms event
-IsEvent ms (Map tenant value_size entries mergeable) =
-    IsRow ms (codes "map") (key.Do ∷ key.Tenant ∷ key.ValueSize ∷ key.Entries ∷ key.Mergeable ∷ [])
-    × HasNumber ms key.Tenant tenant × HasNumber ms key.ValueSize value_size × HasNumber ms key.Entries entries
-    × HasFlagOr true ms key.Mergeable mergeable
 IsEvent ms (Visit count) = IsRow ms (codes "visit") (key.Do ∷ key.Count ∷ []) × HasAnyNumber ms key.Count count
-IsEvent ms (Update tenant map number value) =
-    IsRow ms (codes "update") (key.Do ∷ key.Tenant ∷ key.Map ∷ key.Key ∷ key.Value ∷ [])
-    × HasNumber ms key.Tenant tenant × HasNumber ms key.Map map × HasNumber ms key.Key number × HasHex ms key.Value value
-IsEvent ms (Lookup tenant map number) =
-    IsRow ms (codes "lookup") (key.Do ∷ key.Tenant ∷ key.Map ∷ key.Key ∷ [])
-    × HasNumber ms key.Tenant tenant × HasNumber ms key.Map map × HasNumber ms key.Key number
-IsEvent ms (Set opt value) =
-    IsRow ms (codes "set") (key.Do ∷ key.Option ∷ key.Value ∷ []) × HasOption ms opt × HasNumber ms key.Value value
-IsEvent ms Unmerge = IsRow ms (codes "unmerge") (key.Do ∷ [])
-IsEvent ms Counters = IsRow ms (codes "counters") (key.Do ∷ [])
 
 abbrev pub IsEventTable : Data → Command → Type 0
 IsEventTable (table ms) command = IsEvent ms command

@@ -1,60 +1,21 @@
 ghost use Rattle.std.specs.Prelude.{◌≡◌};
 
-use host_core::{Bytes, Event};
-use host_types::Opt;
+use host_core::Event;
 use std::marker::Model;
 
 /// What an event of a host file asks for.
 #[derive(Debug, Drop)]
 pub enum Command {
-    /// Makes a map for a tenant.
-    Map {
-        tenant: u32,
-        /// The bytes of a value.
-        value_size: u32,
-        entries: u32,
-        /// Whether the scanner may merge the map's pages.
-        mergeable: bool,
-    },
     /// Applies an event of the host as it is.
     Apply(Event),
     /// Makes up to a number of steps of the tenant's open run.
-    Step {
-        tenant: u32,
-        count: u32,
-    },
+    Step { tenant: u32, count: u32 },
     /// Makes steps of the tenant's open run until it ends.
-    Finish {
-        tenant: u32,
-    },
+    Finish { tenant: u32 },
     /// Applies the event that opens a run and, where it is open then, makes its steps until it ends.
     Run(Event),
     /// Lets the scanner visit so many pages, or with no count as many as `pages_to_scan` is by then.
-    Visit {
-        count: Option<u32>,
-    },
-    /// Writes a value of a tenant's map.
-    Update {
-        tenant: u32,
-        map: u32,
-        key: u32,
-        value: Bytes,
-    },
-    /// Tells a value of a tenant's map.
-    Lookup {
-        tenant: u32,
-        map: u32,
-        key: u32,
-    },
-    /// Gives an option a value.
-    Set {
-        option: Opt,
-        value: u32,
-    },
-    /// Gives each page that shares a frame one of its own.
-    Unmerge,
-    /// Tells the counters.
-    Counters,
+    Visit { count: Option<u32> },
 }
 
 /// The commands of a host file in their order.

@@ -46,12 +46,12 @@ fn map(alloc: Global, event: &Section<'_>) -> Result<Command, FileFault>
             Key::Mergeable,
         ],
     )?;
-    Ok(Command::Map {
+    Ok(Command::Apply(Event::CreateMap {
         tenant: event.number(Key::Tenant)?,
         value_size: event.number(Key::ValueSize)?,
         entries: event.number(Key::Entries)?,
         mergeable: event.flag_or(Key::Mergeable, true)?,
-    })
+    }))
 }
 
 fn load(alloc: Global, event: &Section<'_>) -> Result<Command, FileFault>
@@ -131,12 +131,12 @@ fn update(alloc: Global, event: &Section<'_>) -> Result<Command, FileFault>
         alloc,
         &[Key::Do, Key::Tenant, Key::Map, Key::Key, Key::Value],
     )?;
-    Ok(Command::Update {
+    Ok(Command::Apply(Event::HostUpdate {
         tenant: event.number(Key::Tenant)?,
         map: event.number(Key::Map)?,
         key: event.number(Key::Key)?,
         value: event.bytes(alloc, Key::Value)?,
-    })
+    }))
 }
 
 fn lookup(alloc: Global, event: &Section<'_>) -> Result<Command, FileFault>
@@ -144,11 +144,11 @@ fn lookup(alloc: Global, event: &Section<'_>) -> Result<Command, FileFault>
     ensures { IfOk result (IsEvent (members_of event.now)) }
 {
     event.require_only(alloc, &[Key::Do, Key::Tenant, Key::Map, Key::Key])?;
-    Ok(Command::Lookup {
+    Ok(Command::Apply(Event::HostLookup {
         tenant: event.number(Key::Tenant)?,
         map: event.number(Key::Map)?,
         key: event.number(Key::Key)?,
-    })
+    }))
 }
 
 fn set(alloc: Global, event: &Section<'_>) -> Result<Command, FileFault>
@@ -156,10 +156,10 @@ fn set(alloc: Global, event: &Section<'_>) -> Result<Command, FileFault>
     ensures { IfOk result (IsEvent (members_of event.now)) }
 {
     event.require_only(alloc, &[Key::Do, Key::Option, Key::Value])?;
-    Ok(Command::Set {
+    Ok(Command::Apply(Event::Set {
         option: option(alloc, event)?,
         value: event.number(Key::Value)?,
-    })
+    }))
 }
 
 /// The option that an event names.
@@ -180,7 +180,7 @@ fn unmerge(alloc: Global, event: &Section<'_>) -> Result<Command, FileFault>
     ensures { IfOk result (IsEvent (members_of event.now)) }
 {
     event.require_only(alloc, &[Key::Do])?;
-    Ok(Command::Unmerge)
+    Ok(Command::Apply(Event::Unmerge))
 }
 
 fn counters(alloc: Global, event: &Section<'_>) -> Result<Command, FileFault>
@@ -188,5 +188,5 @@ fn counters(alloc: Global, event: &Section<'_>) -> Result<Command, FileFault>
     ensures { IfOk result (IsEvent (members_of event.now)) }
 {
     event.require_only(alloc, &[Key::Do])?;
-    Ok(Command::Counters)
+    Ok(Command::Apply(Event::Counters))
 }

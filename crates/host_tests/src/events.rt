@@ -1,7 +1,7 @@
 //! The replies of a host.
 
 use host_core::{Bytes, Event, Host, Reply};
-use host_types::{Fault, Options};
+use host_types::Options;
 use std::alloc::{AllocError, Global};
 use std::test::Fail;
 
@@ -53,19 +53,11 @@ fn replies(alloc: Global, steps: &[u32]) -> Result<Vec<Reply>, Fail> {
 /// to its contracts too.
 #[test]
 fn runs_tenants_side_by_side(rt: HostRuntime) -> Result<(), Fail> {
-    let expected = [
-        Reply::Program(0),
-        Reply::Program(0),
-        Reply::Begun,
-        Reply::Begun,
-        Reply::Stepped,
-        Reply::Stepped,
-        Reply::Ended { ret: 42, steps: 2 },
-        Reply::Ended { ret: 7, steps: 2 },
-        Reply::Refused(Fault::NoRun),
-    ];
     let replies = replies(rt.alloc(), &[1, 0, 0, 1, 0])?;
-    assert_eq!(rt; replies.as_slice(), expected.as_slice());
+    let told = format!(in rt.alloc(); "{:?}", replies.as_slice())?;
+    let expected = "[Program(0), Program(0), Begun, Begun, Stepped, Stepped, \
+        Ended { ret: 42, steps: 2 }, Ended { ret: 7, steps: 2 }, Refused(NoRun)]";
+    assert_eq!(rt; told.as_str(), expected);
     Ok(())
 }
 
@@ -83,15 +75,46 @@ fn made(alloc: Global, asked: &[(u32, u64)]) -> Result<Vec<Option<Reply>>, Fail>
 #[test]
 fn makes_steps_to_a_limit_the_end_or_a_refusal(rt: HostRuntime) -> Result<(), Fail> {
     let asked = [(0, 0), (0, 1), (0, 5), (0, 5), (1, u64::MAX), (2, 1)];
-    let expected = [
-        None,
-        None,
-        Some(Reply::Ended { ret: 42, steps: 2 }),
-        Some(Reply::Refused(Fault::NoRun)),
-        Some(Reply::Ended { ret: 7, steps: 2 }),
-        Some(Reply::Refused(Fault::BadTenant)),
-    ];
     let made = made(rt.alloc(), &asked)?;
-    assert_eq!(rt; made.as_slice(), expected.as_slice());
+    let told = format!(in rt.alloc(); "{:?}", made.as_slice())?;
+    let expected = "[None, None, Some(Ended { ret: 42, steps: 2 }), Some(Refused(NoRun)), \
+        Some(Ended { ret: 7, steps: 2 }), Some(Refused(BadTenant))]";
+    assert_eq!(rt; told.as_str(), expected);
+    Ok(())
+}
+
+/// A map of one element for a tenant.
+fn map(tenant: u32) -> Event {
+    Event::CreateMap {
+        tenant,
+        value_size: 8,
+        entries: 1,
+        mergeable: true,
+    }
+}
+
+/// The replies of a host of two tenants with three maps of zeros to visits of the scanner, an unmerging and
+/// a visit.
+fn visited(alloc: Global) -> Result<Vec<Reply>, Fail> {
+    let mut host = Host::new(alloc, 4, 2, Options::standard())?;
+    let mut events = Vec::new(alloc);
+    for tenant in [0, 1, 1] {
+        events.push(map(tenant))?;
+    }
+    for _ in 0..7 {
+        events.push(Event::Visit)?;
+    }
+    events.push(Event::Unmerge)?;
+    events.push(Event::Visit)?;
+    Ok(host.apply_all(events.as_slice())?)
+}
+
+/// What no line of the output tells.
+#[test]
+fn maps_are_numbered_and_visits_tell_what_they_did(rt: HostRuntime) -> Result<(), Fail> {
+    let told = format!(in rt.alloc(); "{:?}", visited(rt.alloc())?.as_slice())?;
+    let expected = "[Map(0), Map(0), Map(1), Visited(Changed), Visited(Changed), Visited(Changed), \
+        Visited(Waiting), Visited(Paired), Visited(Joined), Visited(Already), Done, Visited(Idle)]";
+    assert_eq!(rt; told.as_str(), expected);
     Ok(())
 }

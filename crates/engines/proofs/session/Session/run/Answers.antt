@@ -1,18 +1,31 @@
-use Rattle.std.proofs.Common.{subst}
+use Rattle.std.proofs.Common.{true≢false, sym, ◌∙◌, subst, IsSome}
 use Rattle.std.proofs.lemmas.Result.{on_ok_weaker}
-use Rattle.engines.specs.Replay.{AreStepsToEnd}
-use Rattle.engines.specs.Sessions.{Performs, IsAlone}
-use Rattle.engines.proofs.Noting.{performs-run}
+use Rattle.engines.specs.Sessions.{IsAlone, Performs}
+use Rattle.engines.proofs.Noting.{performs-run, performs-no_run}
 use Rattle.engines.proofs.session.Session.run.Goals as goal
 
-pub returns-in-Begun-clause-performs : goal.returns-in-Begun-clause-performs
-returns-in-Begun-clause-performs g c =
-    let event = c.args.event.now in
+pub returns-in_default-clause-performs : goal.returns-in_default-clause-performs
+returns-in_default-clause-performs g c =
+    let was = g.W.Write.contents c.args.writer.now in
+    let is = g.W.Write.contents c.apply.new.writer in
+    performs-no_run c.args.self.now.pages_to_scan c.args.event.now c.in_ok-reply.reply c.args.self.now c.apply.new.self was is
+    (λ begun named. true≢false (sym (subst IsSome (sym c.tenant.ensures ∙ c.in_default.is) named))) c.in_ok-reply.ensures.performs
+
+pub returns-then-not-is_begun-clause-performs : goal.returns-then-not-is_begun-clause-performs
+returns-then-not-is_begun-clause-performs g c =
+    let was = g.W.Write.contents c.args.writer.now in
+    let is = g.W.Write.contents c.apply.new.writer in
+    performs-no_run c.args.self.now.pages_to_scan c.args.event.now c.in_ok-reply.reply c.args.self.now c.apply.new.self was is
+    (λ begun named. true≢false (sym (c.is_begun.ensures.1 begun) ∙ c.if-not-is_begun.true)) c.in_ok-reply.ensures.performs
+
+pub returns-clause-performs : goal.returns-clause-performs
+returns-clause-performs g c =
     let was = g.W.Write.contents c.args.writer.now in
     let half = g.W.Write.contents c.apply.new.writer in
     let is = g.W.Write.contents c.finish.new.writer in
-    let begun = subst (λ reply. Performs (IsAlone event reply) c.args.self.now c.apply.new.self was half) c.in-Begun.is c.in_ok-apply.ensures.performs in
+    let event = c.args.event.now in
+    let begun = subst (λ reply. Performs (IsAlone event reply) c.args.self.now c.apply.new.self was half) (c.is_begun.ensures.0 c.if-not-is_begun.false) c.in_ok-reply.ensures.performs in
     on_ok_weaker c.finish.result
-    (λ goes. performs-run event c.args.self.now c.apply.new.self c.finish.new.self was half is begun
-    (subst (λ t. Performs (AreStepsToEnd t) c.apply.new.self c.finish.new.self half is) c.tenant.ensures goes))
+    (performs-run c.args.self.now.pages_to_scan c.in-Some.tenant event c.args.self.now c.apply.new.self c.finish.new.self was half is
+    (sym c.tenant.ensures ∙ c.in-Some.is) begun)
     c.finish.ensures.performs
