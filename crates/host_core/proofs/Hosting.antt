@@ -1,60 +1,203 @@
--- What events do to a host and to a world that it stands for.
-use Rattle.std.proofs.Common.{◌≡◌, ℕ, ◌+◌, List, [], ◌∷◌, ◌++◌, replicate, set, Some, None, IfSome, sym, refl, subst}
-use Rattle.std.specs.List.{slice_get}
-use Rattle.std.proofs.lemmas.List.{replicate_more}
-use Rattle.std.proofs.lemmas.Slice.Zip.{all_zipped_more}
+-- What events do to a host and to a system that it stands for.
+use Rattle.std.proofs.Common.{◌≡◌, ℕ, ◌+◌, ◌<◌, ◌≤◌, List, [], ◌∷◌, ◌++◌, length, inl, inr, ◌≢◌, replicate, set, Option, Some, None, IfSome, Result, Ok, Err, sym, ap, refl, ◌∙◌, subst}
+use Rattle.std.specs.List.{slice_get, AllZip}
+use Rattle.host_types.specs.declared.fault.Fault.{Fault}
 use Rattle.host_types.specs.declared.fault.Fault.TheVariants as fault
+use Rattle.host_types.specs.declared.options.Opt.{Opt}
+use Rattle.host_types.specs.declared.visited.Visited.{Visited}
+use Rattle.host_types.specs.OptionTable.{MayBe}
+use Rattle.host_types.specs.Sharing.{Sharing}
+use Rattle.host_types.specs.Unmerging.{unmerged, unmerge_need, with_option, MaySet, RefusesSet, RefusesUnmerge}
+use Rattle.host_types.specs.Visits.{Contents, contents_in, visit}
+use Rattle.ksm_counters.specs.Counters.{counters_of}
+use Rattle.page_table.specs.Changes.{KeepsSettings}
+use Rattle.page_table.specs.State.{MemoryState, have_of}
 use Rattle.host_core.specs.declared.event.Event.{Event}
-use Rattle.host_core.specs.declared.event.Event.TheVariants.{Load, Begin, Step}
+use Rattle.host_core.specs.declared.event.Event.TheVariants.{CreateMap, Load, Begin, Step, Visit, HostUpdate, HostLookup, Set, Unmerge, Counters}
 use Rattle.host_core.specs.declared.event.Reply.{Reply}
-use Rattle.host_core.specs.declared.event.Reply.TheVariants.{Refused}
-use Rattle.host_core.specs.World.{World, new_tenant}
-use Rattle.host_core.specs.Happens.{Happens, IsPromised, IsPromisedOf, AllHappen}
-use Rattle.host_core.specs.HostView.{TenantView, HostView, StandsForTenant, StandsForWorld, IsServed, tenant_of}
-use Rattle.host_core.proofs.Worlds.{AllZip-set, AllZip-found, AllZip-missing, OfTenant-missing}
+use Rattle.host_core.specs.declared.event.Reply.TheVariants.{Visited as WasVisited, Done, Counters as AreCounters, Refused}
+use Rattle.host_core.specs.World.{System, all_maps, have_in, IsCovered}
+use Rattle.host_core.specs.Happens.{Answers, Shares, Happens, IsPromised, IsPromisedOf, SetHappens, UnmergeHappens, AllHappen, StepsHappen, changed}
+use Rattle.host_core.specs.HostView.{TenantView, HostView, StandsForTenant, StandsForMemory, StandsForSystem, IsKept, IsServed, HasMadeSteps, reply_of, tenant_of}
+use Rattle.page_table.specs.Reads.{ReadsAs}
 use Rattle.host_core.proofs.Joined.{AllHappen-join}
+use Rattle.host_core.proofs.Systems.{have_stands, shares_stands, covered}
+use Rattle.host_core.proofs.Worlds.{AllZip-set, AllZip-found, AllZip-missing, OfTenant-missing}
 
--- an event happens in each world for which a host stands, and leaves one for which it then stands
+-- what becomes of each system for which a host stands
+abbrev pub Leads : HostView → (System → System → Type 0) → HostView → Type 0
+Leads old Happening new = (x : System) → StandsForSystem old x → (next : System) × StandsForSystem new next × Happening x next
+
+-- an event happens in each system for which a host stands, and leaves one for which it then stands
 abbrev pub Hosts : HostView → Event → Reply → HostView → Type 0
 Hosts old event reply new =
-    (w : World) → StandsForWorld old w → (next : World) × StandsForWorld new next × Happens w event reply next × IsPromised w event reply next
+    (x : System) → StandsForSystem old x → (next : System) × StandsForSystem new next × Happens x event reply next × IsPromised x event reply next
+
+-- a host that stood for a system still stands for one
+pub hosts_on : (old new : HostView) (Happening : System → System → Type 0) → Leads old Happening new → (x : System) × StandsForSystem old x → (x : System) × StandsForSystem new x
+hosts_on old new Happening leads (x, stands) = let after = leads x stands in (after.0, after.1)
+
+-- what stands for a system of which only the pages that share frames changed
+shared : (tenants : List TenantView) (before after : MemoryState) (x : System) → StandsForSystem (record { tenants = tenants; memory = before }) x → KeepsSettings before after → after.maps ≡ before.maps
+    → StandsForSystem (record { tenants = tenants; memory = after }) (record x { sharing = after.sharing })
+shared tenants before after x stands kept maps = record {
+  memory = shares_stands before after x after.sharing stands.memory kept maps refl;
+  tenants = stands.tenants;
+}
+
+-- a visit
+pub hosts-visit : (tenants : List TenantView) (before after : MemoryState) (visited : Visited) → visit (contents_in before.maps) before.sharing ≡ (visited, after.sharing) → KeepsSettings before after → after.maps ≡ before.maps
+    → Hosts (record { tenants = tenants; memory = before }) Visit (WasVisited visited) (record { tenants = tenants; memory = after })
+hosts-visit tenants before after visited is kept maps x stands =
+    let here : visit (contents_in (all_maps x.world)) x.sharing ≡ (visited, after.sharing) =
+        ap (λ m. visit (contents_in m) x.sharing) (sym stands.memory.maps) ∙ ap (λ s. visit (contents_in before.maps) s) (sym stands.memory.sharing) ∙ is in
+    (record x { sharing = after.sharing }, shared tenants before after x stands kept maps, (visited, (after.sharing, here, (refl, refl))), tt)
+
+-- counters that are told
+pub hosts-counters : (tenants : List TenantView) (memory : MemoryState)
+    → Hosts (record { tenants = tenants; memory = memory }) Counters (AreCounters (counters_of (length memory.arena) (contents_in memory.maps) memory.sharing)) (record { tenants = tenants; memory = memory })
+hosts-counters tenants memory x stands =
+    (x, stands, (ap AreCounters (counts x stands.memory), refl), tt)
+  where
+    counts : (x : System) → StandsForMemory memory x → counters_of (length memory.arena) (contents_in memory.maps) memory.sharing ≡ counters_of x.frames (contents_in (all_maps x.world)) x.sharing
+    counts x stood = ap (λ n. counters_of n (contents_in memory.maps) memory.sharing) stood.frames
+        ∙ ap (λ m. counters_of x.frames (contents_in m) memory.sharing) stood.maps ∙ ap (λ s. counters_of x.frames (contents_in (all_maps x.world)) s) stood.sharing
+
+-- what a set option does
+abbrev pub Sets : Opt → ℕ → Reply → System → System → Type 0
+Sets option value reply x next = SetHappens x option value reply next
+
+-- an option that is set
+pub leads-set : (tenants : List TenantView) (before after : MemoryState) (option : Opt) (value : ℕ) → MayBe option value → MaySet before.sharing option
+    → after ≡ record before { sharing = record before.sharing { options = with_option before.sharing.options option value } }
+    → Leads (record { tenants = tenants; memory = before }) (Sets option value Done) (record { tenants = tenants; memory = after })
+leads-set tenants before after option value may_be may_set is x stands =
+    let kept : KeepsSettings before after = record { tenants = ap (λ m. m.tenants) is; frames = ap (λ m. length m.arena) is } in
+    let sharing : after.sharing ≡ record x.sharing { options = with_option x.sharing.options option value } =
+        ap (λ m. m.sharing) is ∙ ap (λ (s : Sharing). record s { options = with_option s.options option value }) stands.memory.sharing in
+    (
+      record x { sharing = after.sharing },
+      shared tenants before after x stands kept (ap (λ m. m.maps) is),
+      inr (may_be, subst (λ s. MaySet s option) stands.memory.sharing may_set, (refl, ap (λ s. record x { sharing = s }) sharing)),
+    )
+
+-- an option that isn't set
+pub leads-set_refused : (tenants : List TenantView) (before after : MemoryState) (option : Opt) (value : ℕ) (refusal : Fault) → RefusesSet before.sharing option value refusal → after ≡ before
+    → Leads (record { tenants = tenants; memory = before }) (Sets option value (Refused refusal)) (record { tenants = tenants; memory = after })
+leads-set_refused tenants before after option value refusal refuses is x stands =
+    (
+      x,
+      subst (λ m. StandsForSystem (record { tenants = tenants; memory = m }) x) (sym is) stands,
+      inl (refusal, subst (λ s. RefusesSet s option value refusal) stands.memory.sharing refuses, (refl, refl)),
+    )
+
+-- what an unmerging does
+abbrev pub Unmerges : Reply → System → System → Type 0
+Unmerges reply x next = UnmergeHappens x reply next
+
+-- pages that no longer share frames
+pub leads-unmerge : (tenants : List TenantView) (before after : MemoryState) → unmerge_need before.sharing ≤ have_of before → after.sharing ≡ unmerged before.sharing → KeepsSettings before after → after.maps ≡ before.maps
+    → Leads (record { tenants = tenants; memory = before }) (Unmerges Done) (record { tenants = tenants; memory = after })
+leads-unmerge tenants before after enough is kept maps x stands =
+    let have = have_stands before x stands.memory in
+    let needed : unmerge_need x.sharing ≤ have_in x = subst (λ s. unmerge_need s ≤ have_in x) stands.memory.sharing (subst (λ n. unmerge_need before.sharing ≤ n) have enough) in
+    let sharing : after.sharing ≡ unmerged x.sharing = is ∙ ap unmerged stands.memory.sharing in
+    (record x { sharing = after.sharing }, shared tenants before after x stands kept maps, inr (needed, (refl, ap (λ s. record x { sharing = s }) sharing)))
+
+-- too few frames for that
+unmerge_refused : (x : System) (sharing : Sharing) (have : ℕ) (refusal : Fault) → sharing ≡ x.sharing → have ≡ have_in x → RefusesUnmerge sharing have refusal → UnmergeHappens x (Refused refusal) x
+unmerge_refused x sharing have (fault.NoFrames need told) is there (needs, tells, less) =
+    let need_is : need ≡ unmerge_need x.sharing = needs ∙ ap unmerge_need is in
+    let told_is : told ≡ have_in x = tells ∙ there in
+    inl (rw (sym need_is, sym told_is) less, (rw (need_is, told_is) refl, refl))
+unmerge_refused x sharing have refusal is there refuses = absurd refuses
+
+pub leads-unmerge_refused : (tenants : List TenantView) (before after : MemoryState) (refusal : Fault) → RefusesUnmerge before.sharing (have_of before) refusal → after ≡ before
+    → Leads (record { tenants = tenants; memory = before }) (Unmerges (Refused refusal)) (record { tenants = tenants; memory = after })
+leads-unmerge_refused tenants before after refusal refuses is x stands =
+    (
+      x,
+      subst (λ m. StandsForSystem (record { tenants = tenants; memory = m }) x) (sym is) stands,
+      unmerge_refused x before.sharing (have_of before) refusal stands.memory.sharing (have_stands before x stands.memory) refuses,
+    )
+
+-- an unmerging whose answer is told
+pub hosts-unmerge : (old new : HostView) (event : Event) (reply : Reply) (answer : Result Reply Fault) → event ≡ Unmerge → reply ≡ reply_of answer → Leads old (Unmerges (reply_of answer)) new → Hosts old event reply new
+hosts-unmerge old new event reply answer named told leads x stands =
+    let after = leads x stands in
+    (after.0, after.1, rw (named, told) after.2, rw named tt)
+
+-- where the tenant that an event names isn't there
+missing_at : (s t : ℕ) (x : System) → ◌≡◌ {A = Option ℕ} (Some s) (Some t) → slice_get x.world t ≡ None → slice_get x.world s ≡ None
+missing_at s t x named missing = let same : s ≡ t = cc in rw same missing
 
 -- an event of a tenant that was served
-served-at : (view : HostView) (old new : TenantView) (event : Event) (reply : Reply) → slice_get view (tenant_of event) ≡ Some old → IsServed old event reply new → Hosts view event reply (set view (tenant_of event) new)
-served-at view old new event reply there served w stands =
-    let t = tenant_of event in
-    let found = AllZip-found StandsForTenant view w t old stands there in
-    let after = served w found.0 found.1 found.2 in
-    (set w t after.0, AllZip-set StandsForTenant view w t new after.0 stands after.1, after.2, after.3)
+pub hosts-served : (views : List TenantView) (before after : MemoryState) (t : ℕ) (old new : TenantView) (event : Event) (reply : Reply) → slice_get views t ≡ Some old → IsServed t old before event reply new after
+    → Hosts (record { tenants = views; memory = before }) event reply (record { tenants = set views t new; memory = after })
+hosts-served views before after t old new event reply there served x stands =
+    let (tenant, found, stood) = AllZip-found StandsForTenant views x.world t old stands.tenants there in
+    let (next, sharing, stands', memory', happens, promised) = served x tenant found stood stands.memory in
+    (changed x t next sharing, record { memory = memory'; tenants = AllZip-set StandsForTenant views x.world t new next stands.tenants stands' }, happens, promised)
 
-pub Hosts-served : (view : HostView) (t : ℕ) (old new : TenantView) (event : Event) (reply : Reply) → t ≡ tenant_of event → slice_get view t ≡ Some old → IsServed old event reply new → Hosts view event reply (set view t new)
-Hosts-served view t old new event reply named there served =
-    let there' = subst (λ n. slice_get view n ≡ Some old) named there in
-    subst (λ n. Hosts view event reply (set view n new)) (sym named) (served-at view old new event reply there' served)
+-- the tenant and the memory of a host stand for a system
+pub kept_in : (views : List TenantView) (memory : MemoryState) (t : ℕ) (old : TenantView) → (x : System) × StandsForSystem (record { tenants = views; memory = memory }) x → slice_get views t ≡ Some old → IsKept t old memory
+kept_in views memory t old (x, stands) there =
+    let (tenant, found, stood) = AllZip-found StandsForTenant views x.world t old stands.tenants there in
+    (x, tenant, found, stood, stands.memory)
 
 -- the refusal of an event whose tenant isn't there
-no_tenant : (event : Event) (w : World) → slice_get w (tenant_of event) ≡ None → Happens w event (Refused fault.BadTenant) w × IsPromised w event (Refused fault.BadTenant) w
-no_tenant (Load t text size) w e = (OfTenant-missing w t _ w _ e (refl, refl), tt)
-no_tenant (Begin t k context) w e = (OfTenant-missing w t _ w _ e (refl, refl), tt)
-no_tenant (Step t) w e = (
-  OfTenant-missing w t _ w _ e (refl, refl),
-  subst (λ found. IfSome found (λ x. IfSome x.run (λ r. IsPromisedOf r t (Refused fault.BadTenant) w))) (sym e) tt,
-)
+no_tenant : (event : Event) (t : ℕ) (x : System) → tenant_of event ≡ Some t → slice_get x.world t ≡ None → Happens x event (Refused fault.BadTenant) x × IsPromised x event (Refused fault.BadTenant) x
+no_tenant (CreateMap s value_size entries mergeable) t x named missing = (OfTenant-missing x s _ x _ (missing_at s t x named missing) (refl, refl), tt)
+no_tenant (Load s text size) t x named missing = (OfTenant-missing x s _ x _ (missing_at s t x named missing) (refl, refl), tt)
+no_tenant (Begin s k context) t x named missing = (OfTenant-missing x s _ x _ (missing_at s t x named missing) (refl, refl), tt)
+no_tenant (HostUpdate s m key value) t x named missing = (OfTenant-missing x s _ x _ (missing_at s t x named missing) (refl, refl), tt)
+no_tenant (HostLookup s m key) t x named missing = (OfTenant-missing x s _ x _ (missing_at s t x named missing) (refl, refl), tt)
+no_tenant (Step s) t x named missing =
+    let none = missing_at s t x named missing in
+    (OfTenant-missing x s _ x _ none (refl, refl), subst (λ found. IfSome found (λ tenant. IfSome tenant.run (λ r. IsPromisedOf r s (Refused fault.BadTenant) x.world))) (sym none) tt)
+no_tenant Visit t x named missing = absurd (cc)
+no_tenant (Set option value) t x named missing = absurd (cc)
+no_tenant Unmerge t x named missing = absurd (cc)
+no_tenant Counters t x named missing = absurd (cc)
 
 -- an event of no tenant
-pub Hosts-no_tenant : (view : HostView) (t : ℕ) (event : Event) → t ≡ tenant_of event → slice_get view t ≡ None → Hosts view event (Refused fault.BadTenant) view
-Hosts-no_tenant view t event named missing w stands =
-    let missing' = subst (λ n. slice_get view n ≡ None) named missing in
-    let both = no_tenant event w (AllZip-missing StandsForTenant view w (tenant_of event) stands missing') in
-    (w, stands, both.0, both.1)
+pub hosts-no_tenant : (views : List TenantView) (memory : MemoryState) (t : ℕ) (event : Event) → tenant_of event ≡ Some t → slice_get views t ≡ None
+    → Hosts (record { tenants = views; memory = memory }) event (Refused fault.BadTenant) (record { tenants = views; memory = memory })
+hosts-no_tenant views memory t event named missing x stands =
+    let both = no_tenant event t x named (AllZip-missing StandsForTenant views x.world t stands.tenants missing) in
+    (x, stands, both.0, both.1)
+
+-- an event after which what open runs may need is covered
+pub hosts-covered : (old new : HostView) (event : Event) (reply : Reply) → Hosts old event reply new → ReadsAs new.memory
+    → (x : System) → StandsForSystem old x → (next : System) × StandsForSystem new next × Happens x event reply next × IsPromised x event reply next × IsCovered next
+hosts-covered old new event reply hosts reads x stands =
+    let (next, stands', happens, promised) = hosts x stands in
+    (next, stands', happens, promised, covered new.memory next reads stands'.memory)
 
 -- one more event
-pub AllHappen-push : (w next w' : World) (events : List Event) (replies : List Reply) (event : Event) (reply : Reply) → AllHappen w events replies next → Happens next event reply w' → IsPromised next event reply w' → AllHappen w (events ++ event ∷ []) (replies ++ reply ∷ []) w'
-AllHappen-push w next w' events replies event reply before happens promised =
-    AllHappen-join w next w' events (event ∷ []) replies (reply ∷ []) before (w', happens, promised, refl)
+pub AllHappen-push : (x next x' : System) (events : List Event) (replies : List Reply) (event : Event) (reply : Reply) → AllHappen x events replies next → Happens next event reply x' → IsPromised next event reply x' → IsCovered x' → AllHappen x (events ++ event ∷ []) (replies ++ reply ∷ []) x'
+AllHappen-push x next x' events replies event reply before happens promised is_covered =
+    AllHappen-join x next x' events (event ∷ []) replies (reply ∷ []) before (x', happens, promised, is_covered, refl)
 
--- one more new tenant
-pub StandsForWorld-push : (n : ℕ) (view : HostView) (kept : TenantView) → StandsForWorld view (replicate n new_tenant) → StandsForTenant kept new_tenant → StandsForWorld (view ++ kept ∷ []) (replicate (n + 1) new_tenant)
-StandsForWorld-push n view kept stands new =
-    subst (StandsForWorld (view ++ kept ∷ [])) (replicate_more n new_tenant)
-    (all_zipped_more StandsForTenant view (replicate n new_tenant) kept new_tenant stands new)
+-- what steps of a tenant do to a host
+abbrev pub HostMakesSteps : HostView → ℕ → ℕ → Option Reply → HostView → Type 0
+HostMakesSteps old t limit last new = (x : System) → StandsForSystem old x → (next : System) × StandsForSystem new next × StepsHappen x t limit last next
+
+-- steps of a tenant that were made
+pub host-made : (views : List TenantView) (before after : MemoryState) (t limit : ℕ) (old new : TenantView) (last : Option Reply) → slice_get views t ≡ Some old → HasMadeSteps t old before limit last new after
+    → HostMakesSteps (record { tenants = views; memory = before }) t limit last (record { tenants = set views t new; memory = after })
+host-made views before after t limit old new last there made x stands =
+    let (tenant, found, stood) = AllZip-found StandsForTenant views x.world t old stands.tenants there in
+    let (next, sharing, stands', memory', happen) = made x tenant found stood stands.memory in
+    (changed x t next sharing, record { memory = memory'; tenants = AllZip-set StandsForTenant views x.world t new next stands.tenants stands' }, happen)
+
+-- steps of no tenant
+pub host-no_tenant : (views : List TenantView) (memory : MemoryState) (t limit : ℕ) → 0 < limit → ReadsAs memory → slice_get views t ≡ None
+    → HostMakesSteps (record { tenants = views; memory = memory }) t limit (Some (Refused fault.BadTenant)) (record { tenants = views; memory = memory })
+host-no_tenant views memory t limit some reads missing x stands =
+    let both = no_tenant (Step t) t x refl (AllZip-missing StandsForTenant views x.world t stands.tenants missing) in
+    (x, stands, (_, _, (0, some, (λ e. cc), refl, refl), (x, both.0, both.1, covered memory x reads stands.memory, refl)))
+
+-- no steps
+pub host-none : (view : HostView) (t : ℕ) → HostMakesSteps view t 0 None view
+host-none view t x stands = (x, stands, (_, _, (refl, refl), refl))

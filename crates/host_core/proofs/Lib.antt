@@ -1,7 +1,13 @@
 pub mod Worlds
-pub mod Instructions
-pub mod Tenants
-pub mod Serving
+pub mod Memories
+pub mod Systems
 pub mod Joined
+pub mod Instructions
 pub mod Hosting
+pub mod Starting
+pub mod Serving
+pub mod Opening
+pub mod Loading
+pub mod Advances
 pub mod Stepping
+pub mod Making

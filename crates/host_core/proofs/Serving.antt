@@ -1,188 +1,299 @@
--- What a tenant's events do to it and to a world that it stands for.
-use Rattle.std.proofs.Common.{◌≡◌, ◌≢◌, ℕ, List, [], ◌∷◌, ◌++◌, length, map, slice_set, ◌⊎◌, inl, inr, true, false, Option, Some, None, is_some, sym, ap, refl, ◌∙◌, subst, arith}
+-- What a tenant's events on its maps do to it and to each system that it stands in.
+use Rattle.std.proofs.Common.{◌≡◌, ◌≢◌, ℕ, zero, suc, ◌*◌, ◌<◌, ◌≤◌, ◌==◌, if◌then◌else◌, Bool, true, false, List, [], ◌∷◌, length, slice_index_or, slice_set, inl, inr, Option, Some, None, is_some, is_none, option_map, IsNone, IsSome, IfSome, IsSomeAnd, sym, ap, refl, ◌∙◌, subst, arith}
 use Rattle.std.specs.List.{slice_get, All}
-use Rattle.std.specs.Option.{option_map}
-use Rattle.std.proofs.lemmas.List.{map-append}
 use Rattle.std.proofs.lemmas.Bool.Decides.{eqb_tells}
+use Rattle.std.proofs.lemmas.List.{length-set}
+use Rattle.std.proofs.lemmas.List.Quantifiers.{position-Some}
 use Rattle.host_types.specs.declared.fault.Fault.{Fault}
-use Rattle.host_types.specs.declared.fault.Fault.TheVariants as fault
-use Rattle.bpf_decode.specs.Text.{IsWellFormed}
-use Rattle.verifier.specs.Table.{IsTightTable, IsRefusal}
-use Rattle.verifier.specs.Verified.{Accepted, IsVerified}
-use Rattle.interp.specs.StandsFor.{IsBegun}
+use Rattle.host_types.specs.declared.fault.Fault.TheVariants.{Program, NoFrames, TooManyMaps, BadShape, NoMap, NoElement, Busy, NoRun, NoProgram, BadContext, BadOption, OutOfMemory, BadTenant, PagesShared, TooManyPrograms}
+use Rattle.host_types.specs.declared.helper.MapHelper.TheVariants.{Update}
+use Rattle.host_types.specs.declared.shape.Shape.{Shape}
+use Rattle.host_types.specs.Bytes.{with_part}
+use Rattle.host_types.specs.Helpers.{helper, element_at, update_answer, map_updated, maps_updated}
+use Rattle.host_types.specs.Memory.{FlatMap, FlatMaps, map_at}
+use Rattle.host_types.specs.Pages.{map_place}
+use Rattle.host_types.specs.Sharing.{Sharing}
+use Rattle.host_types.specs.Tenant.{TenantPart, AreFlatMaps}
+use Rattle.page_table.specs.Changes.{IsKeptBut, AreMapsKeptBut, KeepsSettings, part_created, with_new_pages, zero_map}
+use Rattle.page_table.specs.Limits.{page_count, shape_of}
+use Rattle.page_table.specs.Reads.{ReadsAs}
+use Rattle.page_table.specs.State.{MemoryState, part, free_number, have_of}
+use Rattle.map_helpers.specs.Updates.{part_updated, updated_sharing}
+use Rattle.verifier.specs.Verified.{Accepted}
+use Rattle.interp.specs.Fits.{HaveShapes}
+use Rattle.host_calls.specs.Calls.{FitsNewMap, FitsValue, IsCharged, IsValue, RefusesNewMap, RefusesUpdate, RefusesLookup, IsThere, TellsHave}
 use Rattle.host_core.specs.declared.event.Event.{Event}
-use Rattle.host_core.specs.declared.event.Event.TheVariants.{Load, Begin}
+use Rattle.host_core.specs.declared.event.Event.TheVariants.{CreateMap, HostUpdate, HostLookup}
 use Rattle.host_core.specs.declared.event.Reply.{Reply}
-use Rattle.host_core.specs.declared.event.Reply.TheVariants.{Program, Begun, Refused}
-use Rattle.host_core.specs.declared.host.tenant.OpenRun.{OpenRun as KeptRun}
-use Rattle.host_core.specs.World.{OpenRun, Tenant, World, begun_run}
-use Rattle.host_core.specs.Happens.{Answers, LoadHappens, subject_of, begin_refusal}
-use Rattle.host_core.specs.HostView.{TenantView, StandsForAnyRun, StandsForTenant, IsKept, IsKeptProgram, IsServed, tenant_of, unmapped, IsJudgement}
-use Rattle.host_core.proofs.Worlds.{set-same, OfTenant-there, RefusedOr-refused, RefusedOr-else}
-use Rattle.host_core.proofs.Tenants.{is_some-run, length-programs, slice_get-programs, subject_of-unmapped, HaveShapes-none, seen_load_refusal, load_refusal-seen, begin_refusal-busy, begin_refusal-no_program, begin_refusal-context, begin_refusal-none}
+use Rattle.host_core.specs.declared.event.Reply.TheVariants.{Map, Done, Value, Refused}
+use Rattle.host_core.specs.declared.tenant.OpenRun.{OpenRun as KeptRun}
+use Rattle.host_core.specs.World.{OpenRun, Tenant, System, owned_by, have_in}
+use Rattle.host_core.specs.Happens.{Happens, IsPromised, RefusesCreate, RefusesHostUpdate, changed}
+use Rattle.host_core.specs.HostView.{TenantView, StandsForAnyRun, StandsForTenant, StandsForMemory, IsKept, IsServed}
+use Rattle.host_core.proofs.Worlds.{changed-same, OfTenant-there}
+use Rattle.host_core.proofs.Systems.{part_stands, have_stands, changed_stands}
 
--- a reply that changes nothing
-answers-same : (w : World) (t : ℕ) (tenant : Tenant) (reply : Reply) → slice_get w t ≡ Some tenant → Answers w reply reply (slice_set w t tenant)
-answers-same w t tenant reply e = (refl, set-same w t tenant e)
+-- there is an open run on both sides, or on none
+pub is_some-run : (programs : List Accepted) (kept : Option KeptRun) (r : Option OpenRun) → StandsForAnyRun programs kept r → is_some r ≡ is_some kept
+is_some-run programs None None stands = refl
+is_some-run programs None (Some r) stands = absurd stands
+is_some-run programs (Some kept) None stands = absurd stands
+is_some-run programs (Some kept) (Some r) stands = refl
 
--- a refused load
-pub load-refused : (kept : TenantView) (t : ℕ) (text : List ℕ) (size : ℕ) (refusal : Fault) → seen_load_refusal kept size ≡ Some refusal → IsServed kept (Load t text size) (Refused refusal) kept
-load-refused kept t text size refusal e w tenant there s =
-    let w' = slice_set w t tenant in
-    let seen = load_refusal-seen kept tenant size s ∙ e in (
+-- what is said of a run holds where there is none
+if_idle : (r : Option OpenRun) (P : OpenRun → Type 0) → IsNone r → IfSome r P
+if_idle None P idle = tt
+if_idle (Some r) P idle = absurd (cc)
+
+-- an event that changes nothing
+pub served-same : (t : ℕ) (old : TenantView) (memory : MemoryState) (event : Event) (reply : Reply)
+    → ((x : System) (tenant : Tenant) → slice_get x.world t ≡ Some tenant → StandsForTenant old tenant → StandsForMemory memory x → Happens x event reply x × IsPromised x event reply x)
+    → IsServed t old memory event reply old memory
+served-same t old memory event reply happens x tenant there stands holds =
+    let same = changed-same x t tenant there in
+    let both = happens x tenant there stands holds in (
       tenant,
-      s,
-      OfTenant-there w t _ w' _ tenant there (RefusedOr-refused _ w _ w' _ refusal seen (answers-same w t tenant _ there)),
-      tt,
-    )
-
--- a load for which there is no memory, or whose text isn't accepted
-pub load-judged : (kept : TenantView) (t : ℕ) (text : List ℕ) (size : ℕ) (refusal : Fault) → seen_load_refusal kept size ≡ None → IsJudgement (unmapped text size) refusal → IsServed kept (Load t text size) (Refused refusal) kept
-load-judged kept t text size refusal e (inl lacks) w tenant there s =
-    let w' = slice_set w t tenant in
-    let seen = load_refusal-seen kept tenant size s ∙ e in
-    let same = ap Refused lacks in (
-      tenant,
-      s,
-      OfTenant-there w t _ w' _ tenant there (RefusedOr-else _ w _ w' _ seen (inl (same, set-same w t tenant there))),
-      tt,
-    )
-load-judged kept t text size refusal e (inr (number, is, inl malformed)) w tenant there s =
-    let w' = slice_set w t tenant in
-    let seen = load_refusal-seen kept tenant size s ∙ e in (
-      tenant,
-      s,
-      OfTenant-there w t _ w' _ tenant there (RefusedOr-else _ w _ w' _ seen
-          (inr (LoadHappens.malformed number malformed (ap Refused is, set-same w t tenant there)))),
-      tt,
-    )
-load-judged kept t text size refusal e (inr (number, is, inr (well, unlawful))) w tenant there s =
-    let w' = slice_set w t tenant in
-    let seen = load_refusal-seen kept tenant size s ∙ e in
-    let p = subject_of-unmapped kept tenant text size s in (
-      tenant,
-      s,
-      OfTenant-there w t _ w' _ tenant there (RefusedOr-else _ w _ w' _ seen
-          (inr (LoadHappens.unlawful well number (subst (λ q. IsRefusal q number) (sym p) unlawful) (ap Refused is, set-same w t tenant there)))),
-      tt,
-    )
-
--- no open run, whatever the programs are
-pub run-closed : (programs more : List Accepted) (kept : Option KeptRun) (r : Option OpenRun) → is_some kept ≡ false → StandsForAnyRun programs kept r → StandsForAnyRun more kept r
-run-closed programs more None None idle h = tt
-run-closed programs more None (Some r) idle h = absurd h
-run-closed programs more (Some kept) r idle h = absurd (cc)
-
--- a text that is accepted
-pub load-accepted : (kept : TenantView) (accepted : Accepted) (t : ℕ) (text : List ℕ) (size : ℕ) → seen_load_refusal kept size ≡ None → is_some kept.run ≡ false → accepted.subject ≡ unmapped text size → IsWellFormed text → IsVerified accepted → IsServed kept (Load t text size) (Program (length kept.programs)) (record kept { programs = kept.programs ++ accepted ∷ [] })
-load-accepted kept accepted t text size e idle is well verified w tenant there s =
-    let p = subject_of tenant text size in
-    let same : p ≡ accepted.subject = subject_of-unmapped kept tenant text size s ∙ sym is in
-    let next : Tenant = record tenant { programs = tenant.programs ++ p ∷ [] } in
-    let w' = slice_set w t next in
-    let seen = load_refusal-seen kept tenant size s ∙ e in
-    let stands : StandsForTenant (record kept { programs = kept.programs ++ accepted ∷ [] }) next = record {
-      maps = s.maps;
-      programs = ap (λ xs. xs ++ p ∷ []) s.programs ∙ ap (λ q. map (λ (a : Accepted). a.subject) kept.programs ++ q ∷ []) same ∙ sym (map-append (λ (a : Accepted). a.subject) kept.programs (accepted ∷ []));
-      run = run-closed kept.programs (kept.programs ++ accepted ∷ []) kept.run tenant.run idle s.run;
-      meets = record { maps = s.meets.maps; run = s.meets.run; same = s.meets.same };
-    } in (
-      next,
+      x.sharing,
       stands,
-      OfTenant-there w t _ w' _ tenant there (RefusedOr-else _ w _ w' _ seen
-          (inr (LoadHappens.loaded well accepted.table (subst (λ q. IsTightTable q accepted.table) (sym same) verified.tight)
-          (ap Program (sym (length-programs kept tenant s)), refl)))),
-      tt,
+      subst (StandsForMemory memory) (sym same) holds,
+      subst (λ x'. Happens x event reply x') (sym same) both.0,
+      subst (λ x'. IsPromised x event reply x') (sym same) both.1,
     )
 
--- a run that is refused
-pub begin-refused : (kept : TenantView) (t k : ℕ) (context : List ℕ) (refusal : Fault) → ((tenant : Tenant) → StandsForTenant kept tenant → begin_refusal tenant k context ≡ Some refusal) → IsServed kept (Begin t k context) (Refused refusal) kept
-begin-refused kept t k context refusal seen w tenant there s =
-    let w' = slice_set w t tenant in (
-      tenant,
-      s,
-      OfTenant-there w t _ w' _ tenant there (RefusedOr-refused _ w _ w' _ refusal (seen tenant s) (answers-same w t tenant _ there)),
-      tt,
-    )
+-- a tenant that is kept is there
+pub kept-there : (t : ℕ) (kept : TenantView) (memory : MemoryState) → IsKept t kept memory → IsThere (part memory t)
+kept-there t kept memory (x, tenant, there, stands, holds) = ap (λ (o : TenantPart). length o.maps) (part_stands memory x t tenant holds there) ∙ stands.meets.maps.eight
 
--- a run that begins while another is open
-pub begin-busy : (kept : TenantView) (t k : ℕ) (context : List ℕ) → is_some kept.run ≡ true → IsServed kept (Begin t k context) (Refused fault.Busy) kept
-begin-busy kept t k context busy =
-    begin-refused kept t k context fault.Busy
-    (λ tenant s. begin_refusal-busy tenant k context (is_some-run kept.programs kept.run tenant.run s.run ∙ busy))
+-- the map with a number is there with a shape
+abbrev HasShape : FlatMaps → ℕ → Shape → Type 0
+HasShape maps m shape = IsSomeAnd (map_at maps m) (λ flat. flat.shape ≡ shape)
 
--- a run of a program that isn't there
-pub begin-no_program : (kept : TenantView) (t k : ℕ) (context : List ℕ) → is_some kept.run ≡ false → slice_get kept.programs k ≡ None → IsServed kept (Begin t k context) (Refused fault.NoProgram) kept
-begin-no_program kept t k context idle missing =
-    begin-refused kept t k context fault.NoProgram (λ tenant s.
-    begin_refusal-no_program tenant k context
-    (is_some-run kept.programs kept.run tenant.run s.run ∙ idle)
-    (slice_get-programs kept tenant k s ∙ ap (option_map (λ (a : Accepted). a.subject)) missing))
+if_shape : (shape : Option Shape) (P Q : Shape → Type 0) → ((s : Shape) → P s → Q s) → IfSome shape P → IfSome shape Q
+if_shape None P Q f h = tt
+if_shape (Some s) P Q f h = f s h
 
--- a run on a context of another size
-pub begin-context : (kept : TenantView) (t k : ℕ) (context : List ℕ) (accepted : Accepted) → is_some kept.run ≡ false → slice_get kept.programs k ≡ Some accepted → length context ≢ accepted.subject.context_size → IsServed kept (Begin t k context) (Refused fault.BadContext) kept
-begin-context kept t k context accepted idle found other =
-    begin-refused kept t k context fault.BadContext (λ tenant s.
-    begin_refusal-context tenant k context accepted.subject
-    (is_some-run kept.programs kept.run tenant.run s.run ∙ idle)
-    (slice_get-programs kept tenant k s ∙ ap (option_map (λ (a : Accepted). a.subject)) found)
-    other)
+-- maps of which one changed, and kept the shape that it had, have the shapes that they had
+shapes_kept : (shapes : List (Option Shape)) (old new : FlatMaps) (m : ℕ) → ((j : ℕ) → j ≢ m → map_at new j ≡ map_at old j) → ((shape : Shape) → HasShape old m shape → HasShape new m shape)
+    → HaveShapes shapes old → HaveShapes shapes new
+shapes_kept shapes old new m others same have j = if_shape (slice_index_or shapes j None) (HasShape old j) (HasShape new j) each (have j)
+  where
+    each : (shape : Shape) → HasShape old j shape → HasShape new j shape
+    each shape had = elim (eqb_tells j m) [
+      | inl is ↦ subst (λ k. HasShape new k shape) (sym is.1) (same shape (subst (λ k. HasShape old k shape) is.1 had))
+      | inr differs ↦ subst (λ (found : Option FlatMap). IsSomeAnd found (λ flat. flat.shape ≡ shape)) (sym (others j differs.1)) had
+    ]
 
--- a run for which there is no memory
-pub begin-lacks_memory : (kept : TenantView) (t k : ℕ) (context : List ℕ) (accepted : Accepted) → is_some kept.run ≡ false → slice_get kept.programs k ≡ Some accepted → length context ≡ accepted.subject.context_size → IsServed kept (Begin t k context) (Refused fault.OutOfMemory) kept
-begin-lacks_memory kept t k context accepted idle found fits w tenant there s =
-    let w' = slice_set w t tenant in
-    let none = begin_refusal-none tenant k context accepted.subject
-    (is_some-run kept.programs kept.run tenant.run s.run ∙ idle)
-    (slice_get-programs kept tenant k s ∙ ap (option_map (λ (a : Accepted). a.subject)) found)
-    fits in (
-      tenant,
-      s,
-      OfTenant-there w t _ w' _ tenant there (RefusedOr-else _ w _ w' _ none (inl (answers-same w t tenant _ there))),
-      tt,
-    )
+-- a map that isn't there has no shape
+shapeless : (found : Option FlatMap) (shape : Shape) → is_none found ≡ true → IsSomeAnd found (λ flat. flat.shape ≡ shape) → ⊥
+shapeless None shape missing h = h
+shapeless (Some flat) shape missing h = absurd (cc)
 
--- a run that is refused where a program is there
-pub begin-failed : (kept : TenantView) (t k : ℕ) (context : List ℕ) (accepted : Accepted) (refusal : Fault) → is_some kept.run ≡ false → slice_get kept.programs k ≡ Some accepted → (refusal ≡ fault.BadContext) ⊎ (refusal ≡ fault.OutOfMemory) → (refusal ≡ fault.BadContext → length context ≢ accepted.subject.context_size) → (length context ≢ accepted.subject.context_size → refusal ≡ fault.BadContext) → IsServed kept (Begin t k context) (Refused refusal) kept
-begin-failed kept t k context accepted refusal idle found (inl bad) only always =
-    subst (λ f. IsServed kept (Begin t k context) (Refused f) kept) (sym bad)
-    (begin-context kept t k context accepted idle found (only bad))
-begin-failed kept t k context accepted refusal idle found (inr lacks) only always =
-    let fits : length context ≡ accepted.subject.context_size =
-    elim (eqb_tells (length context) accepted.subject.context_size) [ inl same ↦ same.1 | inr differs ↦ absurd (let bad = always differs.1 in cc) ] in
-    subst (λ f. IsServed kept (Begin t k context) (Refused f) kept) (sym lacks)
-    (begin-lacks_memory kept t k context accepted idle found fits)
+-- at a free number no map is there
+free_shapeless : (owned : TenantPart) (m : ℕ) (shape : Shape) → free_number owned ≡ Some m → HasShape owned.maps m shape → ⊥
+free_shapeless owned m shape free had =
+    let found = position-Some (λ (slot : Option FlatMap). is_none slot) owned.maps m None free in
+    shapeless (map_at owned.maps m) shape found.1 had
 
--- a run that begins
-pub begin-begun : (kept : TenantView) (t : ℕ) (context : List ℕ) (opened : KeptRun) (accepted : Accepted) → is_some kept.run ≡ false → slice_get kept.programs opened.program ≡ Some accepted → length context ≡ accepted.subject.context_size → IsKeptProgram accepted → IsBegun accepted context opened.run → opened.run.steps ≡ 0 → IsServed kept (Begin t opened.program context) Begun (record kept { run = Some opened })
-begin-begun kept t context opened accepted idle found fits program begun none_made w tenant there s =
-    let k = opened.program in
-    let p = accepted.subject in
-    let numbered = slice_get-programs kept tenant k s ∙ ap (option_map (λ (a : Accepted). a.subject)) found in
-    let r = begun_run p context tenant.maps in
-    let next : Tenant = record tenant { run = Some r } in
-    let w' = slice_set w t next in
-    let none = begin_refusal-none tenant k context p (is_some-run kept.programs kept.run tenant.run s.run ∙ idle) numbered fits in
-    let stands : StandsForTenant (record kept { run = Some opened }) next = record {
-      maps = s.maps;
-      programs = s.programs;
-      run = record {
-        accepted = accepted;
-        numbered = found;
-        program = refl;
-        state = begun tenant.maps s.meets.maps (HaveShapes-none p.shapes tenant.maps program.unmapped);
-        steps = none_made;
-      };
-      meets = record { maps = s.meets.maps; run = record { reached = refl; steps = omega arith }; same = refl };
-    } in (
+-- a map that is put in the place of one of its shape has that shape
+set_shape : (maps : FlatMaps) (m : ℕ) (f : FlatMap → FlatMap) (shape : Shape) → ((flat : FlatMap) → (f flat).shape ≡ flat.shape) → HasShape maps m shape
+    → HasShape (slice_set maps m (option_map f (map_at maps m))) m shape
+set_shape [] m f shape same had = absurd had
+set_shape (None ∷ maps) zero f shape same had = absurd had
+set_shape (Some flat ∷ maps) zero f shape same had = same flat ∙ had
+set_shape (found ∷ maps) (suc m) f shape same had = set_shape maps m f shape same had
+
+-- an update keeps the map's shape
+updated_shape : (key : ℕ) (value : List ℕ) (flat : FlatMap) → (map_updated key value 0 flat).shape ≡ flat.shape
+unfolding map_updated
+updated_shape key value flat = chosen (update_answer flat.shape key 0 == 0) (with_part flat.bytes (element_at flat.shape key) value)
+  where
+    chosen : (b : Bool) (bytes : List ℕ) → (if b then record flat { bytes = bytes } else flat).shape ≡ flat.shape
+    chosen true bytes = refl
+    chosen false bytes = refl
+
+-- a tenant without an open run, whose maps became others that have the shapes that its programs use
+with_maps : (old : TenantView) (tenant : Tenant) (maps : FlatMaps) → IsNone tenant.run → StandsForTenant old tenant → AreFlatMaps maps
+    → ((shapes : List (Option Shape)) → HaveShapes shapes tenant.maps → HaveShapes shapes maps) → StandsForTenant old (record tenant { maps = maps })
+with_maps old tenant maps idle stands flat have = record {
+  programs = stands.programs;
+  verified = stands.verified;
+  shapes = λ k d less. have (slice_index_or old.programs k d).subject.shapes (stands.shapes k d less);
+  run = stands.run;
+  meets = record { maps = flat; run = stands.meets.run; same = if_idle tenant.run (λ r. maps ≡ r.state.memory.maps) idle };
+}
+
+-- what is known once a map was made
+pub record HasCreated (t : ℕ) (before after : MemoryState) (shape : Shape) (mergeable : Bool) (m : ℕ) : Type 0 where
+  pub fits : FitsNewMap (part before t) shape
+  pub enough : page_count shape ≤ have_of before
+  pub number : free_number (part before t) ≡ Some m
+  pub created : part after t ≡ part_created (part before t) m shape
+  pub other_maps : AreMapsKeptBut m (part before t) (part after t)
+  pub others : IsKeptBut t before after
+  pub sharing : after.sharing ≡ with_new_pages before.sharing (map_place t m * 256) (page_count shape) mergeable
+  pub settings : KeepsSettings before after
+  pub reads : ReadsAs after
+  pub flat : length (part after t).maps ≡ 8 → AreFlatMaps (part after t).maps
+
+-- a map that is made
+pub create-made : (t : ℕ) (old : TenantView) (before after : MemoryState) (value_size entries : ℕ) (mergeable : Bool) (m : ℕ) → is_some old.run ≡ false
+    → HasCreated t before after (shape_of value_size entries) mergeable m → IsServed t old before (CreateMap t value_size entries mergeable) (Map m) old after
+create-made t old before after value_size entries mergeable m idle made x tenant there stands holds =
+    let shape : Shape = shape_of value_size entries in
+    let none : IsNone tenant.run = is_some-run old.programs old.run tenant.run stands.run ∙ idle in
+    let owned : part before t ≡ owned_by tenant = part_stands before x t tenant holds there in
+    let next : Tenant = record tenant { maps = slice_set tenant.maps m (Some (zero_map shape)) } in
+    let is : part after t ≡ owned_by next = made.created ∙ ap (λ o. part_created o m shape) owned in
+    let eight : length next.maps ≡ 8 = length-set tenant.maps m (Some (zero_map shape)) ∙ stands.meets.maps.eight in
+    let flat : AreFlatMaps next.maps = subst (λ (o : TenantPart). AreFlatMaps o.maps) is (made.flat (ap (λ (o : TenantPart). length o.maps) is ∙ eight)) in
+    let free : free_number (owned_by tenant) ≡ Some m = subst (λ o. free_number o ≡ Some m) owned made.number in
+    let others : (j : ℕ) → j ≢ m → map_at next.maps j ≡ map_at tenant.maps j = subst (λ o. AreMapsKeptBut m o (owned_by next)) owned (subst (λ o. AreMapsKeptBut m (part before t) o) is made.other_maps) in
+    let have : (shapes : List (Option Shape)) → HaveShapes shapes tenant.maps → HaveShapes shapes next.maps =
+        λ shapes. shapes_kept shapes tenant.maps next.maps m others (λ s had. absurd (free_shapeless (owned_by tenant) m s free had)) in
+    let sharing : Sharing = with_new_pages x.sharing (map_place t m * 256) (page_count shape) mergeable in
+    let shares : after.sharing ≡ sharing = made.sharing ∙ ap (λ s. with_new_pages s (map_place t m * 256) (page_count shape) mergeable) holds.sharing in
+    let enough : page_count shape ≤ have_in x = subst (λ n. page_count shape ≤ n) (have_stands before x holds) made.enough in
+    let fits : FitsNewMap (owned_by tenant) shape = subst (λ o. FitsNewMap o shape) owned made.fits in (
       next,
-      stands,
-      OfTenant-there w t _ w' _ tenant there (RefusedOr-else _ w _ w' _ none (inr (p, numbered, (refl, refl)))),
+      sharing,
+      with_maps old tenant next.maps none stands flat have,
+      changed_stands before after x t tenant next sharing holds there (ap length made.settings.tenants) made.settings.frames made.reads eight is made.others shares,
+      OfTenant-there x t (Map m) (changed x t next sharing) _ tenant there (inr (none, fits, enough, (m, free, (refl, refl)))),
       tt,
     )
 
--- a tenant that was served is still kept
-pub kept-served : (old new : TenantView) (event : Event) (reply : Reply) → tenant_of event ≡ 0 → IsServed old event reply new → IsKept old → All IsKeptProgram new.programs → IsKept new
-kept-served old new event reply first served kept accepted =
-    let after = served (kept.tenant ∷ []) kept.tenant (ap (slice_get (kept.tenant ∷ [])) first) kept.stands in
-    record { accepted = accepted; tenant = after.0; stands = after.1 }
+module _ (memory : MemoryState) (x : System) (tenant : Tenant) (shape : Shape) (idle : IsNone tenant.run) (have : have_of memory ≡ have_in x) where
+  refuses_create : (f : Fault) → RefusesNewMap (owned_by tenant) shape f → TellsHave memory f → RefusesCreate x tenant shape f
+  refuses_create (Program refused) refuses tells = absurd refuses
+  refuses_create (NoFrames need most) refuses tells = (idle, refuses, tells ∙ have)
+  refuses_create TooManyMaps refuses tells = (idle, refuses, tt)
+  refuses_create BadShape refuses tells = (idle, refuses, tt)
+  refuses_create NoMap refuses tells = absurd refuses
+  refuses_create NoElement refuses tells = absurd refuses
+  refuses_create Busy refuses tells = absurd refuses
+  refuses_create NoRun refuses tells = absurd refuses
+  refuses_create NoProgram refuses tells = absurd refuses
+  refuses_create BadContext refuses tells = absurd refuses
+  refuses_create BadOption refuses tells = absurd refuses
+  refuses_create OutOfMemory refuses tells = (idle, refuses, tt)
+  refuses_create BadTenant refuses tells = (idle, refuses, tt)
+  refuses_create PagesShared refuses tells = absurd refuses
+  refuses_create TooManyPrograms refuses tells = absurd refuses
+
+-- a map that isn't made
+pub create-refused : (t : ℕ) (old : TenantView) (memory : MemoryState) (value_size entries : ℕ) (mergeable : Bool) (f : Fault) → is_some old.run ≡ false
+    → RefusesNewMap (part memory t) (shape_of value_size entries) f → TellsHave memory f → IsServed t old memory (CreateMap t value_size entries mergeable) (Refused f) old memory
+create-refused t old memory value_size entries mergeable f idle refuses tells =
+    served-same t old memory (CreateMap t value_size entries mergeable) (Refused f) (λ x tenant there stands holds.
+    let none : IsNone tenant.run = is_some-run old.programs old.run tenant.run stands.run ∙ idle in
+    let here = subst (λ o. RefusesNewMap o (shape_of value_size entries) f) (part_stands memory x t tenant holds there) refuses in
+    let why = refuses_create memory x tenant (shape_of value_size entries) none (have_stands memory x holds) f here tells in
+    (OfTenant-there x t (Refused f) x _ tenant there (inl (f, why, (refl, refl))), tt))
+
+-- a map that isn't made while a run is open
+pub create-busy : (t : ℕ) (old : TenantView) (memory : MemoryState) (value_size entries : ℕ) (mergeable : Bool) → is_some old.run ≡ true
+    → IsServed t old memory (CreateMap t value_size entries mergeable) (Refused Busy) old memory
+create-busy t old memory value_size entries mergeable busy =
+    served-same t old memory (CreateMap t value_size entries mergeable) (Refused Busy) (λ x tenant there stands holds.
+    let run : IsSome tenant.run = is_some-run old.programs old.run tenant.run stands.run ∙ busy in
+    (OfTenant-there x t (Refused Busy) x _ tenant there (inl (Busy, run, (refl, refl))), tt))
+
+-- what is known once a value was written
+pub record HasUpdated (t : ℕ) (before after : MemoryState) (m key : ℕ) (value : List ℕ) : Type 0 where
+  pub fits : FitsValue (part before t) m key value
+  pub charged : IsCharged (part before t) m (have_of before)
+  pub updated : part after t ≡ part_updated (part before t) m key value 0
+  pub helped : helper Update (part before t).maps m key value 0 ≡ Some (0, (part after t).maps)
+  pub other_maps : AreMapsKeptBut m (part before t) (part after t)
+  pub others : IsKeptBut t before after
+  pub sharing : after.sharing ≡ updated_sharing (part before t) before.sharing t m key 0
+  pub settings : KeepsSettings before after
+  pub reads : ReadsAs after
+  pub flat : length (part after t).maps ≡ 8 → AreFlatMaps (part after t).maps
+
+-- an update keeps the number of maps
+length-updated : (maps : FlatMaps) (m key : ℕ) (value : List ℕ) → length (maps_updated maps m key value 0) ≡ length maps
+unfolding maps_updated
+length-updated maps m key value = length-set maps m (option_map (map_updated key value 0) (map_at maps m))
+
+-- and the shape of the map
+updated_shapes : (maps : FlatMaps) (m key : ℕ) (value : List ℕ) (shape : Shape) → HasShape maps m shape → HasShape (maps_updated maps m key value 0) m shape
+unfolding maps_updated
+updated_shapes maps m key value shape had = set_shape maps m (map_updated key value 0) shape (updated_shape key value) had
+
+-- a value that is written
+pub update-done : (t : ℕ) (old : TenantView) (before after : MemoryState) (m key : ℕ) (value : List ℕ) → is_some old.run ≡ false
+    → HasUpdated t before after m key value → IsServed t old before (HostUpdate t m key value) Done old after
+update-done t old before after m key value idle made x tenant there stands holds =
+    let none : IsNone tenant.run = is_some-run old.programs old.run tenant.run stands.run ∙ idle in
+    let owned : part before t ≡ owned_by tenant = part_stands before x t tenant holds there in
+    let next : Tenant = record tenant { maps = maps_updated tenant.maps m key value 0 } in
+    let is : part after t ≡ owned_by next = made.updated ∙ ap (λ o. part_updated o m key value 0) owned in
+    let eight : length next.maps ≡ 8 = length-updated tenant.maps m key value ∙ stands.meets.maps.eight in
+    let flat : AreFlatMaps next.maps = subst (λ (o : TenantPart). AreFlatMaps o.maps) is (made.flat (ap (λ (o : TenantPart). length o.maps) is ∙ eight)) in
+    let others : (j : ℕ) → j ≢ m → map_at next.maps j ≡ map_at tenant.maps j = subst (λ o. AreMapsKeptBut m o (owned_by next)) owned (subst (λ o. AreMapsKeptBut m (part before t) o) is made.other_maps) in
+    let have : (shapes : List (Option Shape)) → HaveShapes shapes tenant.maps → HaveShapes shapes next.maps =
+        λ shapes. shapes_kept shapes tenant.maps next.maps m others (λ s had. updated_shapes tenant.maps m key value s had) in
+    let sharing : Sharing = updated_sharing (owned_by tenant) x.sharing t m key 0 in
+    let shares : after.sharing ≡ sharing =
+        made.sharing ∙ ap (λ o. updated_sharing o before.sharing t m key 0) owned ∙ ap (λ s. updated_sharing (owned_by tenant) s t m key 0) holds.sharing in
+    let fits : FitsValue (owned_by tenant) m key value = subst (λ o. FitsValue o m key value) owned made.fits in
+    let charged : IsCharged (owned_by tenant) m (have_in x) = subst (λ n. IsCharged (owned_by tenant) m n) (have_stands before x holds) (subst (λ o. IsCharged o m (have_of before)) owned made.charged) in
+    let helped : helper Update tenant.maps m key value 0 ≡ Some (0, next.maps) =
+        subst (λ (o : TenantPart). helper Update o.maps m key value 0 ≡ Some (0, next.maps)) owned (subst (λ (o : TenantPart). helper Update (part before t).maps m key value 0 ≡ Some (0, o.maps)) is made.helped) in (
+      next,
+      sharing,
+      with_maps old tenant next.maps none stands flat have,
+      changed_stands before after x t tenant next sharing holds there (ap length made.settings.tenants) made.settings.frames made.reads eight is made.others shares,
+      OfTenant-there x t Done (changed x t next sharing) _ tenant there (inr (none, fits, charged, (next.maps, helped, (refl, refl)))),
+      tt,
+    )
+
+module _ (memory : MemoryState) (x : System) (tenant : Tenant) (m key : ℕ) (value : List ℕ) (idle : IsNone tenant.run) (have : have_of memory ≡ have_in x) where
+  refuses_update : (f : Fault) → RefusesUpdate (owned_by tenant) m key value f → TellsHave memory f → RefusesHostUpdate x tenant m key value f
+  refuses_update (Program refused) refuses tells = absurd refuses
+  refuses_update (NoFrames need most) refuses tells = (idle, refuses, tells ∙ have)
+  refuses_update TooManyMaps refuses tells = absurd refuses
+  refuses_update BadShape refuses tells = (idle, refuses, tt)
+  refuses_update NoMap refuses tells = (idle, refuses, tt)
+  refuses_update NoElement refuses tells = (idle, refuses, tt)
+  refuses_update Busy refuses tells = absurd refuses
+  refuses_update NoRun refuses tells = absurd refuses
+  refuses_update NoProgram refuses tells = absurd refuses
+  refuses_update BadContext refuses tells = absurd refuses
+  refuses_update BadOption refuses tells = absurd refuses
+  refuses_update OutOfMemory refuses tells = absurd refuses
+  refuses_update BadTenant refuses tells = (idle, refuses, tt)
+  refuses_update PagesShared refuses tells = absurd refuses
+  refuses_update TooManyPrograms refuses tells = absurd refuses
+
+-- a value that isn't written
+pub update-refused : (t : ℕ) (old : TenantView) (memory : MemoryState) (m key : ℕ) (value : List ℕ) (f : Fault) → is_some old.run ≡ false
+    → RefusesUpdate (part memory t) m key value f → TellsHave memory f → IsServed t old memory (HostUpdate t m key value) (Refused f) old memory
+update-refused t old memory m key value f idle refuses tells =
+    served-same t old memory (HostUpdate t m key value) (Refused f) (λ x tenant there stands holds.
+    let none : IsNone tenant.run = is_some-run old.programs old.run tenant.run stands.run ∙ idle in
+    let here = subst (λ o. RefusesUpdate o m key value f) (part_stands memory x t tenant holds there) refuses in
+    let why = refuses_update memory x tenant m key value none (have_stands memory x holds) f here tells in
+    (OfTenant-there x t (Refused f) x _ tenant there (inl (f, why, (refl, refl))), tt))
+
+-- a value that isn't written while a run is open
+pub update-busy : (t : ℕ) (old : TenantView) (memory : MemoryState) (m key : ℕ) (value : List ℕ) → is_some old.run ≡ true → IsServed t old memory (HostUpdate t m key value) (Refused Busy) old memory
+update-busy t old memory m key value busy =
+    served-same t old memory (HostUpdate t m key value) (Refused Busy) (λ x tenant there stands holds.
+    let run : IsSome tenant.run = is_some-run old.programs old.run tenant.run stands.run ∙ busy in
+    (OfTenant-there x t (Refused Busy) x _ tenant there (inl (Busy, run, (refl, refl))), tt))
+
+-- a value that is read
+pub lookup-told : (t : ℕ) (old : TenantView) (memory : MemoryState) (m key : ℕ) (bytes : List ℕ) → IsValue (part memory t) m key bytes → IsServed t old memory (HostLookup t m key) (Value bytes) old memory
+lookup-told t old memory m key bytes value =
+    served-same t old memory (HostLookup t m key) (Value bytes) (λ x tenant there stands holds.
+    let here = subst (λ o. IsValue o m key bytes) (part_stands memory x t tenant holds there) value in
+    (OfTenant-there x t (Value bytes) x _ tenant there (inr (bytes, here, (refl, refl))), tt))
+
+-- a value that isn't read
+pub lookup-refused : (t : ℕ) (old : TenantView) (memory : MemoryState) (m key : ℕ) (f : Fault) → RefusesLookup (part memory t) m key f → IsServed t old memory (HostLookup t m key) (Refused f) old memory
+lookup-refused t old memory m key f refuses =
+    served-same t old memory (HostLookup t m key) (Refused f) (λ x tenant there stands holds.
+    let here = subst (λ o. RefusesLookup o m key f) (part_stands memory x t tenant holds there) refuses in
+    (OfTenant-there x t (Refused f) x _ tenant there (inl (f, here, (refl, refl))), tt))

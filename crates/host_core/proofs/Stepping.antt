@@ -1,39 +1,166 @@
--- Steps of a tenant's open run, one and many, and the Step events of a world that they are.
-use Rattle.std.proofs.Common.{◌≡◌, ℕ, zero, suc, ◌+◌, ◌<◌, ◌≤◌, List, [], ◌∷◌, ◌++◌, replicate, set, set-set, slice_set, Option, Some, None, IfSome, IsSomeAnd, MatchOption, sym, ap, refl, ◌∙◌, subst, arith, add-one, add-zero, add-suc}
+-- Steps of a tenant's open run, one and many, and the Step events of a system that they are.
+use Rattle.std.proofs.Common.{◌≡◌, ℕ, zero, suc, ◌+◌, ◌<◌, ◌≤◌, nat_lt, ◌==◌, ◌&&◌, Bool, true, false, if◌then◌else◌, List, [], ◌∷◌, ◌++◌, length, map, replicate, set, sum_by, get_or, Option, Some, None, IfSome, IsSomeAnd, MatchOption, sym, ap, refl, ◌∙◌, subst, arith, add-one, add-zero, add-suc}
 use Rattle.std.specs.List.{slice_get, All}
-use Rattle.std.proofs.lemmas.List.{replicate_more}
+use Rattle.std.specs.Option.{option_map}
+use Rattle.std.proofs.lemmas.List.{replicate_more, ext_get_or}
+use Rattle.std.proofs.lemmas.List.Sums.{sum_by-set}
+use Rattle.std.proofs.lemmas.Option.{get_or_from_slice_get, slice_get_within}
 use Rattle.host_types.specs.declared.fault.Fault.TheVariants as fault
-use Rattle.host_types.specs.Memory.{FlatMaps}
-use Rattle.host_types.specs.Tenant.{AreFlatMaps}
-use Rattle.bpf_decode.specs.Text.{instructions_of, instructions_before}
-use Rattle.verifier_kinds.specs.Kinds.{shape_at}
-use Rattle.verifier.specs.Verified.{Accepted}
+use Rattle.host_types.specs.declared.shape.Shape.{Shape}
+use Rattle.host_types.specs.Helpers.{update_answer, element_at, map_updated, maps_updated}
+use Rattle.host_types.specs.Bytes.{with_part}
+use Rattle.host_types.specs.Memory.{FlatMap, FlatMaps, map_at, ◌>>=◌}
+use Rattle.host_types.specs.Sharing.{Sharing, frames_free}
+use Rattle.host_types.specs.Tenant.{TenantPart, AreFlatMaps}
+use Rattle.bpf_decode.specs.declared.operation.Operation.{Operation}
+use Rattle.bpf_decode.specs.declared.operation.Operation.TheVariants.{Alu, Load, Store, LoadImmediate, Jump, Branch, Call, Exit}
+use Rattle.bpf_decode.specs.Opcodes.{operation_of}
+use Rattle.bpf_decode.specs.Text.{instructions_of, instructions_before, insn_at, is_instruction, slots_of}
+use Rattle.page_table.specs.Changes.{IsKeptBut}
+use Rattle.page_table.specs.Reads.{ReadsAs}
+use Rattle.page_table.specs.State.{MemoryState, part}
+use Rattle.verifier.specs.Reserve.{reserve_from}
+use Rattle.verifier.specs.Table.{tight_table}
+use Rattle.verifier.specs.Verified.{Accepted, IsVerified}
+use Rattle.verifier.proofs.Tables.{tables_agree}
+use Rattle.verifier.proofs.Tight.{length-tight, tight_is_tight}
 use Rattle.interp.specs.declared.need.Need.{Need}
 use Rattle.interp.specs.declared.need.Need.TheVariants.{Private, Ended as NeedEnded, Load as AskLoad, Store as AskStore, Lookup as AskLookup, Update as AskUpdate, Delete as AskDelete}
-use Rattle.interp.specs.Needs.{map_of}
-use Rattle.interp.specs.Machine.{MachineState, Next, Exits, step}
+use Rattle.interp.specs.Fits.{HaveShapes}
+use Rattle.interp.specs.Machine.{MachineState, Outcome, Next, Exits, step, step_by, step_store, step_call, fallen}
+use Rattle.interp.specs.Needs.{map_stored, maps_after}
 use Rattle.interp.specs.Runs.{Reaches, Runs}
-use Rattle.interp.specs.StandsFor.{Running, StandsFor, Asks, FollowsSteps}
+use Rattle.interp.specs.StandsFor.{Running, StandsFor, IsNoMore, ReachesQuietly}
+use Rattle.interp.specs.Written.{Written, written, written_by_operation}
+use Rattle.tenant_runs.specs.Meeting.{KeepsSizes}
 use Rattle.host_core.specs.declared.event.Event.{Event}
 use Rattle.host_core.specs.declared.event.Event.TheVariants.{Step}
 use Rattle.host_core.specs.declared.event.Reply.{Reply}
 use Rattle.host_core.specs.declared.event.Reply.TheVariants.{Stepped, Ended, Refused}
-use Rattle.host_core.specs.declared.host.tenant.OpenRun.{OpenRun as KeptRun}
-use Rattle.host_core.specs.World.{OpenRun, Tenant, World, IsTenant, IsOpenRun}
-use Rattle.host_core.specs.Happens.{Answers, StepHappens, Happens, IsPromised, IsPromisedOf, AllHappen, StepsHappen}
-use Rattle.host_core.specs.HostView.{TenantView, HostView, StandsForAnyRun, StandsForTenant, StandsForWorld, IsKept, IsKeptProgram, IsServed, HasMadeSteps, HasAdvanced}
-use Rattle.host_core.proofs.Worlds.{set-same, slice_get-set, AllZip-set, AllZip-found, OfTenant-there}
+use Rattle.host_core.specs.declared.tenant.OpenRun.{OpenRun as KeptRun}
+use Rattle.host_core.specs.World.{OpenRun, Tenant, World, System, IsTenant, IsOpenRun, IsCovered, accepted_of, reserve_of, reserved_in, owned_by}
+use Rattle.host_core.specs.Happens.{Answers, StepHappens, Happens, IsPromised, IsPromisedOf, AllHappen, StepsHappen, changed, sharing_after}
+use Rattle.host_core.specs.HostView.{TenantView, StandsForRun, StandsForAnyRun, StandsForTenant, StandsForMemory, IsKept, IsServed, HasMadeSteps, steps_of}
+use Rattle.host_core.specs.Stretches.{IsUnderWayAt, HasAdvanced, HasDone, IsQuiet, IsAnswered, IsEnded, quiet, answered, ended, part_in}
+use Rattle.host_core.proofs.Worlds.{slice_get-set, OfTenant-there, changed-same, changed-twice}
+use Rattle.host_core.proofs.Systems.{part_stands, covered, changed_stands}
+use Rattle.host_core.proofs.Joined.{AllHappen-join}
 use Rattle.host_core.proofs.Instructions.{instructions_before-within}
-use Rattle.host_core.proofs.Tenants.{run-found, run-missing, kept-at, none-at}
-use Rattle.host_core.proofs.Hosting.{Hosts-no_tenant, AllHappen-push}
+use Rattle.host_core.proofs.Advances.{some_instruction}
+
+-- the system's open run, where one is kept
+pub run-found : (programs : List Accepted) (kept : KeptRun) (r : Option OpenRun) → StandsForAnyRun programs (Some kept) r → (found : OpenRun) × (r ≡ Some found) × StandsForRun programs kept found
+run-found programs kept None h = absurd h
+run-found programs kept (Some r) h = (r, refl, h)
+
+-- no open run, where none is kept
+pub run-missing : (programs : List Accepted) (r : Option OpenRun) → StandsForAnyRun programs None r → r ≡ None
+run-missing programs None h = refl
+run-missing programs (Some r) h = absurd h
+
+-- each program that is kept was verified
+pub verified-at : (programs : List Accepted) (k : ℕ) (v : Accepted) → All IsVerified programs → slice_get programs k ≡ Some v → IsVerified v
+verified-at programs k v all found =
+    subst IsVerified (get_or_from_slice_get programs k v v found) (all k v (slice_get_within programs k v found))
+
+-- a verified program has the one table that says just what flows
+pub table_is_tight : (v : Accepted) → IsVerified v → accepted_of v.subject ≡ v
+table_is_tight v verified =
+    let n = slots_of v.subject.text in
+    let same : tight_table v.subject ≡ v.table = ext_get_or None (tight_table v.subject) v.table (length-tight v.subject n ∙ sym verified.tight.whole)
+    (λ k h. let many = length-tight v.subject n in tables_agree v.subject (tight_table v.subject) v.table n (tight_is_tight v.subject n) verified.tight.tight k (omega (arith, h, many))) in
+    ap (λ table. record { subject = v.subject; table = table }) same
+
+-- an exit writes to no map
+exit_writes : (text : List ℕ) (s : MachineState) (number : ℕ) (maps : FlatMaps) → step text s ≡ Some (Exits number maps) → written text s ≡ None
+unfolding step written step_by written_by_operation
+exit_writes text s number maps e = chosen (nat_lt s.slot (slots_of text) && is_instruction text s.slot) e
+  where
+    goes_on : (o : Option MachineState) → (o >>= λ t. Some (fallen text t)) ≡ Some (Exits number maps) → ⊥
+    goes_on None e = cc
+    goes_on (Some t) e = cc
+    by : (operation : Operation) → step_by text operation s ≡ Some (Exits number maps) → written_by_operation text operation s ≡ None
+    by (Store size source) e = absurd (goes_on (step_store size source (insn_at text s.slot) s) e)
+    by Call e = absurd (goes_on (step_call (insn_at text s.slot) s) e)
+    by (Alu code width source) e = refl
+    by (Load size extension) e = refl
+    by LoadImmediate e = refl
+    by (Jump distance) e = refl
+    by (Branch comparison width source) e = refl
+    by Exit e = refl
+    found : (o : Option Operation) → (o >>= λ operation. step_by text operation s) ≡ Some (Exits number maps) → (o >>= λ operation. written_by_operation text operation s) ≡ None
+    found None e = refl
+    found (Some operation) e = by operation e
+    chosen : (b : Bool) → (if b then (operation_of (insn_at text s.slot).opcode >>= λ operation. step_by text operation s) else None) ≡ Some (Exits number maps)
+        → (if b then (operation_of (insn_at text s.slot).opcode >>= λ operation. written_by_operation text operation s) else None) ≡ None
+    chosen false e = refl
+    chosen true e = found (operation_of (insn_at text s.slot).opcode) e
+
+-- the shape of a map, if it is there
+abbrev shape_in : FlatMaps → ℕ → Option Shape
+shape_in maps m = option_map (λ (flat : FlatMap). flat.shape) (map_at maps m)
+
+-- a map that is there changed to one of its shape
+set_shapes : (maps : FlatMaps) (m j : ℕ) (f : FlatMap → FlatMap) → ((flat : FlatMap) → (f flat).shape ≡ flat.shape) → shape_in (set maps m (option_map f (map_at maps m))) j ≡ shape_in maps j
+set_shapes [] m j f same = refl
+set_shapes (None ∷ maps) zero zero f same = refl
+set_shapes (Some flat ∷ maps) zero zero f same = ap Some (same flat)
+set_shapes (x ∷ maps) zero (suc j) f same = refl
+set_shapes (x ∷ maps) (suc m) zero f same = refl
+set_shapes (x ∷ maps) (suc m) (suc j) f same = set_shapes maps m j f same
+
+-- an update keeps a map's shape
+updated_shape : (key flags : ℕ) (value : List ℕ) (flat : FlatMap) → (map_updated key value flags flat).shape ≡ flat.shape
+unfolding map_updated
+updated_shape key flags value flat = chosen (update_answer flat.shape key flags == 0)
+  where
+    chosen : (b : Bool) → (if b then record flat { bytes = with_part flat.bytes (element_at flat.shape key) value } else flat).shape ≡ flat.shape
+    chosen true = refl
+    chosen false = refl
+
+-- what is asked keeps the shapes of maps
+after_shapes : (need : Need) (value : List ℕ) (maps : FlatMaps) (j : ℕ) → shape_in (maps_after need value maps) j ≡ shape_in maps j
+unfolding maps_updated
+after_shapes Private value maps j = refl
+after_shapes (NeedEnded number) value maps j = refl
+after_shapes (AskLoad m at size) value maps j = refl
+after_shapes (AskLookup m key) value maps j = refl
+after_shapes (AskDelete m key) value maps j = refl
+after_shapes (AskStore m at size number) value maps j = set_shapes maps m j (map_stored at size number) (λ flat. refl)
+after_shapes (AskUpdate m key flags) value maps j = set_shapes maps m j (map_updated key value flags) (updated_shape key flags value)
+
+-- maps of the same shapes serve the same programs
+have_alike : (shapes : List (Option Shape)) (maps later : FlatMaps) → ((j : ℕ) → shape_in later j ≡ shape_in maps j) → HaveShapes shapes maps → HaveShapes shapes later
+have_alike shapes maps later same have m = by (get_or shapes m None) (map_at maps m) (map_at later m) (same m) (have m)
+  where
+    by : (o : Option Shape) (a b : Option FlatMap) → option_map (λ (flat : FlatMap). flat.shape) b ≡ option_map (λ (flat : FlatMap). flat.shape) a
+        → IfSome o (λ shape. IsSomeAnd a (λ flat. flat.shape ≡ shape)) → IfSome o (λ shape. IsSomeAnd b (λ flat. flat.shape ≡ shape))
+    by None a b e h = tt
+    by (Some shape) None b e h = absurd h
+    by (Some shape) (Some x) None e h = absurd cc
+    by (Some shape) (Some x) (Some y) e h = let alike : y.shape ≡ x.shape = cc in alike ∙ h
+
+all_have_alike : (programs : List Accepted) (maps later : FlatMaps) → ((j : ℕ) → shape_in later j ≡ shape_in maps j) → All (λ accepted. HaveShapes accepted.subject.shapes maps) programs → All (λ accepted. HaveShapes accepted.subject.shapes later) programs
+all_have_alike programs maps later same all k v less = have_alike (get_or programs k v).subject.shapes maps later same (all k v less)
+
+-- a system stays covered where a tenant needs no more than before
+pub covered-changed : (x : System) (t : ℕ) (tenant next : Tenant) → slice_get x.world t ≡ Some tenant → IsCovered x → reserve_of next.run ≤ reserve_of tenant.run → IsCovered (changed x t next x.sharing)
+covered-changed x t tenant next there covers less =
+    let need : Tenant → ℕ = λ one. reserve_of one.run in
+    let sums = sum_by-set need x.world t next tenant (slice_get_within x.world t tenant there) in
+    let found = get_or_from_slice_get x.world t tenant tenant there in
+    let here : reserved_in (set x.world t next) + reserve_of tenant.run ≡ reserved_in x.world + reserve_of next.run = subst (λ one. sum_by need (set x.world t next) + need one ≡ sum_by need x.world + need next) found sums in
+    let before : reserved_in x.world ≤ frames_free x.frames x.sharing = covers in
+    omega (arith, here, before, less)
 
 -- what happens at a step of an open run, and what is promised of it
-step-open : (w : World) (t : ℕ) (tenant : Tenant) (r : OpenRun) (reply : Reply) (w' : World) → slice_get w t ≡ Some tenant → tenant.run ≡ Some r → StepHappens w t tenant r reply w' → IsPromisedOf r t reply w' → Happens w (Step t) reply w' × IsPromised w (Step t) reply w'
-step-open w t tenant r reply w' there is_open happens promised = (
-  OfTenant-there w t _ w' _ tenant there
-      (subst (λ found. MatchOption found (Answers w (Refused fault.NoRun) reply w') (λ open_run. StepHappens w t tenant open_run reply w')) (sym is_open) happens),
-  subst (λ found. IfSome found (λ x. IfSome x.run (λ open_run. IsPromisedOf open_run t reply w'))) (sym there)
-      (subst (λ found. IfSome found (λ open_run. IsPromisedOf open_run t reply w')) (sym is_open) promised),
+step-open : (x : System) (t : ℕ) (tenant : Tenant) (r : OpenRun) (reply : Reply) (x' : System) → slice_get x.world t ≡ Some tenant → tenant.run ≡ Some r → StepHappens x t tenant r reply x' → IsPromisedOf r t reply x'.world
+    → Happens x (Step t) reply x' × IsPromised x (Step t) reply x'
+step-open x t tenant r reply x' there is_open happens promised = (
+  OfTenant-there x t reply x' _ tenant there
+      (subst (λ found. MatchOption found (Answers x (Refused fault.NoRun) reply x') (λ open_run. StepHappens x t tenant open_run reply x')) (sym is_open) happens),
+  subst (λ found. IfSome found (λ one. IfSome one.run (λ open_run. IsPromisedOf open_run t reply x'.world))) (sym there)
+      (subst (λ found. IfSome found (λ open_run. IsPromisedOf open_run t reply x'.world)) (sym is_open) promised),
 )
 
 -- an open run at a later state
@@ -44,35 +171,45 @@ run_at r steps u = record r { state = u; steps = steps }
 abbrev tenant_at : Tenant → OpenRun → ℕ → MachineState → Tenant
 tenant_at tenant r steps u = record tenant { maps = u.memory.maps; run = Some (run_at r steps u) }
 
--- a step after which an open run goes on
-step-on : (w : World) (t : ℕ) (tenant : Tenant) (r : OpenRun) (u : MachineState) → slice_get w t ≡ Some tenant → tenant.run ≡ Some r → Runs r.program.text r.context r.maps r.steps (Next r.state) → step r.program.text r.state ≡ Some (Next u) → suc r.steps < instructions_of r.program.text
-    → Happens w (Step t) Stepped (set w t (tenant_at tenant r (suc r.steps) u)) × IsPromised w (Step t) Stepped (set w t (tenant_at tenant r (suc r.steps) u))
-step-on w t tenant r u there is_open reached makes few =
-    let next = tenant_at tenant r (suc r.steps) u in
-    step-open w t tenant r Stepped (set w t next) there is_open
-    (Next u, makes, (refl, refl))
-    (u, (r.state, reached, makes), few, subst (λ o. IsSomeAnd o (λ x. x.maps ≡ u.memory.maps)) (sym (slice_get-set w t tenant next there)) refl)
-
 -- the tenant whose run has ended
 abbrev tenant_after : Tenant → FlatMaps → Tenant
 tenant_after tenant maps = record tenant { maps = maps; run = None }
 
+-- a step after which an open run goes on
+step-on : (x : System) (t : ℕ) (tenant : Tenant) (r : OpenRun) (u : MachineState) (sharing : Sharing) → slice_get x.world t ≡ Some tenant → tenant.run ≡ Some r → Runs r.program.text r.context r.maps r.steps (Next r.state)
+    → step r.program.text r.state ≡ Some (Next u) → sharing ≡ sharing_after x.sharing t (written r.program.text r.state) → suc r.steps < instructions_of r.program.text
+    → Happens x (Step t) Stepped (changed x t (tenant_at tenant r (suc r.steps) u) sharing) × IsPromised x (Step t) Stepped (changed x t (tenant_at tenant r (suc r.steps) u) sharing)
+step-on x t tenant r u sharing there is_open reached makes shares few =
+    let next = tenant_at tenant r (suc r.steps) u in
+    step-open x t tenant r Stepped (changed x t next sharing) there is_open
+    (Next u, makes, (refl, ap (changed x t next) shares))
+    (u, (r.state, reached, makes), few, subst (λ o. IsSomeAnd o (λ one. one.maps ≡ u.memory.maps)) (sym (slice_get-set x.world t tenant next there)) refl)
+
 -- a step with which an open run ends
-step-last : (w : World) (t : ℕ) (tenant : Tenant) (r : OpenRun) (number : ℕ) (maps : FlatMaps) → slice_get w t ≡ Some tenant → tenant.run ≡ Some r → Runs r.program.text r.context r.maps r.steps (Next r.state) → step r.program.text r.state ≡ Some (Exits number maps) → suc r.steps ≤ instructions_of r.program.text
-    → Happens w (Step t) (Ended number (suc r.steps)) (set w t (tenant_after tenant maps)) × IsPromised w (Step t) (Ended number (suc r.steps)) (set w t (tenant_after tenant maps))
-step-last w t tenant r number maps there is_open reached makes few =
+step-last : (x : System) (t : ℕ) (tenant : Tenant) (r : OpenRun) (number : ℕ) (maps : FlatMaps) → slice_get x.world t ≡ Some tenant → tenant.run ≡ Some r → Runs r.program.text r.context r.maps r.steps (Next r.state)
+    → step r.program.text r.state ≡ Some (Exits number maps) → suc r.steps ≤ instructions_of r.program.text
+    → Happens x (Step t) (Ended number (suc r.steps)) (changed x t (tenant_after tenant maps) x.sharing) × IsPromised x (Step t) (Ended number (suc r.steps)) (changed x t (tenant_after tenant maps) x.sharing)
+step-last x t tenant r number maps there is_open reached makes few =
     let next = tenant_after tenant maps in
-    step-open w t tenant r (Ended number (suc r.steps)) (set w t next) there is_open
-    (Exits number maps, makes, (refl, refl))
-    (maps, (r.state, reached, makes), few, subst (λ o. IsSomeAnd o (λ x. x.maps ≡ maps)) (sym (slice_get-set w t tenant next there)) refl)
+    let shares : x.sharing ≡ sharing_after x.sharing t (written r.program.text r.state) = ap (sharing_after x.sharing t) (sym (exit_writes r.program.text r.state number maps makes)) in
+    step-open x t tenant r (Ended number (suc r.steps)) (changed x t next x.sharing) there is_open
+    (Exits number maps, makes, (refl, ap (changed x t next) shares))
+    (maps, (r.state, reached, makes), few, subst (λ o. IsSomeAnd o (λ one. one.maps ≡ maps)) (sym (slice_get-set x.world t tenant next there)) refl)
+
+-- one more event
+AllHappen-push : (x next x' : System) (events : List Event) (replies : List Reply) (event : Event) (reply : Reply) → AllHappen x events replies next → Happens next event reply x' × IsPromised next event reply x' → IsCovered x'
+    → AllHappen x (events ++ event ∷ []) (replies ++ reply ∷ []) x'
+AllHappen-push x next x' events replies event reply before (happens, promised) covers =
+    AllHappen-join x next x' events (event ∷ []) replies (reply ∷ []) before (x', happens, promised, covers, refl)
 
 -- one more event like those before it
-push-same : (w next w' : World) (n : ℕ) (event : Event) (reply : Reply) → AllHappen w (replicate n event) (replicate n reply) next → Happens next event reply w' × IsPromised next event reply w' → AllHappen w (replicate (suc n) event) (replicate (suc n) reply) w'
-push-same w next w' n event reply before (happens, promised) =
-    let all = AllHappen-push w next w' (replicate n event) (replicate n reply) event reply before happens promised in
+push-same : (x next x' : System) (n : ℕ) (event : Event) (reply : Reply) → AllHappen x (replicate n event) (replicate n reply) next → Happens next event reply x' × IsPromised next event reply x' → IsCovered x'
+    → AllHappen x (replicate (suc n) event) (replicate (suc n) reply) x'
+push-same x next x' n event reply before one covers =
+    let all = AllHappen-push x next x' (replicate n event) (replicate n reply) event reply before one covers in
     let events = replicate_more n event ∙ ap (λ k. replicate k event) (add-one n) in
     let replies = replicate_more n reply ∙ ap (λ k. replicate k reply) (add-one n) in
-    subst (λ es. AllHappen w es (replicate (suc n) reply) w') events (subst (λ rs. AllHappen w (replicate n event ++ event ∷ []) rs w') replies all)
+    subst (λ es. AllHappen x es (replicate (suc n) reply) x') events (subst (λ rs. AllHappen x (replicate n event ++ event ∷ []) rs x') replies all)
 
 -- a tenant that is where its run is
 tenant_at-same : (tenant : Tenant) (r : OpenRun) (u : MachineState) → tenant.run ≡ Some r → tenant.maps ≡ r.state.memory.maps → u ≡ r.state → tenant_at tenant r (r.steps + 0) u ≡ tenant
@@ -81,194 +218,262 @@ tenant_at-same tenant r u is_open maps same =
     let whole : with_both r.state.memory.maps (Some r) ≡ tenant = ap (λ m. with_both m (Some r)) (sym maps) ∙ ap (with_both tenant.maps) (sym is_open) in
     rw (same, add-zero r.steps) whole
 
--- steps after which an open run goes on, and where they lead
-steps-on : (w : World) (t : ℕ) (tenant : Tenant) (r : OpenRun) (n : ℕ) (u : MachineState) → slice_get w t ≡ Some tenant → tenant.run ≡ Some r → tenant.maps ≡ r.state.memory.maps → Runs r.program.text r.context r.maps r.steps (Next r.state) → Reaches r.program.text r.state n (Next u) → r.steps + n < instructions_of r.program.text
-    → AllHappen w (replicate n (Step t)) (replicate n Stepped) (set w t (tenant_at tenant r (r.steps + n) u)) × Runs r.program.text r.context r.maps (r.steps + n) (Next u)
-steps-on w t tenant r zero u there is_open maps reached led few =
-    let here : u ≡ r.state = cc in
+-- steps that write to no map, and where they lead
+steps-on : (x : System) (t : ℕ) (tenant : Tenant) (r : OpenRun) (n : ℕ) (u : MachineState) → slice_get x.world t ≡ Some tenant → tenant.run ≡ Some r → tenant.maps ≡ r.state.memory.maps → IsCovered x
+    → Runs r.program.text r.context r.maps r.steps (Next r.state) → ReachesQuietly (accepted_of r.program) r.state n u → r.steps + n < instructions_of r.program.text
+    → AllHappen x (replicate n (Step t)) (replicate n Stepped) (changed x t (tenant_at tenant r (r.steps + n) u) x.sharing) × Runs r.program.text r.context r.maps (r.steps + n) (Next u) × IsNoMore (accepted_of r.program) r.state u
+steps-on x t tenant r zero u there is_open maps covers reached led few =
+    let here : u ≡ r.state = led in
     let same = tenant_at-same tenant r u is_open maps here in
-    (ap (λ x. set w t x) same ∙ set-same w t tenant there, rw (add-zero r.steps, here) reached)
-steps-on w t tenant r (suc n) u there is_open maps reached (v, led, makes) few =
-    let (before, come) = steps-on w t tenant r n v there is_open maps reached led (omega (arith, few)) in
+    let less : reserve_from (accepted_of r.program) r.state.slot ≤ reserve_from (accepted_of r.program) r.state.slot = omega arith in
+    (ap (λ one. changed x t one x.sharing) same ∙ changed-same x t tenant there, rw (add-zero r.steps, here) reached, rw here less)
+steps-on x t tenant r (suc n) u there is_open maps covers reached (v, led, makes, writes, less) few =
+    let (before, come, fewer) = steps-on x t tenant r n v there is_open maps covers reached led (omega (arith, few)) in
     let here = tenant_at tenant r (r.steps + n) v in
     let next = tenant_at tenant r (suc (r.steps + n)) u in
-    let then = step-on (set w t here) t here (run_at r (r.steps + n) v) u (slice_get-set w t tenant here there) refl come makes (omega (arith, few)) in
-    let all = push-same w (set w t here) (set (set w t here) t next) n (Step t) Stepped before then in
-    rw (add-suc r.steps n) (subst (λ x. AllHappen w (replicate (suc n) (Step t)) (replicate (suc n) Stepped) x) (set-set w t here next) all, (v, come, makes))
-
--- steps with the last of which an open run ends
-steps-end : (w : World) (t : ℕ) (tenant : Tenant) (r : OpenRun) (n number : ℕ) (maps : FlatMaps) → slice_get w t ≡ Some tenant → tenant.run ≡ Some r → tenant.maps ≡ r.state.memory.maps → Runs r.program.text r.context r.maps r.steps (Next r.state) → Reaches r.program.text r.state (suc n) (Exits number maps) → r.steps + suc n ≤ instructions_of r.program.text
-    → AllHappen w (replicate n (Step t) ++ Step t ∷ []) (replicate n Stepped ++ Ended number (r.steps + suc n) ∷ []) (set w t (tenant_after tenant maps))
-steps-end w t tenant r n number maps there is_open same reached (v, led, makes) few =
-    let (before, come) = steps-on w t tenant r n v there is_open same reached led (omega (arith, few)) in
-    let here = tenant_at tenant r (r.steps + n) v in
-    let next = tenant_after tenant maps in
-    let (happens, promised) = step-last (set w t here) t here (run_at r (r.steps + n) v) number maps (slice_get-set w t tenant here there) refl come makes (omega (arith, few)) in
-    let all = AllHappen-push w (set w t here) (set (set w t here) t next) (replicate n (Step t)) (replicate n Stepped) (Step t) (Ended number (suc (r.steps + n))) before happens promised in
-    rw (add-suc r.steps n) (subst (λ x. AllHappen w (replicate n (Step t) ++ Step t ∷ []) (replicate n Stepped ++ Ended number (suc (r.steps + n)) ∷ []) x) (set-set w t here next) all)
+    let shares : x.sharing ≡ sharing_after x.sharing t (written r.program.text v) = ap (sharing_after x.sharing t) (sym writes) in
+    let one = step-on (changed x t here x.sharing) t here (run_at r (r.steps + n) v) u x.sharing (slice_get-set x.world t tenant here there) refl come makes shares (omega (arith, few)) in
+    let twice = changed-twice x t here next x.sharing x.sharing in
+    let now : reserve_from (accepted_of r.program) u.slot ≤ reserve_of tenant.run = rw is_open (omega (arith, less, fewer)) in
+    let covers' = subst IsCovered (sym twice) (covered-changed x t tenant next there covers now) in
+    let all = push-same x (changed x t here x.sharing) (changed (changed x t here x.sharing) t next x.sharing) n (Step t) Stepped before one covers' in
+    rw (add-suc r.steps n) (subst (λ y. AllHappen x (replicate (suc n) (Step t)) (replicate (suc n) Stepped) y) twice all, (v, come, makes), omega (arith, less, fewer))
 
 -- the maps of a tenant are those of its run
 maps_of_run : (tenant : Tenant) (r : OpenRun) → IsTenant tenant → tenant.run ≡ Some r → tenant.maps ≡ r.state.memory.maps
-maps_of_run tenant r meets is_open = subst (λ o. IfSome o (λ x. tenant.maps ≡ x.state.memory.maps)) is_open meets.same
+maps_of_run tenant r meets is_open = subst (λ o. IfSome o (λ one. tenant.maps ≡ one.state.memory.maps)) is_open meets.same
 
 -- its run is one of the standard's
 run_reached : (tenant : Tenant) (r : OpenRun) → IsTenant tenant → tenant.run ≡ Some r → IsOpenRun r
 run_reached tenant r meets is_open = subst (λ o. IfSome o IsOpenRun) is_open meets.run
 
+-- a kept run's program is the system's
+program-same : (programs : List Accepted) (kept : KeptRun) (r : OpenRun) → All IsVerified programs → (run : StandsForRun programs kept r) → accepted_of r.program ≡ run.accepted
+program-same programs kept r all run = ap accepted_of run.program ∙ table_is_tight run.accepted (verified-at programs kept.program run.accepted all run.numbered)
+
+-- the open run of a kept tenant is under way
+pub under-way : (programs : List Accepted) (kept : KeptRun) (t : ℕ) (memory : MemoryState) (x : System) (tenant : Tenant) (r : OpenRun) → slice_get x.world t ≡ Some tenant
+    → StandsForTenant (record { programs = programs; run = Some kept }) tenant → StandsForMemory memory x → tenant.run ≡ Some r → (run : StandsForRun programs kept r)
+    → IsUnderWayAt programs kept run.accepted r.state (part memory t)
+under-way programs kept t memory x tenant r there stood stands is_open run =
+    let owned : part memory t ≡ owned_by tenant = part_stands memory x t tenant stands there in
+    let same = program-same programs kept r stood.verified run in
+    record {
+      numbered = run.numbered;
+      stands = run.state;
+      maps = ap (λ (o : TenantPart). o.maps) owned ∙ maps_of_run tenant r stood.meets is_open;
+      reserve = ap (λ (o : TenantPart). o.reserve) owned ∙ ap reserve_of is_open ∙ ap (λ v. reserve_from v r.state.slot) same;
+    }
+
+-- a kept run is under way somewhere
+pub under-way-kept : (programs : List Accepted) (kept : KeptRun) (t : ℕ) (memory : MemoryState) → IsKept t (record { programs = programs; run = Some kept }) memory
+    → (v : Accepted) × (s : MachineState) × IsUnderWayAt programs kept v s (part memory t)
+under-way-kept programs kept t memory (x, tenant, there, stood, stands) =
+    let (r, is_open, run) = run-found programs kept tenant.run stood.run in
+    (run.accepted, r.state, under-way programs kept t memory x tenant r there stood stands is_open run)
+
+-- in a system steps happen, up to a limit, and leave a tenant and pages for which tenant and memory stand now
+abbrev pub MadeSteps : System → ℕ → ℕ → Option Reply → TenantView → MemoryState → Type 0
+MadeSteps x t limit last new later =
+    (next : Tenant) × (sharing : Sharing) × StandsForTenant new next × StandsForMemory later (changed x t next sharing) × StepsHappen x t limit last (changed x t next sharing)
+
 -- steps of no run
-pub made-no_run : (kept : TenantView) (limit : ℕ) → kept.run ≡ None → 0 < limit → HasMadeSteps kept limit (Some (Refused fault.NoRun)) kept
-made-no_run kept limit closed some w t tenant there s =
-    let w' = slice_set w t tenant in
+pub made-no_run : (kept : TenantView) (t limit : ℕ) (memory : MemoryState) → kept.run ≡ None → 0 < limit → ReadsAs memory → HasMadeSteps t kept memory limit (Some (Refused fault.NoRun)) kept memory
+made-no_run kept t limit memory closed some reads x tenant there s stands =
+    let x' = changed x t tenant x.sharing in
+    let same = changed-same x t tenant there in
     let missing : tenant.run ≡ None = run-missing kept.programs tenant.run (subst (λ r. StandsForAnyRun kept.programs r tenant.run) closed s.run) in
-    let answers : Answers w (Refused fault.NoRun) (Refused fault.NoRun) w' = (refl, set-same w t tenant there) in
-    let happens = OfTenant-there w t _ w' _ tenant there
-    (subst (λ r. MatchOption r (Answers w (Refused fault.NoRun) (Refused fault.NoRun) w') (λ open_run. StepHappens w t tenant open_run (Refused fault.NoRun) w')) (sym missing) answers) in
-    let promised = subst (λ found. IfSome found (λ x. IfSome x.run (λ r. IsPromisedOf r t (Refused fault.NoRun) w'))) (sym there)
-    (subst (λ found. IfSome found (λ r. IsPromisedOf r t (Refused fault.NoRun) w')) (sym missing) tt) in
-    (tenant, s, (_, _, (0, some, (λ e. cc), refl, refl), (w', happens, promised, refl)))
+    let refused = Refused fault.NoRun in
+    let answers : Answers x refused refused x' = (refl, same) in
+    let happens = OfTenant-there x t refused x' (λ one. MatchOption one.run (Answers x refused refused x') (λ r. StepHappens x t one r refused x')) tenant there
+    (subst (λ r. MatchOption r (Answers x refused refused x') (λ open_run. StepHappens x t tenant open_run refused x')) (sym missing) answers) in
+    let promised = subst (λ found. IfSome found (λ one. IfSome one.run (λ r. IsPromisedOf r t refused x'.world))) (sym there)
+    (subst (λ found. IfSome found (λ r. IsPromisedOf r t refused x'.world)) (sym missing) tt) in
+    let covers = subst IsCovered (sym same) (covered memory x reads stands) in
+    let stands' = subst (StandsForMemory memory) (sym same) stands in
+    (tenant, x.sharing, s, stands', (Step t ∷ [], refused ∷ [], (0, some, (λ e. cc), refl, refl), (x', happens, promised, covers, refl)))
 
--- steps of an open run, after which it stands for a later state
-pub made-steps : (programs : List Accepted) (kept after : KeptRun) (limit : ℕ) → All IsKeptProgram programs → after.program ≡ kept.program
-    → ((accepted : Accepted) (s : MachineState) → slice_get programs kept.program ≡ Some accepted → StandsFor accepted kept.run s → HasAdvanced accepted s limit kept.run Private after.run)
-    → HasMadeSteps (record { programs = programs; run = Some kept }) limit None (record { programs = programs; run = Some after })
-made-steps programs kept after limit all same_program advanced w t tenant there s =
-    let (r, is_open, stood) = run-found programs kept tenant.run s.run in
-    let accepted = stood.accepted in
-    let (n, (u, led, maps, less, stands), made, within, whole) = advanced accepted r.state stood.numbered stood.state in
-    let verified = kept-at programs kept.program accepted all stood.numbered in
-    let text = accepted.subject.text in
-    let same = maps_of_run tenant r s.meets is_open in
-    let was = run_reached tenant r s.meets is_open in
-    let counted : after.run.steps ≡ r.steps + n = omega (arith, made, stood.steps) in
-    let here : after.run.steps ≤ instructions_before text u.slot = subst (λ slot. after.run.steps ≤ instructions_before text slot) stands.slot stands.steps in
-    let more = instructions_before-within text u.slot (verified.verified.lawful.instructions u.slot stands.description stands.found) in
-    let below = subst (λ q. r.steps + n ≤ instructions_before q.text u.slot) (sym stood.program) (omega (arith, here, counted)) in
-    let fewer = subst (λ q. r.steps + n < instructions_of q.text) (sym stood.program) (omega (arith, here, counted, more)) in
-    let led' = subst (λ q. Reaches q.text r.state n (Next u)) (sym stood.program) led in
-    let (happen, come) = steps-on w t tenant r n u there is_open same was.reached led' fewer in
-    let stands' : StandsForTenant (record { programs = programs; run = Some after }) (tenant_at tenant r (r.steps + n) u) = record {
-      maps = maps ∙ sym same ∙ s.maps;
-      programs = s.programs;
-      run = record { accepted = accepted; numbered = ap (slice_get programs) same_program ∙ stood.numbered; program = stood.program; state = stands; steps = counted };
-      meets = record { maps = stands.state.maps; run = record { reached = come; steps = below }; same = refl };
-    } in
-    (tenant_at tenant r (r.steps + n) u, stands', (_, _, (ap (λ k. replicate k (Step t)) (whole refl), ap (λ k. replicate k Stepped) (whole refl)), happen))
+-- the tenant after steps that its run goes on from
+stood-on : (programs : List Accepted) (kept after : KeptRun) (tenant : Tenant) (r : OpenRun) (n : ℕ) (u : MachineState)
+    → StandsForTenant (record { programs = programs; run = Some kept }) tenant → (run : StandsForRun programs kept r) → after.program ≡ kept.program → StandsFor run.accepted after.run u
+    → ((j : ℕ) → shape_in u.memory.maps j ≡ shape_in tenant.maps j) → after.run.steps ≡ n → Runs r.program.text r.context r.maps n (Next u)
+    → StandsForTenant (record { programs = programs; run = Some after }) (tenant_at tenant r n u)
+stood-on programs kept after tenant r n u stood run same_program stands shapes counted reached =
+    let here : after.run.steps ≤ instructions_before run.accepted.subject.text u.slot = subst (λ slot. after.run.steps ≤ instructions_before run.accepted.subject.text slot) stands.slot stands.steps in
+    let below : n ≤ instructions_before r.program.text u.slot = subst (λ q. n ≤ instructions_before q.text u.slot) (sym run.program) (omega (arith, here, counted)) in
+    record {
+      programs = stood.programs;
+      verified = stood.verified;
+      shapes = all_have_alike programs tenant.maps u.memory.maps shapes stood.shapes;
+      run = record { accepted = run.accepted; numbered = ap (slice_get programs) same_program ∙ run.numbered; program = run.program; state = stands; steps = counted };
+      meets = record { maps = stands.state.maps; run = record { reached = reached; steps = below }; same = refl };
+    }
 
--- as many steps as led to an exit: there was one
-steps_to_exit : (text : List ℕ) (s : MachineState) (n number : ℕ) (maps : FlatMaps) → Reaches text s n (Exits number maps) → (m : ℕ) × (n ≡ suc m)
-steps_to_exit text s zero number maps reached = absurd cc
-steps_to_exit text s (suc m) number maps reached = (m, refl)
+-- what belongs to it
+owned-on : (tenant : Tenant) (r : OpenRun) (v : Accepted) (n : ℕ) (u : MachineState) → accepted_of r.program ≡ v → part_in v u ≡ owned_by (tenant_at tenant r n u)
+owned-on tenant r v n u same = ap (λ p. record { maps = u.memory.maps; reserve = reserve_from p u.slot }) (sym same)
 
--- steps with the last of which an open run ends, and its number and steps are given
-pub made-last_step : (programs : List Accepted) (kept after : KeptRun) (limit number steps : ℕ) → after.run.steps ≡ steps
-    → ((accepted : Accepted) (s : MachineState) → slice_get programs kept.program ≡ Some accepted → StandsFor accepted kept.run s → HasAdvanced accepted s limit kept.run (NeedEnded number) after.run)
-    → HasMadeSteps (record { programs = programs; run = Some kept }) limit (Some (Ended number steps)) (record { programs = programs; run = None })
-made-last_step programs kept after limit number steps counted advanced w t tenant there s =
-    let (r, is_open, stood) = run-found programs kept tenant.run s.run in
-    let accepted = stood.accepted in
-    let (n, (led, few), made, within, whole) = advanced accepted r.state stood.numbered stood.state in
-    let maps = r.state.memory.maps in
-    let (m, is) = steps_to_exit accepted.subject.text r.state n number maps led in
-    let same = maps_of_run tenant r s.meets is_open in
-    let was = run_reached tenant r s.meets is_open in
-    let led' = subst (λ q. Reaches q.text r.state (suc m) (Exits number maps)) (sym stood.program) (rw is at led) in
-    let few' = subst (λ q. r.steps + suc m ≤ instructions_of q.text) (sym stood.program) (omega (arith, few, made, stood.steps, is)) in
-    let all = steps-end w t tenant r m number maps there is_open same was.reached led' few' in
-    let told : r.steps + suc m ≡ steps = omega (arith, made, stood.steps, is, counted) in
-    let next = tenant_after tenant maps in
-    let stands' : StandsForTenant (record { programs = programs; run = None }) next = record {
-      maps = sym same ∙ s.maps;
-      programs = s.programs;
+-- quiet steps of a kept run
+made-quiet : (programs : List Accepted) (kept after : KeptRun) (t n : ℕ) (before later : MemoryState) (x : System) (tenant : Tenant) (r : OpenRun)
+    → slice_get x.world t ≡ Some tenant → StandsForTenant (record { programs = programs; run = Some kept }) tenant → StandsForMemory before x → tenant.run ≡ Some r → (run : StandsForRun programs kept r)
+    → ReadsAs before → ReadsAs later → IsKeptBut t before later → KeepsSizes before later → after.program ≡ kept.program → after.run.steps ≡ kept.run.steps + n
+    → IsQuiet run.accepted r.state n t before after.run later
+    → (next : Tenant) × (sharing : Sharing) × StandsForTenant (record { programs = programs; run = Some after }) next × StandsForMemory later (changed x t next sharing) × StepsHappen x t n None (changed x t next sharing)
+made-quiet programs kept after t n before later x tenant r there stood stands is_open run reads reads' others sizes same_program made did =
+    let u = did.next in
+    let v = run.accepted in
+    let same = program-same programs kept r stood.verified run in
+    let verified = verified-at programs kept.program v stood.verified run.numbered in
+    let maps = maps_of_run tenant r stood.meets is_open in
+    let counted : after.run.steps ≡ r.steps + n = made ∙ ap (λ k. k + n) run.steps in
+    let most = some_instruction v after.run u verified did.stands in
+    let few : r.steps + n < instructions_of r.program.text = subst (λ q. r.steps + n < instructions_of q.text) (sym run.program) (omega (arith, most, counted)) in
+    let led = subst (λ p. ReachesQuietly p r.state n u) (sym same) did.reached in
+    let (happen, come, less) = steps-on x t tenant r n u there is_open maps (covered before x reads stands) (run_reached tenant r stood.meets is_open).reached led few in
+    let next = tenant_at tenant r (r.steps + n) u in
+    let stood' = stood-on programs kept after tenant r (r.steps + n) u stood run same_program did.stands (λ j. ap (λ m. shape_in m j) (did.maps ∙ sym maps)) counted come in
+    let stands' = changed_stands before later x t tenant next x.sharing stands there sizes.tenants sizes.frames reads' did.stands.state.maps.eight (did.owned ∙ owned-on tenant r v (r.steps + n) u same) others (did.sharing ∙ stands.sharing) in
+    (next, x.sharing, stood', stands', (replicate n (Step t), replicate n Stepped, (refl, refl), happen))
+
+-- quiet steps, and one more that asks something of the tenant's maps
+made-answered : (programs : List Accepted) (kept after : KeptRun) (t n : ℕ) (before later : MemoryState) (x : System) (tenant : Tenant) (r : OpenRun)
+    → slice_get x.world t ≡ Some tenant → StandsForTenant (record { programs = programs; run = Some kept }) tenant → StandsForMemory before x → tenant.run ≡ Some r → (run : StandsForRun programs kept r)
+    → ReadsAs before → ReadsAs later → IsKeptBut t before later → KeepsSizes before later → after.program ≡ kept.program → after.run.steps ≡ kept.run.steps + n
+    → IsAnswered run.accepted r.state n t before after.run later
+    → (next : Tenant) × (sharing : Sharing) × StandsForTenant (record { programs = programs; run = Some after }) next × StandsForMemory later (changed x t next sharing) × StepsHappen x t n None (changed x t next sharing)
+made-answered programs kept after t n before later x tenant r there stood stands is_open run reads reads' others sizes same_program made did =
+    let m = did.made in
+    let h = did.here in
+    let u = did.next in
+    let v = run.accepted in
+    let last = did.last in
+    let same = program-same programs kept r stood.verified run in
+    let verified = verified-at programs kept.program v stood.verified run.numbered in
+    let maps = maps_of_run tenant r stood.meets is_open in
+    let counted : after.run.steps ≡ suc (r.steps + m) = let stepped = run.steps in omega (arith, made, last, stepped) in
+    let most = some_instruction v after.run u verified did.stands in
+    let few : suc (r.steps + m) < instructions_of r.program.text = subst (λ q. suc (r.steps + m) < instructions_of q.text) (sym run.program) (omega (arith, most, counted)) in
+    let led = subst (λ p. ReachesQuietly p r.state m h) (sym same) did.reached in
+    let (happen, come, less) = steps-on x t tenant r m h there is_open maps (covered before x reads stands) (run_reached tenant r stood.meets is_open).reached led (omega (arith, few)) in
+    let makes = subst (λ q. step q.text h ≡ Some (Next u)) (sym run.program) did.makes in
+    let middle = tenant_at tenant r (r.steps + m) h in
+    let next = tenant_at tenant r (suc (r.steps + m)) u in
+    let sharing = sharing_after x.sharing t (written r.program.text h) in
+    let shares : later.sharing ≡ sharing = did.sharing ∙ ap (λ old. sharing_after old t (written v.subject.text h)) stands.sharing ∙ ap (λ q. sharing_after x.sharing t (written q.text h)) (sym run.program) in
+    let one = step-on (changed x t middle x.sharing) t middle (run_at r (r.steps + m) h) u sharing (slice_get-set x.world t tenant middle there) refl come makes refl few in
+    let twice = changed-twice x t middle next x.sharing sharing in
+    let shapes : (j : ℕ) → shape_in u.memory.maps j ≡ shape_in tenant.maps j = λ j. ap (λ m. shape_in m j) did.writes ∙ after_shapes did.need did.value h.memory.maps j ∙ ap (λ m. shape_in m j) (did.maps ∙ sym maps) in
+    let stood' = stood-on programs kept after tenant r (suc (r.steps + m)) u stood run same_program did.stands shapes counted (h, come, makes) in
+    let stands' = changed_stands before later x t tenant next sharing stands there sizes.tenants sizes.frames reads' did.stands.state.maps.eight (did.owned ∙ owned-on tenant r v (suc (r.steps + m)) u same) others shares in
+    let covers = subst IsCovered (sym twice) (covered later (changed x t next sharing) reads' stands') in
+    let all = push-same x (changed x t middle x.sharing) (changed (changed x t middle x.sharing) t next sharing) m (Step t) Stepped happen one covers in
+    let all' = subst (λ y. AllHappen x (replicate (suc m) (Step t)) (replicate (suc m) Stepped) y) twice all in
+    (next, sharing, stood', stands', (replicate n (Step t), replicate n Stepped, (refl, refl), subst (λ k. AllHappen x (replicate k (Step t)) (replicate k Stepped) (changed x t next sharing)) (sym last) all'))
+
+-- quiet steps, and one more with which the run ends
+made-ended : (programs : List Accepted) (kept : KeptRun) (run_after : Running) (t n number steps : ℕ) (before later : MemoryState) (x : System) (tenant : Tenant) (r : OpenRun)
+    → slice_get x.world t ≡ Some tenant → StandsForTenant (record { programs = programs; run = Some kept }) tenant → StandsForMemory before x → tenant.run ≡ Some r → (run : StandsForRun programs kept r)
+    → ReadsAs before → ReadsAs later → IsKeptBut t before later → KeepsSizes before later → run_after.steps ≡ kept.run.steps + n → steps ≡ run_after.steps
+    → IsEnded run.accepted r.state n t number before run_after later
+    → (next : Tenant) × (sharing : Sharing) × StandsForTenant (record { programs = programs; run = None }) next × StandsForMemory later (changed x t next sharing) × StepsHappen x t n (Some (Ended number steps)) (changed x t next sharing)
+made-ended programs kept run_after t n number steps before later x tenant r there stood stands is_open run reads reads' others sizes made told did =
+    let m = did.made in
+    let h = did.here in
+    let v = run.accepted in
+    let last = did.last in
+    let final = r.state.memory.maps in
+    let same = program-same programs kept r stood.verified run in
+    let maps = maps_of_run tenant r stood.meets is_open in
+    let counted : run_after.steps ≡ suc (r.steps + m) = let stepped = run.steps in omega (arith, made, last, stepped) in
+    let few' = did.few in
+    let few : suc (r.steps + m) ≤ instructions_of r.program.text = subst (λ q. suc (r.steps + m) ≤ instructions_of q.text) (sym run.program) (omega (arith, few', counted)) in
+    let led = subst (λ p. ReachesQuietly p r.state m h) (sym same) did.reached in
+    let (happen, come, less) = steps-on x t tenant r m h there is_open maps (covered before x reads stands) (run_reached tenant r stood.meets is_open).reached led (omega (arith, few)) in
+    let makes = subst (λ q. step q.text h ≡ Some (Exits number final)) (sym run.program) did.makes in
+    let middle = tenant_at tenant r (r.steps + m) h in
+    let next = tenant_after tenant final in
+    let one = step-last (changed x t middle x.sharing) t middle (run_at r (r.steps + m) h) number final (slice_get-set x.world t tenant middle there) refl come makes few in
+    let twice = changed-twice x t middle next x.sharing x.sharing in
+    let stood' : StandsForTenant (record { programs = programs; run = None }) next = record {
+      programs = stood.programs;
+      verified = stood.verified;
+      shapes = all_have_alike programs tenant.maps final (λ j. ap (λ m. shape_in m j) (sym maps)) stood.shapes;
       run = tt;
-      meets = record { maps = subst AreFlatMaps same s.meets.maps; run = tt; same = tt };
+      meets = record { maps = subst AreFlatMaps maps stood.meets.maps; run = tt; same = tt };
     } in
-    let happen = subst (λ k. AllHappen w (replicate m (Step t) ++ Step t ∷ []) (replicate m Stepped ++ Ended number k ∷ []) (slice_set w t next)) told all in
-    (next, stands', (_, _, (m, omega (arith, is, within), (λ e. cc), refl, refl), happen))
+    let stands' = changed_stands before later x t tenant next x.sharing stands there sizes.tenants sizes.frames reads' stood'.meets.maps.eight did.owned others (did.sharing ∙ stands.sharing) in
+    let covers = subst IsCovered (sym twice) (covered later (changed x t next x.sharing) reads' stands') in
+    let all = AllHappen-push x (changed x t middle x.sharing) (changed (changed x t middle x.sharing) t next x.sharing) (replicate m (Step t)) (replicate m Stepped) (Step t) (Ended number (suc (r.steps + m))) happen one covers in
+    let all' = subst (λ y. AllHappen x (replicate m (Step t) ++ Step t ∷ []) (replicate m Stepped ++ Ended number (suc (r.steps + m)) ∷ []) y) twice all in
+    let tells : suc (r.steps + m) ≡ steps = sym counted ∙ sym told in
+    let happened = subst (λ k. AllHappen x (replicate m (Step t) ++ Step t ∷ []) (replicate m Stepped ++ Ended number k ∷ []) (changed x t next x.sharing)) tells all' in
+    (next, x.sharing, stood', stands', (replicate m (Step t) ++ Step t ∷ [], replicate m Stepped ++ Ended number steps ∷ [], (m, omega (arith, last), (λ e. cc), refl, refl), happened))
 
--- A run that goes on made fewer than 2^32 steps, since they are counted by a number of 32 bits.
-pub goes_on-few : (programs : List Accepted) (kept after : KeptRun) (limit steps : ℕ) → after.run.steps ≡ steps → steps < 4294967296
-    → IsKept (record { programs = programs; run = Some kept })
-    → ((accepted : Accepted) (s : MachineState) → slice_get programs kept.program ≡ Some accepted → StandsFor accepted kept.run s → HasAdvanced accepted s limit kept.run Private after.run)
-    → 4294967296 ≤ limit → ⊥
-goes_on-few programs kept after limit steps counted few is advanced great =
-    let (r, is_open, stood) = run-found programs kept is.tenant.run is.stands.run in
-    let (n, led, made, within, whole) = advanced stood.accepted r.state stood.numbered stood.state in
-    omega (arith, made, counted, few, great, whole refl)
+-- steps after which a run goes on
+made-on : (programs : List Accepted) (kept after : KeptRun) (t n : ℕ) (before later : MemoryState) (x : System) (tenant : Tenant) (r : OpenRun)
+    → slice_get x.world t ≡ Some tenant → StandsForTenant (record { programs = programs; run = Some kept }) tenant → StandsForMemory before x → tenant.run ≡ Some r → (run : StandsForRun programs kept r)
+    → ReadsAs before → ReadsAs later → IsKeptBut t before later → KeepsSizes before later → after.program ≡ kept.program → after.run.steps ≡ kept.run.steps + n
+    → HasDone run.accepted r.state n t before after.run later None
+    → MadeSteps x t n None (record { programs = programs; run = Some after }) later
+made-on programs kept after t n before later x tenant r there stood stands is_open run reads reads' others sizes same_program made (quiet did) =
+    made-quiet programs kept after t n before later x tenant r there stood stands is_open run reads reads' others sizes same_program made did
+made-on programs kept after t n before later x tenant r there stood stands is_open run reads reads' others sizes same_program made (answered did) =
+    made-answered programs kept after t n before later x tenant r there stood stands is_open run reads reads' others sizes same_program made did
 
--- what is asked of the memory of maps
-abbrev pub IsAsked : Need → Type 0
-IsAsked Private = ⊥
-IsAsked (NeedEnded number) = ⊥
-IsAsked need = Unit {0}
+-- steps with the last of which it ends
+made-off : (programs : List Accepted) (kept : KeptRun) (run_after : Running) (t n number steps : ℕ) (before later : MemoryState) (x : System) (tenant : Tenant) (r : OpenRun)
+    → slice_get x.world t ≡ Some tenant → StandsForTenant (record { programs = programs; run = Some kept }) tenant → StandsForMemory before x → tenant.run ≡ Some r → (run : StandsForRun programs kept r)
+    → ReadsAs before → ReadsAs later → IsKeptBut t before later → KeepsSizes before later → run_after.steps ≡ kept.run.steps + n → steps ≡ run_after.steps
+    → HasDone run.accepted r.state n t before run_after later (Some number)
+    → MadeSteps x t n (Some (Ended number steps)) (record { programs = programs; run = None }) later
+made-off programs kept run_after t n number steps before later x tenant r there stood stands is_open run reads reads' others sizes made told (ended k did) =
+    made-ended programs kept run_after t n k steps before later x tenant r there stood stands is_open run reads reads' others sizes made told did
 
--- a program without maps asks nothing of them
-asks-nothing : (accepted : Accepted) (s : MachineState) (need : Need) (run : Running) → accepted.subject.shapes ≡ replicate 8 None → Asks accepted s need run → ⊥
-asks-nothing accepted s need run unmapped asks =
-    let missing : shape_at accepted.subject.shapes (map_of need) ≡ None = ap (λ shapes. shape_at shapes (map_of need)) unmapped ∙ none-at 8 (map_of need) in
-    absurd (let shaped = asks.shaped in cc)
+-- steps that were made in one go, after which a kept run goes on
+pub made-steps : (programs : List Accepted) (kept after : KeptRun) (t limit steps : ℕ) (before later : MemoryState)
+    → ReadsAs before → ReadsAs later → IsKeptBut t before later → KeepsSizes before later → after.program ≡ kept.program → kept.run.steps + steps ≡ after.run.steps
+    → ((v : Accepted) (s : MachineState) → IsUnderWayAt programs kept v s (part before t) → HasAdvanced v s t limit kept.run before None after.run later)
+    → HasMadeSteps t (record { programs = programs; run = Some kept }) before steps None (record { programs = programs; run = Some after }) later
+made-steps programs kept after t limit steps before later reads reads' others sizes same_program counted advanced x tenant there stood stands =
+    let (r, is_open, run) = run-found programs kept tenant.run stood.run in
+    let (n, some, few, made, done) = advanced run.accepted r.state (under-way programs kept t before x tenant r there stood stands is_open run) in
+    let whole : n ≡ steps = omega (arith, made, counted) in
+    subst (λ k. MadeSteps x t k None (record { programs = programs; run = Some after }) later) whole
+    (made-on programs kept after t n before later x tenant r there stood stands is_open run reads reads' others sizes same_program made done)
 
--- nor do many steps of a run of it
-follows-asks-nothing : (accepted : Accepted) (s : MachineState) (n : ℕ) (need : Need) (run : Running) → accepted.subject.shapes ≡ replicate 8 None → FollowsSteps accepted s n need run → IsAsked need → ⊥
-follows-asks-nothing accepted s n Private run unmapped follows asked = asked
-follows-asks-nothing accepted s n (NeedEnded number) run unmapped follows asked = asked
-follows-asks-nothing accepted s n (AskLoad m at size) run unmapped (before, t, one_more, led, maps, less, asks) asked = asks-nothing accepted t (AskLoad m at size) run unmapped asks
-follows-asks-nothing accepted s n (AskStore m at size number) run unmapped (before, t, one_more, led, maps, less, asks) asked = asks-nothing accepted t (AskStore m at size number) run unmapped asks
-follows-asks-nothing accepted s n (AskLookup m key) run unmapped (before, t, one_more, led, maps, less, asks) asked = asks-nothing accepted t (AskLookup m key) run unmapped asks
-follows-asks-nothing accepted s n (AskUpdate m key flags) run unmapped (before, t, one_more, led, maps, less, asks) asked = asks-nothing accepted t (AskUpdate m key flags) run unmapped asks
-follows-asks-nothing accepted s n (AskDelete m key) run unmapped (before, t, one_more, led, maps, less, asks) asked = asks-nothing accepted t (AskDelete m key) run unmapped asks
+-- steps that were made in one go, with the last of which it ended
+pub made-last_step : (programs : List Accepted) (kept : KeptRun) (run_after : Running) (t limit number made total : ℕ) (before later : MemoryState)
+    → ReadsAs before → ReadsAs later → IsKeptBut t before later → KeepsSizes before later → kept.run.steps + made ≡ run_after.steps → total ≡ run_after.steps
+    → ((v : Accepted) (s : MachineState) → IsUnderWayAt programs kept v s (part before t) → HasAdvanced v s t limit kept.run before (Some number) run_after later)
+    → HasMadeSteps t (record { programs = programs; run = Some kept }) before made (Some (Ended number total)) (record { programs = programs; run = None }) later
+made-last_step programs kept run_after t limit number made total before later reads reads' others sizes counted told advanced x tenant there stood stands =
+    let (r, is_open, run) = run-found programs kept tenant.run stood.run in
+    let (n, some, few, stepped, done) = advanced run.accepted r.state (under-way programs kept t before x tenant r there stood stands is_open run) in
+    let whole : n ≡ made = omega (arith, stepped, counted) in
+    subst (λ k. MadeSteps x t k (Some (Ended number total)) (record { programs = programs; run = None }) later) whole
+    (made-off programs kept run_after t n number total before later x tenant r there stood stands is_open run reads reads' others sizes stepped told done)
 
--- no open run that a host keeps asks anything of maps
-pub never_asks : (programs : List Accepted) (kept after : KeptRun) (limit : ℕ) (need : Need) → IsKept (record { programs = programs; run = Some kept })
-    → ((accepted : Accepted) (s : MachineState) → slice_get programs kept.program ≡ Some accepted → StandsFor accepted kept.run s → HasAdvanced accepted s limit kept.run need after.run)
-    → IsAsked need → ⊥
-never_asks programs kept after limit need is advanced asked =
-    let (r, is_open, stood) = run-found programs kept is.tenant.run is.stands.run in
-    let (n, follows, made, within, whole) = advanced stood.accepted r.state stood.numbered stood.state in
-    let program = kept-at programs kept.program stood.accepted is.accepted stood.numbered in
-    follows-asks-nothing stood.accepted r.state n need after.run program.unmapped follows asked
+-- a kept run that advanced made one step at least, and no more than its limit
+pub advanced-some : (programs : List Accepted) (kept : KeptRun) (after : Running) (t limit : ℕ) (last : Option ℕ) (before later : MemoryState)
+    → IsKept t (record { programs = programs; run = Some kept }) before
+    → ((v : Accepted) (s : MachineState) → IsUnderWayAt programs kept v s (part before t) → HasAdvanced v s t limit kept.run before last after later)
+    → (kept.run.steps < after.steps) × (after.steps ≤ kept.run.steps + limit)
+advanced-some programs kept after t limit last before later is advanced =
+    let (v, s, under) = under-way-kept programs kept t before is in
+    let (n, some, few, made, done) = advanced v s under in
+    (omega (arith, some, made), omega (arith, few, made))
 
--- a tenant that made steps is still kept
-pub kept-made : (old new : TenantView) (limit : ℕ) (last : Option Reply) → HasMadeSteps old limit last new → IsKept old → All IsKeptProgram new.programs → IsKept new
-kept-made old new limit last made kept accepted =
-    let after = made (kept.tenant ∷ []) 0 kept.tenant refl kept.stands in
-    record { accepted = accepted; tenant = after.0; stands = after.1 }
+-- a tenant as it is seen, with its open run
+pub kept-open : (kept : TenantView) (programs : List Accepted) (run : Option KeptRun) (open_run : KeptRun) (t : ℕ) (memory : MemoryState) → record { programs = programs; run = run } ≡ kept → run ≡ Some open_run
+    → IsKept t kept memory → IsKept t (record { programs = programs; run = Some open_run }) memory
+kept-open kept programs run open_run t memory seen is_open is =
+    subst (λ r. IsKept t (record { programs = programs; run = r }) memory) is_open (subst (λ old. IsKept t old memory) (sym seen) is)
 
--- one event alone
-alone : (w w' : World) (event : Event) (reply : Reply) → AllHappen w (event ∷ []) (reply ∷ []) w' → Happens w event reply w' × IsPromised w event reply w'
-alone w w' event reply (next, happens, promised, same) =
-    (subst (Happens w event reply) (sym same) happens, subst (IsPromised w event reply) (sym same) promised)
+pub made-open : (kept new : TenantView) (programs : List Accepted) (run : Option KeptRun) (open_run : KeptRun) (t steps : ℕ) (last : Option Reply) (before later : MemoryState) → record { programs = programs; run = run } ≡ kept → run ≡ Some open_run
+    → HasMadeSteps t (record { programs = programs; run = Some open_run }) before steps last new later → HasMadeSteps t kept before steps last new later
+made-open kept new programs run open_run t steps last before later seen is_open made =
+    subst (λ old. HasMadeSteps t old before steps last new later) seen (subst (λ r. HasMadeSteps t (record { programs = programs; run = r }) before steps last new later) (sym is_open) made)
 
--- where one step may be made and the run goes on, one was made
-pub served-stepped : (old new : TenantView) (t : ℕ) → HasMadeSteps old 1 None new → IsServed old (Step t) Stepped new
-served-stepped old new t made w tenant there s =
-    let (next, stands, (events, replies, (steps, all_stepped), all)) = made w t tenant there s in
-    let w' = slice_set w t next in
-    let (happens, promised) = alone w w' (Step t) Stepped (rw (steps, all_stepped) at all) in
-    (next, stands, happens, promised)
-
--- where one step may be made and there is another reply, that is the reply to one step
-pub served-last : (old new : TenantView) (t : ℕ) (last : Reply) → HasMadeSteps old 1 (Some last) new → IsServed old (Step t) last new
-served-last old new t last made w tenant there s =
-    let (next, stands, (events, replies, (n, few, other, steps, all_replies), all)) = made w t tenant there s in
-    let w' = slice_set w t next in
-    let none : n ≡ 0 = omega (arith, few) in
-    let (happens, promised) = alone w w' (Step t) last (rw (steps, all_replies, none) at all) in
-    (next, stands, happens, promised)
-
--- steps of a tenant happen in each world for which a host stands, and leave one for which it then stands
-abbrev pub HostMakesSteps : HostView → ℕ → ℕ → Option Reply → HostView → Type 0
-HostMakesSteps old t limit last new =
-    (w : World) → StandsForWorld old w → (next : World) × StandsForWorld new next × StepsHappen w t limit last next
-
--- a host one of whose tenants made steps
-pub host-made : (view : HostView) (t limit : ℕ) (old new : TenantView) (last : Option Reply) → slice_get view t ≡ Some old → HasMadeSteps old limit last new → HostMakesSteps view t limit last (set view t new)
-host-made view t limit old new last there made w stands =
-    let (tenant, found, stood) = AllZip-found StandsForTenant view w t old stands there in
-    let (next, stands', happen) = made w t tenant found stood in
-    (set w t next, AllZip-set StandsForTenant view w t new next stands stands', happen)
-
--- steps of no tenant
-pub host-no_tenant : (view : HostView) (t limit : ℕ) → 0 < limit → slice_get view t ≡ None → HostMakesSteps view t limit (Some (Refused fault.BadTenant)) view
-host-no_tenant view t limit some missing w stands =
-    let (next, stands', happens, promised) = Hosts-no_tenant view t (Step t) refl missing w stands in
-    (next, stands', (_, _, (0, some, (λ e. cc), refl, refl), (next, happens, promised, refl)))
+-- how many steps it made
+pub steps-open : (kept : TenantView) (programs : List Accepted) (run : Option KeptRun) (open_run : KeptRun) → record { programs = programs; run = run } ≡ kept → run ≡ Some open_run → steps_of kept.run ≡ open_run.run.steps
+steps-open kept programs run open_run seen is_open = ap (λ (old : TenantView). steps_of old.run) (sym seen) ∙ ap steps_of is_open

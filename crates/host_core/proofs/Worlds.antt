@@ -1,5 +1,5 @@
 -- A list in which the item at a place changed, and worlds in which one tenant did.
-use Rattle.std.proofs.Common.{◌≡◌, ℕ, zero, suc, ◌<◌, List, [], ◌∷◌, length, set, Option, Some, None, MatchOption, sym, ap, refl, ◌∙◌, subst, arith}
+use Rattle.std.proofs.Common.{◌≡◌, ℕ, zero, suc, ◌<◌, List, [], ◌∷◌, length, set, Option, Some, None, MatchOption, ◌≢◌, set-set, sym, ap, refl, ◌∙◌, subst, arith}
 use Rattle.std.specs.List.{slice_get, AllZip}
 use Rattle.std.proofs.lemmas.List.{set-get_or, get_or-set_same, length-set}
 use Rattle.std.proofs.lemmas.Option.{get_or_from_slice_get, slice_get_within, slice_get-get_or}
@@ -7,8 +7,9 @@ use Rattle.host_types.specs.declared.fault.Fault.{Fault}
 use Rattle.host_types.specs.declared.fault.Fault.TheVariants as fault
 use Rattle.host_core.specs.declared.event.Reply.{Reply}
 use Rattle.host_core.specs.declared.event.Reply.TheVariants.{Refused}
-use Rattle.host_core.specs.World.{Tenant, World}
-use Rattle.host_core.specs.Happens.{Answers, RefusedOr, OfTenant}
+use Rattle.host_types.specs.Sharing.{Sharing}
+use Rattle.host_core.specs.World.{Tenant, World, System}
+use Rattle.host_core.specs.Happens.{Answers, RefusedOr, OfTenant, changed}
 
 -- an item that is written over itself
 pub set-same : {X : Type 0} (xs : List X) (i : ℕ) (x : X) → slice_get xs i ≡ Some x → set xs i x ≡ xs
@@ -49,22 +50,38 @@ AllZip-missing R (a ∷ xs) [] i h e = absurd h
 AllZip-missing R (a ∷ xs) (b ∷ ys) zero h e = absurd (cc)
 AllZip-missing R (a ∷ xs) (b ∷ ys) (suc i) h e = AllZip-missing R xs ys i h.1 e
 
+-- the item at another place
+pub slice_get-set-other : {X : Type 0} (xs : List X) (i j : ℕ) (y : X) → j ≢ i → slice_get (set xs i y) j ≡ slice_get xs j
+slice_get-set-other [] i j y other = refl
+slice_get-set-other (x ∷ xs) zero zero y other = absurd (other refl)
+slice_get-set-other (x ∷ xs) zero (suc j) y other = refl
+slice_get-set-other (x ∷ xs) (suc i) zero y other = refl
+slice_get-set-other (x ∷ xs) (suc i) (suc j) y other = slice_get-set-other xs i j y (λ same. other (ap suc same))
+
+-- a system in which a tenant is written over itself, and the pages are what they were
+pub changed-same : (x : System) (t : ℕ) (tenant : Tenant) → slice_get x.world t ≡ Some tenant → changed x t tenant x.sharing ≡ x
+changed-same x t tenant there = ap (λ (w : World). record x { world = w }) (set-same x.world t tenant there)
+
+-- a system in which a tenant changed twice
+pub changed-twice : (x : System) (t : ℕ) (one two : Tenant) (first second : Sharing) → changed (changed x t one first) t two second ≡ changed x t two second
+changed-twice x t one two first second = ap (λ (w : World). record x { world = w; sharing = second }) (set-set x.world t one two)
+
 -- what happens to the tenant that is there
-pub OfTenant-there : (w : World) (t : ℕ) (reply : Reply) (w' : World) (Happening : Tenant → Type 0) (tenant : Tenant) → slice_get w t ≡ Some tenant → Happening tenant → OfTenant w t reply w' Happening
-OfTenant-there w t reply w' Happening tenant e h =
-    subst (λ found. MatchOption found (Answers w (Refused fault.BadTenant) reply w') Happening) (sym e) h
+pub OfTenant-there : (x : System) (t : ℕ) (reply : Reply) (x' : System) (Happening : Tenant → Type 0) (tenant : Tenant) → slice_get x.world t ≡ Some tenant → Happening tenant → OfTenant x t reply x' Happening
+OfTenant-there x t reply x' Happening tenant e h =
+    subst (λ found. MatchOption found (Answers x (Refused fault.BadTenant) reply x') Happening) (sym e) h
 
 -- where there is no tenant the event is refused
-pub OfTenant-missing : (w : World) (t : ℕ) (reply : Reply) (w' : World) (Happening : Tenant → Type 0) → slice_get w t ≡ None → Answers w (Refused fault.BadTenant) reply w' → OfTenant w t reply w' Happening
-OfTenant-missing w t reply w' Happening e h =
-    subst (λ found. MatchOption found (Answers w (Refused fault.BadTenant) reply w') Happening) (sym e) h
+pub OfTenant-missing : (x : System) (t : ℕ) (reply : Reply) (x' : System) (Happening : Tenant → Type 0) → slice_get x.world t ≡ None → Answers x (Refused fault.BadTenant) reply x' → OfTenant x t reply x' Happening
+OfTenant-missing x t reply x' Happening e h =
+    subst (λ found. MatchOption found (Answers x (Refused fault.BadTenant) reply x') Happening) (sym e) h
 
 -- an event with a refusal
-pub RefusedOr-refused : (refusal : Option Fault) (w : World) (reply : Reply) (w' : World) (Happening : Type 0) (fault : Fault) → refusal ≡ Some fault → Answers w (Refused fault) reply w' → RefusedOr refusal w reply w' Happening
-RefusedOr-refused refusal w reply w' Happening fault e h =
-    subst (λ found. RefusedOr found w reply w' Happening) (sym e) h
+pub RefusedOr-refused : (refusal : Option Fault) (x : System) (reply : Reply) (x' : System) (Happening : Type 0) (fault : Fault) → refusal ≡ Some fault → Answers x (Refused fault) reply x' → RefusedOr refusal x reply x' Happening
+RefusedOr-refused refusal x reply x' Happening fault e h =
+    subst (λ found. RefusedOr found x reply x' Happening) (sym e) h
 
 -- an event with no refusal
-pub RefusedOr-else : (refusal : Option Fault) (w : World) (reply : Reply) (w' : World) (Happening : Type 0) → refusal ≡ None → Happening → RefusedOr refusal w reply w' Happening
-RefusedOr-else refusal w reply w' Happening e h =
-    subst (λ found. RefusedOr found w reply w' Happening) (sym e) h
+pub RefusedOr-else : (refusal : Option Fault) (x : System) (reply : Reply) (x' : System) (Happening : Type 0) → refusal ≡ None → Happening → RefusedOr refusal x reply x' Happening
+RefusedOr-else refusal x reply x' Happening e h =
+    subst (λ found. RefusedOr found x reply x' Happening) (sym e) h

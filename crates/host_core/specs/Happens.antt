@@ -1,29 +1,55 @@
 -- What events do (this project's own rules, docs/HOST.md).
-use Rattle.std.specs.Prelude.{◌≡◌, ◌≢◌, ℕ, ◌%◌, ◌<◌, ◌≤◌, nat_le, ◌==◌, ◌&&◌, Bool, not, is_some, List, [], ◌∷◌, ◌++◌, length, map, replicate, slice_get, slice_set, ◌⊎◌, if◌then◌else◌, MatchOption, IfSome, IsSomeAnd, Option, Some, None, suc, false}
-use Rattle.std.specs.Option.{option_map}
+use Rattle.std.specs.Prelude.{◌≡◌, ◌≢◌, ℕ, ◌*◌, ◌%◌, ◌<◌, ◌≤◌, nat_le, ◌==◌, ◌&&◌, Bool, not, is_some, List, [], ◌∷◌, ◌++◌, length, replicate, slice_get, slice_set, ◌⊎◌, if◌then◌else◌, MatchOption, IfSome, IsSome, IsNone, IsSomeAnd, Option, Some, None, suc, false}
 use Rattle.host_types.specs.declared.fault.Fault.{Fault}
 use Rattle.host_types.specs.declared.fault.Fault.TheVariants as fault
 use Rattle.host_types.specs.declared.fault.Refused.{Refused as Refusal}
+use Rattle.host_types.specs.declared.helper.MapHelper.TheVariants.{Update}
+use Rattle.host_types.specs.declared.options.Opt.{Opt}
 use Rattle.host_types.specs.declared.shape.Shape.{Shape}
+use Rattle.host_types.specs.declared.visited.Visited.{Visited}
+use Rattle.host_types.specs.Helpers.{helper}
 use Rattle.host_types.specs.Memory.{FlatMaps}
+use Rattle.host_types.specs.OptionTable.{MayBe}
+use Rattle.host_types.specs.Pages.{map_place}
+use Rattle.host_types.specs.Sharing.{Sharing}
+use Rattle.host_types.specs.Unmerging.{unmerged, unmerge_need, with_option, MaySet, RefusesSet}
+use Rattle.host_types.specs.Visits.{contents_in, visit}
 use Rattle.bpf_decode.specs.Text.{IsWellFormed, IsFirstFault, instructions_of}
+use Rattle.page_table.specs.Changes.{zero_map, with_new_pages}
+use Rattle.page_table.specs.Limits.{page_count, shape_of}
+use Rattle.page_table.specs.State.{free_number}
+use Rattle.write_break.specs.Stores.{stored_sharing}
+use Rattle.map_helpers.specs.Updates.{updated_sharing}
+use Rattle.ksm_counters.specs.Counters.{counters_of}
+use Rattle.verifier.specs.Reserve.{reserve_from}
 use Rattle.verifier.specs.Subject.{Subject}
 use Rattle.verifier.specs.Table.{Table, IsTightTable, IsRefusal}
 use Rattle.interp.specs.Machine.{MachineState, Outcome, Next, Exits, step}
 use Rattle.interp.specs.Runs.{Runs}
+use Rattle.interp.specs.Written.{Written, written}
+use Rattle.host_calls.specs.Calls.{FitsNewMap, FitsValue, IsCharged, IsValue, RefusesNewMap, RefusesUpdate, RefusesLookup}
+use Rattle.host_calls.specs.Programs.{subject_of}
 use Rattle.host_core.specs.declared.event.Event.{Event}
-use Rattle.host_core.specs.declared.event.Event.TheVariants.{Load, Begin, Step}
+use Rattle.host_core.specs.declared.event.Event.TheVariants.{CreateMap, Load, Begin, Step, Visit, HostUpdate, HostLookup, Set, Unmerge, Counters}
 use Rattle.host_core.specs.declared.event.Reply.{Reply}
-use Rattle.host_core.specs.declared.event.Reply.TheVariants.{Program, Begun, Stepped, Ended, Refused}
-use Rattle.host_core.specs.World.{OpenRun, Tenant, World, begun_run}
+use Rattle.host_core.specs.declared.event.Reply.TheVariants.{Map, Program, Begun, Stepped, Ended, Visited as WasVisited, Done, Value, Counters as AreCounters, Refused}
+use Rattle.host_core.specs.World.{OpenRun, Tenant, World, System, begun_run, all_maps, accepted_of, owned_by, have_in, IsCovered}
 
 -- an event was answered so, and changed nothing
-abbrev pub Answers : World → Reply → Reply → World → Type 0
-Answers w answer reply w' = (reply ≡ answer) × (w' ≡ w)
+abbrev pub Answers : System → Reply → Reply → System → Type 0
+Answers x answer reply x' = (reply ≡ answer) × (x' ≡ x)
 
--- an event was answered so, and left one tenant so and all others as they were
-abbrev pub Leaves : World → ℕ → Tenant → Reply → Reply → World → Type 0
-Leaves w t tenant answer reply w' = (reply ≡ answer) × (w' ≡ slice_set w t tenant)
+-- the system with another tenant at a number, and with other pages that share frames
+abbrev pub changed : System → ℕ → Tenant → Sharing → System
+changed x t tenant sharing = record x { world = slice_set x.world t tenant; sharing = sharing }
+
+-- an event was answered so, and left one tenant and the pages so, and all other tenants as they were
+abbrev pub Leaves : System → ℕ → Tenant → Sharing → Reply → Reply → System → Type 0
+Leaves x t tenant sharing answer reply x' = (reply ≡ answer) × (x' ≡ changed x t tenant sharing)
+
+-- an event was answered so, and left the pages so, and all tenants as they were
+abbrev pub Shares : System → Sharing → Reply → Reply → System → Type 0
+Shares x sharing answer reply x' = (reply ≡ answer) × (x' ≡ record x { sharing = sharing })
 
 -- the first refusal whose condition holds
 abbrev pub first_refusal : List (Bool × Fault) → Option Fault
@@ -31,25 +57,31 @@ first_refusal [] = None
 first_refusal (condition ∷ conditions) = if condition.0 then Some condition.1 else first_refusal conditions
 
 -- the event is refused where there is a refusal, and else it happens
-abbrev pub RefusedOr : Option Fault → World → Reply → World → Type 0 → Type 0
-RefusedOr (Some refusal) w reply w' Happening = Answers w (Refused refusal) reply w'
-RefusedOr None w reply w' Happening = Happening
+abbrev pub RefusedOr : Option Fault → System → Reply → System → Type 0 → Type 0
+RefusedOr (Some refusal) x reply x' Happening = Answers x (Refused refusal) reply x'
+RefusedOr None x reply x' Happening = Happening
+
+-- the event is refused for a reason that holds, or it happens
+abbrev pub RefusesOr : (Fault → Type 0) → System → Reply → System → Type 0 → Type 0
+RefusesOr Refuses x reply x' Happening = ((f : Fault) × Refuses f × Answers x (Refused f) reply x') ⊎ Happening
 
 -- a tenant, if it is there, to which something happens
-abbrev pub OfTenant : World → ℕ → Reply → World → (Tenant → Type 0) → Type 0
-OfTenant w t reply w' Happening = MatchOption (slice_get w t) (Answers w (Refused fault.BadTenant) reply w') Happening
+abbrev pub OfTenant : System → ℕ → Reply → System → (Tenant → Type 0) → Type 0
+OfTenant x t reply x' Happening = MatchOption (slice_get x.world t) (Answers x (Refused fault.BadTenant) reply x') Happening
 
 -- memory may run out in place of what else would happen
-abbrev pub MayLackMemory : World → Reply → World → Type 0 → Type 0
-MayLackMemory w reply w' Happening = Answers w (Refused fault.OutOfMemory) reply w' ⊎ Happening
+abbrev pub MayLackMemory : System → Reply → System → Type 0 → Type 0
+MayLackMemory x reply x' Happening = Answers x (Refused fault.OutOfMemory) reply x' ⊎ Happening
 
--- the shapes of a tenant's maps by number
-abbrev pub shapes_of : FlatMaps → List (Option Shape)
-shapes_of maps = map (λ m. option_map (λ flat. flat.shape) m) maps
+-- the event is refused just where it needs more frames than may be had
+abbrev pub MayLackFrames : System → ℕ → Reply → System → Type 0 → Type 0
+MayLackFrames x need reply x' Happening =
+    ((have_in x < need) × Answers x (Refused (fault.NoFrames need (have_in x))) reply x') ⊎ ((need ≤ have_in x) × Happening)
 
--- a text as a tenant would run it
-abbrev pub subject_of : Tenant → List ℕ → ℕ → Subject
-subject_of tenant text size = record { text = text; shapes = shapes_of tenant.maps; context_size = size }
+-- where frames are missing, the frames that may be had are told
+abbrev pub Tells : System → Fault → Type 0
+Tells x (fault.NoFrames need have) = have ≡ have_in x
+Tells x other = Unit {0}
 
 -- a size that a context may have
 abbrev pub is_context_size : ℕ → Bool
@@ -64,11 +96,11 @@ load_refusal tenant size = first_refusal (
 
 -- A text is loaded with the next number if it is well formed and has a tight table in which no rule is
 -- broken. Else the refusal is that of the text.
-pub data LoadHappens (w : World) (t : ℕ) (tenant : Tenant) (p : Subject) (reply : Reply) (w' : World) : Type 0 where
-  malformed : (refusal : Refusal) → IsFirstFault p.text refusal → Answers w (Refused (fault.Program refusal)) reply w' → LoadHappens w t tenant p reply w'
-  unlawful : IsWellFormed p.text → (refusal : Refusal) → IsRefusal p refusal → Answers w (Refused (fault.Program refusal)) reply w' → LoadHappens w t tenant p reply w'
+pub data LoadHappens (x : System) (t : ℕ) (tenant : Tenant) (p : Subject) (reply : Reply) (x' : System) : Type 0 where
+  malformed : (refusal : Refusal) → IsFirstFault p.text refusal → Answers x (Refused (fault.Program refusal)) reply x' → LoadHappens x t tenant p reply x'
+  unlawful : IsWellFormed p.text → (refusal : Refusal) → IsRefusal p refusal → Answers x (Refused (fault.Program refusal)) reply x' → LoadHappens x t tenant p reply x'
   loaded : IsWellFormed p.text → (table : Table) → IsTightTable p table
-      → Leaves w t (record tenant { programs = tenant.programs ++ p ∷ [] }) (Program (length tenant.programs)) reply w' → LoadHappens w t tenant p reply w'
+      → Leaves x t (record tenant { programs = tenant.programs ++ p ∷ [] }) x.sharing (Program (length tenant.programs)) reply x' → LoadHappens x t tenant p reply x'
 
 -- what is refused of a run that is to begin
 abbrev pub begin_refusal : Tenant → ℕ → List ℕ → Option Fault
@@ -81,33 +113,96 @@ begin_refusal tenant k context = first_refusal (
     has_size (Some p) = length context == p.context_size
     has_size None = false
 
--- a run begins on a context and the tenant's maps
-abbrev pub BeginHappens : World → ℕ → Tenant → ℕ → List ℕ → Reply → World → Type 0
-BeginHappens w t tenant k context reply w' =
+-- a run begins on a context and the tenant's maps, where there are frames for all that it may need
+abbrev pub BeginHappens : System → ℕ → Tenant → ℕ → List ℕ → Reply → System → Type 0
+BeginHappens x t tenant k context reply x' =
     (p : Subject) × (slice_get tenant.programs k ≡ Some p)
-    × Leaves w t (record tenant { run = Some (begun_run p context tenant.maps) }) Begun reply w'
+    × MayLackFrames x (reserve_from (accepted_of p) 0) reply x' (
+    Leaves x t (record tenant { run = Some (begun_run p context tenant.maps) }) x.sharing Begun reply x')
+
+-- the pages that share frames once bytes of a tenant's map are written: each page that one of them lies in is broken
+abbrev pub sharing_after : Sharing → ℕ → Option Written → Sharing
+sharing_after sharing t None = sharing
+sharing_after sharing t (Some w) = stored_sharing sharing t w.map w.at w.size
 
 -- An open run makes one step of the standard: the tenant's maps are those after it. A fault has no case.
-abbrev pub StepLeads : World → ℕ → Tenant → OpenRun → Outcome → Reply → World → Type 0
-StepLeads w t tenant r (Next s) reply w' =
-    Leaves w t (record tenant { maps = s.memory.maps; run = Some (record r { state = s; steps = suc r.steps }) }) Stepped reply w'
-StepLeads w t tenant r (Exits number maps) reply w' =
-    Leaves w t (record tenant { maps = maps; run = None }) (Ended number (suc r.steps)) reply w'
+abbrev pub StepLeads : System → ℕ → Tenant → OpenRun → Sharing → Outcome → Reply → System → Type 0
+StepLeads x t tenant r sharing (Next s) reply x' =
+    Leaves x t (record tenant { maps = s.memory.maps; run = Some (record r { state = s; steps = suc r.steps }) }) sharing Stepped reply x'
+StepLeads x t tenant r sharing (Exits number maps) reply x' =
+    Leaves x t (record tenant { maps = maps; run = None }) sharing (Ended number (suc r.steps)) reply x'
 
-abbrev pub StepHappens : World → ℕ → Tenant → OpenRun → Reply → World → Type 0
-StepHappens w t tenant r reply w' =
-    (outcome : Outcome) × (step r.program.text r.state ≡ Some outcome) × StepLeads w t tenant r outcome reply w'
+abbrev pub StepHappens : System → ℕ → Tenant → OpenRun → Reply → System → Type 0
+StepHappens x t tenant r reply x' =
+    (outcome : Outcome) × (step r.program.text r.state ≡ Some outcome)
+    × StepLeads x t tenant r (sharing_after x.sharing t (written r.program.text r.state)) outcome reply x'
 
--- An event in a world, its reply, and the world afterwards.
-abbrev pub Happens : World → Event → Reply → World → Type 0
-Happens w (Load t text size) reply w' = OfTenant w t reply w' (λ tenant.
-    RefusedOr (load_refusal tenant size) w reply w' (
-    MayLackMemory w reply w' (LoadHappens w t tenant (subject_of tenant text size) reply w')))
-Happens w (Begin t k context) reply w' = OfTenant w t reply w' (λ tenant.
-    RefusedOr (begin_refusal tenant k context) w reply w' (
-    MayLackMemory w reply w' (BeginHappens w t tenant k context reply w')))
-Happens w (Step t) reply w' = OfTenant w t reply w' (λ tenant.
-    MatchOption tenant.run (Answers w (Refused fault.NoRun) reply w') (λ r. StepHappens w t tenant r reply w'))
+-- when a map isn't made: the first refusal, in this order, whose condition holds
+abbrev pub RefusesCreate : System → Tenant → Shape → Fault → Type 0
+RefusesCreate x tenant shape fault.Busy = IsSome tenant.run
+RefusesCreate x tenant shape refusal = IsNone tenant.run × RefusesNewMap (owned_by tenant) shape refusal × Tells x refusal
+
+-- a map of zeros is made at the tenant's first free number, its pages never visited
+abbrev pub CreateHappens : System → ℕ → Tenant → Shape → Bool → Reply → System → Type 0
+CreateHappens x t tenant shape mergeable reply x' =
+    IsNone tenant.run × FitsNewMap (owned_by tenant) shape × (page_count shape ≤ have_in x)
+    × ((m : ℕ) × (free_number (owned_by tenant) ≡ Some m)
+    × Leaves x t (record tenant { maps = slice_set tenant.maps m (Some (zero_map shape)) })
+    (with_new_pages x.sharing (map_place t m * 256) (page_count shape) mergeable) (Map m) reply x')
+
+-- when a value isn't written: the first refusal, in this order, whose condition holds
+abbrev pub RefusesHostUpdate : System → Tenant → ℕ → ℕ → List ℕ → Fault → Type 0
+RefusesHostUpdate x tenant m key value fault.Busy = IsSome tenant.run
+RefusesHostUpdate x tenant m key value refusal = IsNone tenant.run × RefusesUpdate (owned_by tenant) m key value refusal × Tells x refusal
+
+-- a value is written as the helper does it without a flag
+abbrev pub UpdateHappens : System → ℕ → Tenant → ℕ → ℕ → List ℕ → Reply → System → Type 0
+UpdateHappens x t tenant m key value reply x' =
+    IsNone tenant.run × FitsValue (owned_by tenant) m key value × IsCharged (owned_by tenant) m (have_in x)
+    × ((maps : FlatMaps) × (helper Update tenant.maps m key value 0 ≡ Some (0, maps))
+    × Leaves x t (record tenant { maps = maps }) (updated_sharing (owned_by tenant) x.sharing t m key 0) Done reply x')
+
+-- a value is read
+abbrev pub LookupHappens : System → Tenant → ℕ → ℕ → Reply → System → Type 0
+LookupHappens x tenant m key reply x' = (bytes : List ℕ) × IsValue (owned_by tenant) m key bytes × Answers x (Value bytes) reply x'
+
+-- one visit of the scanner: no tenant changes
+abbrev pub VisitHappens : System → Reply → System → Type 0
+VisitHappens x reply x' =
+    (visited : Visited) × ((sharing : Sharing) × (visit (contents_in (all_maps x.world)) x.sharing ≡ (visited, sharing))
+    × Shares x sharing (WasVisited visited) reply x')
+
+-- an option is set, or may not be set
+abbrev pub SetHappens : System → Opt → ℕ → Reply → System → Type 0
+SetHappens x option value reply x' = RefusesOr (RefusesSet x.sharing option value) x reply x' (
+    MayBe option value × MaySet x.sharing option
+    × Shares x (record x.sharing { options = with_option x.sharing.options option value }) Done reply x')
+
+-- each page that shares a frame gets one of its own, where there are as many
+abbrev pub UnmergeHappens : System → Reply → System → Type 0
+UnmergeHappens x reply x' = MayLackFrames x (unmerge_need x.sharing) reply x' (Shares x (unmerged x.sharing) Done reply x')
+
+-- An event in a system, its reply, and the system afterwards.
+abbrev pub Happens : System → Event → Reply → System → Type 0
+Happens x (CreateMap t value_size entries mergeable) reply x' = OfTenant x t reply x' (λ tenant.
+    RefusesOr (RefusesCreate x tenant (shape_of value_size entries)) x reply x' (
+    CreateHappens x t tenant (shape_of value_size entries) mergeable reply x'))
+Happens x (Load t text size) reply x' = OfTenant x t reply x' (λ tenant.
+    RefusedOr (load_refusal tenant size) x reply x' (
+    MayLackMemory x reply x' (LoadHappens x t tenant (subject_of (owned_by tenant) text size) reply x')))
+Happens x (Begin t k context) reply x' = OfTenant x t reply x' (λ tenant.
+    RefusedOr (begin_refusal tenant k context) x reply x' (
+    MayLackMemory x reply x' (BeginHappens x t tenant k context reply x')))
+Happens x (Step t) reply x' = OfTenant x t reply x' (λ tenant.
+    MatchOption tenant.run (Answers x (Refused fault.NoRun) reply x') (λ r. StepHappens x t tenant r reply x'))
+Happens x Visit reply x' = VisitHappens x reply x'
+Happens x (HostUpdate t m key value) reply x' = OfTenant x t reply x' (λ tenant.
+    RefusesOr (RefusesHostUpdate x tenant m key value) x reply x' (UpdateHappens x t tenant m key value reply x'))
+Happens x (HostLookup t m key) reply x' = OfTenant x t reply x' (λ tenant.
+    RefusesOr (RefusesLookup (owned_by tenant) m key) x reply x' (LookupHappens x tenant m key reply x'))
+Happens x (Set option value) reply x' = SetHappens x option value reply x'
+Happens x Unmerge reply x' = UnmergeHappens x reply x'
+Happens x Counters reply x' = Answers x (AreCounters (counters_of x.frames (contents_in (all_maps x.world)) x.sharing)) reply x'
 
 -- What is promised of a reply. A step of an open run isn't refused; until the end the run is at the state
 -- that the standard reaches from its beginning, after fewer steps than the program has instructions; and
@@ -122,17 +217,18 @@ IsPromisedOf r t (Ended number steps) w' = (maps : FlatMaps) × Runs r.program.t
 IsPromisedOf r t reply w' = ⊥
 
 -- the promise for each step of an open run; of other events nothing more is said than that they happen
-abbrev pub IsPromised : World → Event → Reply → World → Type 0
-IsPromised w (Step t) reply w' = IfSome (slice_get w t) (λ tenant. IfSome tenant.run (λ r. IsPromisedOf r t reply w'))
-IsPromised w event reply w' = Unit {0}
+abbrev pub IsPromised : System → Event → Reply → System → Type 0
+IsPromised x (Step t) reply x' = IfSome (slice_get x.world t) (λ tenant. IfSome tenant.run (λ r. IsPromisedOf r t reply x'.world))
+IsPromised x event reply x' = Unit {0}
 
--- events in their order, with their replies: each happens and keeps the promise
-abbrev pub AllHappen : World → List Event → List Reply → World → Type 0
-AllHappen w [] [] w' = w' ≡ w
-AllHappen w (event ∷ events) (reply ∷ replies) w' =
-    (next : World) × Happens w event reply next × IsPromised w event reply next × AllHappen next events replies w'
-AllHappen w [] (reply ∷ replies) w' = ⊥
-AllHappen w (event ∷ events) [] w' = ⊥
+-- events in their order, with their replies: each happens and keeps the promise, and at each moment all
+-- open runs together need no more frames than are free
+abbrev pub AllHappen : System → List Event → List Reply → System → Type 0
+AllHappen x [] [] x' = x' ≡ x
+AllHappen x (event ∷ events) (reply ∷ replies) x' =
+    (next : System) × Happens x event reply next × IsPromised x event reply next × IsCovered next × AllHappen next events replies x'
+AllHappen x [] (reply ∷ replies) x' = ⊥
+AllHappen x (event ∷ events) [] x' = ⊥
 
 -- Events that are steps of a tenant, up to a limit, and their replies: each is Stepped, but for the last where
 -- that is another, with which the run ended or which is a refusal.
@@ -143,20 +239,20 @@ AreSteps t limit (Some last) events replies =
     × (events ≡ replicate n (Step t) ++ Step t ∷ []) × (replies ≡ replicate n Stepped ++ last ∷ [])
 
 -- steps of a tenant happen, up to a limit
-abbrev pub StepsHappen : World → ℕ → ℕ → Option Reply → World → Type 0
-StepsHappen w t limit last w' =
-    (events : List Event) × (replies : List Reply) × AreSteps t limit last events replies × AllHappen w events replies w'
+abbrev pub StepsHappen : System → ℕ → ℕ → Option Reply → System → Type 0
+StepsHappen x t limit last x' =
+    (events : List Event) × (replies : List Reply) × AreSteps t limit last events replies × AllHappen x events replies x'
 
 -- two lists of events that happen one after the other happen as one list
 abbrev pub JoinHappens : Type 0
 JoinHappens =
-    (w next w' : World) (events more : List Event) (replies further : List Reply)
-    → AllHappen w events replies next → AllHappen next more further w'
-    → AllHappen w (events ++ more) (replies ++ further) w'
+    (x next x' : System) (events more : List Event) (replies further : List Reply)
+    → AllHappen x events replies next → AllHappen next more further x'
+    → AllHappen x (events ++ more) (replies ++ further) x'
 
 -- a joined list of events happens as its two parts, one after the other
 abbrev pub SplitHappens : Type 0
 SplitHappens =
-    (w w' : World) (events more : List Event) (replies : List Reply) → AllHappen w (events ++ more) replies w'
-    → ((next : World) × ((first : List Reply) × ((second : List Reply) × (replies ≡ first ++ second)
-    × AllHappen w events first next × AllHappen next more second w')))
+    (x x' : System) (events more : List Event) (replies : List Reply) → AllHappen x (events ++ more) replies x'
+    → ((next : System) × ((first : List Reply) × ((second : List Reply) × (replies ≡ first ++ second)
+    × AllHappen x events first next × AllHappen next more second x')))

@@ -1,35 +1,32 @@
--- What a host keeps of its tenants, and which worlds it stands for.
-use Rattle.std.specs.Prelude.{◌≡◌, ℕ, ◌+◌, ◌≤◌, List, [], map, replicate, slice_get, slice_set, ◌⊎◌, Option, Some, None, Result, Ok, Err}
+-- What a host keeps, and which systems it stands for.
+use Rattle.std.specs.Prelude.{◌≡◌, ℕ, ◌+◌, ◌≤◌, List, length, map, slice_get, slice_set, Option, Some, None, Result, Ok, Err}
 use Rattle.std.specs.List.{AllZip, All}
 use Rattle.host_types.specs.declared.fault.Fault.{Fault}
-use Rattle.host_types.specs.declared.fault.Fault.TheVariants.{OutOfMemory, Program}
-use Rattle.host_types.specs.declared.fault.Refused.{Refused as Refusal}
-use Rattle.bpf_decode.specs.Text.{IsWellFormed, IsFirstFault}
-use Rattle.verifier.specs.Subject.{Subject, all_there}
-use Rattle.verifier.specs.Table.{IsRefusal}
+use Rattle.host_types.specs.Sharing.{Sharing}
+use Rattle.page_table.specs.declared.tenant.Tenant.{Tenant as Recorded}
+use Rattle.page_table.specs.State.{MemoryState}
 use Rattle.verifier.specs.Verified.{Accepted, IsVerified}
-use Rattle.interp.specs.declared.need.Need.{Need}
-use Rattle.interp.specs.declared.need.Need.TheVariants.{Private}
-use Rattle.interp.specs.Machine.{MachineState}
-use Rattle.interp.specs.StandsFor.{Running, StandsFor, FollowsSteps}
+use Rattle.interp.specs.Fits.{HaveShapes}
+use Rattle.interp.specs.StandsFor.{StandsFor}
 use Rattle.host_core.specs.declared.event.Event.{Event}
-use Rattle.host_core.specs.declared.event.Event.TheVariants.{Load, Begin, Step}
+use Rattle.host_core.specs.declared.event.Event.TheVariants.{CreateMap, Load, Begin, Step, Visit, HostUpdate, HostLookup, Set, Unmerge, Counters}
 use Rattle.host_core.specs.declared.event.Reply.{Reply}
 use Rattle.host_core.specs.declared.event.Reply.TheVariants.{Refused}
-use Rattle.host_core.specs.declared.host.tenant.OpenRun.{OpenRun as KeptRun}
-use Rattle.host_core.specs.World.{OpenRun, Tenant, World, IsTenant}
-use Rattle.host_core.specs.Happens.{Happens, IsPromised, StepsHappen}
+use Rattle.host_core.specs.declared.tenant.OpenRun.{OpenRun as KeptRun}
+use Rattle.host_core.specs.World.{OpenRun, Tenant, System, IsTenant, all_maps, reserve_of}
+use Rattle.host_core.specs.Happens.{Happens, IsPromised, StepsHappen, changed}
 
 -- a tenant as a host keeps it: its accepted programs by number, and its open run, if it has one
 pub record TenantView : Type 0 where
   pub programs : List Accepted
   pub run : Option KeptRun
 
--- the tenants by number
-abbrev pub HostView : Type 0
-HostView = List TenantView
+-- the tenants by number, and the memory of their maps
+pub record HostView : Type 0 where
+  pub tenants : List TenantView
+  pub memory : MemoryState
 
--- An open run stands for one of the world: it is a run of the same program, stands for its state, and
+-- An open run stands for one of the system: it is a run of the same program, stands for its state, and
 -- made as many steps.
 pub record StandsForRun (programs : List Accepted) (kept : KeptRun) (r : OpenRun) : Type 0 where
   pub accepted : Accepted
@@ -45,73 +42,75 @@ StandsForAnyRun programs None (Some r) = ⊥
 StandsForAnyRun programs (Some kept) None = ⊥
 StandsForAnyRun programs (Some kept) (Some r) = StandsForRun programs kept r
 
--- A kept tenant stands for one of the world that has no maps: their programs are the same, and so are
--- their open runs.
+-- A kept tenant stands for one of the system: their programs are the same, each of which was accepted for
+-- maps that the tenant has, and so are their open runs.
 pub record StandsForTenant (kept : TenantView) (tenant : Tenant) : Type 0 where
-  pub maps : tenant.maps ≡ replicate 8 None
   pub programs : tenant.programs ≡ map (λ accepted. accepted.subject) kept.programs
+  pub verified : All IsVerified kept.programs
+  pub shapes : All (λ accepted. HaveShapes accepted.subject.shapes tenant.maps) kept.programs
   pub run : StandsForAnyRun kept.programs kept.run tenant.run
   pub meets : IsTenant tenant
 
--- a program that was accepted for a tenant without maps
-pub record IsKeptProgram (accepted : Accepted) : Type 0 where
-  pub verified : IsVerified accepted
-  pub unmapped : accepted.subject.shapes ≡ replicate 8 None
+-- what is recorded of a tenant in the memory
+abbrev pub recorded_of : Tenant → Recorded
+recorded_of tenant = record { reserve = reserve_of tenant.run }
 
--- what a host keeps of a tenant: programs that were accepted; and it stands for a tenant of some world
-pub record IsKept (kept : TenantView) : Type 0 where
-  pub accepted : All IsKeptProgram kept.programs
-  pub tenant : Tenant
-  pub stands : StandsForTenant kept tenant
+-- A memory stands for the tenants' private maps and for the pages that share frames, and it has recorded of each
+-- tenant just what its open run may need.
+pub record StandsForMemory (memory : MemoryState) (x : System) : Type 0 where
+  pub maps : memory.maps ≡ all_maps x.world
+  pub eight : All (λ (tenant : Tenant). length tenant.maps ≡ 8) x.world
+  pub sharing : memory.sharing ≡ x.sharing
+  pub frames : length memory.arena ≡ x.frames
+  pub recorded : memory.tenants ≡ map recorded_of x.world
 
--- a host stands for a world if each of its tenants stands for the world's
-abbrev pub StandsForWorld : HostView → World → Type 0
-StandsForWorld view w = AllZip StandsForTenant view w
+-- a host stands for a system if its memory does, and each of its tenants stands for the system's
+pub record StandsForSystem (view : HostView) (x : System) : Type 0 where
+  pub memory : StandsForMemory view.memory x
+  pub tenants : AllZip StandsForTenant view.tenants x.world
 
--- a text as a tenant without maps would run it
-abbrev pub unmapped : List ℕ → ℕ → Subject
-unmapped text size = record { text = text; shapes = all_there []; context_size = size }
-
--- why a text isn't accepted: for want of memory, or by its own refusal
-abbrev pub IsJudgement : Subject → Fault → Type 0
-IsJudgement p fault = (fault ≡ OutOfMemory)
-    ⊎ ((refusal : Refusal) × (fault ≡ Program refusal) × (IsFirstFault p.text refusal ⊎ (IsWellFormed p.text × IsRefusal p refusal)))
-
--- the tenant that an event names
-abbrev pub tenant_of : Event → ℕ
-tenant_of (Load t text size) = t
-tenant_of (Begin t k context) = t
-tenant_of (Step t) = t
+-- the tenant that an event names, if it names one
+abbrev pub tenant_of : Event → Option ℕ
+tenant_of (CreateMap t value_size entries mergeable) = Some t
+tenant_of (Load t text size) = Some t
+tenant_of (Begin t k context) = Some t
+tenant_of (Step t) = Some t
+tenant_of (HostUpdate t m key value) = Some t
+tenant_of (HostLookup t m key) = Some t
+tenant_of event = None
 
 -- a refusal is a reply too
 abbrev pub reply_of : Result Reply Fault → Reply
 reply_of (Ok reply) = reply
 reply_of (Err fault) = Refused fault
 
--- An event of a tenant was served: in each world in which the tenant stood for the one that the event
--- names, the event happens, keeps the promise, and leaves one there for which the tenant stands now.
-abbrev pub IsServed : TenantView → Event → Reply → TenantView → Type 0
-IsServed old event reply new =
-    (w : World) (tenant : Tenant) → slice_get w (tenant_of event) ≡ Some tenant → StandsForTenant old tenant
-    → (next : Tenant) × StandsForTenant new next
-    × Happens w event reply (slice_set w (tenant_of event) next)
-    × IsPromised w event reply (slice_set w (tenant_of event) next)
+-- An event of a tenant was served: in each system for which the memory stood and in which the tenant stood
+-- for the one with the number, the event happens, keeps the promise, and leaves a tenant there and
+-- pages for which tenant and memory stand now.
+abbrev pub IsServed : ℕ → TenantView → MemoryState → Event → Reply → TenantView → MemoryState → Type 0
+IsServed t old before event reply new after =
+    (x : System) (tenant : Tenant) → slice_get x.world t ≡ Some tenant → StandsForTenant old tenant → StandsForMemory before x
+    → (next : Tenant) × (sharing : Sharing) × StandsForTenant new next × StandsForMemory after (changed x t next sharing)
+    × Happens x event reply (changed x t next sharing) × IsPromised x event reply (changed x t next sharing)
 
--- Steps of a tenant were made, up to a limit: in each world in which it stood for one, they happen as Step
--- events of that one, and leave one there for which the tenant stands now.
-abbrev pub HasMadeSteps : TenantView → ℕ → Option Reply → TenantView → Type 0
-HasMadeSteps old limit last new =
-    (w : World) (t : ℕ) (tenant : Tenant) → slice_get w t ≡ Some tenant → StandsForTenant old tenant
-    → (next : Tenant) × StandsForTenant new next × StepsHappen w t limit last (slice_set w t next)
+-- Steps of a tenant were made, up to a limit: in each such system they happen as Step events of that
+-- tenant, and leave one there and pages for which tenant and memory stand now.
+abbrev pub HasMadeSteps : ℕ → TenantView → MemoryState → ℕ → Option Reply → TenantView → MemoryState → Type 0
+HasMadeSteps t old before limit last new after =
+    (x : System) (tenant : Tenant) → slice_get x.world t ≡ Some tenant → StandsForTenant old tenant → StandsForMemory before x
+    → (next : Tenant) × (sharing : Sharing) × StandsForTenant new next × StandsForMemory after (changed x t next sharing)
+    × StepsHappen x t limit last (changed x t next sharing)
 
--- a run that stood for a state made steps, up to a limit, and as many as that where it goes on
-abbrev pub HasAdvanced : Accepted → MachineState → ℕ → Running → Need → Running → Type 0
-HasAdvanced accepted s limit old need new =
-    (n : ℕ) × FollowsSteps accepted s n need new × (new.steps ≡ old.steps + n) × (n ≤ limit) × (need ≡ Private → n ≡ limit)
+-- how many steps a kept run made
+abbrev pub steps_of : Option KeptRun → ℕ
+steps_of None = 0
+steps_of (Some kept) = kept.run.steps
 
--- what a new host may be made of: 2 to 4096 frames, and 1 to 16 tenants (this project's own limits)
-pub record IsHostSize (frames tenants : ℕ) : Type 0 where
-  pub some_frames : 2 ≤ frames
-  pub few_frames : frames ≤ 4096
-  pub some_tenants : 1 ≤ tenants
-  pub few_tenants : tenants ≤ 16
+-- a run that goes on made so many steps more
+abbrev pub HasCounted : TenantView → ℕ → Option Reply → TenantView → Type 0
+HasCounted old steps None new = steps_of old.run + steps ≡ steps_of new.run
+HasCounted old steps (Some last) new = Unit {0}
+
+-- the tenant and the memory stand for a system
+abbrev pub IsKept : ℕ → TenantView → MemoryState → Type 0
+IsKept t kept memory = (x : System) × (tenant : Tenant) × (slice_get x.world t ≡ Some tenant) × StandsForTenant kept tenant × StandsForMemory memory x

@@ -1,3 +1,4 @@
 pub mod World
 pub mod Happens
 pub mod HostView
+pub mod Stretches

@@ -1,9 +1,16 @@
--- What a host is, without any of its machinery: each tenant's private memory, programs and open run.
-use Rattle.std.specs.Prelude.{◌≡◌, ℕ, ◌≤◌, List, [], replicate, slice_get, IfSome, Option, None}
+-- What a host is, without any of its machinery: each tenant's private memory, programs and open run, and
+-- which pages share frames.
+use Rattle.std.specs.Prelude.{◌≡◌, ℕ, ◌-◌, ◌*◌, ◌≤◌, List, [], flat_map, replicate, slice_get, sum_by, IfSome, Option, None, Some}
+use Rattle.host_types.specs.declared.options.Options.{Options}
 use Rattle.host_types.specs.Memory.{FlatMaps}
-use Rattle.host_types.specs.Tenant.{AreFlatMaps}
+use Rattle.host_types.specs.Sharing.{Sharing, frames_free}
+use Rattle.host_types.specs.Tenant.{AreFlatMaps, TenantPart}
 use Rattle.bpf_decode.specs.Text.{instructions_before}
+use Rattle.page_table.specs.State.{no_sharing}
+use Rattle.verifier.specs.Reserve.{reserve_from}
 use Rattle.verifier.specs.Subject.{Subject}
+use Rattle.verifier.specs.Table.{tight_table}
+use Rattle.verifier.specs.Verified.{Accepted}
 use Rattle.interp.specs.Machine.{MachineState, Next, start_state}
 use Rattle.interp.specs.Runs.{Runs}
 
@@ -26,9 +33,20 @@ pub record Tenant : Type 0 where
 abbrev pub World : Type 0
 World = List Tenant
 
+-- a world, which of its pages share frames, and how many frames there are
+pub record System : Type 0 where
+  pub world : World
+  pub sharing : Sharing
+  pub frames : ℕ
+
 -- a tenant of a new host has eight places for maps, none of them taken, no program and no run
 abbrev pub new_tenant : Tenant
 new_tenant = record { maps = replicate 8 None; programs = []; run = None }
+
+-- a new host: no page is there
+abbrev pub new_system : ℕ → ℕ → Options → System
+new_system frames tenants options =
+    record { world = replicate tenants new_tenant; sharing = no_sharing (tenants * 2048) options; frames = frames }
 
 -- a run that has just begun
 abbrev pub begun_run : Subject → List ℕ → FlatMaps → OpenRun
@@ -49,3 +67,32 @@ pub record IsTenant (tenant : Tenant) : Type 0 where
 -- each tenant is as its open run says
 abbrev pub IsWorld : World → Type 0
 IsWorld w = (t : ℕ) → IfSome (slice_get w t) IsTenant
+
+-- the maps of all tenants, those of one behind those of the other
+abbrev pub all_maps : World → FlatMaps
+all_maps w = flat_map (λ (tenant : Tenant). tenant.maps) w
+
+-- a program with what is known at each of its slots
+abbrev pub accepted_of : Subject → Accepted
+accepted_of program = record { subject = program; table = tight_table program }
+
+-- how many frames the rest of an open run may need
+abbrev pub reserve_of : Option OpenRun → ℕ
+reserve_of None = 0
+reserve_of (Some r) = reserve_from (accepted_of r.program) r.state.slot
+
+-- what belongs to a tenant of the memory: its maps, and what its open run may need
+abbrev pub owned_by : Tenant → TenantPart
+owned_by tenant = record { maps = tenant.maps; reserve = reserve_of tenant.run }
+
+-- what all open runs may need
+abbrev pub reserved_in : World → ℕ
+reserved_in w = sum_by (λ (tenant : Tenant). reserve_of tenant.run) w
+
+-- the frames that may be had: the free ones less those that open runs may need
+abbrev pub have_in : System → ℕ
+have_in x = frames_free x.frames x.sharing - reserved_in x.world
+
+-- all open runs together need no more frames than are free
+abbrev pub IsCovered : System → Type 0
+IsCovered x = reserved_in x.world ≤ frames_free x.frames x.sharing

@@ -1,9 +1,16 @@
 use crate::bytes::Bytes;
-use host_types::Fault;
+use host_types::{Fault, MapNo, Opt, Visited};
 
 /// One thing that happens to a host.
 #[derive(Debug, Drop)]
 pub enum Event {
+    /// Makes a map of zeros for a tenant, whose pages may be merged or not.
+    CreateMap {
+        tenant: u32,
+        value_size: u32,
+        entries: u32,
+        mergeable: bool,
+    },
     /// Loads a program's text for contexts of a size in bytes.
     Load {
         tenant: u32,
@@ -20,11 +27,37 @@ pub enum Event {
     Step {
         tenant: u32,
     },
+    /// Lets the scanner visit the next page that may be merged.
+    Visit,
+    /// Writes a value to an element of a tenant's map.
+    HostUpdate {
+        tenant: u32,
+        map: MapNo,
+        key: u32,
+        value: Bytes,
+    },
+    /// Reads the value of an element of a tenant's map.
+    HostLookup {
+        tenant: u32,
+        map: MapNo,
+        key: u32,
+    },
+    /// Sets an option of the scanner.
+    Set {
+        option: Opt,
+        value: u32,
+    },
+    /// Gives each page that shares a frame one of its own, and stops the scanner.
+    Unmerge,
+    /// Tells the counters.
+    Counters,
 }
 
 /// What a host answers to an event.
-#[derive(Clone, Copy, Debug, PartialEq, Eq)]
+#[derive(Debug, PartialEq, Eq, Drop)]
 pub enum Reply {
+    /// The map was made under this number.
+    Map(MapNo),
     /// The program was loaded under this number.
     Program(u32),
     /// The run is open.
@@ -33,6 +66,14 @@ pub enum Reply {
     Stepped,
     /// The run made its last step: what it returned, and how many steps it made in all.
     Ended { ret: u64, steps: u32 },
+    /// What the visit did.
+    Visited(Visited),
+    /// It was done.
+    Done,
+    /// The value of the element.
+    Value(Bytes),
+    /// The counters as they are now.
+    Counters(ksm_counters::Counters),
     /// The event was refused, and changed nothing.
     Refused(Fault),
 }
@@ -41,13 +82,18 @@ impl Event {
     ghost use Rattle.std.specs.Prelude.{◌≡◌};
     ghost use Rattle.host_core.specs.HostView.{tenant_of};
 
-    /// The number of the tenant that the event names.
-    pub fn tenant(&self) -> u32
+    /// The number of the tenant that the event names, if it names one.
+    pub fn tenant(&self) -> Option<u32>
         ensures { result ≡ tenant_of self.now }
     {
         match self {
-            Event::Load { tenant, .. } | Event::Begin { tenant, .. } | Event::Step { tenant } =>
-                *tenant,
+            Event::CreateMap { tenant, .. }
+            | Event::Load { tenant, .. }
+            | Event::Begin { tenant, .. }
+            | Event::Step { tenant }
+            | Event::HostUpdate { tenant, .. }
+            | Event::HostLookup { tenant, .. } => Some(*tenant),
+            Event::Visit | Event::Set { .. } | Event::Unmerge | Event::Counters => None,
         }
     }
 }

@@ -1,48 +1,49 @@
-ghost use Rattle.std.specs.Prelude.{◌≡◌, ◌≤◌, ◌↔◌, ◌⊎◌, IsSome, IsTrue, Err, IfOk, IfErr, OnErr, replicate};
-ghost use Rattle.host_types.specs.OptionTable.{AreOptions};
-ghost use Rattle.host_types.specs.declared.fault.Fault.TheVariants.{BadShape, BadOption, OutOfMemory};
-ghost use Rattle.host_core.specs.World.{World, new_tenant};
-ghost use Rattle.host_core.specs.Happens.{Happens, IsPromised, AllHappen, StepsHappen, JoinHappens, SplitHappens};
-ghost use Rattle.host_core.specs.HostView.{StandsForWorld, IsHostSize};
-
-mod tenant;
+ghost use Rattle.std.specs.Prelude.{◌≡◌, ◌≤◌, ◌↔◌, ◌⊎◌, ◌*◌, IsSome, IsTrue, None, IfOk, IfErr, OnErr};
+ghost use Rattle.page_table.specs.Changes.{RefusesMemory};
+ghost use Rattle.host_core.specs.World.{System, IsCovered, new_system};
+ghost use Rattle.host_core.specs.Happens.{Happens, IsPromised, AllHappen, StepsHappen, SetHappens, UnmergeHappens, JoinHappens, SplitHappens};
+ghost use Rattle.host_core.specs.HostView.{StandsForSystem, tenant_of, reply_of};
 
 use crate::event::{Event, Reply};
-use host_types::{Fault, Options};
+use crate::tenant::Tenant;
+use host_calls::{host_set, host_unmerge};
+use host_types::{Fault, Opt, Options};
+use ksm_counters::counters;
+use page_table::Memory;
+use scanner::visit;
 use std::alloc::{AllocError, Global};
 use std::marker::Model;
-use tenant::Tenant;
 
-/// Several tenants, each with its own programs and at most one open run. Contracts see them by number,
-/// and say which world of private memories the host stands for.
+/// Several tenants, each with its own maps, programs and at most one open run, in a memory whose pages are
+/// merged. Contracts see them by number, and say which system of private memories the host stands for.
 #[derive(Drop)]
 pub struct Host {
     alloc: Global,
     tenants: Vec<Tenant>,
+    memory: Memory,
 }
 
 impl Model for Host {
-    ghost use Rattle.host_core.specs.HostView.{HostView};
+    ghost use Rattle.host_core.specs.World.{System};
+    ghost use Rattle.host_core.specs.HostView.{HostView, StandsForSystem};
 
     ghost Value = { HostView };
 
-    ghost view = { λ host. host.tenants.items };
+    ghost view = { λ host. record { tenants = host.tenants.items; memory = host.memory } };
+
+    ghost invariant = { λ host. (x : System) × StandsForSystem (record { tenants = host.tenants.items; memory = host.memory }) x };
 }
 
 impl Host {
     /// A host of 2 to 4096 frames and 1 to 16 tenants, none of which has a map, a program or a run.
+    ///
+    /// Refusals in their order: 33 where frames or tenants are out of limits, 40 where an option can't have
+    /// its value, 41 where memory ran out.
     pub fn new(alloc: Global, frames: u32, tenants: u32, options: Options) -> Result<Host, Fault>
-        ensures new { IfOk result (λ host. StandsForWorld host (replicate tenants new_tenant)) }
-        ensures bad_shape { (result ≡ Err BadShape) ↔ (IsHostSize frames tenants → ⊥) }
-        ensures bad_option { (result ≡ Err BadOption) ↔ (IsHostSize frames tenants × (AreOptions options → ⊥)) }
-        ensures refused { IfErr result (λ fault. (fault ≡ BadShape) ⊎ (fault ≡ BadOption) ⊎ (fault ≡ OutOfMemory)) }
+        ensures new { IfOk result (λ host. StandsForSystem host (new_system frames tenants options)) }
+        ensures refused { IfErr result (RefusesMemory frames tenants options) }
     {
-        if !is_host_size(frames, tenants) {
-            return Err(Fault::BadShape);
-        }
-        if !options.is_valid() {
-            return Err(Fault::BadOption);
-        }
+        let memory = Memory::new(alloc, frames, tenants, options)?;
         let Ok(mut places) = Vec::with_capacity(alloc, tenants as usize) else {
             return Err(Fault::OutOfMemory);
         };
@@ -52,30 +53,31 @@ impl Host {
         Ok(Host {
             alloc,
             tenants: places,
+            memory,
         })
     }
 
     /// Lets an event happen. A refusal changes nothing; the event says which there are, and they are
     /// tested in their order.
     pub fn apply(&mut self, event: &Event) -> Reply
-        ensures { (w : World) → StandsForWorld self.old w
-            → (next : World) × StandsForWorld self.new next
-            × Happens w event.now result next × IsPromised w event.now result next }
+        ensures { (x : System) → StandsForSystem self.old x
+            → (next : System) × StandsForSystem self.new next
+            × Happens x event.now result next × IsPromised x event.now result next × IsCovered next }
     {
-        let number = event.tenant() as usize;
-        if number >= self.tenants.len() {
-            return Reply::Refused(Fault::BadTenant);
-        }
-        let tenant = &mut self.tenants[number];
-        tenant.apply(self.alloc, event)
+        let reply = match event.tenant() {
+            Some(number) => self.apply_to(number, event),
+            None => self.apply_to_all(event),
+        };
+        self.memory.facts();
+        reply
     }
 
     /// Lets events happen in their order, and gives the reply to each. Room for the replies is
     /// reserved first: where there is none, nothing happens.
     pub fn apply_all(&mut self, events: &[Event]) -> Result<Vec<Reply>, AllocError>
         ensures happen { IfOk result (λ replies.
-            (w : World) → StandsForWorld self.old w
-            → (next : World) × StandsForWorld self.new next × AllHappen w events.now replies.items next) }
+            (x : System) → StandsForSystem self.old x
+            → (next : System) × StandsForSystem self.new next × AllHappen x events.now replies.items next) }
         ensures refused { OnErr result (self.new ≡ self.old) }
     {
         let mut replies = Vec::with_capacity(self.alloc, events.len())?;
@@ -90,26 +92,83 @@ impl Host {
     /// that is refused: the reply to that one, or `None` where the limit comes first. A run makes fewer
     /// than 2^32 steps, so that such a limit never comes first. It takes no memory.
     pub fn make_steps(&mut self, tenant: u32, limit: u64) -> Option<Reply>
-        ensures steps { (w : World) → StandsForWorld self.old w
-            → (next : World) × StandsForWorld self.new next × StepsHappen w tenant limit result next }
+        ensures steps { (x : System) → StandsForSystem self.old x
+            → (next : System) × StandsForSystem self.new next × StepsHappen x tenant limit result next }
         ensures ends { 4294967296 ≤ limit → IsSome result }
     {
         if limit == 0 {
             return None;
         }
-        let number = tenant as usize;
-        if number >= self.tenants.len() {
+        self.memory.facts();
+        let place = tenant as usize;
+        if place >= self.tenants.len() {
             return Some(Reply::Refused(Fault::BadTenant));
         }
-        self.tenants[number].make_steps(limit)
+        self.tenants[place].make_steps(&mut self.memory, tenant, limit)
+    }
+
+    // Lets an event of a tenant happen.
+    fn apply_to(&mut self, number: u32, event: &Event) -> Reply
+        requires { tenant_of event.now ≡ Some number }
+        ensures { (x : System) → StandsForSystem self.old x
+            → (next : System) × StandsForSystem self.new next
+            × Happens x event.now result next × IsPromised x event.now result next }
+    {
+        let place = number as usize;
+        if place >= self.tenants.len() {
+            return Reply::Refused(Fault::BadTenant);
+        }
+        self.tenants[place].apply(self.alloc, &mut self.memory, number, event)
+    }
+
+    // Sets an option of the scanner.
+    fn set(&mut self, option: Opt, value: u32) -> Result<Reply, Fault>
+        ensures { (x : System) → StandsForSystem self.old x
+            → (next : System) × StandsForSystem self.new next × SetHappens x option value (reply_of result) next }
+    {
+        host_set(&mut self.memory, option, value)?;
+        Ok(Reply::Done)
+    }
+
+    // Gives each page that shares a frame one of its own.
+    fn unmerge(&mut self) -> Result<Reply, Fault>
+        ensures { (x : System) → StandsForSystem self.old x
+            → (next : System) × StandsForSystem self.new next × UnmergeHappens x (reply_of result) next }
+    {
+        host_unmerge(&mut self.memory)?;
+        Ok(Reply::Done)
+    }
+
+    // Lets an event that names no tenant happen.
+    fn apply_to_all(&mut self, event: &Event) -> Reply
+        requires { tenant_of event.now ≡ None }
+        ensures { (x : System) → StandsForSystem self.old x
+            → (next : System) × StandsForSystem self.new next
+            × Happens x event.now result next × IsPromised x event.now result next }
+    {
+        match event {
+            Event::Visit => Reply::Visited(visit(&mut self.memory)),
+            Event::Set { option, value } => told(self.set(*option, *value)),
+            Event::Unmerge => told(self.unmerge()),
+            Event::Counters => Reply::Counters(counters(&self.memory)),
+            Event::CreateMap { .. }
+            | Event::Load { .. }
+            | Event::Begin { .. }
+            | Event::Step { .. }
+            | Event::HostUpdate { .. }
+            | Event::HostLookup { .. } => unreachable!(),
+        }
     }
 }
 
-// Whether a host may have so many frames and tenants.
-fn is_host_size(frames: u32, tenants: u32) -> bool
-    ensures { IsTrue result ↔ IsHostSize frames tenants }
+// A refusal is a reply too.
+pub(crate) fn told(served: Result<Reply, Fault>) -> Reply
+    ensures { result ≡ reply_of served }
 {
-    2 <= frames && frames <= 4096 && 1 <= tenants && tenants <= 16
+    match served {
+        Ok(reply) => reply,
+        Err(fault) => Reply::Refused(fault),
+    }
 }
 
 /// Two lists of events, one after the other, give what their joining gives. This is a law about the

@@ -27,7 +27,7 @@ pub record IsDriven (v : Accepted) (start : Running) (owned : TenantPart) (run :
 -- a step in private
 pub private_on : (v : Accepted) (start run after : Running) (s : MachineState) (now : TenantPart) → (followed : IsFollowed v start run s now) → Follows v followed.state Private after → after.steps ≡ run.steps + 1
     → IsFollowed v start after s now
-private_on v start run after s now followed (t, makes, maps, less, stands) more =
+private_on v start run after s now followed (t, makes, maps, quiet, less, stands) more =
     let reserve : reserve_from v followed.state.slot ≤ now.reserve = rw followed.under_way.stands.slot at followed.under_way.reserve in
     let slot : after.slot ≡ t.slot = stands.slot in
     record {

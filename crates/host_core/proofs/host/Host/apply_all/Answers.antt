@@ -8,7 +8,7 @@ pub loop-event-init : goal.loop-event-init
 loop-event-init c = record {
   room = c.in_ok-replies.ensures.exact;
   given = c.in_ok-replies.ensures.len;
-  happen = λ w stands. (w, stands, subst (λ replies. AllHappen w [] replies w) (sym c.in_ok-replies.ensures.items) refl);
+  happen = λ x stands. (x, stands, subst (λ replies. AllHappen x [] replies x) (sym c.in_ok-replies.ensures.items) refl);
 }
 
 pub push_reserved-requires : goal.push_reserved-requires
@@ -23,21 +23,21 @@ loop-event-preserved c =
     record {
       room = c.push_reserved.ensures.capacity ∙ c.loop-event.invariant.room;
       given = omega (arith, c.push_reserved.ensures.len, c.loop-event.invariant.given);
-      happen = λ w stands.
-          let first = c.loop-event.invariant.happen w stands in
-          let then = c.apply-reply.ensures first.0 first.1 in
-          let happens = AllHappen-push w first.0 then.0 before c.loop-event.replies.items c.event-item.result c.apply-reply.result first.2 then.2 then.3 in (
-            then.0,
-            then.1,
-            subst (λ some. AllHappen w some c.push_reserved.new.self.items then.0) (sym one_more)
-                (subst (λ replies. AllHappen w (before ++ c.event-item.result ∷ []) replies then.0) (sym c.push_reserved.ensures.items) happens),
+      happen = λ x stands.
+          let first = c.loop-event.invariant.happen x stands in
+          let after = c.apply-reply.ensures first.0 first.1 in
+          let happens = AllHappen-push x first.0 after.0 before c.loop-event.replies.items c.event-item.result c.apply-reply.result first.2 after.2 after.3 after.4 in (
+            after.0,
+            after.1,
+            subst (λ some. AllHappen x some c.push_reserved.new.self.items after.0) (sym one_more)
+                (subst (λ replies. AllHappen x (before ++ c.event-item.result ∷ []) replies after.0) (sym c.push_reserved.ensures.items) happens),
           );
     }
 
 pub returns : goal.returns
 returns c = record {
-  happen = λ w stands.
-      let all = c.loop-event.invariant.happen w stands in
-      (all.0, all.1, subst (λ some. AllHappen w some c.loop-event.replies.items all.0) (take_all c.loop-event.event-index c.args.events.now c.loop-event-test.false) all.2);
+  happen = λ x stands.
+      let all = c.loop-event.invariant.happen x stands in
+      (all.0, all.1, subst (λ some. AllHappen x some c.loop-event.replies.items all.0) (take_all c.loop-event.event-index c.args.events.now c.loop-event-test.false) all.2);
   refused = tt;
 }

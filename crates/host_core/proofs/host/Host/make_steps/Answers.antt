@@ -3,26 +3,39 @@ use Rattle.std.proofs.lemmas.Option.{slice_get_past, slice_get_read}
 use Rattle.host_types.specs.declared.fault.Fault.TheVariants.{BadTenant}
 use Rattle.host_core.specs.declared.event.Reply.TheVariants.{Refused}
 use Rattle.host_core.specs.HostView.{HostView}
-use Rattle.host_core.proofs.Stepping.{HostMakesSteps, host-made, host-no_tenant}
+use Rattle.host_core.proofs.Hosting.{HostMakesSteps, host-made, host-no_tenant, kept_in}
 use Rattle.host_core.proofs.host.Host.make_steps.Goals as goal
 
-pub returns-then-number-len : goal.returns-then-number-len
-returns-then-number-len c =
+pub returns-then-place-len : goal.returns-then-place-len
+returns-then-place-len c =
     let past : length c.self.inside.tenants.items ≤ c.args.tenant = omega (arith, c.self.inside.tenants.ok.0) in
     record {
       steps = subst (λ view. HostMakesSteps view c.args.tenant c.args.limit (Some (Refused BadTenant)) view) c.self.view_is
-          (host-no_tenant c.self.inside.tenants.items c.args.tenant c.args.limit (omega arith) (slice_get_past _ _ past));
+          (host-no_tenant c.self.inside.tenants.items c.self.inside.memory c.args.tenant c.args.limit (omega arith) c.facts.ensures (slice_get_past _ _ past));
       ends = λ great. refl;
     }
 
-pub returns : goal.returns
-returns c =
+pub make_steps-requires-clause-kept : goal.make_steps-requires-clause-kept
+make_steps-requires-clause-kept c =
     let items = c.self.inside.tenants.items in
     let within : c.args.tenant < length items = omega (arith, c.self.inside.tenants.ok.0) in
     let found = slice_get_read items (length items) c.args.tenant c.index_mut.result.now refl within c.index_mut.ensures.value in
-    let made = host-made items c.args.tenant c.args.limit c.index_mut.result.now c.make_steps.new.self c.make_steps.result found c.make_steps.ensures.steps in
-    let new : HostView = set items c.args.tenant c.make_steps.new.self in
-    record {
-      steps = subst (λ old. HostMakesSteps old c.args.tenant c.args.limit c.make_steps.result new) c.self.view_is made;
-      ends = c.make_steps.ensures.ends;
-    }
+    kept_in items c.self.inside.memory c.args.tenant c.index_mut.result.now c.self.invariant found
+
+pub invariant_of-self : goal.invariant_of-self
+invariant_of-self c =
+    let items = c.self.inside.tenants.items in
+    let within : c.args.tenant < length items = omega (arith, c.self.inside.tenants.ok.0) in
+    let found = slice_get_read items (length items) c.args.tenant c.index_mut.result.now refl within c.index_mut.ensures.value in
+    let made = host-made items c.self.inside.memory c.make_steps.new.memory c.args.tenant c.args.limit c.index_mut.result.now c.make_steps.new.self c.make_steps.result found c.make_steps.ensures.steps in
+    let after = made c.self.invariant.0 c.self.invariant.1 in
+    (after.0, after.1)
+
+pub returns-clause-steps : goal.returns-clause-steps
+returns-clause-steps c =
+    let items = c.self.inside.tenants.items in
+    let within : c.args.tenant < length items = omega (arith, c.self.inside.tenants.ok.0) in
+    let found = slice_get_read items (length items) c.args.tenant c.index_mut.result.now refl within c.index_mut.ensures.value in
+    let made = host-made items c.self.inside.memory c.make_steps.new.memory c.args.tenant c.args.limit c.index_mut.result.now c.make_steps.new.self c.make_steps.result found c.make_steps.ensures.steps in
+    let new : HostView = record { tenants = set items c.args.tenant c.make_steps.new.self; memory = c.make_steps.new.memory } in
+    subst (λ old. HostMakesSteps old c.args.tenant c.args.limit c.make_steps.result new) c.self.view_is made

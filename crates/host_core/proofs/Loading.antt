@@ -1,0 +1,179 @@
+-- What the load of a program does to a tenant and to each system that it stands in.
+use Rattle.std.proofs.Common.{◌≡◌, ◌↔◌, ℕ, zero, suc, ◌%◌, ◌<◌, ◌≤◌, nat_le, ◌==◌, ◌&&◌, ◌⊎◌, Bool, true, false, IsTrue, List, [], ◌∷◌, ◌++◌, length, map, inl, inr, Option, Some, None, is_some, IsNone, sym, ap, refl, ◌∙◌, subst, eq-eqb, arith}
+use Rattle.std.specs.List.{slice_get, All}
+use Rattle.std.proofs.lemmas.Bool.{le-leb, lt-leb}
+use Rattle.std.proofs.lemmas.Bool.Decides.{nat_tests}
+use Rattle.std.proofs.lemmas.List.{length-map, map-append}
+use Rattle.std.proofs.lemmas.List.Elements.{All-push}
+use Rattle.host_types.specs.declared.fault.Fault.{Fault}
+use Rattle.host_types.specs.declared.fault.Fault.TheVariants.{Busy, TooManyPrograms, BadContext, OutOfMemory}
+use Rattle.host_types.specs.declared.fault.Fault.TheVariants as fault
+use Rattle.host_types.specs.Memory.{FlatMap, FlatMaps}
+use Rattle.bpf_decode.specs.Text.{IsWellFormed}
+use Rattle.page_table.specs.Reads.{ReadsAs}
+use Rattle.page_table.specs.State.{MemoryState, part}
+use Rattle.verifier.specs.Subject.{Subject, IsContextSize, all_there}
+use Rattle.verifier.specs.Table.{IsTightTable, IsRefusal}
+use Rattle.verifier.specs.Verified.{Accepted, IsVerified}
+use Rattle.interp.specs.Fits.{HaveShapes}
+use Rattle.tenant_runs.proofs.Shapes.{HaveFirst, HasShapeAt, have_all}
+use Rattle.host_calls.specs.Programs.{IsJudgement, shapes_of, subject_of}
+use Rattle.host_core.specs.declared.event.Event.TheVariants.{Load}
+use Rattle.host_core.specs.declared.event.Reply.TheVariants.{Program, Refused}
+use Rattle.host_core.specs.declared.tenant.OpenRun.{OpenRun as KeptRun}
+use Rattle.host_core.specs.World.{OpenRun, Tenant, System, owned_by}
+use Rattle.host_core.specs.Happens.{MayLackMemory, LoadHappens, load_refusal, is_context_size, changed}
+use Rattle.host_core.specs.HostView.{TenantView, StandsForAnyRun, StandsForTenant, StandsForMemory, IsServed}
+use Rattle.host_core.proofs.Worlds.{OfTenant-there, RefusedOr-refused, RefusedOr-else}
+use Rattle.host_core.proofs.Systems.{part_stands, changed_stands}
+use Rattle.host_core.proofs.Serving.{is_some-run, served-same}
+
+-- the shapes of a tenant's maps are those that it has
+first_shapes : (maps : FlatMaps) → HaveFirst (shapes_of maps) maps (length (shapes_of maps))
+first_shapes [] m less d = absurd (omega (arith, less))
+first_shapes (None ∷ maps) m less d = absurd (omega (arith, less))
+first_shapes (Some flat ∷ maps) zero less d = refl
+first_shapes (Some flat ∷ maps) (suc m) less d = first_shapes maps m (omega (arith, less)) d
+
+have_shapes : (maps : FlatMaps) → HaveShapes (all_there (shapes_of maps)) maps
+have_shapes maps = have_all (shapes_of maps) maps (first_shapes maps)
+
+-- as many programs
+length-programs : (kept : TenantView) (tenant : Tenant) → StandsForTenant kept tenant → length tenant.programs ≡ length kept.programs
+length-programs kept tenant stands = ap length stands.programs ∙ length-map kept.programs (λ (v : Accepted). v.subject)
+
+-- a size that a context may have passes the test
+pub size-fits : (size : ℕ) → IsContextSize size → is_context_size size ≡ true
+size-fits size fits =
+    let most : nat_le size 256 ≡ true = le-leb size 256 fits.most in
+    let words : (size % 8 == 0) ≡ true = eq-eqb (size % 8) 0 fits.words in
+    rw (most, words) refl
+
+-- and another doesn't
+pub size-odd : (size : ℕ) → (IsContextSize size → ⊥) → is_context_size size ≡ false
+size-odd size odd = chosen (nat_le size 256) (size % 8 == 0) refl refl
+  where
+    chosen : (a b : Bool) → nat_le size 256 ≡ a → (size % 8 == 0) ≡ b → (a && b) ≡ false
+    chosen true true most words = absurd (odd (record { most = grind (arith, nat_tests, most); words = grind (arith, nat_tests, words) }))
+    chosen true false most words = refl
+    chosen false b most words = refl
+
+-- a load while a run is open
+load_refusal-busy : (tenant : Tenant) (size : ℕ) → is_some tenant.run ≡ true → load_refusal tenant size ≡ Some Busy
+load_refusal-busy tenant size busy = rw busy refl
+
+-- a load of a ninth program
+load_refusal-full : (tenant : Tenant) (size : ℕ) → is_some tenant.run ≡ false → 8 ≤ length tenant.programs → load_refusal tenant size ≡ Some TooManyPrograms
+load_refusal-full tenant size idle full =
+    let many = le-leb 8 (length tenant.programs) full in
+    rw (idle, many) refl
+
+-- a load for contexts of no such size
+load_refusal-size : (tenant : Tenant) (size : ℕ) → is_some tenant.run ≡ false → length tenant.programs < 8 → is_context_size size ≡ false → load_refusal tenant size ≡ Some BadContext
+load_refusal-size tenant size idle room odd =
+    let few = lt-leb 8 (length tenant.programs) room in
+    rw (idle, few, odd) refl
+
+-- a load that nothing forbids
+load_refusal-none : (tenant : Tenant) (size : ℕ) → is_some tenant.run ≡ false → length tenant.programs < 8 → is_context_size size ≡ true → load_refusal tenant size ≡ None
+load_refusal-none tenant size idle room fits =
+    let few = lt-leb 8 (length tenant.programs) room in
+    rw (idle, few, fits) refl
+
+-- no open run, whatever the programs are
+run-closed : (programs more : List Accepted) (kept : Option KeptRun) (r : Option OpenRun) → is_some kept ≡ false → StandsForAnyRun programs kept r → StandsForAnyRun more kept r
+run-closed programs more None None idle stands = tt
+run-closed programs more None (Some r) idle stands = absurd stands
+run-closed programs more (Some kept) r idle stands = absurd (cc)
+
+module _ (t : ℕ) (old : TenantView) (memory : MemoryState) (text : List ℕ) (size : ℕ) where
+  -- a load that is refused at once
+  load-refused : (f : Fault) → ((tenant : Tenant) → StandsForTenant old tenant → load_refusal tenant size ≡ Some f) → IsServed t old memory (Load t text size) (Refused f) old memory
+  load-refused f seen =
+      served-same t old memory (Load t text size) (Refused f) (λ x tenant there stands holds.
+      (OfTenant-there x t (Refused f) x _ tenant there (RefusedOr-refused (load_refusal tenant size) x (Refused f) x _ f (seen tenant stands) (refl, refl)), tt))
+
+  -- a load while a run is open
+  pub load-busy : is_some old.run ≡ true → IsServed t old memory (Load t text size) (Refused Busy) old memory
+  load-busy busy = load-refused Busy (λ tenant stands. load_refusal-busy tenant size (is_some-run old.programs old.run tenant.run stands.run ∙ busy))
+
+  module _ (idle : is_some old.run ≡ false) where
+    none-open : (tenant : Tenant) → StandsForTenant old tenant → is_some tenant.run ≡ false
+    none-open tenant stands = is_some-run old.programs old.run tenant.run stands.run ∙ idle
+
+    -- a load of a ninth program
+    pub load-full : 8 ≤ length old.programs → IsServed t old memory (Load t text size) (Refused TooManyPrograms) old memory
+    load-full full =
+        load-refused TooManyPrograms (λ tenant stands.
+        load_refusal-full tenant size (none-open tenant stands) (subst (λ n. 8 ≤ n) (sym (length-programs old tenant stands)) full))
+
+    module _ (room : length old.programs < 8) where
+      room-left : (tenant : Tenant) → StandsForTenant old tenant → length tenant.programs < 8
+      room-left tenant stands = subst (λ n. n < 8) (sym (length-programs old tenant stands)) room
+
+      -- a load for contexts of no such size
+      pub load-size : (IsContextSize size → ⊥) → IsServed t old memory (Load t text size) (Refused BadContext) old memory
+      load-size odd = load-refused BadContext (λ tenant stands. load_refusal-size tenant size (none-open tenant stands) (room-left tenant stands) (size-odd size odd))
+
+      module _ (fits : IsContextSize size) where
+        -- a load that nothing forbids
+        allowed : (tenant : Tenant) → StandsForTenant old tenant → load_refusal tenant size ≡ None
+        allowed tenant stands = load_refusal-none tenant size (none-open tenant stands) (room-left tenant stands) (size-fits size fits)
+
+        -- a load that changes nothing, and that nothing forbids
+        load-tried : (f : Fault) → ((x : System) (tenant : Tenant) → part memory t ≡ owned_by tenant
+            → MayLackMemory x (Refused f) x (LoadHappens x t tenant (subject_of (owned_by tenant) text size) (Refused f) x))
+            → IsServed t old memory (Load t text size) (Refused f) old memory
+        load-tried f happens =
+            served-same t old memory (Load t text size) (Refused f) (λ x tenant there stands holds.
+            let owned = part_stands memory x t tenant holds there in
+            (OfTenant-there x t (Refused f) x _ tenant there (RefusedOr-else (load_refusal tenant size) x (Refused f) x _ (allowed tenant stands) (happens x tenant owned)), tt))
+
+        -- a load for which there is no memory
+        pub load-lacks_memory : IsServed t old memory (Load t text size) (Refused OutOfMemory) old memory
+        load-lacks_memory = load-tried OutOfMemory (λ x tenant owned. inl (refl, refl))
+
+        -- a text that isn't accepted
+        pub load-judged : (f : Fault) → IsJudgement (subject_of (part memory t) text size) f → IsServed t old memory (Load t text size) (Refused f) old memory
+        load-judged f (inl lacks) = load-tried f (λ x tenant owned. inl (ap Refused lacks, refl))
+        load-judged f (inr (refusal, is, inl malformed)) = load-tried f (λ x tenant owned. inr (LoadHappens.malformed refusal malformed (ap Refused is, refl)))
+        load-judged f (inr (refusal, is, inr (well, unlawful))) =
+            load-tried f (λ x tenant owned. inr (LoadHappens.unlawful well refusal (subst (λ o. IsRefusal (subject_of o text size) refusal) owned unlawful) (ap Refused is, refl)))
+
+        -- a tenant with one more program
+        loaded_stands : (v : Accepted) (tenant : Tenant) → part memory t ≡ owned_by tenant → v.subject ≡ subject_of (part memory t) text size → IsVerified v → StandsForTenant old tenant
+            → StandsForTenant (record old { programs = old.programs ++ v ∷ [] }) (record tenant { programs = tenant.programs ++ subject_of (owned_by tenant) text size ∷ [] })
+        loaded_stands v tenant owned is verified stands =
+            let p : Subject = subject_of (owned_by tenant) text size in
+            let same : p ≡ v.subject = sym (is ∙ ap (λ o. subject_of o text size) owned) in
+            let Fitting : Accepted → Type 0 = λ a. HaveShapes a.subject.shapes tenant.maps in
+            let have : Fitting v = subst (λ (q : Subject). HaveShapes q.shapes tenant.maps) same (have_shapes tenant.maps) in
+            let listed : (map (λ (a : Accepted). a.subject) old.programs ++ p ∷ []) ≡ map (λ (a : Accepted). a.subject) (old.programs ++ v ∷ []) =
+                ap (λ q. map (λ (a : Accepted). a.subject) old.programs ++ q ∷ []) same ∙ sym (map-append (λ (a : Accepted). a.subject) old.programs (v ∷ [])) in
+            record {
+              programs = ap (λ programs. programs ++ p ∷ []) stands.programs ∙ listed;
+              verified = All-push IsVerified old.programs v stands.verified verified;
+              shapes = All-push Fitting old.programs v stands.shapes have;
+              run = run-closed old.programs (old.programs ++ v ∷ []) old.run tenant.run idle stands.run;
+              meets = record { maps = stands.meets.maps; run = stands.meets.run; same = stands.meets.same };
+            }
+
+        -- a text that is accepted
+        pub load-accepted : (v : Accepted) → v.subject ≡ subject_of (part memory t) text size → IsWellFormed text → IsVerified v → ReadsAs memory
+            → IsServed t old memory (Load t text size) (Program (length old.programs)) (record old { programs = old.programs ++ v ∷ [] }) memory
+        load-accepted v is well verified reads x tenant there stands holds =
+            let owned : part memory t ≡ owned_by tenant = part_stands memory x t tenant holds there in
+            let p : Subject = subject_of (owned_by tenant) text size in
+            let same : p ≡ v.subject = sym (is ∙ ap (λ o. subject_of o text size) owned) in
+            let next : Tenant = record tenant { programs = tenant.programs ++ p ∷ [] } in
+            let reply = Program (length old.programs) in
+            let x' : System = changed x t next x.sharing in
+            let tight : IsTightTable p v.table = subst (λ q. IsTightTable q v.table) (sym same) verified.tight in
+            let happens : LoadHappens x t tenant p reply x' = LoadHappens.loaded well v.table tight (ap Program (sym (length-programs old tenant stands)), refl) in (
+              next,
+              x.sharing,
+              loaded_stands v tenant owned is verified stands,
+              changed_stands memory memory x t tenant next x.sharing holds there refl refl reads stands.meets.maps.eight owned (λ j other. refl) holds.sharing,
+              OfTenant-there x t reply x' _ tenant there (RefusedOr-else (load_refusal tenant size) x reply x' _ (allowed tenant stands) (inr happens)),
+              tt,
+            )

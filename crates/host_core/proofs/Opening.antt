@@ -1,0 +1,215 @@
+-- What the beginning of a run does to a tenant and to each system that it stands in.
+use Rattle.std.proofs.Common.{◌≡◌, ◌≢◌, ℕ, ◌<◌, ◌≤◌, ◌==◌, ◌⊎◌, true, false, List, length, map, inl, inr, Option, Some, None, is_some, IsNone, sym, ap, refl, ◌∙◌, subst, eq-eqb, ne_eqb, arith}
+use Rattle.std.specs.List.{slice_get, All}
+use Rattle.std.specs.Option.{option_map}
+use Rattle.std.proofs.lemmas.Bool.Decides.{eqb_tells}
+use Rattle.std.proofs.lemmas.List.{ext_get_or}
+use Rattle.std.proofs.lemmas.Option.{get_or_from_slice_get, slice_get_within, slice_get-map}
+use Rattle.host_types.specs.declared.fault.Fault.{Fault}
+use Rattle.host_types.specs.declared.fault.Fault.TheVariants.{Program, NoFrames, TooManyMaps, BadShape, NoMap, NoElement, Busy, NoRun, NoProgram, BadContext, BadOption, OutOfMemory, BadTenant, PagesShared, TooManyPrograms}
+use Rattle.bpf_decode.specs.Text.{slots_of}
+use Rattle.page_table.specs.Changes.{IsKeptBut, with_record, with_reserve}
+use Rattle.page_table.specs.Reads.{ReadsAs}
+use Rattle.page_table.specs.State.{MemoryState, part, have_of}
+use Rattle.verifier.specs.Reserve.{reserve_from}
+use Rattle.verifier.specs.Subject.{Subject}
+use Rattle.verifier.specs.Table.{described, tight_table}
+use Rattle.verifier.specs.Verified.{Accepted, IsVerified}
+use Rattle.verifier.proofs.Tables.{tables_agree}
+use Rattle.verifier.proofs.Tight.{length-tight, tight_is_tight}
+use Rattle.interp.specs.Fits.{HaveShapes}
+use Rattle.interp.specs.StandsFor.{Running, IsBegun}
+use Rattle.tenant_runs.proofs.Rooms.{record_keeps}
+use Rattle.host_calls.specs.Calls.{IsThere, TellsHave}
+use Rattle.host_calls.specs.Programs.{RefusesBegin}
+use Rattle.host_core.specs.declared.event.Event.TheVariants.{Begin}
+use Rattle.host_core.specs.declared.event.Reply.TheVariants.{Begun, Refused}
+use Rattle.host_core.specs.declared.tenant.OpenRun.{OpenRun as KeptRun}
+use Rattle.host_core.specs.World.{OpenRun, Tenant, System, begun_run, accepted_of, owned_by, reserve_of, have_in}
+use Rattle.host_core.specs.Happens.{BeginHappens, begin_refusal, changed}
+use Rattle.host_core.specs.HostView.{TenantView, StandsForTenant, IsKept, IsServed}
+use Rattle.host_core.proofs.Worlds.{OfTenant-there, RefusedOr-refused, RefusedOr-else}
+use Rattle.host_core.proofs.Systems.{part_stands, have_stands, changed_stands}
+use Rattle.host_core.proofs.Serving.{is_some-run, served-same}
+
+-- a verified program has the one table that says just what flows
+pub accepted-tight : (v : Accepted) → IsVerified v → accepted_of v.subject ≡ v
+accepted-tight v verified =
+    let p : Subject = v.subject in
+    let n : ℕ = slots_of p.text in
+    let whole : length (tight_table p) ≡ n = length-tight p n in
+    let agree : (s : ℕ) → s < n → described (tight_table p) s ≡ described v.table s = tables_agree p (tight_table p) v.table n (tight_is_tight p n) verified.tight.tight in
+    let same : tight_table p ≡ v.table = ext_get_or None (tight_table p) v.table (whole ∙ sym verified.tight.whole) (λ k less. agree k (omega (arith, less, whole))) in
+    ap (λ table. record { subject = p; table = table }) same
+
+-- what is said of each program holds of the one with a number
+all-at : (P : Accepted → Type 0) (programs : List Accepted) (k : ℕ) (v : Accepted) → All P programs → slice_get programs k ≡ Some v → P v
+all-at P programs k v all e = subst P (get_or_from_slice_get programs k v v e) (all k v (slice_get_within programs k v e))
+
+-- the same programs by number
+pub slice_get-programs : (kept : TenantView) (tenant : Tenant) (k : ℕ) → StandsForTenant kept tenant → slice_get tenant.programs k ≡ option_map (λ (v : Accepted). v.subject) (slice_get kept.programs k)
+slice_get-programs kept tenant k stands = ap (λ programs. slice_get programs k) stands.programs ∙ slice_get-map (λ (v : Accepted). v.subject) kept.programs k
+
+-- for a tenant that is kept nothing is reserved where it has no open run
+reserve-idle : (r : Option OpenRun) → IsNone r → reserve_of r ≡ 0
+reserve-idle None idle = refl
+reserve-idle (Some r) idle = absurd (cc)
+
+pub kept-idle : (t : ℕ) (kept : TenantView) (memory : MemoryState) → IsKept t kept memory → is_some kept.run ≡ false → (part memory t).reserve ≡ 0
+kept-idle t kept memory (x, tenant, there, stands, holds) idle =
+    ap (λ owned. owned.reserve) (part_stands memory x t tenant holds there) ∙ reserve-idle tenant.run (is_some-run kept.programs kept.run tenant.run stands.run ∙ idle)
+
+-- a run that begins while another is open
+begin_refusal-busy : (tenant : Tenant) (k : ℕ) (context : List ℕ) → is_some tenant.run ≡ true → begin_refusal tenant k context ≡ Some Busy
+begin_refusal-busy tenant k context busy = rw busy refl
+
+-- a run of a program that isn't there
+begin_refusal-no_program : (tenant : Tenant) (k : ℕ) (context : List ℕ) → is_some tenant.run ≡ false → slice_get tenant.programs k ≡ None → begin_refusal tenant k context ≡ Some NoProgram
+begin_refusal-no_program tenant k context idle missing = rw (idle, missing) refl
+
+-- a run on a context of another size
+begin_refusal-context : (tenant : Tenant) (k : ℕ) (context : List ℕ) (p : Subject) → is_some tenant.run ≡ false → slice_get tenant.programs k ≡ Some p → length context ≢ p.context_size → begin_refusal tenant k context ≡ Some BadContext
+begin_refusal-context tenant k context p idle found other =
+    let differs : (length context == p.context_size) ≡ false = ne_eqb (length context) p.context_size other in
+    rw (idle, found, differs) refl
+
+-- a run that nothing forbids
+begin_refusal-none : (tenant : Tenant) (k : ℕ) (context : List ℕ) (p : Subject) → is_some tenant.run ≡ false → slice_get tenant.programs k ≡ Some p → length context ≡ p.context_size → begin_refusal tenant k context ≡ None
+begin_refusal-none tenant k context p idle found same =
+    let fits : (length context == p.context_size) ≡ true = eq-eqb (length context) p.context_size same in
+    rw (idle, found, fits) refl
+
+-- a run that is refused at once
+begin-refused : (t k : ℕ) (old : TenantView) (memory : MemoryState) (context : List ℕ) (f : Fault) → ((tenant : Tenant) → StandsForTenant old tenant → begin_refusal tenant k context ≡ Some f)
+    → IsServed t old memory (Begin t k context) (Refused f) old memory
+begin-refused t k old memory context f seen =
+    served-same t old memory (Begin t k context) (Refused f) (λ x tenant there stands holds.
+    (OfTenant-there x t (Refused f) x _ tenant there (RefusedOr-refused (begin_refusal tenant k context) x (Refused f) x _ f (seen tenant stands) (refl, refl)), tt))
+
+-- a run that begins while another is open
+pub begin-busy : (t k : ℕ) (old : TenantView) (memory : MemoryState) (context : List ℕ) → is_some old.run ≡ true → IsServed t old memory (Begin t k context) (Refused Busy) old memory
+begin-busy t k old memory context busy =
+    begin-refused t k old memory context Busy
+    (λ tenant stands. begin_refusal-busy tenant k context (is_some-run old.programs old.run tenant.run stands.run ∙ busy))
+
+-- a run of a program that isn't there
+pub begin-no_program : (t k : ℕ) (old : TenantView) (memory : MemoryState) (context : List ℕ) → is_some old.run ≡ false → slice_get old.programs k ≡ None
+    → IsServed t old memory (Begin t k context) (Refused NoProgram) old memory
+begin-no_program t k old memory context idle missing =
+    begin-refused t k old memory context NoProgram (λ tenant stands.
+    begin_refusal-no_program tenant k context
+    (is_some-run old.programs old.run tenant.run stands.run ∙ idle)
+    (slice_get-programs old tenant k stands ∙ ap (option_map (λ (v : Accepted). v.subject)) missing))
+
+module _ (t k : ℕ) (old : TenantView) (context : List ℕ) (v : Accepted) (idle : is_some old.run ≡ false) (found : slice_get old.programs k ≡ Some v) where
+  -- the same program of the system's tenant
+  numbered : (tenant : Tenant) → StandsForTenant old tenant → slice_get tenant.programs k ≡ Some v.subject
+  numbered tenant stands = slice_get-programs old tenant k stands ∙ ap (option_map (λ (a : Accepted). a.subject)) found
+
+  none-open : (tenant : Tenant) → StandsForTenant old tenant → is_some tenant.run ≡ false
+  none-open tenant stands = is_some-run old.programs old.run tenant.run stands.run ∙ idle
+
+  -- a run on a context of another size
+  begin-context : (memory : MemoryState) → length context ≢ v.subject.context_size → IsServed t old memory (Begin t k context) (Refused BadContext) old memory
+  begin-context memory other =
+      begin-refused t k old memory context BadContext (λ tenant stands.
+      begin_refusal-context tenant k context v.subject (none-open tenant stands) (numbered tenant stands) other)
+
+  -- a run for which there is no memory
+  begin-lacks_memory : (memory : MemoryState) → length context ≡ v.subject.context_size → IsServed t old memory (Begin t k context) (Refused OutOfMemory) old memory
+  begin-lacks_memory memory fits =
+      served-same t old memory (Begin t k context) (Refused OutOfMemory) (λ x tenant there stands holds.
+      let none = begin_refusal-none tenant k context v.subject (none-open tenant stands) (numbered tenant stands) fits in
+      (OfTenant-there x t (Refused OutOfMemory) x _ tenant there (RefusedOr-else (begin_refusal tenant k context) x (Refused OutOfMemory) x _ none (inl (refl, refl))), tt))
+
+  -- a run that isn't opened
+  pub begin-failed : (memory : MemoryState) (f : Fault) → (f ≡ BadContext) ⊎ (f ≡ OutOfMemory) → (f ≡ BadContext → length context ≢ v.subject.context_size)
+      → (length context ≢ v.subject.context_size → f ≡ BadContext) → IsServed t old memory (Begin t k context) (Refused f) old memory
+  begin-failed memory f (inl bad) only always =
+      subst (λ fault. IsServed t old memory (Begin t k context) (Refused fault) old memory) (sym bad) (begin-context memory (only bad))
+  begin-failed memory f (inr lacks) only always =
+      let fits : length context ≡ v.subject.context_size =
+      elim (eqb_tells (length context) v.subject.context_size) [ inl same ↦ same.1 | inr differs ↦ absurd (let bad = always differs.1 in cc) ] in
+      subst (λ fault. IsServed t old memory (Begin t k context) (Refused fault) old memory) (sym lacks) (begin-lacks_memory memory fits)
+
+  -- a run for which frames are missing
+  begin-lacks_frames : (memory : MemoryState) (need have : ℕ) → length context ≡ v.subject.context_size → RefusesBegin v (NoFrames need have) → TellsHave memory (NoFrames need have)
+      → IsServed t old memory (Begin t k context) (Refused (NoFrames need have)) old memory
+  begin-lacks_frames memory need have fits refuses tells =
+      served-same t old memory (Begin t k context) (Refused (NoFrames need have)) (λ x tenant there stands holds.
+      let none = begin_refusal-none tenant k context v.subject (none-open tenant stands) (numbered tenant stands) fits in
+      let tight : accepted_of v.subject ≡ v = accepted-tight v (all-at IsVerified old.programs k v stands.verified found) in
+      let charge : need ≡ reserve_from (accepted_of v.subject) 0 = refuses.0 ∙ ap (λ a. reserve_from a 0) (sym tight) in
+      let had : have ≡ have_in x = tells ∙ have_stands memory x holds in
+      let less : have_in x < reserve_from (accepted_of v.subject) 0 = subst (λ n. have_in x < n) charge (subst (λ n. n < need) had refuses.1) in
+      let reply : Refused (NoFrames need have) ≡ Refused (NoFrames (reserve_from (accepted_of v.subject) 0) (have_in x)) =
+          ap (λ n. Refused (NoFrames n have)) charge ∙ ap (λ n. Refused (NoFrames (reserve_from (accepted_of v.subject) 0) n)) had in
+      let happens : BeginHappens x t tenant k context (Refused (NoFrames need have)) x = (v.subject, numbered tenant stands, inl (less, (reply, refl))) in
+      (OfTenant-there x t (Refused (NoFrames need have)) x _ tenant there (RefusedOr-else (begin_refusal tenant k context) x (Refused (NoFrames need have)) x _ none (inr happens)), tt))
+
+  -- a run that isn't admitted
+  pub begin-not_admitted : (memory : MemoryState) (f : Fault) → length context ≡ v.subject.context_size → RefusesBegin v f → TellsHave memory f → IsServed t old memory (Begin t k context) (Refused f) old memory
+  begin-not_admitted memory (Program refused) fits refuses tells = absurd refuses
+  begin-not_admitted memory (NoFrames need have) fits refuses tells = begin-lacks_frames memory need have fits refuses tells
+  begin-not_admitted memory TooManyMaps fits refuses tells = absurd refuses
+  begin-not_admitted memory BadShape fits refuses tells = absurd refuses
+  begin-not_admitted memory NoMap fits refuses tells = absurd refuses
+  begin-not_admitted memory NoElement fits refuses tells = absurd refuses
+  begin-not_admitted memory Busy fits refuses tells = absurd refuses
+  begin-not_admitted memory NoRun fits refuses tells = absurd refuses
+  begin-not_admitted memory NoProgram fits refuses tells = absurd refuses
+  begin-not_admitted memory BadContext fits refuses tells = absurd refuses
+  begin-not_admitted memory BadOption fits refuses tells = absurd refuses
+  begin-not_admitted memory OutOfMemory fits refuses tells = absurd refuses
+  begin-not_admitted memory BadTenant fits refuses tells = absurd refuses
+  begin-not_admitted memory PagesShared fits refuses tells = absurd refuses
+  begin-not_admitted memory TooManyPrograms fits refuses tells = absurd refuses
+
+-- what is known once a run was admitted
+pub record HasAdmitted (t : ℕ) (before after : MemoryState) (v : Accepted) : Type 0 where
+  pub enough : reserve_from v 0 ≤ have_of before
+  pub recorded : part after t ≡ with_reserve (reserve_from v 0) (part before t)
+  pub all : after ≡ with_record before t (reserve_from v 0)
+  pub others : IsKeptBut t before after
+  pub reads : ReadsAs after
+
+-- a tenant with a run that has just begun
+begun_stands : (k : ℕ) (old : TenantView) (tenant : Tenant) (context : List ℕ) (run : Running) (v : Accepted) → slice_get old.programs k ≡ Some v → IsBegun v context run → run.steps ≡ 0 → StandsForTenant old tenant
+    → StandsForTenant (record old { run = Some (record { program = k; run = run }) }) (record tenant { run = Some (begun_run v.subject context tenant.maps) })
+begun_stands k old tenant context run v found begun none_made stands = record {
+  programs = stands.programs;
+  verified = stands.verified;
+  shapes = stands.shapes;
+  run = record {
+    accepted = v;
+    numbered = found;
+    program = refl;
+    state = begun tenant.maps stands.meets.maps (all-at (λ (a : Accepted). HaveShapes a.subject.shapes tenant.maps) old.programs k v stands.shapes found);
+    steps = none_made;
+  };
+  meets = record { maps = stands.meets.maps; run = record { reached = refl; steps = omega arith }; same = refl };
+}
+
+-- a run that begins
+pub begin-begun : (t k : ℕ) (old : TenantView) (before after : MemoryState) (context : List ℕ) (run : Running) (v : Accepted) → is_some old.run ≡ false → slice_get old.programs k ≡ Some v
+    → length context ≡ v.subject.context_size → IsBegun v context run → run.steps ≡ 0 → HasAdmitted t before after v
+    → IsServed t old before (Begin t k context) Begun (record old { run = Some (record { program = k; run = run }) }) after
+begin-begun t k old before after context run v idle found fits begun none_made admits x tenant there stands holds =
+    let next : Tenant = record tenant { run = Some (begun_run v.subject context tenant.maps) } in
+    let tight : accepted_of v.subject ≡ v = accepted-tight v (all-at IsVerified old.programs k v stands.verified found) in
+    let charge : reserve_from v 0 ≡ reserve_from (accepted_of v.subject) 0 = ap (λ a. reserve_from a 0) (sym tight) in
+    let is : part after t ≡ owned_by next =
+        admits.recorded ∙ ap (with_reserve (reserve_from v 0)) (part_stands before x t tenant holds there) ∙ ap (λ n. with_reserve n (owned_by tenant)) charge in
+    let enough : reserve_from (accepted_of v.subject) 0 ≤ have_in x = subst (λ n. n ≤ have_in x) charge (subst (λ n. reserve_from v 0 ≤ n) (have_stands before x holds) admits.enough) in
+    let sizes = record_keeps before after t (reserve_from v 0) admits.all in
+    let shares : after.sharing ≡ x.sharing = ap (λ (memory : MemoryState). memory.sharing) admits.all ∙ holds.sharing in
+    let none = begin_refusal-none tenant k context v.subject (none-open t k old context v idle found tenant stands) (numbered t k old context v idle found tenant stands) fits in
+    let x' : System = changed x t next x.sharing in
+    let happens : BeginHappens x t tenant k context Begun x' = (v.subject, numbered t k old context v idle found tenant stands, inr (enough, (refl, refl))) in (
+      next,
+      x.sharing,
+      begun_stands k old tenant context run v found begun none_made stands,
+      changed_stands before after x t tenant next x.sharing holds there sizes.tenants sizes.frames admits.reads stands.meets.maps.eight is admits.others shares,
+      OfTenant-there x t Begun x' _ tenant there (RefusedOr-else (begin_refusal tenant k context) x Begun x' _ none (inr happens)),
+      tt,
+    )

@@ -1,0 +1,16 @@
+use Rattle.std.proofs.Common.{◌≡◌, ℕ, Option, Some, sym}
+use Rattle.host_core.proofs.tenant.Tenant.serve.Goals as goal
+
+pub returns-in-Begin : goal.returns-in-Begin
+returns-in-Begin c =
+    let named : ◌≡◌ {A = Option ℕ} (Some c.in-Begin.tenant) (Some c.args.number) = rw c.in-Begin.is at c.requires.named in
+    let same : c.in-Begin.tenant ≡ c.args.number = cc in
+    let bytes : c.as_slice-in-Begin.result.now ≡ c.in-Begin.context = c.as_slice-in-Begin.ensures in
+    rw (c.in-Begin.is, same, sym bytes) c.begin.ensures
+
+pub returns-in-HostUpdate : goal.returns-in-HostUpdate
+returns-in-HostUpdate c =
+    let named : ◌≡◌ {A = Option ℕ} (Some c.in-HostUpdate.tenant) (Some c.args.number) = rw c.in-HostUpdate.is at c.requires.named in
+    let same : c.in-HostUpdate.tenant ≡ c.args.number = cc in
+    let bytes : c.as_slice-in-HostUpdate.result.now ≡ c.in-HostUpdate.value = c.as_slice-in-HostUpdate.ensures in
+    rw (c.in-HostUpdate.is, same, sym bytes) c.update.ensures

@@ -1,0 +1,356 @@
+ghost use Rattle.std.specs.Prelude.{◌≡◌, min};
+
+use crate::event::{Event, Reply};
+use crate::host::told;
+use admission::{lower, release};
+use host_calls::{
+    host_begin, host_create_map, host_lookup, host_shapes, host_update, is_context_size, judge,
+};
+use host_types::{Fault, MapNo};
+use interp::{Need, Run};
+use page_table::Memory;
+use std::alloc::Global;
+use std::marker::Model;
+use tenant_runs::answer;
+use verifier::Verified;
+
+// The most programs of a tenant.
+const MAX_PROGRAMS: usize = 8;
+
+// A tenant: its programs by number, and its open run, if it has one. Its maps are the memory's.
+#[derive(Drop)]
+pub(crate) struct Tenant {
+    programs: Vec<Verified>,
+    run: Option<OpenRun>,
+}
+
+// An open run, and the number of its program.
+#[derive(Drop)]
+pub(crate) struct OpenRun {
+    program: u32,
+    run: Run,
+}
+
+// Steps that were made in one go: how many, and the reply to the last one where the run ended with it or it
+// was refused.
+#[derive(Drop)]
+pub(crate) struct Stretch {
+    steps: u64,
+    last: Option<Reply>,
+}
+
+impl Model for Tenant {
+    ghost use Rattle.host_core.specs.HostView.{TenantView};
+
+    ghost Value = { TenantView };
+
+    ghost view = { λ tenant. record { programs = tenant.programs.items; run = tenant.run } };
+}
+
+impl Tenant {
+    ghost use Rattle.std.specs.Prelude.{◌≡◌, Some, IsSome, ◌<◌, ◌≤◌};
+    ghost use Rattle.host_core.specs.declared.event.Event.TheVariants.{CreateMap, Load, Begin, Step, HostUpdate, HostLookup};
+    ghost use Rattle.host_core.specs.World.{new_tenant};
+    ghost use Rattle.host_core.specs.HostView.{StandsForTenant, IsKept, IsServed, HasMadeSteps, HasCounted, reply_of, tenant_of};
+
+    pub(crate) fn new(alloc: Global) -> Tenant
+        ensures { StandsForTenant result new_tenant }
+    {
+        Tenant {
+            programs: Vec::new(alloc),
+            run: None,
+        }
+    }
+
+    // Serves an event that names this tenant, the one of the memory with the number.
+    pub(crate) fn apply(
+        &mut self,
+        alloc: Global,
+        memory: &mut Memory,
+        number: u32,
+        event: &Event,
+    ) -> Reply
+        requires named { tenant_of event.now ≡ Some number }
+        requires kept { IsKept number self.old memory.old }
+        ensures { IsServed number self.old memory.old event.now result self.new memory.new }
+    {
+        told(self.serve(alloc, memory, number, event))
+    }
+
+    // Serves an event; a refusal is an error.
+    fn serve(
+        &mut self,
+        alloc: Global,
+        memory: &mut Memory,
+        number: u32,
+        event: &Event,
+    ) -> Result<Reply, Fault>
+        requires named { tenant_of event.now ≡ Some number }
+        requires kept { IsKept number self.old memory.old }
+        ensures { IsServed number self.old memory.old event.now (reply_of result) self.new memory.new }
+    {
+        match event {
+            Event::CreateMap {
+                value_size,
+                entries,
+                mergeable,
+                ..
+            } => self.create_map(memory, number, *value_size, *entries, *mergeable),
+            Event::Load {
+                text,
+                context_size,
+                ..
+            } => self.load(alloc, memory, number, text.as_slice(), *context_size),
+            Event::Begin {
+                program,
+                context,
+                ..
+            } => self.begin(alloc, memory, number, *program, context.as_slice()),
+            Event::Step { .. } => Ok(self.step(memory, number)),
+            Event::HostUpdate {
+                map, key, value, ..
+            } => self.update(memory, number, *map, *key, value.as_slice()),
+            Event::HostLookup { map, key, .. } => self.lookup(alloc, memory, number, *map, *key),
+            Event::Visit | Event::Set { .. } | Event::Unmerge | Event::Counters => unreachable!(),
+        }
+    }
+
+    // Makes a map.
+    fn create_map(
+        &self,
+        memory: &mut Memory,
+        number: u32,
+        value_size: u32,
+        entries: u32,
+        mergeable: bool,
+    ) -> Result<Reply, Fault>
+        requires kept { IsKept number self.now memory.old }
+        ensures { IsServed number self.now memory.old (CreateMap number value_size entries mergeable) (reply_of result) self.now memory.new }
+    {
+        if self.run.is_some() {
+            return Err(Fault::Busy);
+        }
+        let map = host_create_map(memory, number, value_size, entries, mergeable)?;
+        memory.facts();
+        memory.maps_are_flat();
+        Ok(Reply::Map(map))
+    }
+
+    // Loads a program's text.
+    fn load(
+        &mut self,
+        alloc: Global,
+        memory: &Memory,
+        number: u32,
+        text: &[u8],
+        context_size: u32,
+    ) -> Result<Reply, Fault>
+        requires kept { IsKept number self.old memory.now }
+        ensures { IsServed number self.old memory.now (Load number text.now context_size) (reply_of result) self.new memory.now }
+    {
+        if self.run.is_some() {
+            return Err(Fault::Busy);
+        }
+        let loaded = self.programs.len();
+        if loaded >= MAX_PROGRAMS {
+            return Err(Fault::TooManyPrograms);
+        }
+        if !is_context_size(context_size) {
+            return Err(Fault::BadContext);
+        }
+        let Ok(shapes) = host_shapes(alloc, memory, number) else {
+            return Err(Fault::OutOfMemory);
+        };
+        let program = judge(alloc, shapes.as_slice(), text, context_size)?;
+        memory.facts();
+        let Ok(()) = self.programs.push(program) else {
+            return Err(Fault::OutOfMemory);
+        };
+        Ok(Reply::Program(loaded as u32))
+    }
+
+    // Opens a run of a program, with the frames that it may need.
+    fn begin(
+        &mut self,
+        alloc: Global,
+        memory: &mut Memory,
+        number: u32,
+        program: u32,
+        context: &[u8],
+    ) -> Result<Reply, Fault>
+        requires kept { IsKept number self.old memory.old }
+        ensures { IsServed number self.old memory.old (Begin number program context.now) (reply_of result) self.new memory.new }
+    {
+        if self.run.is_some() {
+            return Err(Fault::Busy);
+        }
+        let place = program as usize;
+        if place >= self.programs.len() {
+            return Err(Fault::NoProgram);
+        }
+        let run = Run::begin(alloc, &self.programs[place], context)?;
+        host_begin(memory, number, &self.programs[place])?;
+        memory.facts();
+        self.run = Some(OpenRun { program, run });
+        Ok(Reply::Begun)
+    }
+
+    // Writes a value to a map.
+    fn update(
+        &self,
+        memory: &mut Memory,
+        number: u32,
+        map: MapNo,
+        key: u32,
+        value: &[u8],
+    ) -> Result<Reply, Fault>
+        requires kept { IsKept number self.now memory.old }
+        ensures { IsServed number self.now memory.old (HostUpdate number map key value.now) (reply_of result) self.now memory.new }
+    {
+        if self.run.is_some() {
+            return Err(Fault::Busy);
+        }
+        host_update(memory, number, map, key, value)?;
+        memory.facts();
+        memory.maps_are_flat();
+        Ok(Reply::Done)
+    }
+
+    // Reads a value of a map.
+    fn lookup(
+        &self,
+        alloc: Global,
+        memory: &Memory,
+        number: u32,
+        map: MapNo,
+        key: u32,
+    ) -> Result<Reply, Fault>
+        requires kept { IsKept number self.now memory.now }
+        ensures { IsServed number self.now memory.now (HostLookup number map key) (reply_of result) self.now memory.now }
+    {
+        let value = host_lookup(alloc, memory, number, map, key)?;
+        Ok(Reply::Value(value.into()))
+    }
+
+    // Makes a step of the open run.
+    fn step(&mut self, memory: &mut Memory, number: u32) -> Reply
+        requires kept { IsKept number self.old memory.old }
+        ensures { IsServed number self.old memory.old (Step number) result self.new memory.new }
+    {
+        match self.make_steps(memory, number, 1) {
+            Some(reply) => reply,
+            None => Reply::Stepped,
+        }
+    }
+
+    // Makes steps of the open run, up to a limit: the reply to the last one, or `None` where each of them was
+    // made and the run goes on.
+    pub(crate) fn make_steps(&mut self, memory: &mut Memory, number: u32, limit: u64) -> Option<Reply>
+        requires some { 0 < limit }
+        requires kept { IsKept number self.old memory.old }
+        ensures steps { HasMadeSteps number self.old memory.old limit result self.new memory.new }
+        ensures ends { 4294967296 ≤ limit → IsSome result }
+    {
+        let mut left = limit;
+        while left > 0 {
+            let stretch = self.stretch(memory, number, left);
+            if stretch.last.is_some() {
+                return stretch.last;
+            }
+            left -= stretch.steps;
+        }
+        None
+    }
+
+    // Makes steps of the open run in one go, at most up to a limit: all up to the first that asks something
+    // of the tenant's maps or with which the run ends.
+    fn stretch(&mut self, memory: &mut Memory, number: u32, limit: u64) -> Stretch
+        requires some { 0 < limit }
+        requires kept { IsKept number self.old memory.old }
+        ensures some { 0 < result.steps }
+        ensures few { result.steps ≤ limit }
+        ensures made { HasMadeSteps number self.old memory.old result.steps result.last self.new memory.new }
+        ensures counted { HasCounted self.old result.steps result.last self.new }
+    {
+        memory.facts();
+        let Some(mut open) = self.run.take() else {
+            return Stretch {
+                steps: 1,
+                last: Some(Reply::Refused(Fault::NoRun)),
+            };
+        };
+        let before = open.run.steps();
+        let ended = open.advance(self.programs.as_slice(), memory, number, limit);
+        memory.facts();
+        let steps = open.run.steps();
+        let made = u64::from(steps - before);
+        match ended {
+            Some(ret) => Stretch {
+                steps: made,
+                last: Some(Reply::Ended { ret, steps }),
+            },
+            None => {
+                self.run = Some(open);
+                Stretch {
+                    steps: made,
+                    last: None,
+                }
+            }
+        }
+    }
+}
+
+impl OpenRun {
+    ghost use Rattle.std.specs.Prelude.{◌≡◌, ◌<◌, slice_get, Some};
+    ghost use Rattle.verifier.specs.Verified.{Accepted};
+    ghost use Rattle.interp.specs.Machine.{MachineState};
+    ghost use Rattle.page_table.specs.State.{part};
+    ghost use Rattle.page_table.specs.Changes.{IsKeptBut};
+    ghost use Rattle.tenant_runs.specs.Meeting.{KeepsSizes};
+    ghost use Rattle.host_core.specs.Stretches.{IsUnderWayAt, HasAdvanced};
+
+    // Makes steps up to a limit, and none behind the first that asks something of the tenant's maps: what the
+    // run returned, where it ended. What is reserved afterwards is what the rest of the run may need.
+    fn advance(
+        &mut self,
+        programs: &[Verified],
+        memory: &mut Memory,
+        number: u32,
+        limit: u64,
+    ) -> Option<u64>
+        requires some { 0 < limit }
+        requires under_way { (v : Accepted) × (s : MachineState) × IsUnderWayAt programs.now self.old v s (part memory.old number) }
+        ensures program { self.new.program ≡ self.old.program }
+        ensures advanced { (v : Accepted) (s : MachineState) → IsUnderWayAt programs.now self.old v s (part memory.old number)
+            → HasAdvanced v s number limit self.old.run memory.old result self.new.run memory.new }
+        ensures others { IsKeptBut number memory.old memory.new }
+        ensures sizes { KeepsSizes memory.old memory.new }
+    {
+        let program = &programs[self.program as usize];
+        program.facts();
+        match self
+            .run
+            .advance(program, lesser(program.instructions(), limit))
+        {
+            Need::Private => {
+                lower(memory, number, program.reserve(self.run.slot()));
+                None
+            }
+            Need::Ended(ret) => {
+                release(memory, number);
+                Some(ret)
+            }
+            need => {
+                answer(memory, number, program, &mut self.run, need);
+                None
+            }
+        }
+    }
+}
+
+// The lesser of two numbers.
+fn lesser(a: u32, b: u64) -> u32
+    ensures { result ≡ min a b }
+{
+    if u64::from(a) < b { a } else { b as u32 }
+}
