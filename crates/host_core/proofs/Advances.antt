@@ -41,9 +41,13 @@ pub private_advanced : (programs : List Accepted) (kept : KeptRun) (v : Accepted
     → HasAdvanced v s t limit kept.run before None run after
 private_advanced programs kept v s t limit many run before after under verified some least (n, (next, reached, maps, less, stands), made) whole recorded sharing =
     let more = some_instruction v kept.run s verified under.stands in
-    let owned : part after t ≡ part_in v next = recorded ∙ ap (λ m. record { maps = m; reserve = reserve_from v run.slot }) (under.maps ∙ sym maps) ∙ ap (λ slot. record { maps = next.memory.maps; reserve = reserve_from v slot }) stands.slot in
-    (n, omega (arith, made, whole, least, more, some), omega (arith, made, whole, least), made,
-      quiet (record { next = next; reached = reached; maps = maps; stands = stands; owned = owned; sharing = sharing }))
+    let owned : part after t ≡ part_in v next = recorded ∙ ap (λ m. record { maps = m; reserve = reserve_from v run.slot }) (under.maps ∙ sym maps) ∙ ap (λ slot. record { maps = next.memory.maps; reserve = reserve_from v slot }) stands.slot in (
+      n,
+      omega (arith, made, whole, least, more, some),
+      omega (arith, made, whole, least),
+      made,
+      quiet (record { next = next; reached = reached; maps = maps; stands = stands; owned = owned; sharing = sharing }),
+    )
 
 -- no more is reserved for what is left of it than before
 pub private_lowers : (programs : List Accepted) (kept : KeptRun) (v : Accepted) (s : MachineState) (t n : ℕ) (run : Running) (before : MemoryState)
@@ -57,9 +61,13 @@ pub ended_advanced : (programs : List Accepted) (kept : KeptRun) (v : Accepted) 
     → part after t ≡ with_reserve 0 (part before t) → after.sharing ≡ before.sharing
     → HasAdvanced v s t limit kept.run before (Some number) run after
 ended_advanced programs kept v s t limit many number run before after under least (n, (made, here, last, reached, maps, makes, few), counted) most recorded sharing =
-    let owned : part after t ≡ record { maps = s.memory.maps; reserve = 0 } = recorded ∙ ap (λ m. record { maps = m; reserve = 0 }) under.maps in
-    (n, omega (arith, last), omega (arith, counted, most, least), counted,
-      ended number (record { made = made; last = last; here = here; reached = reached; maps = maps; makes = makes; few = few; owned = owned; sharing = sharing }))
+    let owned : part after t ≡ record { maps = s.memory.maps; reserve = 0 } = recorded ∙ ap (λ m. record { maps = m; reserve = 0 }) under.maps in (
+      n,
+      omega (arith, last),
+      omega (arith, counted, most, least),
+      counted,
+      ended number (record { made = made; last = last; here = here; reached = reached; maps = maps; makes = makes; few = few; owned = owned; sharing = sharing }),
+    )
 
 -- what a run asks after steps that write to no map
 pub record IsAskedAt (v : Accepted) (s : MachineState) (n : ℕ) (need : Need) (run : Running) : Type 0 where
@@ -132,8 +140,11 @@ asked_advanced programs kept v s t limit many need run after_run before after un
     let slot : run.slot ≡ next.slot = sym (answered_slot run.awaited run (answer_of need asks.flat)) ∙ asks.stands.slot ∙ ap (λ (u : MachineState). u.slot) (sym same) in
     let owned : part after t ≡ part_in v next = ap (λ m. record { maps = m; reserve = (part after t).reserve }) way.maps ∙ ap (λ k. record { maps = next.memory.maps; reserve = k }) (reserve ∙ ap (reserve_from v) slot) in
     let there : map_at (part before t).maps (map_of need) ≡ Some asks.flat = ap (λ maps. map_at maps (map_of need)) (under.maps ∙ sym asked.maps) ∙ asks.there in
-    let last = asked.last in
-    (n, omega (arith, last), omega (arith, counted, most, least), steps ∙ counted,
+    let last = asked.last in (
+      n,
+      omega (arith, last),
+      omega (arith, counted, most, least),
+      steps ∙ counted,
       answered (record {
         made = asked.made;
         last = asked.last;
@@ -148,4 +159,5 @@ asked_advanced programs kept v s t limit many need run after_run before after un
         stands = way.stands;
         owned = owned;
         sharing = sharing ∙ shares_alike (part before t) before.sharing t need asks.flat there ∙ ap (sharing_after before.sharing t) (sym asks.writes);
-      }))
+      }),
+    )

@@ -1,6 +1,6 @@
 -- What events do to a host and to a system that it stands for.
-use Rattle.std.proofs.Common.{◌≡◌, ℕ, ◌+◌, ◌<◌, ◌≤◌, List, [], ◌∷◌, ◌++◌, length, inl, inr, ◌≢◌, replicate, set, Option, Some, None, IfSome, Result, Ok, Err, sym, ap, refl, ◌∙◌, subst}
-use Rattle.std.specs.List.{slice_get, AllZip}
+use Rattle.std.proofs.Common.{◌≡◌, ℕ, ◌<◌, ◌≤◌, List, [], ◌∷◌, ◌++◌, length, inl, inr, set, Option, Some, None, IfSome, Result, sym, ap, refl, ◌∙◌, subst}
+use Rattle.std.specs.List.{slice_get}
 use Rattle.host_types.specs.declared.fault.Fault.{Fault}
 use Rattle.host_types.specs.declared.fault.Fault.TheVariants as fault
 use Rattle.host_types.specs.declared.options.Opt.{Opt}
@@ -8,7 +8,7 @@ use Rattle.host_types.specs.declared.visited.Visited.{Visited}
 use Rattle.host_types.specs.OptionTable.{MayBe}
 use Rattle.host_types.specs.Sharing.{Sharing}
 use Rattle.host_types.specs.Unmerging.{unmerged, unmerge_need, with_option, MaySet, RefusesSet, RefusesUnmerge}
-use Rattle.host_types.specs.Visits.{Contents, contents_in, visit}
+use Rattle.host_types.specs.Visits.{contents_in, visit}
 use Rattle.ksm_counters.specs.Counters.{counters_of}
 use Rattle.page_table.specs.Changes.{KeepsSettings}
 use Rattle.page_table.specs.State.{MemoryState, have_of}
@@ -17,7 +17,7 @@ use Rattle.host_core.specs.declared.event.Event.TheVariants.{CreateMap, Load, Be
 use Rattle.host_core.specs.declared.event.Reply.{Reply}
 use Rattle.host_core.specs.declared.event.Reply.TheVariants.{Visited as WasVisited, Done, Counters as AreCounters, Refused}
 use Rattle.host_core.specs.World.{System, all_maps, have_in, IsCovered}
-use Rattle.host_core.specs.Happens.{Answers, Shares, Happens, IsPromised, IsPromisedOf, SetHappens, UnmergeHappens, AllHappen, StepsHappen, changed}
+use Rattle.host_core.specs.Happens.{Happens, IsPromised, IsPromisedOf, SetHappens, UnmergeHappens, AllHappen, StepsHappen, changed}
 use Rattle.host_core.specs.HostView.{TenantView, HostView, StandsForTenant, StandsForMemory, StandsForSystem, IsKept, IsServed, HasMadeSteps, reply_of, tenant_of}
 use Rattle.page_table.specs.Reads.{ReadsAs}
 use Rattle.host_core.proofs.Joined.{AllHappen-join}
@@ -50,7 +50,7 @@ pub hosts-visit : (tenants : List TenantView) (before after : MemoryState) (visi
     → Hosts (record { tenants = tenants; memory = before }) Visit (WasVisited visited) (record { tenants = tenants; memory = after })
 hosts-visit tenants before after visited is kept maps x stands =
     let here : visit (contents_in (all_maps x.world)) x.sharing ≡ (visited, after.sharing) =
-        ap (λ m. visit (contents_in m) x.sharing) (sym stands.memory.maps) ∙ ap (λ s. visit (contents_in before.maps) s) (sym stands.memory.sharing) ∙ is in
+    ap (λ m. visit (contents_in m) x.sharing) (sym stands.memory.maps) ∙ ap (λ s. visit (contents_in before.maps) s) (sym stands.memory.sharing) ∙ is in
     (record x { sharing = after.sharing }, shared tenants before after x stands kept maps, (visited, (after.sharing, here, (refl, refl))), tt)
 
 -- counters that are told
@@ -74,8 +74,7 @@ pub leads-set : (tenants : List TenantView) (before after : MemoryState) (option
 leads-set tenants before after option value may_be may_set is x stands =
     let kept : KeepsSettings before after = record { tenants = ap (λ m. m.tenants) is; frames = ap (λ m. length m.arena) is } in
     let sharing : after.sharing ≡ record x.sharing { options = with_option x.sharing.options option value } =
-        ap (λ m. m.sharing) is ∙ ap (λ (s : Sharing). record s { options = with_option s.options option value }) stands.memory.sharing in
-    (
+    ap (λ m. m.sharing) is ∙ ap (λ (s : Sharing). record s { options = with_option s.options option value }) stands.memory.sharing in (
       record x { sharing = after.sharing },
       shared tenants before after x stands kept (ap (λ m. m.maps) is),
       inr (may_be, subst (λ s. MaySet s option) stands.memory.sharing may_set, (refl, ap (λ s. record x { sharing = s }) sharing)),
@@ -84,12 +83,11 @@ leads-set tenants before after option value may_be may_set is x stands =
 -- an option that isn't set
 pub leads-set_refused : (tenants : List TenantView) (before after : MemoryState) (option : Opt) (value : ℕ) (refusal : Fault) → RefusesSet before.sharing option value refusal → after ≡ before
     → Leads (record { tenants = tenants; memory = before }) (Sets option value (Refused refusal)) (record { tenants = tenants; memory = after })
-leads-set_refused tenants before after option value refusal refuses is x stands =
-    (
-      x,
-      subst (λ m. StandsForSystem (record { tenants = tenants; memory = m }) x) (sym is) stands,
-      inl (refusal, subst (λ s. RefusesSet s option value refusal) stands.memory.sharing refuses, (refl, refl)),
-    )
+leads-set_refused tenants before after option value refusal refuses is x stands = (
+  x,
+  subst (λ m. StandsForSystem (record { tenants = tenants; memory = m }) x) (sym is) stands,
+  inl (refusal, subst (λ s. RefusesSet s option value refusal) stands.memory.sharing refuses, (refl, refl)),
+)
 
 -- what an unmerging does
 abbrev pub Unmerges : Reply → System → System → Type 0
@@ -114,12 +112,11 @@ unmerge_refused x sharing have refusal is there refuses = absurd refuses
 
 pub leads-unmerge_refused : (tenants : List TenantView) (before after : MemoryState) (refusal : Fault) → RefusesUnmerge before.sharing (have_of before) refusal → after ≡ before
     → Leads (record { tenants = tenants; memory = before }) (Unmerges (Refused refusal)) (record { tenants = tenants; memory = after })
-leads-unmerge_refused tenants before after refusal refuses is x stands =
-    (
-      x,
-      subst (λ m. StandsForSystem (record { tenants = tenants; memory = m }) x) (sym is) stands,
-      unmerge_refused x before.sharing (have_of before) refusal stands.memory.sharing (have_stands before x stands.memory) refuses,
-    )
+leads-unmerge_refused tenants before after refusal refuses is x stands = (
+  x,
+  subst (λ m. StandsForSystem (record { tenants = tenants; memory = m }) x) (sym is) stands,
+  unmerge_refused x before.sharing (have_of before) refusal stands.memory.sharing (have_stands before x stands.memory) refuses,
+)
 
 -- an unmerging whose answer is told
 pub hosts-unmerge : (old new : HostView) (event : Event) (reply : Reply) (answer : Result Reply Fault) → event ≡ Unmerge → reply ≡ reply_of answer → Leads old (Unmerges (reply_of answer)) new → Hosts old event reply new

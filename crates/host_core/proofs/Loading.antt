@@ -1,14 +1,12 @@
 -- What the load of a program does to a tenant and to each system that it stands in.
-use Rattle.std.proofs.Common.{◌≡◌, ◌↔◌, ℕ, zero, suc, ◌%◌, ◌<◌, ◌≤◌, nat_le, ◌==◌, ◌&&◌, ◌⊎◌, Bool, true, false, IsTrue, List, [], ◌∷◌, ◌++◌, length, map, inl, inr, Option, Some, None, is_some, IsNone, sym, ap, refl, ◌∙◌, subst, eq-eqb, arith}
-use Rattle.std.specs.List.{slice_get, All}
+use Rattle.std.proofs.Common.{◌≡◌, ℕ, zero, suc, ◌%◌, ◌<◌, ◌≤◌, nat_le, ◌==◌, ◌&&◌, Bool, true, false, List, [], ◌∷◌, ◌++◌, length, map, inl, inr, Option, Some, None, is_some, sym, ap, refl, ◌∙◌, subst, eq-eqb, arith}
 use Rattle.std.proofs.lemmas.Bool.{le-leb, lt-leb}
 use Rattle.std.proofs.lemmas.Bool.Decides.{nat_tests}
 use Rattle.std.proofs.lemmas.List.{length-map, map-append}
 use Rattle.std.proofs.lemmas.List.Elements.{All-push}
 use Rattle.host_types.specs.declared.fault.Fault.{Fault}
 use Rattle.host_types.specs.declared.fault.Fault.TheVariants.{Busy, TooManyPrograms, BadContext, OutOfMemory}
-use Rattle.host_types.specs.declared.fault.Fault.TheVariants as fault
-use Rattle.host_types.specs.Memory.{FlatMap, FlatMaps}
+use Rattle.host_types.specs.Memory.{FlatMaps}
 use Rattle.bpf_decode.specs.Text.{IsWellFormed}
 use Rattle.page_table.specs.Reads.{ReadsAs}
 use Rattle.page_table.specs.State.{MemoryState, part}
@@ -16,14 +14,14 @@ use Rattle.verifier.specs.Subject.{Subject, IsContextSize, all_there}
 use Rattle.verifier.specs.Table.{IsTightTable, IsRefusal}
 use Rattle.verifier.specs.Verified.{Accepted, IsVerified}
 use Rattle.interp.specs.Fits.{HaveShapes}
-use Rattle.tenant_runs.proofs.Shapes.{HaveFirst, HasShapeAt, have_all}
+use Rattle.tenant_runs.proofs.Shapes.{HaveFirst, have_all}
 use Rattle.host_calls.specs.Programs.{IsJudgement, shapes_of, subject_of}
 use Rattle.host_core.specs.declared.event.Event.TheVariants.{Load}
 use Rattle.host_core.specs.declared.event.Reply.TheVariants.{Program, Refused}
 use Rattle.host_core.specs.declared.tenant.OpenRun.{OpenRun as KeptRun}
 use Rattle.host_core.specs.World.{OpenRun, Tenant, System, owned_by}
 use Rattle.host_core.specs.Happens.{MayLackMemory, LoadHappens, load_refusal, is_context_size, changed}
-use Rattle.host_core.specs.HostView.{TenantView, StandsForAnyRun, StandsForTenant, StandsForMemory, IsServed}
+use Rattle.host_core.specs.HostView.{TenantView, StandsForAnyRun, StandsForTenant, IsServed}
 use Rattle.host_core.proofs.Worlds.{OfTenant-there, RefusedOr-refused, RefusedOr-else}
 use Rattle.host_core.proofs.Systems.{part_stands, changed_stands}
 use Rattle.host_core.proofs.Serving.{is_some-run, served-same}
@@ -149,7 +147,7 @@ module _ (t : ℕ) (old : TenantView) (memory : MemoryState) (text : List ℕ) (
             let Fitting : Accepted → Type 0 = λ a. HaveShapes a.subject.shapes tenant.maps in
             let have : Fitting v = subst (λ (q : Subject). HaveShapes q.shapes tenant.maps) same (have_shapes tenant.maps) in
             let listed : (map (λ (a : Accepted). a.subject) old.programs ++ p ∷ []) ≡ map (λ (a : Accepted). a.subject) (old.programs ++ v ∷ []) =
-                ap (λ q. map (λ (a : Accepted). a.subject) old.programs ++ q ∷ []) same ∙ sym (map-append (λ (a : Accepted). a.subject) old.programs (v ∷ [])) in
+            ap (λ q. map (λ (a : Accepted). a.subject) old.programs ++ q ∷ []) same ∙ sym (map-append (λ (a : Accepted). a.subject) old.programs (v ∷ [])) in
             record {
               programs = ap (λ programs. programs ++ p ∷ []) stands.programs ∙ listed;
               verified = All-push IsVerified old.programs v stands.verified verified;

@@ -1,15 +1,13 @@
 -- Steps of a tenant that are made one after another, and the one Step event that one of them is.
-use Rattle.std.proofs.Common.{◌≡◌, ◌≢◌, ℕ, ◌+◌, ◌/◌, ◌<◌, ◌≤◌, List, [], ◌∷◌, ◌++◌, replicate, Option, Some, None, is_some, true, false, IfSome, sym, ap, refl, ◌∙◌, subst, arith}
-use Rattle.std.specs.List.{slice_get}
+use Rattle.std.proofs.Common.{◌≡◌, ℕ, ◌+◌, ◌<◌, ◌≤◌, List, [], ◌∷◌, ◌++◌, replicate, Option, Some, None, is_some, true, false, sym, ap, refl, ◌∙◌, subst, arith}
 use Rattle.std.proofs.lemmas.List.{replicate-append-replicate, append_assoc}
-use Rattle.host_types.specs.Sharing.{Sharing}
 use Rattle.page_table.specs.State.{MemoryState}
 use Rattle.host_core.specs.declared.event.Event.{Event}
 use Rattle.host_core.specs.declared.event.Event.TheVariants.{Step}
 use Rattle.host_core.specs.declared.event.Reply.{Reply}
 use Rattle.host_core.specs.declared.event.Reply.TheVariants.{Stepped}
 use Rattle.host_core.specs.World.{Tenant, System}
-use Rattle.host_core.specs.Happens.{Happens, IsPromised, AllHappen, AreSteps, StepsHappen, changed}
+use Rattle.host_core.specs.Happens.{Happens, IsPromised, AllHappen, AreSteps, changed}
 use Rattle.host_core.specs.HostView.{TenantView, StandsForTenant, StandsForMemory, StandsForAnyRun, IsKept, IsServed, HasMadeSteps, HasCounted, steps_of}
 use Rattle.host_core.proofs.Joined.{AllHappen-join}
 use Rattle.interp.proofs.Counting.{instructions_fit}
@@ -60,11 +58,17 @@ made-join t n k one two three before between after last first second x tenant th
     let (next, sharing, stands, memory', (events, replies, steps, all)) = first x tenant there s memory in
     let x' = changed x t next sharing in
     let (next', sharing', stands', memory'', (more, further, rest, behind)) = second x' next (slice_get-set x.world t tenant next there) stands memory' in
-    let same = changed-twice x t next next' sharing sharing' in
-    (
-      next', sharing', stands', subst (StandsForMemory after) same memory'',
-      (events ++ more, replies ++ further, steps-join t n k last events more replies further steps rest,
-      subst (AllHappen x (events ++ more) (replies ++ further)) same (AllHappen-join x x' (changed x' t next' sharing') events more replies further all behind)),
+    let same = changed-twice x t next next' sharing sharing' in (
+      next',
+      sharing',
+      stands',
+      subst (StandsForMemory after) same memory'',
+      (
+        events ++ more,
+        replies ++ further,
+        steps-join t n k last events more replies further steps rest,
+        subst (AllHappen x (events ++ more) (replies ++ further)) same (AllHappen-join x x' (changed x' t next' sharing') events more replies further all behind),
+      ),
     )
 
 -- no steps

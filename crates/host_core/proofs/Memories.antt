@@ -1,13 +1,13 @@
 -- A memory's parts, and the maps of all tenants one behind the other.
-use Rattle.std.proofs.Common.{◌≡◌, ◌≢◌, ℕ, zero, suc, ◌+◌, ◌*◌, ◌<◌, ◌≤◌, List, [], ◌∷◌, ◌++◌, take, drop, length, map, get_or, set, inl, inr, Option, Some, None, sym, ap, refl, ◌∙◌, subst, arith}
-use Rattle.std.specs.List.{slice_get, flat_map, All}
+use Rattle.std.proofs.Common.{◌≡◌, ℕ, zero, suc, ◌+◌, ◌*◌, ◌<◌, [], ◌∷◌, ◌++◌, take, drop, length, map, get_or, Some, sym, ap, refl, ◌∙◌, subst, arith}
+use Rattle.std.specs.List.{slice_get, All}
 use Rattle.std.specs.Option.{option_map}
 use Rattle.std.proofs.lemmas.List.{length-map, length-append, length-drop, take-append-drop, get_or_default, same_lists}
 use Rattle.std.proofs.lemmas.List.Elements.{All-tail}
-use Rattle.std.proofs.lemmas.Option.{get_or_from_slice_get, slice_get_within, slice_get-get_or, slice_get-map}
+use Rattle.std.proofs.lemmas.Option.{get_or_from_slice_get, slice_get-get_or, slice_get-map}
 use Rattle.std.proofs.Math.Seq.{take-append_seam, drop-append-add}
 use Rattle.host_types.specs.Bytes.{part_of}
-use Rattle.host_types.specs.Memory.{FlatMap, FlatMaps}
+use Rattle.host_types.specs.Memory.{FlatMaps}
 use Rattle.page_table.specs.declared.tenant.Tenant.{Tenant as Recorded}
 use Rattle.page_table.specs.State.{MemoryState, part, new_tenant}
 use Rattle.host_core.specs.World.{Tenant, World, all_maps, owned_by, new_tenant as new_host_tenant}
@@ -75,6 +75,7 @@ same_eights (suc n) xs ys lx ly same =
   where
     behind : (zs : FlatMaps) (k : ℕ) → drop k (drop 8 zs) ≡ drop (8 + k) zs
     behind zs k = dropped zs 8 k
+
     later : (t : ℕ) → suc t < suc n → part_of (drop 8 xs) (t * 8) 8 ≡ part_of (drop 8 ys) (t * 8) 8
     later t less =
         let next : suc t * 8 ≡ 8 + t * 8 = omega arith in
@@ -89,13 +90,14 @@ pub memory_of_parts : (memory : MemoryState) (w : World) → All IsEight w → l
 unfolding part
 memory_of_parts memory w eight tenants maps parts = (
   same_eights (length w) memory.maps (all_maps w) maps (length_all w eight) (λ t less.
-  let there = slice_get-get_or w t default less in
-  ap (λ owned. owned.maps) (parts t (get_or w t default) there) ∙ sym (part_all w t (get_or w t default) eight there)),
+      let there = slice_get-get_or w t default less in
+      ap (λ owned. owned.maps) (parts t (get_or w t default) there) ∙ sym (part_all w t (get_or w t default) eight there)),
   same_lists memory.tenants (map recorded_of w) (tenants ∙ sym (length-map w recorded_of)) (λ k d less. recorded k d (omega (arith, less, tenants))),
 )
   where
     default : Tenant
     default = new_host_tenant
+
     recorded : (k : ℕ) (d : Recorded) → k < length w → get_or memory.tenants k d ≡ get_or (map recorded_of w) k d
     recorded k d less =
         let there = slice_get-get_or w k default less in

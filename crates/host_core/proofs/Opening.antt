@@ -1,5 +1,5 @@
 -- What the beginning of a run does to a tenant and to each system that it stands in.
-use Rattle.std.proofs.Common.{◌≡◌, ◌≢◌, ℕ, ◌<◌, ◌≤◌, ◌==◌, ◌⊎◌, true, false, List, length, map, inl, inr, Option, Some, None, is_some, IsNone, sym, ap, refl, ◌∙◌, subst, eq-eqb, ne_eqb, arith}
+use Rattle.std.proofs.Common.{◌≡◌, ◌≢◌, ℕ, ◌<◌, ◌≤◌, ◌==◌, ◌⊎◌, true, false, List, length, inl, inr, Option, Some, None, is_some, IsNone, sym, ap, refl, ◌∙◌, subst, eq-eqb, ne_eqb, arith}
 use Rattle.std.specs.List.{slice_get, All}
 use Rattle.std.specs.Option.{option_map}
 use Rattle.std.proofs.lemmas.Bool.Decides.{eqb_tells}
@@ -20,11 +20,10 @@ use Rattle.verifier.proofs.Tight.{length-tight, tight_is_tight}
 use Rattle.interp.specs.Fits.{HaveShapes}
 use Rattle.interp.specs.StandsFor.{Running, IsBegun}
 use Rattle.tenant_runs.proofs.Rooms.{record_keeps}
-use Rattle.host_calls.specs.Calls.{IsThere, TellsHave}
+use Rattle.host_calls.specs.Calls.{TellsHave}
 use Rattle.host_calls.specs.Programs.{RefusesBegin}
 use Rattle.host_core.specs.declared.event.Event.TheVariants.{Begin}
 use Rattle.host_core.specs.declared.event.Reply.TheVariants.{Begun, Refused}
-use Rattle.host_core.specs.declared.tenant.OpenRun.{OpenRun as KeptRun}
 use Rattle.host_core.specs.World.{OpenRun, Tenant, System, begun_run, accepted_of, owned_by, reserve_of, have_in}
 use Rattle.host_core.specs.Happens.{BeginHappens, begin_refusal, changed}
 use Rattle.host_core.specs.HostView.{TenantView, StandsForTenant, IsKept, IsServed}
@@ -143,7 +142,7 @@ module _ (t k : ℕ) (old : TenantView) (context : List ℕ) (v : Accepted) (idl
       let had : have ≡ have_in x = tells ∙ have_stands memory x holds in
       let less : have_in x < reserve_from (accepted_of v.subject) 0 = subst (λ n. have_in x < n) charge (subst (λ n. n < need) had refuses.1) in
       let reply : Refused (NoFrames need have) ≡ Refused (NoFrames (reserve_from (accepted_of v.subject) 0) (have_in x)) =
-          ap (λ n. Refused (NoFrames n have)) charge ∙ ap (λ n. Refused (NoFrames (reserve_from (accepted_of v.subject) 0) n)) had in
+      ap (λ n. Refused (NoFrames n have)) charge ∙ ap (λ n. Refused (NoFrames (reserve_from (accepted_of v.subject) 0) n)) had in
       let happens : BeginHappens x t tenant k context (Refused (NoFrames need have)) x = (v.subject, numbered tenant stands, inl (less, (reply, refl))) in
       (OfTenant-there x t (Refused (NoFrames need have)) x _ tenant there (RefusedOr-else (begin_refusal tenant k context) x (Refused (NoFrames need have)) x _ none (inr happens)), tt))
 
@@ -199,7 +198,7 @@ begin-begun t k old before after context run v idle found fits begun none_made a
     let tight : accepted_of v.subject ≡ v = accepted-tight v (all-at IsVerified old.programs k v stands.verified found) in
     let charge : reserve_from v 0 ≡ reserve_from (accepted_of v.subject) 0 = ap (λ a. reserve_from a 0) (sym tight) in
     let is : part after t ≡ owned_by next =
-        admits.recorded ∙ ap (with_reserve (reserve_from v 0)) (part_stands before x t tenant holds there) ∙ ap (λ n. with_reserve n (owned_by tenant)) charge in
+    admits.recorded ∙ ap (with_reserve (reserve_from v 0)) (part_stands before x t tenant holds there) ∙ ap (λ n. with_reserve n (owned_by tenant)) charge in
     let enough : reserve_from (accepted_of v.subject) 0 ≤ have_in x = subst (λ n. n ≤ have_in x) charge (subst (λ n. reserve_from v 0 ≤ n) (have_stands before x holds) admits.enough) in
     let sizes = record_keeps before after t (reserve_from v 0) admits.all in
     let shares : after.sharing ≡ x.sharing = ap (λ (memory : MemoryState). memory.sharing) admits.all ∙ holds.sharing in

@@ -1,6 +1,6 @@
 -- What a tenant's events on its maps do to it and to each system that it stands in.
-use Rattle.std.proofs.Common.{◌≡◌, ◌≢◌, ℕ, zero, suc, ◌*◌, ◌<◌, ◌≤◌, ◌==◌, if◌then◌else◌, Bool, true, false, List, [], ◌∷◌, length, slice_index_or, slice_set, inl, inr, Option, Some, None, is_some, is_none, option_map, IsNone, IsSome, IfSome, IsSomeAnd, sym, ap, refl, ◌∙◌, subst, arith}
-use Rattle.std.specs.List.{slice_get, All}
+use Rattle.std.proofs.Common.{◌≡◌, ◌≢◌, ℕ, zero, suc, ◌*◌, ◌≤◌, ◌==◌, if◌then◌else◌, Bool, true, false, List, [], ◌∷◌, length, slice_index_or, slice_set, inl, inr, Option, Some, None, is_some, is_none, option_map, IsNone, IsSome, IfSome, IsSomeAnd, sym, ap, refl, ◌∙◌, subst}
+use Rattle.std.specs.List.{slice_get}
 use Rattle.std.proofs.lemmas.Bool.Decides.{eqb_tells}
 use Rattle.std.proofs.lemmas.List.{length-set}
 use Rattle.std.proofs.lemmas.List.Quantifiers.{position-Some}
@@ -149,7 +149,7 @@ create-made t old before after value_size entries mergeable m idle made x tenant
     let free : free_number (owned_by tenant) ≡ Some m = subst (λ o. free_number o ≡ Some m) owned made.number in
     let others : (j : ℕ) → j ≢ m → map_at next.maps j ≡ map_at tenant.maps j = subst (λ o. AreMapsKeptBut m o (owned_by next)) owned (subst (λ o. AreMapsKeptBut m (part before t) o) is made.other_maps) in
     let have : (shapes : List (Option Shape)) → HaveShapes shapes tenant.maps → HaveShapes shapes next.maps =
-        λ shapes. shapes_kept shapes tenant.maps next.maps m others (λ s had. absurd (free_shapeless (owned_by tenant) m s free had)) in
+    λ shapes. shapes_kept shapes tenant.maps next.maps m others (λ s had. absurd (free_shapeless (owned_by tenant) m s free had)) in
     let sharing : Sharing = with_new_pages x.sharing (map_place t m * 256) (page_count shape) mergeable in
     let shares : after.sharing ≡ sharing = made.sharing ∙ ap (λ s. with_new_pages s (map_place t m * 256) (page_count shape) mergeable) holds.sharing in
     let enough : page_count shape ≤ have_in x = subst (λ n. page_count shape ≤ n) (have_stands before x holds) made.enough in
@@ -233,14 +233,14 @@ update-done t old before after m key value idle made x tenant there stands holds
     let flat : AreFlatMaps next.maps = subst (λ (o : TenantPart). AreFlatMaps o.maps) is (made.flat (ap (λ (o : TenantPart). length o.maps) is ∙ eight)) in
     let others : (j : ℕ) → j ≢ m → map_at next.maps j ≡ map_at tenant.maps j = subst (λ o. AreMapsKeptBut m o (owned_by next)) owned (subst (λ o. AreMapsKeptBut m (part before t) o) is made.other_maps) in
     let have : (shapes : List (Option Shape)) → HaveShapes shapes tenant.maps → HaveShapes shapes next.maps =
-        λ shapes. shapes_kept shapes tenant.maps next.maps m others (λ s had. updated_shapes tenant.maps m key value s had) in
+    λ shapes. shapes_kept shapes tenant.maps next.maps m others (λ s had. updated_shapes tenant.maps m key value s had) in
     let sharing : Sharing = updated_sharing (owned_by tenant) x.sharing t m key 0 in
     let shares : after.sharing ≡ sharing =
-        made.sharing ∙ ap (λ o. updated_sharing o before.sharing t m key 0) owned ∙ ap (λ s. updated_sharing (owned_by tenant) s t m key 0) holds.sharing in
+    made.sharing ∙ ap (λ o. updated_sharing o before.sharing t m key 0) owned ∙ ap (λ s. updated_sharing (owned_by tenant) s t m key 0) holds.sharing in
     let fits : FitsValue (owned_by tenant) m key value = subst (λ o. FitsValue o m key value) owned made.fits in
     let charged : IsCharged (owned_by tenant) m (have_in x) = subst (λ n. IsCharged (owned_by tenant) m n) (have_stands before x holds) (subst (λ o. IsCharged o m (have_of before)) owned made.charged) in
     let helped : helper Update tenant.maps m key value 0 ≡ Some (0, next.maps) =
-        subst (λ (o : TenantPart). helper Update o.maps m key value 0 ≡ Some (0, next.maps)) owned (subst (λ (o : TenantPart). helper Update (part before t).maps m key value 0 ≡ Some (0, o.maps)) is made.helped) in (
+    subst (λ (o : TenantPart). helper Update o.maps m key value 0 ≡ Some (0, next.maps)) owned (subst (λ (o : TenantPart). helper Update (part before t).maps m key value 0 ≡ Some (0, o.maps)) is made.helped) in (
       next,
       sharing,
       with_maps old tenant next.maps none stands flat have,

@@ -1,5 +1,5 @@
 -- A new host and a new system.
-use Rattle.std.proofs.Common.{◌≡◌, ℕ, zero, suc, ◌+◌, ◌*◌, List, [], ◌∷◌, ◌++◌, length, map, replicate, Option, None, sym, ap, refl, ◌∙◌, subst, arith}
+use Rattle.std.proofs.Common.{◌≡◌, ℕ, zero, suc, ◌+◌, ◌*◌, List, [], ◌∷◌, ◌++◌, map, replicate, Option, None, sym, ap, refl, ◌∙◌, subst, arith}
 use Rattle.std.specs.List.{AllZip}
 use Rattle.std.proofs.lemmas.List.{length-replicate, replicate_more, replicate-append-replicate}
 use Rattle.std.proofs.lemmas.List.Elements.{All-replicate}
@@ -8,7 +8,7 @@ use Rattle.host_types.specs.declared.options.Options.{Options}
 use Rattle.host_types.specs.Memory.{FlatMap, FlatMaps}
 use Rattle.host_types.specs.Pages.{zero_page}
 use Rattle.page_table.specs.State.{MemoryState, new_memory, new_tenant as new_record}
-use Rattle.host_core.specs.World.{System, all_maps, new_tenant, new_system}
+use Rattle.host_core.specs.World.{all_maps, new_tenant, new_system}
 use Rattle.host_core.specs.HostView.{TenantView, StandsForTenant, StandsForMemory, StandsForSystem, recorded_of}
 use Rattle.host_core.proofs.Memories.{IsEight}
 

@@ -1,5 +1,5 @@
 -- Steps of a tenant's open run, one and many, and the Step events of a system that they are.
-use Rattle.std.proofs.Common.{◌≡◌, ℕ, zero, suc, ◌+◌, ◌<◌, ◌≤◌, nat_lt, ◌==◌, ◌&&◌, Bool, true, false, if◌then◌else◌, List, [], ◌∷◌, ◌++◌, length, map, replicate, set, sum_by, get_or, Option, Some, None, IfSome, IsSomeAnd, MatchOption, sym, ap, refl, ◌∙◌, subst, arith, add-one, add-zero, add-suc}
+use Rattle.std.proofs.Common.{◌≡◌, ℕ, zero, suc, ◌+◌, ◌<◌, ◌≤◌, nat_lt, ◌==◌, ◌&&◌, Bool, true, false, if◌then◌else◌, List, [], ◌∷◌, ◌++◌, replicate, set, sum_by, get_or, Option, Some, None, IfSome, IsSomeAnd, MatchOption, sym, ap, refl, ◌∙◌, subst, arith, add-one, add-zero, add-suc}
 use Rattle.std.specs.List.{slice_get, All}
 use Rattle.std.specs.Option.{option_map}
 use Rattle.std.proofs.lemmas.List.{replicate_more, ext_get_or}
@@ -27,25 +27,24 @@ use Rattle.verifier.proofs.Tight.{length-tight, tight_is_tight}
 use Rattle.interp.specs.declared.need.Need.{Need}
 use Rattle.interp.specs.declared.need.Need.TheVariants.{Private, Ended as NeedEnded, Load as AskLoad, Store as AskStore, Lookup as AskLookup, Update as AskUpdate, Delete as AskDelete}
 use Rattle.interp.specs.Fits.{HaveShapes}
-use Rattle.interp.specs.Machine.{MachineState, Outcome, Next, Exits, step, step_by, step_store, step_call, fallen}
+use Rattle.interp.specs.Machine.{MachineState, Next, Exits, step, step_by, step_store, step_call, fallen}
 use Rattle.interp.specs.Needs.{map_stored, maps_after}
-use Rattle.interp.specs.Runs.{Reaches, Runs}
+use Rattle.interp.specs.Runs.{Runs}
 use Rattle.interp.specs.StandsFor.{Running, StandsFor, IsNoMore, ReachesQuietly}
-use Rattle.interp.specs.Written.{Written, written, written_by_operation}
+use Rattle.interp.specs.Written.{written, written_by_operation}
 use Rattle.tenant_runs.specs.Meeting.{KeepsSizes}
 use Rattle.host_core.specs.declared.event.Event.{Event}
 use Rattle.host_core.specs.declared.event.Event.TheVariants.{Step}
 use Rattle.host_core.specs.declared.event.Reply.{Reply}
 use Rattle.host_core.specs.declared.event.Reply.TheVariants.{Stepped, Ended, Refused}
 use Rattle.host_core.specs.declared.tenant.OpenRun.{OpenRun as KeptRun}
-use Rattle.host_core.specs.World.{OpenRun, Tenant, World, System, IsTenant, IsOpenRun, IsCovered, accepted_of, reserve_of, reserved_in, owned_by}
+use Rattle.host_core.specs.World.{OpenRun, Tenant, System, IsTenant, IsOpenRun, IsCovered, accepted_of, reserve_of, reserved_in, owned_by}
 use Rattle.host_core.specs.Happens.{Answers, StepHappens, Happens, IsPromised, IsPromisedOf, AllHappen, StepsHappen, changed, sharing_after}
-use Rattle.host_core.specs.HostView.{TenantView, StandsForRun, StandsForAnyRun, StandsForTenant, StandsForMemory, IsKept, IsServed, HasMadeSteps, steps_of}
+use Rattle.host_core.specs.HostView.{TenantView, StandsForRun, StandsForAnyRun, StandsForTenant, StandsForMemory, IsKept, HasMadeSteps, steps_of}
 use Rattle.host_core.specs.Stretches.{IsUnderWayAt, HasAdvanced, HasDone, IsQuiet, IsAnswered, IsEnded, quiet, answered, ended, part_in}
 use Rattle.host_core.proofs.Worlds.{slice_get-set, OfTenant-there, changed-same, changed-twice}
 use Rattle.host_core.proofs.Systems.{part_stands, covered, changed_stands}
 use Rattle.host_core.proofs.Joined.{AllHappen-join}
-use Rattle.host_core.proofs.Instructions.{instructions_before-within}
 use Rattle.host_core.proofs.Advances.{some_instruction}
 
 -- the system's open run, where one is kept
@@ -79,6 +78,7 @@ exit_writes text s number maps e = chosen (nat_lt s.slot (slots_of text) && is_i
     goes_on : (o : Option MachineState) → (o >>= λ t. Some (fallen text t)) ≡ Some (Exits number maps) → ⊥
     goes_on None e = cc
     goes_on (Some t) e = cc
+
     by : (operation : Operation) → step_by text operation s ≡ Some (Exits number maps) → written_by_operation text operation s ≡ None
     by (Store size source) e = absurd (goes_on (step_store size source (insn_at text s.slot) s) e)
     by Call e = absurd (goes_on (step_call (insn_at text s.slot) s) e)
@@ -88,9 +88,11 @@ exit_writes text s number maps e = chosen (nat_lt s.slot (slots_of text) && is_i
     by (Jump distance) e = refl
     by (Branch comparison width source) e = refl
     by Exit e = refl
+
     found : (o : Option Operation) → (o >>= λ operation. step_by text operation s) ≡ Some (Exits number maps) → (o >>= λ operation. written_by_operation text operation s) ≡ None
     found None e = refl
     found (Some operation) e = by operation e
+
     chosen : (b : Bool) → (if b then (operation_of (insn_at text s.slot).opcode >>= λ operation. step_by text operation s) else None) ≡ Some (Exits number maps)
         → (if b then (operation_of (insn_at text s.slot).opcode >>= λ operation. written_by_operation text operation s) else None) ≡ None
     chosen false e = refl

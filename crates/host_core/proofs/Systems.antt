@@ -1,19 +1,18 @@
 -- Memories that stand for systems.
-use Rattle.std.proofs.Common.{◌≡◌, ◌≢◌, ℕ, ◌+◌, ◌-◌, ◌*◌, ◌<◌, ◌≤◌, ◌⊎◌, eqb, true, false, List, [], ◌∷◌, length, map, get_or, set, inl, inr, Option, Some, None, sum_by, sym, ap, refl, ◌∙◌, subst, arith}
+use Rattle.std.proofs.Common.{◌≡◌, ◌≢◌, ℕ, ◌+◌, ◌*◌, ◌⊎◌, eqb, true, false, [], ◌∷◌, length, map, set, inl, inr, Some, sum_by, sym, ap, refl, ◌∙◌, subst, arith}
 use Rattle.std.specs.List.{slice_get, All}
 use Rattle.std.specs.Option.{option_map}
 use Rattle.std.proofs.lemmas.Bool.Decides.{eqb_tells}
 use Rattle.std.proofs.lemmas.List.{length-map, length-set}
 use Rattle.std.proofs.lemmas.List.Elements.{All-set}
 use Rattle.std.proofs.lemmas.List.Sums.{sum_by-cons}
-use Rattle.std.proofs.lemmas.Option.{get_or_from_slice_get, slice_get_within, slice_get-get_or, slice_get-map}
-use Rattle.host_types.specs.Sharing.{Sharing, frames_free}
-use Rattle.host_types.specs.Tenant.{TenantPart}
+use Rattle.std.proofs.lemmas.Option.{get_or_from_slice_get, slice_get-map}
+use Rattle.host_types.specs.Sharing.{Sharing}
 use Rattle.page_table.specs.declared.tenant.Tenant.{Tenant as Recorded}
 use Rattle.page_table.specs.Changes.{IsKeptBut, KeepsSettings}
 use Rattle.page_table.specs.Reads.{ReadsAs}
-use Rattle.page_table.specs.State.{MemoryState, part, have_of, free_of, new_tenant}
-use Rattle.host_core.specs.World.{Tenant, World, System, all_maps, owned_by, have_in, reserve_of, reserved_in, IsCovered}
+use Rattle.page_table.specs.State.{MemoryState, part, have_of, new_tenant}
+use Rattle.host_core.specs.World.{Tenant, World, System, owned_by, have_in, reserve_of, reserved_in, IsCovered}
 use Rattle.host_core.specs.Happens.{changed}
 use Rattle.host_core.specs.HostView.{StandsForMemory, recorded_of}
 use Rattle.host_core.proofs.Memories.{IsEight, part_all, memory_of_parts}

@@ -1,12 +1,10 @@
 -- Steps of an open run that are made in one go.
 use Rattle.std.specs.Prelude.{◌≡◌, ℕ, suc, ◌+◌, ◌≤◌, List, slice_get, Option, Some, None}
-use Rattle.host_types.specs.Memory.{FlatMaps}
-use Rattle.host_types.specs.Sharing.{Sharing}
 use Rattle.host_types.specs.Tenant.{TenantPart}
 use Rattle.bpf_decode.specs.Text.{instructions_of}
 use Rattle.page_table.specs.State.{MemoryState, part}
 use Rattle.verifier.specs.Reserve.{reserve_from}
-use Rattle.verifier.specs.Verified.{Accepted, IsVerified}
+use Rattle.verifier.specs.Verified.{Accepted}
 use Rattle.interp.specs.declared.need.Need.{Need}
 use Rattle.interp.specs.Needs.{maps_after}
 use Rattle.interp.specs.Machine.{MachineState, Next, Exits, step}

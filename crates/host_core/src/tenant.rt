@@ -108,7 +108,10 @@ impl Tenant {
             } => self.begin(alloc, memory, number, *program, context.as_slice()),
             Event::Step { .. } => Ok(self.step(memory, number)),
             Event::HostUpdate {
-                map, key, value, ..
+                map,
+                key,
+                value,
+                ..
             } => self.update(memory, number, *map, *key, value.as_slice()),
             Event::HostLookup { map, key, .. } => self.lookup(alloc, memory, number, *map, *key),
             Event::Visit | Event::Set { .. } | Event::Unmerge | Event::Counters => unreachable!(),
@@ -245,7 +248,12 @@ impl Tenant {
 
     // Makes steps of the open run, up to a limit: the reply to the last one, or `None` where each of them was
     // made and the run goes on.
-    pub(crate) fn make_steps(&mut self, memory: &mut Memory, number: u32, limit: u64) -> Option<Reply>
+    pub(crate) fn make_steps(
+        &mut self,
+        memory: &mut Memory,
+        number: u32,
+        limit: u64,
+    ) -> Option<Reply>
         requires some { 0 < limit }
         requires kept { IsKept number self.old memory.old }
         ensures steps { HasMadeSteps number self.old memory.old limit result self.new memory.new }

@@ -1,4 +1,4 @@
-use Rattle.std.proofs.Common.{sym, ap, ◌∙◌, subst}
+use Rattle.std.proofs.Common.{subst}
 use Rattle.page_table.specs.Reads.{ReadsAs}
 use Rattle.host_core.specs.HostView.{HostView}
 use Rattle.host_core.proofs.Hosting.{Hosts, hosts-covered}

@@ -1,6 +1,5 @@
 use Rattle.std.proofs.Common.{◌≡◌, is_some, true, false, ◌∙◌, sym, ap, subst}
 use Rattle.std.proofs.lemmas.Result.{err_from_is_err_and}
-use Rattle.host_types.specs.declared.fault.Fault.TheVariants.{Busy}
 use Rattle.host_core.specs.declared.event.Event.TheVariants.{CreateMap}
 use Rattle.host_core.specs.declared.event.Reply.TheVariants.{Refused}
 use Rattle.host_core.specs.HostView.{TenantView, IsServed}

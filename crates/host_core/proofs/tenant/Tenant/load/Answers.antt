@@ -1,4 +1,4 @@
-use Rattle.std.proofs.Common.{◌≡◌, ◌≤◌, ◌<◌, length, List, [], ◌∷◌, ◌++◌, is_some, true, false, refl, ◌∙◌, sym, ap, subst, arith}
+use Rattle.std.proofs.Common.{◌≡◌, ◌≤◌, ◌<◌, length, List, [], ◌∷◌, ◌++◌, is_some, true, false, ◌∙◌, sym, ap, subst, arith}
 use Rattle.std.proofs.lemmas.Result.{err_from_is_err_and}
 use Rattle.host_types.specs.declared.fault.Fault.TheVariants.{TooManyPrograms, BadContext, OutOfMemory}
 use Rattle.page_table.specs.State.{part}
@@ -54,7 +54,7 @@ returns-in_err-program c =
     let fits : IsContextSize c.args.context_size = c.is_context_size.ensures.0 (c.if-not-is_context_size.false) in
     let shapes = c.as_slice.ensures.value ∙ c.in-Ok.ensures.shapes in
     let judged : IsJudgement (subject_of (part c.args.memory.now c.args.number) c.args.text.now c.args.context_size) c.in_err-program.field-0.0 =
-        subst (λ listed. IsJudgement (subject_for listed c.args.text.now c.args.context_size) c.in_err-program.field-0.0) shapes c.in_err-program.ensures.refused in
+    subst (λ listed. IsJudgement (subject_for listed c.args.text.now c.args.context_size) c.in_err-program.field-0.0) shapes c.in_err-program.ensures.refused in
     let served = load-judged c.args.number kept c.args.memory.now c.args.text.now c.args.context_size idle room fits c.in_err-program.field-0.0 judged in
     let told = subst (λ seen. IsServed c.args.number seen c.args.memory.now (Load c.args.number c.args.text.now c.args.context_size) (Refused c.in_err-program.field-0.0) seen c.args.memory.now) c.self.view_is served in
     let p = err_from_is_err_and c.from_residual.result c.from_residual.ensures.1 in
@@ -82,7 +82,7 @@ returns c =
     let shapes = c.as_slice.ensures.value ∙ c.in-Ok.ensures.shapes in
     let v = c.in_ok-program.program in
     let is : v.subject ≡ subject_of (part c.args.memory.now c.args.number) c.args.text.now c.args.context_size =
-        c.in_ok-program.ensures.subject ∙ ap (λ listed. subject_for listed c.args.text.now c.args.context_size) shapes in
+    c.in_ok-program.ensures.subject ∙ ap (λ listed. subject_for listed c.args.text.now c.args.context_size) shapes in
     let number : length c.self.inside.programs.items ≡ c.len-loaded.result = omega (arith, c.self.inside.programs.ok.0) in
     let served = load-accepted c.args.number kept c.args.memory.now c.args.text.now c.args.context_size idle room fits v is c.in_ok-program.ensures.well_formed c.in_ok-program.ensures.verified c.facts.ensures in
     let told = subst (λ n. IsServed c.args.number kept c.args.memory.now event (Program n) (with (kept.programs ++ v ∷ [])) c.args.memory.now) number served in

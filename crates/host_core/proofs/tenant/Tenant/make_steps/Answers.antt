@@ -1,5 +1,4 @@
-use Rattle.std.proofs.Common.{◌≡◌, ◌+◌, ◌-◌, ◌<◌, ◌≤◌, ℕ, Option, Some, None, is_some, true, false, sym, ap, refl, ◌∙◌, subst, arith}
-use Rattle.host_core.specs.declared.event.Reply.{Reply}
+use Rattle.std.proofs.Common.{◌≡◌, ◌+◌, None, sym, ◌∙◌, subst, arith}
 use Rattle.host_core.specs.HostView.{HasMadeSteps, HasCounted}
 use Rattle.host_core.proofs.Making.{made-join, made-none, made-few, made-some, kept-made, is_none_there}
 use Rattle.host_core.proofs.tenant.Tenant.make_steps.Goals as goal

@@ -1,10 +1,9 @@
-use Rattle.std.proofs.Common.{◌≡◌, ◌∙◌, ◌+◌, Option, Some, None, sym, subst, refl, arith}
+use Rattle.std.proofs.Common.{◌≡◌, ◌∙◌, ◌+◌, Some, None, sym, subst, arith}
 use Rattle.host_types.specs.declared.fault.Fault.TheVariants.{NoRun}
 use Rattle.page_table.specs.State.{part}
-use Rattle.host_core.specs.declared.tenant.OpenRun.{OpenRun as KeptRun}
 use Rattle.host_core.specs.declared.event.Reply.TheVariants.{Ended, Refused}
-use Rattle.host_core.specs.HostView.{TenantView, HasMadeSteps, IsKept, steps_of}
-use Rattle.host_core.specs.Stretches.{HasAdvanced, IsUnderWayAt}
+use Rattle.host_core.specs.HostView.{TenantView, HasMadeSteps, IsKept}
+use Rattle.host_core.specs.Stretches.{IsUnderWayAt}
 use Rattle.host_core.proofs.Stepping.{made-no_run, made-steps, made-last_step, advanced-some, under-way-kept, kept-open, made-open, steps-open}
 use Rattle.host_core.proofs.tenant.Tenant.stretch.Goals as goal
 
