@@ -1,4 +1,5 @@
 ghost use Rattle.std.specs.Prelude.{◌≡◌, min};
+ghost use Rattle.host_core.specs.HostView.{steps_of};
 
 use crate::event::{Event, Reply};
 use crate::host::told;
@@ -281,29 +282,29 @@ impl Tenant {
         ensures counted { HasCounted self.old result.steps result.last self.new }
     {
         memory.facts();
-        let Some(mut open) = self.run.take() else {
+        let before = steps_made(&self.run);
+        let Some(open) = &mut self.run else {
             return Stretch {
                 steps: 1,
                 last: Some(Reply::Refused(Fault::NoRun)),
             };
         };
-        let before = open.run.steps();
         let ended = open.advance(self.programs.as_slice(), memory, number, limit);
         memory.facts();
         let steps = open.run.steps();
         let made = u64::from(steps - before);
         match ended {
-            Some(ret) => Stretch {
-                steps: made,
-                last: Some(Reply::Ended { ret, steps }),
-            },
-            None => {
-                self.run = Some(open);
+            Some(ret) => {
+                self.run = None;
                 Stretch {
                     steps: made,
-                    last: None,
+                    last: Some(Reply::Ended { ret, steps }),
                 }
             }
+            None => Stretch {
+                steps: made,
+                last: None,
+            },
         }
     }
 }
@@ -353,6 +354,16 @@ impl OpenRun {
                 None
             }
         }
+    }
+}
+
+// How many steps an open run made, and 0 without one.
+fn steps_made(run: &Option<OpenRun>) -> u32
+    ensures { result ≡ steps_of run.now }
+{
+    match run {
+        Some(open) => open.run.steps(),
+        None => 0,
     }
 }
 
