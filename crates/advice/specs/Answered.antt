@@ -1,5 +1,4 @@
--- The numbers of the refusals that a host of today can answer, or a `check`. Of the others there is no
--- advice yet: they speak of a tenant's maps, which a host of today doesn't make, and of frames.
+-- The numbers of the refusals that a host or a `check` can answer. No other number is a refusal's.
 use Rattle.std.specs.Prelude.{ℕ, Bool, ◌==◌, ◌||◌}
 
 -- what is wrong with an instruction alone, or with the text's length
@@ -26,12 +25,17 @@ is_of_call n = n == 23 || n == 24
 abbrev pub is_of_limits : ℕ → Bool
 is_of_limits n = n == 32 || (n == 33 || (n == 39 || (n == 40 || n == 41)))
 
--- which tenants, programs and runs there are
+-- which frames are free, and which pages share one
+abbrev pub is_of_frames : ℕ → Bool
+is_of_frames n = n == 31 || n == 44
+
+-- which tenants, maps, elements, programs and runs there are
 abbrev pub is_of_tenants : ℕ → Bool
-is_of_tenants n = n == 36 || (n == 37 || (n == 38 || (n == 42 || n == 45)))
+is_of_tenants n =
+    n == 34 || (n == 35 || (n == 36 || (n == 37 || (n == 38 || (n == 42 || n == 45)))))
 
 -- a refusal by this number can be answered
 abbrev pub is_answered : ℕ → Bool
 is_answered n =
     is_of_text n || (is_of_way n || (is_of_value n || (is_of_access n
-    || (is_of_call n || (is_of_limits n || is_of_tenants n)))))
+    || (is_of_call n || (is_of_limits n || (is_of_frames n || is_of_tenants n))))))

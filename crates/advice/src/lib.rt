@@ -2,6 +2,7 @@
 //! words: the program `bpf_host` says them, and the program `refusals` prints them for the documents.
 #![tactic(auto)]
 
+mod event;
 mod host;
 mod instruction;
 mod program;
@@ -11,7 +12,11 @@ mod tests;
 ghost use Rattle.std.specs.Prelude.{◌↔◌, IsSome, IsTrue};
 ghost use Rattle.advice.specs.Answered.{is_answered};
 
-pub use host::{on_context_length, on_context_size, on_host_size, on_option, on_shape};
+pub use event::{
+    on_context_length, on_context_size, on_frames_for_map, on_frames_for_run,
+    on_frames_for_unmerging, on_frames_for_update, on_host_size, on_map_count, on_option, on_shape,
+    on_shape_count, on_value_size,
+};
 use host_types::Refused;
 
 /// What a refusal says.
@@ -23,8 +28,8 @@ pub struct Advice {
     pub mend: &'static str,
 }
 
-/// The advice on a refusal by its number. There is one for each number that a host of today can answer,
-/// or a `check`, and for no other.
+/// The advice on a refusal by its number. There is one for each number that a host or a `check` can
+/// answer, and for no other.
 pub fn advice_on(number: u32) -> Option<Advice>
     ensures { IsSome result ↔ IsTrue (is_answered number) }
 {
@@ -34,6 +39,7 @@ pub fn advice_on(number: u32) -> Option<Advice>
         .or(program::on_access(number))
         .or(program::on_call(number))
         .or(host::on_limits(number))
+        .or(host::on_frames(number))
         .or(host::on_tenants(number))
 }
 

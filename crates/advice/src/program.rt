@@ -142,7 +142,8 @@ pub fn on_call(number: u32) -> Option<Advice>
         ),
         24 => (
             "a map is named that isn't there",
-            "count maps from 0, and give `check` a V:E for each",
+            "count maps from 0; make a map before the load of a program that names it, and give `check` \
+            a V:E for each",
         ),
         _ => return None,
     };

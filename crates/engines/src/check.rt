@@ -9,7 +9,7 @@ ghost use Rattle.engines.specs.Lines.{line_of, refusal_text};
 mod acceptance;
 mod question;
 
-use crate::explanation::explain;
+use crate::explanation::explain_check;
 use crate::fault::written;
 use crate::lines::write_refusal;
 use acceptance::Acceptance;
@@ -51,7 +51,7 @@ pub fn check<W: Write, E: Write>(
         Err(fault) => {
             tell_refusal(output, fault)?;
             // The answer is written: what it means may be lost.
-            let _ = explain(words, Some(asked.text.as_slice()), fault);
+            let _ = explain_check(words, asked.text.as_slice(), fault);
             Ok(1)
         }
     }

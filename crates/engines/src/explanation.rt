@@ -4,11 +4,13 @@ ghost use Rattle.std.specs.Prelude.{◌≡◌, ◌<◌, ◌%◌, length};
 ghost use Rattle.bpf_decode.specs.Text.{slots_of};
 
 use advice::{
-    Advice, advice_on, advice_on_text, on_context_length, on_context_size, on_host_size, on_option,
-    on_shape,
+    Advice, advice_on, advice_on_text, on_context_length, on_context_size, on_frames_for_map,
+    on_frames_for_run, on_frames_for_unmerging, on_frames_for_update, on_host_size, on_map_count,
+    on_option, on_shape, on_shape_count, on_value_size,
 };
 use bpf_decode::Insn;
 use disassembly::Assembly;
+use host_core::Event;
 use host_types::{Fault, Opt, Options, Refused};
 use std::io;
 use std::io::Write;
@@ -19,19 +21,42 @@ const BAD_LENGTH: u32 = 1;
 // The last number of what is wrong with an instruction alone. The others speak of well-formed texts.
 const LAST_OF_TEXT: u32 = 5;
 
-/// Writes what a refusal means: the slot that it names and what stands there, the rule, and how to mend
-/// it. `text` is the program's, where a text was judged.
-pub fn explain<W: Write>(words: &mut W, text: Option<&[u8]>, fault: Fault) -> io::Result<()> {
-    match (fault, text) {
-        (Fault::Program(refused), Some(text)) => {
-            write!(words, "slot {}: ", refused.slot)?;
-            write_what_stands(words, text, refused)?;
-            write_advice(words, fault, advice_on_text(refused, text))
+/// Writes what the refusal of a program means that was to be checked: its text is given.
+pub fn explain_check<W: Write>(words: &mut W, text: &[u8], fault: Fault) -> io::Result<()> {
+    let advice = match fault {
+        Fault::Program(refused) => return explain_program(words, text, refused),
+        Fault::TooManyMaps => Some(on_shape_count()),
+        Fault::BadShape => Some(on_shape()),
+        Fault::BadContext => Some(on_context_size()),
+        _ => advice_on(fault.number()),
+    };
+    write_advice(words, fault, advice)
+}
+
+/// Writes what the refusal of an event means.
+pub fn explain_event<W: Write>(words: &mut W, event: &Event, fault: Fault) -> io::Result<()> {
+    match (event, fault) {
+        (Event::Load { text, .. }, Fault::Program(refused)) => {
+            explain_program(words, text.as_slice(), refused)
         }
-        (Fault::BadShape, Some(_)) => write_advice(words, fault, Some(on_shape())),
-        (Fault::BadContext, Some(_)) => write_advice(words, fault, Some(on_context_size())),
-        (Fault::BadContext, None) => write_advice(words, fault, Some(on_context_length())),
-        _ => write_advice(words, fault, advice_on(fault.number())),
+        _ => write_advice(words, fault, advice_on_event(event, fault)),
+    }
+}
+
+/// The advice on the refusal of an event by its number and by what was to be done.
+fn advice_on_event(event: &Event, fault: Fault) -> Option<Advice> {
+    match (event, fault) {
+        (Event::CreateMap { .. }, Fault::TooManyMaps) => Some(on_map_count()),
+        (Event::CreateMap { .. }, Fault::BadShape) => Some(on_shape()),
+        (Event::CreateMap { .. }, Fault::NoFrames { .. }) => Some(on_frames_for_map()),
+        (Event::Load { .. }, Fault::BadContext) => Some(on_context_size()),
+        (Event::Begin { .. }, Fault::BadContext) => Some(on_context_length()),
+        (Event::Begin { .. }, Fault::NoFrames { .. }) => Some(on_frames_for_run()),
+        (Event::HostUpdate { .. }, Fault::BadShape) => Some(on_value_size()),
+        (Event::HostUpdate { .. }, Fault::NoFrames { .. }) => Some(on_frames_for_update()),
+        (Event::Set { option, .. }, Fault::BadOption) => Some(on_option(*option)),
+        (Event::Unmerge, Fault::NoFrames { .. }) => Some(on_frames_for_unmerging()),
+        _ => advice_on(fault.number()),
     }
 }
 
@@ -40,7 +65,7 @@ pub fn explain_host<W: Write>(words: &mut W, options: &Options, fault: Fault) ->
     match (fault, wrong_option(options)) {
         (Fault::BadShape, _) => write_advice(words, fault, Some(on_host_size())),
         (Fault::BadOption, Some(option)) => write_advice(words, fault, Some(on_option(option))),
-        _ => explain(words, None, fault),
+        _ => write_advice(words, fault, advice_on(fault.number())),
     }
 }
 
@@ -58,6 +83,15 @@ fn wrong_option(options: &Options) -> Option<Opt> {
         }
     }
     None
+}
+
+/// Writes the refusal of a text: the slot that it names and what stands there, the rule, and how to mend
+/// it.
+fn explain_program<W: Write>(words: &mut W, text: &[u8], refused: Refused) -> io::Result<()> {
+    write!(words, "slot {}: ", refused.slot)?;
+    write_what_stands(words, text, refused)?;
+    let advice = advice_on_text(refused, text);
+    write_advice(words, Fault::Program(refused), advice)
 }
 
 fn write_advice<W: Write>(words: &mut W, fault: Fault, advice: Option<Advice>) -> io::Result<()> {

@@ -8,7 +8,7 @@ ghost use Rattle.host_file.specs.declared.command.Command.TheVariants.{Run};
 ghost use Rattle.engines.specs.Replay.{AreOf, AreOfAll, AreStepsToEnd, AreVisits, latest_run, one_more_run, pages_after, runs_begun};
 ghost use Rattle.engines.specs.Sessions.{AreStepsMade, HasTold, IsAlone, Performs};
 
-use crate::explanation::explain;
+use crate::explanation::explain_event;
 use crate::lines::write_reply;
 use host_core::{Event, Host, Reply};
 use host_file::{Command, FileFault, HostFile};
@@ -150,11 +150,7 @@ impl Session {
     {
         let reply = self.host.apply(event);
         self.tell(event, &reply, writer)?;
-        let text = match event {
-            Event::Load { text, .. } => Some(text.as_slice()),
-            _ => None,
-        };
-        explain_reply(words, number, text, &reply);
+        explain_reply(words, number, event, &reply);
         Ok(reply)
     }
 
@@ -187,8 +183,9 @@ impl Session {
         let Some(reply) = self.host.make_steps(tenant, limit) else {
             return Ok(());
         };
-        self.tell(&Event::Step { tenant }, &reply, writer)?;
-        explain_reply(words, number, None, &reply);
+        let event = Event::Step { tenant };
+        self.tell(&event, &reply, writer)?;
+        explain_reply(words, number, &event, &reply);
         Ok(())
     }
 
@@ -273,19 +270,19 @@ fn is_begun(reply: &Reply) -> bool
 
 /// Writes, of a refusal, which event of the file was refused, and what that means. The line is written: the
 /// words may be lost.
-fn explain_reply<W: Write>(words: &mut W, number: usize, text: Option<&[u8]>, reply: &Reply) {
+fn explain_reply<W: Write>(words: &mut W, number: usize, event: &Event, reply: &Reply) {
     if let Reply::Refused(fault) = reply {
-        let _ = explain_event(words, number, text, *fault);
+        let _ = explain_refusal(words, number, event, *fault);
     }
 }
 
 /// Writes which event of the file was refused, and what that means.
-fn explain_event<W: Write>(
+fn explain_refusal<W: Write>(
     words: &mut W,
     number: usize,
-    text: Option<&[u8]>,
+    event: &Event,
     fault: Fault,
 ) -> io::Result<()> {
     write!(words, "event {number}: ")?;
-    explain(words, text, fault)
+    explain_event(words, event, fault)
 }

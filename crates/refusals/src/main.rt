@@ -13,7 +13,7 @@ use std::io;
 // What stands above the rows.
 const HEAD: &str = "# Refusals\n\n\
     What is wrong where the host or `check` refuses something, and how to mend it. docs/HOST.md says when\n\
-    a host does, and has the numbers too that nothing answers yet.\n\n\
+    they do.\n\n\
     | number | name | what is wrong | how to mend it |\n\
     |---|---|---|---|";
 
@@ -27,8 +27,11 @@ fn fault_of(number: u32) -> Option<Fault>
 {
     match number {
         1..=5 | 11..=25 => Some(Fault::Program(Refused { number, slot: 0 })),
+        31 => Some(Fault::NoFrames { need: 0, have: 0 }),
         32 => Some(Fault::TooManyMaps),
         33 => Some(Fault::BadShape),
+        34 => Some(Fault::NoMap),
+        35 => Some(Fault::NoElement),
         36 => Some(Fault::Busy),
         37 => Some(Fault::NoRun),
         38 => Some(Fault::NoProgram),
@@ -36,6 +39,7 @@ fn fault_of(number: u32) -> Option<Fault>
         40 => Some(Fault::BadOption),
         41 => Some(Fault::OutOfMemory),
         42 => Some(Fault::BadTenant),
+        44 => Some(Fault::PagesShared),
         45 => Some(Fault::TooManyPrograms),
         _ => None,
     }

@@ -1,0 +1,117 @@
+//! What is said of a refusal where it is known what was refused: a host, a program or an event.
+
+use crate::Advice;
+use host_types::Opt;
+
+/// A host of so many frames or tenants as none has.
+pub fn on_host_size() -> Advice {
+    Advice {
+        wrong: "`frames` isn't from 2 to 4096, or `tenants` not from 1 to 16",
+        mend: "mend the top of the host file",
+    }
+}
+
+/// A shape that no map has.
+pub fn on_shape() -> Advice {
+    Advice {
+        wrong: "no map has such a shape",
+        mend: "give values of 1 to 4096 bytes, 1 to 65536 elements, and no more than 256 pages of \
+            4096 bytes; each element takes a multiple of 8",
+    }
+}
+
+/// A value of another size than the values of its map.
+pub fn on_value_size() -> Advice {
+    Advice {
+        wrong: "the value hasn't the size of the map's values",
+        mend: "give as many bytes as the map's `value_size` says",
+    }
+}
+
+/// A map more than a tenant can have.
+pub fn on_map_count() -> Advice {
+    Advice {
+        wrong: "the tenant has eight maps",
+        mend: "make fewer, with more elements or larger values",
+    }
+}
+
+/// More shapes than a program can have maps.
+pub fn on_shape_count() -> Advice {
+    Advice {
+        wrong: "more than eight V:E are given",
+        mend: "give one for each map of the program, which has at most eight",
+    }
+}
+
+/// A map that has more pages than frames are there.
+pub fn on_frames_for_map() -> Advice {
+    Advice {
+        wrong: "the map needs a frame for each of its pages, and fewer are free beside the reserves of \
+            open runs",
+        mend: "make it smaller, finish open runs, let the scanner merge pages by more visits, or give \
+            the host more `frames`",
+    }
+}
+
+/// A run that has a larger reserve than frames are there.
+pub fn on_frames_for_run() -> Advice {
+    Advice {
+        wrong: "the run needs its program's reserve of frames, and fewer are free beside the reserves \
+            of open runs",
+        mend: "finish open runs of other tenants, let the scanner merge pages by more visits, or give \
+            the host more `frames`",
+    }
+}
+
+/// An update that may take more frames than are there.
+pub fn on_frames_for_update() -> Advice {
+    Advice {
+        wrong: "an update needs 1 frame, or 2 where the map's `value_size`, rounded up to a multiple of \
+            8, doesn't divide 4096, and fewer are free beside the reserves of open runs",
+        mend: "finish open runs, let the scanner merge pages by more visits, or give the host more \
+            `frames`",
+    }
+}
+
+/// An unmerging that takes more frames than are there.
+pub fn on_frames_for_unmerging() -> Advice {
+    Advice {
+        wrong: "an unmerging needs a frame for each page that is to leave a shared one, and fewer are \
+            free beside the reserves of open runs",
+        mend: "finish open runs, or give the host more `frames`",
+    }
+}
+
+/// A size of contexts that no program can be loaded with.
+pub fn on_context_size() -> Advice {
+    Advice {
+        wrong: "this size of contexts is above 256 or no multiple of 8",
+        mend: "give a multiple of 8 up to 256",
+    }
+}
+
+/// A context of another length than its program's.
+pub fn on_context_length() -> Advice {
+    Advice {
+        wrong: "the context hasn't the size that its program was loaded with",
+        mend: "give as many bytes as the program's load says",
+    }
+}
+
+/// An option with a value that it can't have.
+pub fn on_option(option: Opt) -> Advice {
+    let (wrong, mend) = match option {
+        Opt::PagesToScan => (
+            "`pages_to_scan` can't have this value",
+            "give it 1 to 100000",
+        ),
+        Opt::Run => ("`run` can't be set to this value", "give it 0 or 1"),
+        Opt::UseZeroPages => ("`use_zero_pages` can't have this value", "give it 0 or 1"),
+        Opt::MaxPageSharing => (
+            "`max_page_sharing` can't have this value",
+            "give it 2 to 65535",
+        ),
+    };
+    Advice { wrong, mend }
+}
