@@ -14,6 +14,8 @@ mod programs;
 #[cfg(test)]
 mod row;
 #[cfg(test)]
+mod runs;
+#[cfg(test)]
 mod settings;
 #[cfg(test)]
 mod turns;

@@ -1,6 +1,6 @@
 //! Memories in which each tenant has a map of one number, and turns that read it or add to it.
 
-ghost use Rattle.std.specs.Prelude.{◌≡◌, ◌≤◌, IsTrue, length};
+ghost use Rattle.std.specs.Prelude.{◌≡◌, ◌≤◌, ℕ, IfOk, IsTrue, length};
 ghost use Rattle.page_table.specs.State.{part, map_bytes};
 ghost use Rattle.page_table.specs.Changes.{IsKeptBut};
 ghost use Rattle.turn.specs.Seats.{IsIdle};
@@ -12,13 +12,16 @@ use std::sync::Wait;
 use turn::{Kind, Place, Seat, Turn};
 use write_break::{load, needs, store};
 
-/// A memory in which each tenant has a map of one number, which is 0.
+/// A memory in which each tenant has a map of one number, which is 0, and no run.
+#[tactic(auto, using(crate::proofs::Resting::nothing_reserved))]
 pub(crate) fn with_numbers(
     alloc: Global,
     frames: u32,
     tenants: u32,
     options: Options,
-) -> Result<Memory, Fault> {
+) -> Result<Memory, Fault>
+    ensures { IfOk result (λ memory. (t : ℕ) → (part memory t).reserve ≡ 0) }
+{
     let mut memory = Memory::new(alloc, frames, tenants, options)?;
     for tenant in 0..tenants {
         memory.create_map(tenant, 8, 1, true)?;

@@ -13,7 +13,7 @@ use tenant_workers::Shared;
 use turn::Seat;
 
 /// Adds one to the number of key 0 in a map, which slot 3 names, and returns it, or 0 where there is none.
-const COUNTER: [u64; 14] = [
+pub(crate) const COUNTER: [u64; 14] = [
     0x620afcff_00000000,
     0xbfa20000_00000000,
     0x07020000_fcffffff,
@@ -34,7 +34,7 @@ const COUNTER: [u64; 14] = [
 const MAP_ONE: u64 = 0x01000000;
 
 /// A text, slot by slot, each written as its eight bytes in order.
-fn text_of(alloc: Global, slots: &[u64]) -> Result<Vec<u8>, AllocError> {
+pub(crate) fn text_of(alloc: Global, slots: &[u64]) -> Result<Vec<u8>, AllocError> {
     let mut text = Vec::new(alloc);
     for slot in slots {
         text.extend_from_slice(&slot.to_be_bytes())?;
