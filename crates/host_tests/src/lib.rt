@@ -3,10 +3,6 @@
 #![tactic(auto)]
 
 #[cfg(test)]
-mod events;
-#[cfg(test)]
 mod input;
-#[cfg(test)]
-mod memory;
 #[cfg(test)]
 mod output;

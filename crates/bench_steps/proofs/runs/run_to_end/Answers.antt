@@ -1,9 +1,0 @@
-use Rattle.std.proofs.Common.{[]}
-use Rattle.interp.proofs.Beginning.{begun_without_maps}
-use Rattle.bench_steps.proofs.runs.run_to_end.Goals as goal
-
-pub advanced-requires : goal.advanced-requires
-advanced-requires c = begun_without_maps _ [] _ c.requires c.in_ok-run.ensures.begun
-
-pub stepped-requires : goal.stepped-requires
-stepped-requires c = begun_without_maps _ [] _ c.requires c.in_ok-run.ensures.begun
