@@ -7,10 +7,13 @@ use engines::replay::replay;
 use engines::{status_of, write_fault};
 use host_file::FileFault;
 use plain_text::quoted;
+use serving::serve_file;
 use std::alloc::{AllocError, Global};
 use std::io::{self, BufWriter, Write};
 use std::process::ExitCode;
 use std::rt::{Env, Files};
+use std::sync::Wait;
+use std::thread::Threads;
 use std::{env, fs};
 
 fn main(rt: HostRuntime) -> ExitCode {
@@ -34,7 +37,7 @@ fn say_path<W: Write>(alloc: Global, words: &mut W, path: &str) -> io::Result<()
 
 /// Does what the command line asks for. What a refusal means goes to `errors`. Answers the status 0
 /// or 1, or the fault of status 2.
-fn run<R: AllocGlobal + Env + Files + Print, E: Write>(
+fn run<R: AllocGlobal + Env + Files + Print + Threads + Wait + Sync, E: Write>(
     rt: &R,
     errors: &mut E,
 ) -> Result<u8, FileFault> {
@@ -52,10 +55,11 @@ fn run<R: AllocGlobal + Env + Files + Print, E: Write>(
     match request {
         Request::Replay { path } => {
             let answer = replay_at(rt, path, &mut output, errors);
-            if let Err(FileFault::Read(_) | FileFault::Bad(_)) = &answer {
-                let _ = say_path(alloc, errors, path);
-            }
-            answer
+            name_file(alloc, errors, path, answer)
+        }
+        Request::Serve { path } => {
+            let answer = serve_at(rt, path, &mut output, errors);
+            name_file(alloc, errors, path, answer)
         }
         Request::Check {
             hex,
@@ -63,6 +67,19 @@ fn run<R: AllocGlobal + Env + Files + Print, E: Write>(
             context,
         } => check(alloc, hex, shapes.as_slice(), context, &mut output, errors),
     }
+}
+
+/// The answer for the file at a path. Where the file can't be read, or is bad, it is named first.
+fn name_file<E: Write>(
+    alloc: Global,
+    errors: &mut E,
+    path: &str,
+    answer: Result<u8, FileFault>,
+) -> Result<u8, FileFault> {
+    if let Err(FileFault::Read(_) | FileFault::Bad(_)) = &answer {
+        let _ = say_path(alloc, errors, path);
+    }
+    answer
 }
 
 /// The fault of words that ask for nothing.
@@ -82,4 +99,15 @@ fn replay_at<R: AllocGlobal + Files, W: Write, E: Write>(
 ) -> Result<u8, FileFault> {
     let mut file = fs::open(rt, path).map_err(FileFault::Read)?;
     replay(rt.alloc(), &mut file, output, errors)
+}
+
+/// Serves the host file at a path.
+fn serve_at<R: AllocGlobal + Files + Threads + Wait + Sync, W: Write, E: Write>(
+    rt: &R,
+    path: &str,
+    output: &mut W,
+    errors: &mut E,
+) -> Result<u8, FileFault> {
+    let mut file = fs::open(rt, path).map_err(FileFault::Read)?;
+    serve_file(rt, rt.alloc(), &mut file, output, errors)
 }

@@ -12,6 +12,10 @@ pub enum Request<'a> {
     Replay {
         path: &'a str,
     },
+    /// To serve the host file at a path.
+    Serve {
+        path: &'a str,
+    },
     /// To judge the program of a hex text, with maps of these shapes and a context of a size. The
     /// words are as they were given.
     Check {
@@ -39,11 +43,18 @@ pub fn request_of<'a>(alloc: Global, words: &'a [String]) -> Result<Request<'a>,
     if let Some(check) = matches.subcommand_matches("check") {
         return check_of(alloc, check);
     }
-    let replay = matches.subcommand_matches("replay");
-    match replay.and_then(|replay| replay.get_str("FILE")) {
-        Some(path) => Ok(Request::Replay { path }),
+    if let Some(path) = path_of(&matches, "replay") {
+        return Ok(Request::Replay { path });
+    }
+    match path_of(&matches, "serve") {
+        Some(path) => Ok(Request::Serve { path }),
         None => Err(usage(String::from_str(alloc, "no FILE is given"))),
     }
+}
+
+/// The path of the host file for what the words ask for, where they ask for this.
+fn path_of<'a>(matches: &ArgMatches<'a>, name: &str) -> Option<&'a str> {
+    matches.subcommand_matches(name)?.get_str("FILE")
 }
 
 /// What is said of words that make no request. They are cut as words from outside are, and make none either.
@@ -83,18 +94,22 @@ fn command<'a>(alloc: Global) -> Result<Command<'a>, AllocError> {
     Command::new(alloc, "bpf_host")
         .about("runs eBPF programs of several tenants")
         .subcommand_required(true)
-        .subcommand(replay(alloc)?)?
+        .subcommand(of_file(alloc, "replay", "applies the events of a host file in their order")?)?
+        .subcommand(of_file(alloc, "serve", "runs the tenants of a host file on threads")?)?
         .subcommand(check(alloc)?)
 }
 
-fn replay<'a>(alloc: Global) -> Result<Command<'a>, AllocError> {
+/// What is done with a host file.
+fn of_file<'a>(
+    alloc: Global,
+    name: &'static str,
+    about: &'static str,
+) -> Result<Command<'a>, AllocError> {
     let file = Arg::new(alloc, "FILE")
         .help("the host file")
         .required(true)
         .action(ArgAction::Set);
-    Command::new(alloc, "replay")
-        .about("applies the events of a host file in their order")
-        .arg(file)
+    Command::new(alloc, name).about(about).arg(file)
 }
 
 fn check<'a>(alloc: Global) -> Result<Command<'a>, AllocError> {

@@ -44,7 +44,7 @@ pub fn replay<R: Read, W: Write, E: Write>(
 }
 
 /// The host file that a reader gives.
-fn file_from<R: Read>(alloc: Global, reader: &mut R) -> Result<HostFile, FileFault>
+pub fn file_from<R: Read>(alloc: Global, reader: &mut R) -> Result<HostFile, FileFault>
     ensures { IfOk result (λ file. IfSome (R.remaining reader.old) (λ bytes. (length bytes ≤ max_bytes) × IsFileText bytes file)) }
 {
     let bytes = bytes_from(alloc, reader)?;

@@ -270,7 +270,7 @@ fn is_begun(reply: &Reply) -> bool
 
 /// Writes, of a refusal, which event of the file was refused, and what that means. The line is written: the
 /// words may be lost.
-fn explain_reply<W: Write>(words: &mut W, number: usize, event: &Event, reply: &Reply) {
+pub fn explain_reply<W: Write>(words: &mut W, number: usize, event: &Event, reply: &Reply) {
     if let Reply::Refused(fault) = reply {
         let _ = explain_refusal(words, number, event, *fault);
     }

@@ -1,3 +1,4 @@
 pub mod Faults
 pub mod HostFile
 pub mod Section
+pub mod Served

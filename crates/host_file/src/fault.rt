@@ -71,6 +71,10 @@ pub enum Cause {
     UnknownEvent(String),
     #[error("no option is `{0}`; the options are pages_to_scan, run, use_zero_pages and max_page_sharing")]
     UnknownOption(String),
+    #[error("it can't be served; map, load, update, set, run, visit and lookup can")]
+    NotServed,
+    #[error("there is no tenant {0}")]
+    NoTenant(u32),
 }
 
 impl fmt::Display for Place {

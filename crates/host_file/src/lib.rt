@@ -8,8 +8,10 @@ mod fault;
 mod file;
 mod key;
 mod section;
+mod serving;
 
 pub use command::{Command, Commands};
 pub use fault::{BadFile, Cause, FileFault, Place};
 pub use file::{HostFile, MAX_BYTES, read_file};
 pub use key::Key;
+pub use serving::require_served;

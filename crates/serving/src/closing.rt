@@ -1,0 +1,125 @@
+//! What is written when all threads have ended.
+
+ghost use Rattle.std.specs.Prelude.{◌≡◌, ¬◌, IfErr};
+ghost use Rattle.host_file.specs.Faults.{IsBad};
+
+use crate::telling::Told;
+use host_core::{Bytes, Event, Reply};
+use host_file::{Command, FileFault};
+use host_types::Fault;
+use std::alloc::Global;
+use std::io::Write;
+use std::sync::Wait;
+use tenant_runs::RunReply;
+use tenant_workers::TenantPlan;
+
+/// Writes what each run was answered, by tenant and within a tenant in order.
+pub(crate) fn tell_runs<W: Write, E: Write>(
+    plans: &[TenantPlan<'_>],
+    commands: &[Command],
+    told: &mut Told,
+    writer: &mut W,
+    words: &mut E,
+) -> Result<(), FileFault>
+    ensures bad { IfErr result (λ fault. ¬ IsBad fault) }
+{
+    for (tenant, plan) in plans.iter().enumerate() {
+        tell_tenant(tenant as u32, &plan.replies, commands, told, writer, words)?;
+    }
+    Ok(())
+}
+
+/// Writes what each run of a tenant was answered. Those that began are counted from 0.
+fn tell_tenant<W: Write, E: Write>(
+    tenant: u32,
+    replies: &[Result<RunReply, Fault>],
+    commands: &[Command],
+    told: &mut Told,
+    writer: &mut W,
+    words: &mut E,
+) -> Result<(), FileFault>
+    ensures bad { IfErr result (λ fault. ¬ IsBad fault) }
+{
+    let mut replies = replies.iter();
+    let mut begun = 0u64;
+    for (number, command) in commands.iter().enumerate() {
+        let Some(event) = run_of(tenant, command) else {
+            continue;
+        };
+        let Some(answer) = replies.next() else {
+            return Ok(());
+        };
+        told.tell(writer, words, number, event, begun, &reply_of(answer))?;
+        begun = begun.saturating_add(u64::from(answer.is_ok()));
+    }
+    Ok(())
+}
+
+/// The event that opens a command's run, where it is a run of this tenant.
+fn run_of(tenant: u32, command: &Command) -> Option<&Event> {
+    match command {
+        Command::Run(event) if event.tenant() == Some(tenant) => Some(event),
+        _ => None,
+    }
+}
+
+/// What the host would answer to a run that is made whole.
+fn reply_of(answer: &Result<RunReply, Fault>) -> Reply {
+    match answer {
+        Ok(reply) => Reply::Ended {
+            ret: reply.ret,
+            steps: reply.steps,
+        },
+        Err(fault) => Reply::Refused(*fault),
+    }
+}
+
+/// Writes each value that is looked up, in the file's order.
+pub(crate) fn tell_lookups<W: Write, E: Write>(
+    rt: &impl Wait,
+    alloc: Global,
+    plans: &mut [TenantPlan<'_>],
+    commands: &[Command],
+    told: &mut Told,
+    writer: &mut W,
+    words: &mut E,
+) -> Result<(), FileFault>
+    ensures bad { IfErr result (λ fault. ¬ IsBad fault) }
+{
+    for (number, command) in commands.iter().enumerate() {
+        let Command::Apply(event) = command else {
+            continue;
+        };
+        if let Some(reply) = looked_up(rt, alloc, plans, event) {
+            told.tell(writer, words, number, event, 0, &reply)?;
+        }
+    }
+    Ok(())
+}
+
+/// What is answered to an event that looks a value up.
+fn looked_up(
+    rt: &impl Wait,
+    alloc: Global,
+    plans: &mut [TenantPlan<'_>],
+    event: &Event,
+) -> Option<Reply> {
+    let Event::HostLookup { tenant, map, key } = event else {
+        return None;
+    };
+    match plans.get_mut(*tenant as usize) {
+        Some(plan) => {
+            let value = plan.shared.read(rt, alloc, &mut plan.seat, *map, *key);
+            Some(value_reply(value))
+        }
+        None => Some(Reply::Refused(Fault::BadTenant)),
+    }
+}
+
+/// What the host would answer with a value.
+fn value_reply(value: Result<Vec<u8>, Fault>) -> Reply {
+    match value {
+        Ok(bytes) => Reply::Value(Bytes::from(bytes)),
+        Err(fault) => Reply::Refused(fault),
+    }
+}

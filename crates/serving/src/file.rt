@@ -1,0 +1,153 @@
+//! A host file that is served: what it may ask for, and in which order it is done.
+
+ghost use Rattle.std.specs.Prelude.{◌≡◌, ◌≤◌, ¬◌, All, IfErr, IfOk};
+ghost use Rattle.host_file.specs.Faults.{IsBad};
+ghost use Rattle.turn.specs.Seats.{IsIdle};
+ghost use Rattle.tenant_workers.specs.Plans.{IsFor};
+
+use crate::closing::{tell_lookups, tell_runs};
+use crate::house::{House, open_house, plans_of};
+use crate::opening::open_all;
+use crate::runs::{add_runs, visits_of};
+use crate::telling::Told;
+use engines::{explain_host, file_from, write_refusal, written};
+use host_file::{FileFault, HostFile, require_served};
+use host_types::Fault;
+use std::alloc::{AllocError, Global};
+use std::io::{Read, Write};
+use std::sync::Wait;
+use std::thread::Threads;
+use tenant_workers::{Gate, Plan, ScanPlan, Shared, serve};
+use turn::HostSeat;
+
+/// A gate that returns at once.
+struct Open;
+
+impl Gate for Open {
+    fn at<R: Wait>(&self, _rt: &R, _tenant: u32, _slot: u32) {}
+}
+
+/// Serves the host file that the reader gives. Its maps, programs, values and options are made, loaded,
+/// written and set in the file's order, and the first refusal among them is written and ends it. Then a
+/// thread a tenant makes the tenant's runs in the file's order, while one for the scanner makes all visits.
+/// When they have ended each run or its refusal is one line, by tenant and in order, and then each value
+/// that is looked up. What a refusal means goes to `words`. Answers the status: 0, or 1 if a refusal was
+/// written. A bad file applies nothing.
+pub fn serve_file<T: Threads + Wait + Sync, R: Read, W: Write, E: Write>(
+    rt: &T,
+    alloc: Global,
+    reader: &mut R,
+    writer: &mut W,
+    words: &mut E,
+) -> Result<u8, FileFault>
+    ensures status { IfOk result (λ status. status ≤ 1) }
+    ensures bad { IfErr result (λ fault. IsBad fault → (writer.new ≡ writer.old) × (words.new ≡ words.old)) }
+{
+    let file = file_from(alloc, reader)?;
+    require_served(&file)?;
+    let status = serve_document(rt, alloc, &file, writer, words);
+    let flushed = writer.flush();
+    let status = status?;
+    written(flushed)?;
+    Ok(status)
+}
+
+/// Serves a host file that may be served.
+fn serve_document<T: Threads + Wait + Sync, W: Write, E: Write>(
+    rt: &T,
+    alloc: Global,
+    file: &HostFile,
+    writer: &mut W,
+    words: &mut E,
+) -> Result<u8, FileFault>
+    ensures status { IfOk result (λ status. status ≤ 1) }
+    ensures bad { IfErr result (λ fault. ¬ IsBad fault) }
+{
+    match open_house(alloc, file) {
+        Ok(house) => serve_house(rt, alloc, house, file, writer, words),
+        Err(fault) => {
+            refuse(file, fault, writer, words)?;
+            Ok(1)
+        }
+    }
+}
+
+/// Writes why nothing is served.
+fn refuse<W: Write, E: Write>(
+    file: &HostFile,
+    fault: Fault,
+    writer: &mut W,
+    words: &mut E,
+) -> Result<(), FileFault>
+    ensures bad { IfErr result (λ fault. ¬ IsBad fault) }
+{
+    write_refusal(writer, fault)?;
+    // The line is written: what it means may be lost.
+    let _ = explain_host(words, &file.options, fault);
+    Ok(())
+}
+
+/// Serves a host file by a new memory.
+fn serve_house<T: Threads + Wait + Sync, W: Write, E: Write>(
+    rt: &T,
+    alloc: Global,
+    house: House,
+    file: &HostFile,
+    writer: &mut W,
+    words: &mut E,
+) -> Result<u8, FileFault>
+    ensures status { IfOk result (λ status. status ≤ 1) }
+    ensures bad { IfErr result (λ fault. ¬ IsBad fault) }
+{
+    let House {
+        shared,
+        seats,
+        scanner,
+        mut host,
+    } = house;
+    let Ok(tenants) = plans_of(alloc, &shared, seats) else {
+        return Err(FileFault::OutOfMemory(AllocError));
+    };
+    let mut plan = Plan {
+        tenants,
+        scan: ScanPlan {
+            shared: &shared,
+            seat: scanner,
+            visits: visits_of(file.commands.as_slice(), file.options.pages_to_scan),
+        },
+    };
+    let mut told = Told::default();
+    serve_plan(rt, alloc, &shared, &mut host, &mut plan, file, &mut told, writer, words)?;
+    Ok(u8::from(told.has_refused))
+}
+
+/// Serves a host file by the plans of its tenants.
+fn serve_plan<T: Threads + Wait + Sync, W: Write, E: Write>(
+    rt: &T,
+    alloc: Global,
+    shared: &Shared,
+    host: &mut HostSeat,
+    plan: &mut Plan<'_>,
+    file: &HostFile,
+    told: &mut Told,
+    writer: &mut W,
+    words: &mut E,
+) -> Result<(), FileFault>
+    requires host { IsIdle shared.now host.old }
+    requires own { All (IsFor shared.now) plan.old.tenants.items }
+    requires scan { plan.old.scan.shared ≡ shared.now }
+    ensures bad { IfErr result (λ fault. ¬ IsBad fault) }
+{
+    let commands = file.commands.as_slice();
+    open_all(rt, alloc, shared, host, &mut plan.tenants, commands, told, writer, words)?;
+    if told.has_refused {
+        return Ok(());
+    }
+    add_runs(alloc, &mut plan.tenants, commands)?;
+    if let Err(fault) = serve(rt, alloc, shared, plan, &Open) {
+        told.has_refused = true;
+        return refuse(file, fault, writer, words);
+    }
+    tell_runs(&plan.tenants, commands, told, writer, words)?;
+    tell_lookups(rt, alloc, &mut plan.tenants, commands, told, writer, words)
+}

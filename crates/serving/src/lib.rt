@@ -1,0 +1,12 @@
+//! The engine of `serve` (docs/HOST.md): the runs of each tenant of a host file on a thread of its own, and
+//! the scanner on another.
+#![tactic(auto)]
+
+mod closing;
+mod file;
+mod house;
+mod opening;
+mod runs;
+mod telling;
+
+pub use file::serve_file;

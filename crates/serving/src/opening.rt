@@ -1,0 +1,118 @@
+//! What is done before a thread starts, in the file's order.
+
+ghost use Rattle.std.specs.Prelude.{◌≡◌, ¬◌, All, IfErr};
+ghost use Rattle.host_file.specs.Faults.{IsBad};
+ghost use Rattle.turn.specs.Seats.{IsIdle};
+ghost use Rattle.tenant_workers.specs.Plans.{IsFor};
+
+use crate::telling::Told;
+use host_core::{Event, Reply};
+use host_file::{Command, FileFault};
+use host_types::Fault;
+use std::alloc::Global;
+use std::io::Write;
+use std::sync::Wait;
+use tenant_workers::{Shared, TenantPlan};
+use turn::HostSeat;
+
+/// Makes the maps, loads the programs, writes the values and sets the options, up to the first refusal, which
+/// is written.
+pub(crate) fn open_all<W: Write, E: Write>(
+    rt: &impl Wait,
+    alloc: Global,
+    shared: &Shared,
+    host: &mut HostSeat,
+    plans: &mut [TenantPlan<'_>],
+    commands: &[Command],
+    told: &mut Told,
+    writer: &mut W,
+    words: &mut E,
+) -> Result<(), FileFault>
+    requires host { IsIdle shared.now host.old }
+    requires own { All (IsFor shared.now) plans.old }
+    ensures host { IsIdle shared.now host.new }
+    ensures own { All (IsFor shared.now) plans.new }
+    ensures bad { IfErr result (λ fault. ¬ IsBad fault) }
+{
+    for (number, command) in commands.iter().enumerate() {
+        let Command::Apply(event) = command else {
+            continue;
+        };
+        if let Err(fault) = apply(rt, alloc, shared, host, plans, event) {
+            return told.tell(writer, words, number, event, 0, &Reply::Refused(fault));
+        }
+    }
+    Ok(())
+}
+
+/// Does what an event asks for before a thread starts.
+fn apply(
+    rt: &impl Wait,
+    alloc: Global,
+    shared: &Shared,
+    host: &mut HostSeat,
+    plans: &mut [TenantPlan<'_>],
+    event: &Event,
+) -> Result<(), Fault>
+    requires host { IsIdle shared.now host.old }
+    requires own { All (IsFor shared.now) plans.old }
+    ensures host { IsIdle shared.now host.new }
+    ensures own { All (IsFor shared.now) plans.new }
+{
+    if let Event::Set { option, value } = event {
+        return shared.set(rt, host, *option, *value);
+    }
+    let Some(tenant) = event.tenant() else {
+        return Ok(());
+    };
+    match plans.get_mut(tenant as usize) {
+        Some(plan) => apply_for(rt, alloc, plan, event),
+        None => Err(Fault::BadTenant),
+    }
+}
+
+/// Does what an event asks for a tenant before a thread starts.
+fn apply_for(
+    rt: &impl Wait,
+    alloc: Global,
+    plan: &mut TenantPlan<'_>,
+    event: &Event,
+) -> Result<(), Fault>
+    ensures { plan.new.shared ≡ plan.old.shared }
+{
+    match event {
+        Event::CreateMap {
+            value_size,
+            entries,
+            mergeable,
+            ..
+        } => {
+            let made = plan.shared.create_map(rt, &mut plan.seat, *value_size, *entries, *mergeable);
+            made.map(|_map| ())
+        }
+        Event::Load {
+            text, context_size, ..
+        } => load(rt, alloc, plan, text.as_slice(), *context_size),
+        Event::HostUpdate {
+            map, key, value, ..
+        } => plan.shared.update(rt, &mut plan.seat, *map, *key, value.as_slice()),
+        _ => Ok(()),
+    }
+}
+
+/// Loads a text as the tenant's next program.
+fn load(
+    rt: &impl Wait,
+    alloc: Global,
+    plan: &mut TenantPlan<'_>,
+    text: &[u8],
+    context_size: u32,
+) -> Result<(), Fault>
+    ensures { plan.new.shared ≡ plan.old.shared }
+{
+    let program = plan.shared.load_program(rt, alloc, &mut plan.seat, text, context_size)?;
+    match plan.programs.push(program) {
+        Ok(()) => Ok(()),
+        Err(_) => Err(Fault::OutOfMemory),
+    }
+}

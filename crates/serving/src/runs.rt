@@ -1,0 +1,62 @@
+//! What the threads are to do.
+
+ghost use Rattle.std.specs.Prelude.{◌≡◌, All};
+ghost use Rattle.tenant_workers.specs.Plans.{IsFor};
+
+use host_core::Event;
+use host_file::Command;
+use host_types::Opt;
+use std::alloc::{AllocError, Global};
+use tenant_workers::TenantPlan;
+
+/// Adds the runs of a file to the plans of their tenants, in the file's order.
+pub(crate) fn add_runs(
+    alloc: Global,
+    plans: &mut [TenantPlan<'_>],
+    commands: &[Command],
+) -> Result<(), AllocError>
+    ensures { All (IsFor turn) plans.old → All (IsFor turn) plans.new }
+{
+    for command in commands {
+        if let Command::Run(Event::Begin {
+            tenant,
+            program,
+            context,
+        }) = command
+        {
+            if let Some(plan) = plans.get_mut(*tenant as usize) {
+                let context = context.as_slice().to_vec(alloc)?;
+                plan.runs.push((*program, context))?;
+            }
+        }
+    }
+    Ok(())
+}
+
+/// How many visits a file asks for in all, at most 4,294,967,295. One without a count makes as many as
+/// `pages_to_scan` is when all options are set.
+pub(crate) fn visits_of(commands: &[Command], pages_to_scan: u32) -> u32 {
+    let pages = pages_at_last(commands, pages_to_scan);
+    let mut visits = 0u32;
+    for command in commands {
+        if let Command::Visit { count } = command {
+            visits = visits.saturating_add(count.unwrap_or(pages));
+        }
+    }
+    visits
+}
+
+/// The last value that `pages_to_scan` is set to.
+fn pages_at_last(commands: &[Command], pages_to_scan: u32) -> u32 {
+    let mut pages = pages_to_scan;
+    for command in commands {
+        if let Command::Apply(Event::Set {
+            option: Opt::PagesToScan,
+            value,
+        }) = command
+        {
+            pages = *value;
+        }
+    }
+    pages
+}
