@@ -23,8 +23,8 @@ abbrev pub RefusesRun : Accepted → TenantPart → Fault → Type 0
 RefusesRun v owned fault =
     ((fault ≡ NoProgram) × ¬ (HaveShapes v.subject.shapes owned.maps)) ⊎ (HaveShapes v.subject.shapes owned.maps × RefusesBegin v fault)
 
--- why a run of a program isn't made on a context: the context hasn't the program's size, memory ran out, or the
--- run itself isn't made
+-- why a run of a program isn't made on a context: the context hasn't the program's size; or it has, and memory
+-- ran out, or the run itself isn't made
 abbrev pub RefusesProgram : Accepted → List ℕ → TenantPart → Fault → Type 0
 RefusesProgram v context owned fault =
-    ((fault ≡ BadContext) × (length context ≢ v.subject.context_size)) ⊎ ((fault ≡ OutOfMemory) ⊎ ((length context ≡ v.subject.context_size) × RefusesRun v owned fault))
+    ((fault ≡ BadContext) × (length context ≢ v.subject.context_size)) ⊎ ((length context ≡ v.subject.context_size) × ((fault ≡ OutOfMemory) ⊎ RefusesRun v owned fault))

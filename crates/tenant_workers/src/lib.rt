@@ -6,10 +6,15 @@ mod driving;
 mod gate;
 mod host;
 mod maps;
+mod plans;
 mod programs;
+mod replies;
 mod running;
 mod scanning;
+mod serving;
 mod shared;
 
 pub use gate::Gate;
+pub use plans::{Plan, ScanPlan, TenantPlan};
+pub use serving::serve;
 pub use shared::Shared;

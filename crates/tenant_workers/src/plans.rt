@@ -1,0 +1,56 @@
+ghost use Rattle.std.specs.Prelude.{◌≡◌};
+ghost use Rattle.turn.specs.Seats.{IsIdle, part_of};
+ghost use Rattle.tenant_workers.specs.Calls.{IsSameSeat};
+ghost use Rattle.tenant_workers.specs.Runs.{IsResting};
+
+use crate::shared::Shared;
+use host_types::Fault;
+use std::sync::Wait;
+use tenant_runs::RunReply;
+use turn::{ScanSeat, Seat};
+use verifier::Verified;
+
+/// What one tenant's thread does: its runs in order, each named by its program's number and its context.
+///
+/// The type keeps that the seat is one of this turn, that it holds nothing and that the tenant has no open
+/// run: so reads after the threads go through the plan's own `shared`.
+#[derive(Drop)]
+pub struct TenantPlan<'a> {
+    pub shared: &'a Shared,
+    pub seat: Seat,
+    pub programs: Vec<Verified>,
+    pub runs: Vec<(u32, Vec<u8>)>,
+    /// What the runs were answered, in their order.
+    pub replies: Vec<Result<RunReply, Fault>>,
+    pub ghost idle: { IsIdle shared.now seat },
+    pub ghost resting: { IsResting (part_of seat) },
+}
+
+/// What the scanner's thread does: so many visits. The type keeps that the seat is one of this turn and holds
+/// nothing.
+#[derive(Drop)]
+pub struct ScanPlan<'a> {
+    pub shared: &'a Shared,
+    pub seat: ScanSeat,
+    pub visits: u32,
+    pub ghost idle: { IsIdle shared.now seat },
+}
+
+/// What `serve` does: a thread for each tenant, and one for the scanner.
+#[derive(Drop)]
+pub struct Plan<'a> {
+    pub tenants: Vec<TenantPlan<'a>>,
+    pub scan: ScanPlan<'a>,
+}
+
+impl<'a> ScanPlan<'a> {
+    /// The plan's visits, one turn a visit. No tenant's part changes.
+    pub fn scan(&mut self, rt: &impl Wait)
+        ensures shared { self.new.shared.now ≡ self.old.shared.now }
+        ensures visits { self.new.visits ≡ self.old.visits }
+        ensures same { IsSameSeat self.old.seat self.new.seat }
+    {
+        let shared = self.shared;
+        shared.scan_batch(rt, &mut self.seat, self.visits);
+    }
+}
