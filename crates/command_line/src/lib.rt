@@ -94,7 +94,11 @@ fn command<'a>(alloc: Global) -> Result<Command<'a>, AllocError> {
     Command::new(alloc, "bpf_host")
         .about("runs eBPF programs of several tenants")
         .subcommand_required(true)
-        .subcommand(of_file(alloc, "replay", "applies the events of a host file in their order")?)?
+        .subcommand(of_file(
+            alloc,
+            "replay",
+            "applies the events of a host file in their order",
+        )?)?
         .subcommand(of_file(alloc, "serve", "runs the tenants of a host file on threads")?)?
         .subcommand(check(alloc)?)
 }

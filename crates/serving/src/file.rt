@@ -117,7 +117,9 @@ fn serve_house<T: Threads + Wait + Sync, W: Write, E: Write>(
         },
     };
     let mut told = Told::default();
-    serve_plan(rt, alloc, &shared, &mut host, &mut plan, file, &mut told, writer, words)?;
+    serve_plan(
+        rt, alloc, &shared, &mut host, &mut plan, file, &mut told, writer, words,
+    )?;
     Ok(u8::from(told.has_refused))
 }
 
@@ -135,11 +137,21 @@ fn serve_plan<T: Threads + Wait + Sync, W: Write, E: Write>(
 ) -> Result<(), FileFault>
     requires host { IsIdle shared.now host.old }
     requires own { All (IsFor shared.now) plan.old.tenants.items }
-    requires scan { plan.old.scan.shared ≡ shared.now }
+    requires scan { plan.old.scan.shared.now ≡ shared.now }
     ensures bad { IfErr result (λ fault. ¬ IsBad fault) }
 {
     let commands = file.commands.as_slice();
-    open_all(rt, alloc, shared, host, &mut plan.tenants, commands, told, writer, words)?;
+    open_all(
+        rt,
+        alloc,
+        shared,
+        host,
+        &mut plan.tenants,
+        commands,
+        told,
+        writer,
+        words,
+    )?;
     if told.has_refused {
         return Ok(());
     }

@@ -78,7 +78,7 @@ fn apply_for(
     plan: &mut TenantPlan<'_>,
     event: &Event,
 ) -> Result<(), Fault>
-    ensures { plan.new.shared ≡ plan.old.shared }
+    ensures { plan.new.shared.now ≡ plan.old.shared.now }
 {
     match event {
         Event::CreateMap {
@@ -87,15 +87,24 @@ fn apply_for(
             mergeable,
             ..
         } => {
-            let made = plan.shared.create_map(rt, &mut plan.seat, *value_size, *entries, *mergeable);
+            let made = plan
+                .shared
+                .create_map(rt, &mut plan.seat, *value_size, *entries, *mergeable);
             made.map(|_map| ())
         }
         Event::Load {
-            text, context_size, ..
+            text,
+            context_size,
+            ..
         } => load(rt, alloc, plan, text.as_slice(), *context_size),
         Event::HostUpdate {
-            map, key, value, ..
-        } => plan.shared.update(rt, &mut plan.seat, *map, *key, value.as_slice()),
+            map,
+            key,
+            value,
+            ..
+        } => plan
+            .shared
+            .update(rt, &mut plan.seat, *map, *key, value.as_slice()),
         _ => Ok(()),
     }
 }
@@ -108,9 +117,11 @@ fn load(
     text: &[u8],
     context_size: u32,
 ) -> Result<(), Fault>
-    ensures { plan.new.shared ≡ plan.old.shared }
+    ensures { plan.new.shared.now ≡ plan.old.shared.now }
 {
-    let program = plan.shared.load_program(rt, alloc, &mut plan.seat, text, context_size)?;
+    let program = plan
+        .shared
+        .load_program(rt, alloc, &mut plan.seat, text, context_size)?;
     match plan.programs.push(program) {
         Ok(()) => Ok(()),
         Err(_) => Err(Fault::OutOfMemory),

@@ -18,11 +18,13 @@ pub(crate) fn add_runs(
     ensures { All (IsFor turn) plans.old → All (IsFor turn) plans.new }
 {
     for command in commands {
-        if let Command::Run(Event::Begin {
-            tenant,
-            program,
-            context,
-        }) = command
+        if let Command::Run(
+            Event::Begin {
+                tenant,
+                program,
+                context,
+            },
+        ) = command
         {
             if let Some(plan) = plans.get_mut(*tenant as usize) {
                 let context = context.as_slice().to_vec(alloc)?;
@@ -50,10 +52,12 @@ pub(crate) fn visits_of(commands: &[Command], pages_to_scan: u32) -> u32 {
 fn pages_at_last(commands: &[Command], pages_to_scan: u32) -> u32 {
     let mut pages = pages_to_scan;
     for command in commands {
-        if let Command::Apply(Event::Set {
-            option: Opt::PagesToScan,
-            value,
-        }) = command
+        if let Command::Apply(
+            Event::Set {
+                option: Opt::PagesToScan,
+                value,
+            },
+        ) = command
         {
             pages = *value;
         }
