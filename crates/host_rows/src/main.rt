@@ -1,22 +1,28 @@
 //! Answers the requests of the standard input as the program `bpf_host` does (docs/HOST.md), in one run. A
-//! request is a line `$ check` or `$ replay`. The words of a check stand behind it between tabs: HEX, the
-//! size of the context, and any V:E. A host file stands in the lines below its `$ replay`. Below each request
-//! stands what goes to the standard output, then, after `! `, what goes to standard error, and last the exit
-//! status, or the words of a fault; it ends with the status of the last. The file `stdout` of this crate says what is wanted; rows are cheaper
-//! there than in tests, whose texts are proved.
+//! request is a line `$ check`, `$ replay` or `$ serve`. The words of a check stand behind it between tabs:
+//! HEX, the size of the context, and any V:E. A host file stands in the lines below its `$ replay` or `$ serve`.
+//! Below each request stands what goes to the standard output, then, after `! `, what goes to standard error,
+//! and last the exit status, or the words of a fault; it ends with the status of the last. The file `stdout` of
+//! this crate says what is wanted; rows are cheaper there than in tests, whose texts are proved.
 #![tactic(auto)]
 
 use engines::check::check;
 use engines::replay::replay;
 use engines::{status_of, write_fault};
 use host_file::FileFault;
+use serving::serve_file;
 use std::alloc::Global;
 use std::io;
 use std::io::Input;
 use std::process::ExitCode;
+use std::sync::Wait;
+use std::thread::Threads;
 
 /// What the words of a check stand behind.
 const CHECK: &str = "$ check\t";
+
+/// What a host file stands below that is to be served.
+const SERVE: &str = "$ serve";
 
 /// What goes to the standard output and to standard error.
 #[derive(Drop)]
@@ -43,16 +49,21 @@ impl Told {
     }
 
     /// Does what a request asks for, whose first line and the lines below are given.
-    fn answer(&mut self, alloc: Global, head: &str, below: &str) -> Result<u8, FileFault> {
-        match head.strip_prefix(CHECK) {
-            Some(words) => self.check(alloc, words),
-            None => replay(
-                alloc,
-                &mut below.as_bytes(),
-                &mut self.output,
-                &mut self.words,
-            ),
+    fn answer<R: AllocGlobal + Threads + Wait + Sync>(
+        &mut self,
+        rt: &R,
+        head: &str,
+        below: &str,
+    ) -> Result<u8, FileFault> {
+        let alloc = rt.alloc();
+        if let Some(words) = head.strip_prefix(CHECK) {
+            return self.check(alloc, words);
         }
+        let mut file = below.as_bytes();
+        if head.starts_with(SERVE) {
+            return serve_file(rt, alloc, &mut file, &mut self.output, &mut self.words);
+        }
+        replay(alloc, &mut file, &mut self.output, &mut self.words)
     }
 }
 
@@ -65,13 +76,17 @@ fn print_lines(rt: &impl Print, mark: &str, bytes: &[u8]) -> io::Result<()> {
 }
 
 /// Prints a request and what it is answered. Answers the exit status that it would have.
-fn print_answer(rt: &(impl AllocGlobal + Print), head: &str, below: &str) -> io::Result<u8> {
+fn print_answer<R: AllocGlobal + Print + Threads + Wait + Sync>(
+    rt: &R,
+    head: &str,
+    below: &str,
+) -> io::Result<u8> {
     let alloc = rt.alloc();
     let mut told = Told {
         output: Vec::new(alloc),
         words: Vec::new(alloc),
     };
-    let outcome = told.answer(alloc, head, below);
+    let outcome = told.answer(rt, head, below);
     println!(rt; "{head}")?;
     print_lines(rt, "", told.output.as_slice())?;
     print_lines(rt, "! ", told.words.as_slice())?;
