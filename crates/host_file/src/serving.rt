@@ -1,4 +1,4 @@
-ghost use Rattle.std.specs.Prelude.{◌<◌, ¬◌, All, Any, IfErr, OnOk};
+ghost use Rattle.std.specs.Prelude.{◌<◌, All, Any, IfErr, OnOk};
 ghost use Rattle.host_file.specs.Faults.{IsBad};
 ghost use Rattle.host_file.specs.Served.{IsServed, IsServedEvent};
 

@@ -1,6 +1,6 @@
 //! What is written when all threads have ended.
 
-ghost use Rattle.std.specs.Prelude.{◌≡◌, ¬◌, IfErr};
+ghost use Rattle.std.specs.Prelude.{◌≡◌, IfErr};
 ghost use Rattle.host_file.specs.Faults.{IsBad};
 
 use crate::telling::Told;

@@ -1,6 +1,6 @@
 //! A host file that is served: what it may ask for, and in which order it is done.
 
-ghost use Rattle.std.specs.Prelude.{◌≡◌, ◌≤◌, ¬◌, All, IfErr, IfOk};
+ghost use Rattle.std.specs.Prelude.{◌≡◌, ◌≤◌, All, IfErr, IfOk};
 ghost use Rattle.host_file.specs.Faults.{IsBad};
 ghost use Rattle.turn.specs.Seats.{IsIdle};
 ghost use Rattle.tenant_workers.specs.Plans.{IsFor};

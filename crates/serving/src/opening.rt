@@ -1,6 +1,6 @@
 //! What is done before a thread starts, in the file's order.
 
-ghost use Rattle.std.specs.Prelude.{◌≡◌, ¬◌, All, IfErr};
+ghost use Rattle.std.specs.Prelude.{◌≡◌, All, IfErr};
 ghost use Rattle.host_file.specs.Faults.{IsBad};
 ghost use Rattle.turn.specs.Seats.{IsIdle};
 ghost use Rattle.tenant_workers.specs.Plans.{IsFor};
