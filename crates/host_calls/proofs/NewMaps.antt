@@ -5,7 +5,7 @@ use Rattle.host_types.specs.declared.fault.Fault.TheVariants.{Program, NoFrames,
 use Rattle.host_types.specs.declared.shape.Shape.{Shape}
 use Rattle.page_table.specs.State.{MemoryState, part}
 use Rattle.page_table.specs.Changes.{RefusesMap}
-use Rattle.host_calls.specs.Calls.{RefusesNewMap, TellsHave}
+use Rattle.host_calls.specs.Calls.{HasFrames, RefusesNewMap, TellsHave}
 use Rattle.host_calls.proofs.Elements.{tenant-missing, tenant-there}
 
 module _ (memory : MemoryState) (t : ℕ) (shape : Shape) where
@@ -42,3 +42,20 @@ module _ (memory : MemoryState) (t : ℕ) (shape : Shape) where
   new_map_told BadTenant past = tt
   new_map_told PagesShared impossible = absurd impossible
   new_map_told TooManyPrograms impossible = absurd impossible
+
+  pub new_map_framed : (fault : Fault) → RefusesMap memory t shape fault → HasFrames memory shape fault
+  new_map_framed (Program refused) impossible = absurd impossible
+  new_map_framed (NoFrames need have) refused = tt
+  new_map_framed TooManyMaps refused = tt
+  new_map_framed BadShape refused = tt
+  new_map_framed NoMap impossible = absurd impossible
+  new_map_framed NoElement impossible = absurd impossible
+  new_map_framed Busy impossible = absurd impossible
+  new_map_framed NoRun impossible = absurd impossible
+  new_map_framed NoProgram impossible = absurd impossible
+  new_map_framed BadContext impossible = absurd impossible
+  new_map_framed BadOption impossible = absurd impossible
+  new_map_framed OutOfMemory fits = fits.framed
+  new_map_framed BadTenant past = tt
+  new_map_framed PagesShared impossible = absurd impossible
+  new_map_framed TooManyPrograms impossible = absurd impossible

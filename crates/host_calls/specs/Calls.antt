@@ -66,6 +66,11 @@ RefusesNewMap owned shape (NoFrames need have) = FitsNewMap owned shape × (need
 RefusesNewMap owned shape OutOfMemory = FitsNewMap owned shape
 RefusesNewMap owned shape _ = ⊥
 
+-- where memory ran out, frames were not missing
+abbrev pub HasFrames : MemoryState → Shape → Fault → Type 0
+HasFrames memory shape OutOfMemory = page_count shape ≤ have_of memory
+HasFrames memory shape _ = Unit {0}
+
 -- where frames are missing, the frames that may be had are told
 abbrev pub TellsHave : MemoryState → Fault → Type 0
 TellsHave memory (NoFrames need have) = have ≡ have_of memory

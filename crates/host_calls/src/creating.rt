@@ -4,7 +4,7 @@ ghost use Rattle.host_types.specs.Pages.{map_place};
 ghost use Rattle.page_table.specs.Limits.{page_count, shape_of};
 ghost use Rattle.page_table.specs.State.{part, free_number, have_of};
 ghost use Rattle.page_table.specs.Changes.{IsKeptBut, AreMapsKeptBut, KeepsSettings, part_created, with_new_pages, zero_map};
-ghost use Rattle.host_calls.specs.Calls.{FitsNewMap, RefusesNewMap, TellsHave};
+ghost use Rattle.host_calls.specs.Calls.{FitsNewMap, HasFrames, RefusesNewMap, TellsHave};
 
 use host_types::{Fault, MapNo};
 use page_table::Memory;
@@ -14,7 +14,7 @@ use page_table::Memory;
 /// Refusals in their order: 42 where there is no such tenant, 32 where it has eight maps, 33 where the
 /// shape is out of limits, 31 just where the map's pages are more than `have()`, 41 where memory ran out.
 /// A missing frame tells both numbers. A refusal changes nothing.
-#[tactic(auto, using(crate::proofs::NewMaps::new_map_refused, crate::proofs::NewMaps::new_map_told))]
+#[tactic(auto, using(crate::proofs::NewMaps::new_map_refused, crate::proofs::NewMaps::new_map_told, crate::proofs::NewMaps::new_map_framed))]
 pub fn host_create_map(
     memory: &mut Memory,
     tenant: u32,
@@ -39,6 +39,7 @@ pub fn host_create_map(
     ensures settings { KeepsSettings memory.old memory.new }
     ensures refused { IfErr result (RefusesNewMap (part memory.old tenant) (shape_of value_size entries)) }
     ensures told { IfErr result (TellsHave memory.old) }
+    ensures framed { IfErr result (HasFrames memory.old (shape_of value_size entries)) }
     ensures unchanged { OnErr result (memory.new ≡ memory.old) }
 {
     memory.facts();

@@ -21,7 +21,7 @@ use Rattle.page_table.specs.State.{MemoryState, part, free_number, have_of}
 use Rattle.map_helpers.specs.Updates.{part_updated, updated_sharing}
 use Rattle.verifier.specs.Verified.{Accepted}
 use Rattle.interp.specs.Fits.{HaveShapes}
-use Rattle.host_calls.specs.Calls.{FitsNewMap, FitsValue, IsCharged, IsValue, RefusesNewMap, RefusesUpdate, RefusesLookup, IsThere, TellsHave}
+use Rattle.host_calls.specs.Calls.{FitsNewMap, FitsValue, IsCharged, IsValue, RefusesNewMap, RefusesUpdate, RefusesLookup, IsThere, TellsHave, HasFrames}
 use Rattle.host_core.specs.declared.event.Event.{Event}
 use Rattle.host_core.specs.declared.event.Event.TheVariants.{CreateMap, HostUpdate, HostLookup}
 use Rattle.host_core.specs.declared.event.Reply.{Reply}
@@ -163,31 +163,32 @@ create-made t old before after value_size entries mergeable m idle made x tenant
     )
 
 module _ (memory : MemoryState) (x : System) (tenant : Tenant) (shape : Shape) (idle : IsNone tenant.run) (have : have_of memory ≡ have_in x) where
-  refuses_create : (f : Fault) → RefusesNewMap (owned_by tenant) shape f → TellsHave memory f → RefusesCreate x tenant shape f
-  refuses_create (Program refused) refuses tells = absurd refuses
-  refuses_create (NoFrames need most) refuses tells = (idle, refuses, tells ∙ have)
-  refuses_create TooManyMaps refuses tells = (idle, refuses, tt)
-  refuses_create BadShape refuses tells = (idle, refuses, tt)
-  refuses_create NoMap refuses tells = absurd refuses
-  refuses_create NoElement refuses tells = absurd refuses
-  refuses_create Busy refuses tells = absurd refuses
-  refuses_create NoRun refuses tells = absurd refuses
-  refuses_create NoProgram refuses tells = absurd refuses
-  refuses_create BadContext refuses tells = absurd refuses
-  refuses_create BadOption refuses tells = absurd refuses
-  refuses_create OutOfMemory refuses tells = (idle, refuses, tt)
-  refuses_create BadTenant refuses tells = (idle, refuses, tt)
-  refuses_create PagesShared refuses tells = absurd refuses
-  refuses_create TooManyPrograms refuses tells = absurd refuses
+  refuses_create : (f : Fault) → RefusesNewMap (owned_by tenant) shape f → TellsHave memory f → HasFrames memory shape f → RefusesCreate x tenant shape f
+  refuses_create (Program refused) refuses tells framed = absurd refuses
+  refuses_create (NoFrames need most) refuses tells framed = (idle, refuses, tells ∙ have)
+  refuses_create TooManyMaps refuses tells framed = (idle, refuses, tt)
+  refuses_create BadShape refuses tells framed = (idle, refuses, tt)
+  refuses_create NoMap refuses tells framed = absurd refuses
+  refuses_create NoElement refuses tells framed = absurd refuses
+  refuses_create Busy refuses tells framed = absurd refuses
+  refuses_create NoRun refuses tells framed = absurd refuses
+  refuses_create NoProgram refuses tells framed = absurd refuses
+  refuses_create BadContext refuses tells framed = absurd refuses
+  refuses_create BadOption refuses tells framed = absurd refuses
+  refuses_create OutOfMemory refuses tells framed = (idle, refuses, subst (λ n. page_count shape ≤ n) have framed)
+  refuses_create BadTenant refuses tells framed = (idle, refuses, tt)
+  refuses_create PagesShared refuses tells framed = absurd refuses
+  refuses_create TooManyPrograms refuses tells framed = absurd refuses
 
 -- a map that isn't made
 pub create-refused : (t : ℕ) (old : TenantView) (memory : MemoryState) (value_size entries : ℕ) (mergeable : Bool) (f : Fault) → is_some old.run ≡ false
-    → RefusesNewMap (part memory t) (shape_of value_size entries) f → TellsHave memory f → IsServed t old memory (CreateMap t value_size entries mergeable) (Refused f) old memory
-create-refused t old memory value_size entries mergeable f idle refuses tells =
+    → RefusesNewMap (part memory t) (shape_of value_size entries) f → TellsHave memory f → HasFrames memory (shape_of value_size entries) f
+    → IsServed t old memory (CreateMap t value_size entries mergeable) (Refused f) old memory
+create-refused t old memory value_size entries mergeable f idle refuses tells framed =
     served-same t old memory (CreateMap t value_size entries mergeable) (Refused f) (λ x tenant there stands holds.
     let none : IsNone tenant.run = is_some-run old.programs old.run tenant.run stands.run ∙ idle in
     let here = subst (λ o. RefusesNewMap o (shape_of value_size entries) f) (part_stands memory x t tenant holds there) refuses in
-    let why = refuses_create memory x tenant (shape_of value_size entries) none (have_stands memory x holds) f here tells in
+    let why = refuses_create memory x tenant (shape_of value_size entries) none (have_stands memory x holds) f here tells framed in
     (OfTenant-there x t (Refused f) x _ tenant there (inl (f, why, (refl, refl))), tt))
 
 -- a map that isn't made while a run is open

@@ -140,6 +140,7 @@ StepHappens x t tenant r reply x' =
 -- when a map isn't made: the first refusal, in this order, whose condition holds
 abbrev pub RefusesCreate : System → Tenant → Shape → Fault → Type 0
 RefusesCreate x tenant shape fault.Busy = IsSome tenant.run
+RefusesCreate x tenant shape fault.OutOfMemory = IsNone tenant.run × FitsNewMap (owned_by tenant) shape × (page_count shape ≤ have_in x)
 RefusesCreate x tenant shape refusal = IsNone tenant.run × RefusesNewMap (owned_by tenant) shape refusal × Tells x refusal
 
 -- a map of zeros is made at the tenant's first free number, its pages never visited

@@ -1,5 +1,7 @@
-ghost use Rattle.std.specs.Prelude.{◌≡◌, ◌≤◌, ◌↔◌, ◌⊎◌, ◌*◌, IsSome, IsTrue, None, IfOk, IfErr, OnErr};
+ghost use Rattle.std.specs.Prelude.{◌≡◌, ◌≤◌, ◌↔◌, ◌⊎◌, ◌*◌, IsSome, IsTrue, None, IfOk, OnOk, IfErr, OnErr};
+ghost use Rattle.host_types.specs.OptionTable.{AreOptions};
 ghost use Rattle.page_table.specs.Changes.{RefusesMemory};
+ghost use Rattle.page_table.specs.Limits.{AreLimits};
 ghost use Rattle.host_core.specs.World.{System, IsCovered, new_system};
 ghost use Rattle.host_core.specs.Happens.{Happens, IsPromised, AllHappen, StepsHappen, SetHappens, UnmergeHappens, JoinHappens, SplitHappens};
 ghost use Rattle.host_core.specs.HostView.{StandsForSystem, tenant_of, reply_of};
@@ -41,6 +43,7 @@ impl Host {
     /// its value, 41 where memory ran out.
     pub fn new(alloc: Global, frames: u32, tenants: u32, options: Options) -> Result<Host, Fault>
         ensures new { IfOk result (λ host. StandsForSystem host (new_system frames tenants options)) }
+        ensures limits { OnOk result (AreLimits frames tenants × AreOptions options) }
         ensures refused { IfErr result (RefusesMemory frames tenants options) }
     {
         let memory = Memory::new(alloc, frames, tenants, options)?;

@@ -16,7 +16,7 @@ returns-in_err-map c =
     let idle : is_some c.args.self.now.run ≡ false = sym (ap (λ (kept : TenantView). is_some kept.run) c.self.view_is) ∙ sym c.is_some.ensures ∙ c.if-is_some.false in
     let event = CreateMap c.args.number c.args.value_size c.args.entries c.args.mergeable in
     let call = c.in_err-map.ensures in
-    let served = create-refused c.args.number c.args.self.now c.args.memory.now c.args.value_size c.args.entries c.args.mergeable c.in_err-map.field-0.0 idle call.refused call.told in
+    let served = create-refused c.args.number c.args.self.now c.args.memory.now c.args.value_size c.args.entries c.args.mergeable c.in_err-map.field-0.0 idle call.refused call.told call.framed in
     let unchanged = subst (λ after. IsServed c.args.number c.args.self.now c.args.memory.now event (Refused c.in_err-map.field-0.0) c.args.self.now after) (sym call.unchanged) served in
     let p = err_from_is_err_and c.from_residual.result c.from_residual.ensures.1 in
     rw (p.1, p.2) unchanged
