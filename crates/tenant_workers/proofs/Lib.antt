@@ -1,2 +1,4 @@
-pub mod Options
+pub mod Answered
 pub mod Driven
+pub mod Kept
+pub mod Options

@@ -25,6 +25,7 @@ impl Shared {
         ensures programs { plan.new.programs.items ≡ plan.old.programs.items }
         ensures runs { plan.new.runs.items ≡ plan.old.runs.items }
         ensures same { IsSameSeat plan.old.seat plan.new.seat }
+        ensures count { length plan.new.replies.items ≡ length plan.new.runs.items }
         ensures replies { AllReply plan.old.programs.items (map (λ run. (run.0, run.1.items)) plan.old.runs.items)
             (part_of plan.old.seat) plan.new.replies.items (part_of plan.new.seat) }
     {

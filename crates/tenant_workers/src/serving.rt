@@ -70,8 +70,9 @@ impl<'a> TenantPlan<'a> {
         ensures shared { self.new.shared.now ≡ self.old.shared.now }
         ensures filled { length self.new.replies.items ≡ length self.new.runs.items }
     {
+        let runs = self.runs.len();
         self.replies.clear();
-        for _run in &self.runs {
+        for _run in 0..runs {
             self.replies.push_reserved(Err(Fault::OutOfMemory));
         }
     }

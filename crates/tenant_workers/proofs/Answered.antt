@@ -1,0 +1,35 @@
+-- Runs that are answered one after the other.
+use Rattle.std.proofs.Common.{◌≡◌, ◌<◌, ◌+◌, ℕ, List, [], ◌∷◌, ◌++◌, length, map, get_or, take, refl, sym, ap, ◌∙◌, Result}
+use Rattle.std.proofs.Math.ListN.{set, get_or-map}
+use Rattle.std.proofs.lemmas.List.{take_more, take_more_set}
+use Rattle.host_types.specs.declared.fault.Fault.{Fault}
+use Rattle.host_types.specs.Tenant.{TenantPart}
+use Rattle.verifier.specs.Verified.{Accepted}
+use Rattle.tenant_runs.specs.declared.driving.RunReply.{RunReply}
+use Rattle.tenant_workers.specs.Replies.{RepliesBy, AllReply}
+
+-- one more run is answered after all the others
+pub answered-push : (programs : List Accepted) (runs : List (ℕ × List ℕ)) (run : ℕ × List ℕ) (old between new : TenantPart) (replies : List (Result RunReply Fault)) (reply : Result RunReply Fault)
+    → AllReply programs runs old replies between → RepliesBy programs run.0 run.1 between reply new → AllReply programs (runs ++ run ∷ []) old (replies ++ reply ∷ []) new
+answered-push programs [] run old between new [] reply all one = (new, rw (← all) one, refl)
+answered-push programs [] run old between new (other ∷ replies) reply all one = absurd all
+answered-push programs (first ∷ runs) run old between new [] reply all one = absurd all
+answered-push programs (first ∷ runs) run old between new (other ∷ replies) reply (middle, here, rest) one =
+    (middle, here, answered-push programs runs run middle between new replies reply rest one)
+
+-- the next run is answered, in its place
+pub answered-more : (programs : List Accepted) (runs : List (ℕ × List ℕ)) (place : ℕ) (run : ℕ × List ℕ) (old between new : TenantPart) (replies : List (Result RunReply Fault)) (reply : Result RunReply Fault)
+    → place < length runs → place < length replies → get_or runs place run ≡ run
+    → AllReply programs (take place runs) old (take place replies) between → RepliesBy programs run.0 run.1 between reply new
+    → AllReply programs (take (place + 1) runs) old (take (place + 1) (set replies place reply)) new
+answered-more programs runs place run old between new replies reply within room named all one =
+    rw (take_more runs place run within, take_more_set replies place reply room, named) (answered-push programs (take place runs) run old between new (take place replies) reply all one)
+
+-- what an element is mapped to, in its place
+pub mapped-at : {X Y : Type 0} (f : X → Y) (now first : List X) (place : ℕ) (x : X) → x ≡ get_or now place x → now ≡ first → get_or (map f first) place (f x) ≡ f x
+mapped-at f now first place x is same = get_or-map f first place x ∙ sym (ap f (is ∙ ap (λ xs. get_or xs place x) same))
+
+-- the same answer to the same run
+pub answered-as : (programs given : List Accepted) (number : ℕ) (context lent : List ℕ) (old new : TenantPart) (reply : Result RunReply Fault)
+    → given ≡ programs → lent ≡ context → RepliesBy given number lent old reply new → RepliesBy programs number context old reply new
+answered-as programs given number context lent old new reply same_programs same_context one = rw (← same_programs, ← same_context) one
