@@ -155,7 +155,7 @@ fn serve_plan<T: Threads + Wait + Sync, W: Write, E: Write>(
     if told.has_refused {
         return Ok(());
     }
-    add_runs(alloc, &mut plan.tenants, commands)?;
+    add_runs(alloc, shared, &mut plan.tenants, commands)?;
     if let Err(fault) = serve(rt, alloc, shared, plan, &Open) {
         told.has_refused = true;
         return refuse(file, fault, writer, words);

@@ -7,15 +7,17 @@ use host_core::Event;
 use host_file::Command;
 use host_types::Opt;
 use std::alloc::{AllocError, Global};
-use tenant_workers::TenantPlan;
+use tenant_workers::{Shared, TenantPlan};
 
-/// Adds the runs of a file to the plans of their tenants, in the file's order.
+/// Adds the runs of a file to the plans of their tenants, which are lent `shared`, in the file's order.
 pub(crate) fn add_runs(
     alloc: Global,
+    shared: &Shared,
     plans: &mut [TenantPlan<'_>],
     commands: &[Command],
 ) -> Result<(), AllocError>
-    ensures { All (IsFor turn) plans.old → All (IsFor turn) plans.new }
+    requires { All (IsFor shared.now) plans.old }
+    ensures { All (IsFor shared.now) plans.new }
 {
     for command in commands {
         if let Command::Run(

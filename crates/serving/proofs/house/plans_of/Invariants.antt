@@ -1,0 +1,9 @@
+use Rattle.std.specs.Prelude.{All}
+use Rattle.std.specs.Vec.IntoIter.{into_iter_items}
+use Rattle.tenant_workers.specs.Plans.{IsFor}
+use Rattle.serving.specs.AtRest.{IsAtRest}
+use Rattle.serving.proofs.house.plans_of.Given as goal
+
+-- the seats that are left are at rest, and each plan is lent the same memory
+abbrev pub invariant-loop-seat : goal.invariant-loop-seat
+invariant-loop-seat l = All (IsAtRest l.shared) (into_iter_items l.seat-iterator) × All (IsFor l.shared) l.plans.items
