@@ -1,0 +1,129 @@
+// Flat maps as lists of bytes, and where their pages stand.
+
+ghost use Rattle.std.specs.Prelude.{length, IfOk};
+ghost use Rattle.host_types.specs.Shapes.{IsShape};
+
+use host_types::Shape;
+use plain_machine::ArrayMap;
+use std::alloc::{AllocError, Global};
+
+// How many map numbers a tenant has.
+pub(crate) const MAPS: usize = 8;
+
+// The most pages of a map.
+pub(crate) const MAX_PAGES: usize = 256;
+
+// The bytes of a page.
+pub(crate) const PAGE_SIZE: usize = 4096;
+
+// A tenant's maps by number.
+pub(crate) type Maps = Vec<Option<ArrayMap>>;
+
+// The pages that some bytes of a map lie in: the first, and how many there are.
+#[derive(Clone, Copy, Drop)]
+pub(crate) struct PageRange {
+    pub(crate) first: usize,
+    pub(crate) count: u32,
+}
+
+impl PageRange {
+    // The pages of `size` bytes from a place on; the last is that of the last byte.
+    pub(crate) fn of(at: usize, size: usize) -> Self {
+        let first = at / PAGE_SIZE;
+        let last = at.saturating_add(size).saturating_sub(1) / PAGE_SIZE;
+        PageRange {
+            first,
+            count: count_of(last.saturating_sub(first).saturating_add(1)),
+        }
+    }
+}
+
+// A number of things as 32 bits; none that a host counts is larger.
+pub(crate) fn count_of(number: usize) -> u32 {
+    u32::try_from(number).unwrap_or(u32::MAX)
+}
+
+// How many pages a map of a shape has.
+pub(crate) fn page_count(shape: Shape) -> u32
+    requires { IsShape shape }
+{
+    shape.byte_len().div_ceil(4096)
+}
+
+// How many frames an update of a map is charged: a value lies in one page where the stride divides a page.
+pub(crate) fn update_charge(shape: Shape) -> u32
+    requires { IsShape shape }
+{
+    if 4096 % shape.stride() == 0 { 1 } else { 2 }
+}
+
+// A map of zeros.
+pub(crate) fn zero_map(alloc: Global, shape: Shape) -> Result<ArrayMap, AllocError>
+    requires { IsShape shape }
+{
+    let bytes = vec![in alloc; 0; shape.byte_len() as usize]?;
+    Ok(ArrayMap::new(shape, bytes))
+}
+
+// A copy of a map, if it is there.
+pub(crate) fn copy_of(
+    alloc: Global,
+    map: Option<&ArrayMap>,
+) -> Result<Option<ArrayMap>, AllocError> {
+    let Some(map) = map else {
+        return Ok(None);
+    };
+    let shape = map.shape();
+    let bytes = map.bytes().to_vec(alloc)?;
+    if !shape.is_valid() || bytes.len() != shape.byte_len() as usize {
+        return Ok(None);
+    }
+    Ok(Some(ArrayMap::new(shape, bytes)))
+}
+
+// The map with a number, if it is there.
+pub(crate) fn map_at(maps: &[Option<ArrayMap>], number: usize) -> Option<&ArrayMap> {
+    match maps.get(number) {
+        Some(Some(map)) => Some(map),
+        _ => None,
+    }
+}
+
+// A copy of all maps by number.
+pub(crate) fn copies_of(alloc: Global, maps: &[Option<ArrayMap>]) -> Result<Maps, AllocError> {
+    let mut copies = Vec::new(alloc);
+    for number in 0..MAPS {
+        let copy = copy_of(alloc, map_at(maps, number))?;
+        copies.push(copy)?;
+    }
+    Ok(copies)
+}
+
+// The first number that no map has, below 8.
+pub(crate) fn free_number(maps: &[Option<ArrayMap>]) -> Option<usize> {
+    for (number, map) in maps.iter().enumerate() {
+        if map.is_none() {
+            return Some(number);
+        }
+    }
+    None
+}
+
+// Where an element begins.
+pub(crate) fn element_at(shape: Shape, key: u32) -> usize {
+    if !shape.is_valid() {
+        return 0;
+    }
+    shape.stride() as usize * key as usize
+}
+
+// The value of an element, which is there.
+pub(crate) fn value_of(alloc: Global, map: &ArrayMap, key: u32) -> Result<Vec<u8>, AllocError> {
+    let shape = map.shape();
+    let at = element_at(shape, key);
+    let mut value = Vec::new(alloc);
+    for byte in map.bytes().iter().skip(at).take(shape.value_size as usize) {
+        value.push(*byte)?;
+    }
+    Ok(value)
+}

@@ -1,0 +1,188 @@
+// Programs as the plain verifier accepts them, with what each slot may need of frames.
+
+ghost use Rattle.std.specs.Prelude.{◌<◌, length, IfOk, OnOk};
+ghost use Rattle.host_types.specs.Shapes.{IsShape};
+ghost use Rattle.verifier.specs.Verified.{AreShapes};
+ghost use Rattle.verifier.specs.Subject.{IsContextSize};
+
+use crate::maps::update_charge;
+use bpf_decode::{Insn, Operation, decode};
+use host_types::{Fault, MapHelper, Refused, Shape};
+use plain_machine::ArrayMap;
+use plain_verifier::{Judged, Table, judge_forward};
+use std::alloc::{AllocError, Global};
+use verifier_kinds::Kind;
+
+// The last register.
+const LAST_REGISTER: u8 = 10;
+
+// An accepted program: its text, the size of its context, and what the instruction at each slot may need.
+#[derive(Drop)]
+pub(crate) struct PlainProgram {
+    pub(crate) text: Vec<u8>,
+    pub(crate) context_size: usize,
+    costs: Vec<u32>,
+}
+
+impl PlainProgram {
+    // What the rest of a run may need from a slot on: the sum of what its slots may need.
+    pub(crate) fn reserve(&self, slot: usize) -> u32 {
+        let mut sum = 0u32;
+        for cost in self.costs.iter().skip(slot) {
+            sum = sum.saturating_add(*cost);
+        }
+        sum
+    }
+}
+
+// Puts a shape behind others.
+fn add(shapes: &mut Vec<Shape>, shape: Shape) -> Result<(), AllocError>
+    requires shapes { AreShapes shapes.old.items }
+    requires shape { IsShape shape }
+    requires few { length shapes.old.items < 8 }
+    ensures { OnOk result (AreShapes shapes.new.items) }
+{
+    shapes.push(shape)?;
+    Ok(())
+}
+
+// The shapes of a tenant's maps by number, up to the first number that no map has.
+fn shapes_of(alloc: Global, maps: &[Option<ArrayMap>]) -> Result<Vec<Shape>, AllocError>
+    ensures { IfOk result (λ shapes. AreShapes shapes.items) }
+{
+    let mut shapes = Vec::new(alloc);
+    for map in maps {
+        match map {
+            Some(map) if map.shape().is_valid() && shapes.len() < 8 => add(
+                &mut shapes,
+                map.shape(),
+            )?,
+            _ => return Ok(shapes),
+        }
+    }
+    Ok(shapes)
+}
+
+// The instruction at a slot, if the text has the slot.
+pub(crate) fn insn_at(text: &[u8], slot: usize) -> Option<Insn> {
+    if text.len() % 8 != 0 || slot >= text.len() / 8 {
+        return None;
+    }
+    Some(Insn::read(text, slot))
+}
+
+// The kind of a register before a slot, if the slot is reached and something is known of it.
+fn kind_at(table: &Table, slot: usize, register: u8) -> Option<Kind> {
+    if register > LAST_REGISTER {
+        return None;
+    }
+    table.kind(u32::try_from(slot).unwrap_or(u32::MAX), register)
+}
+
+// What an update of a map may need.
+fn cost_of_update(shapes: &[Shape], map: u32) -> u32
+    requires { AreShapes shapes.now }
+{
+    match shapes.get(map as usize) {
+        Some(shape) if shape.is_valid() => update_charge(*shape),
+        _ => 0,
+    }
+}
+
+// What the instruction at a slot may need: a store through a map's value one frame, and an update what is
+// charged for it. A slot that isn't reached needs nothing.
+fn cost_at(text: &[u8], shapes: &[Shape], table: &Table, slot: usize) -> u32
+    requires { AreShapes shapes.now }
+{
+    let Some(insn) = insn_at(text, slot) else {
+        return 0;
+    };
+    match Operation::of(insn.opcode) {
+        Some(Operation::Store { .. }) => match kind_at(table, slot, insn.dst) {
+            Some(Kind::MapValue { .. }) => 1,
+            _ => 0,
+        },
+        Some(Operation::Call) => match (MapHelper::of(insn.immediate()), kind_at(table, slot, 1)) {
+            (Some(MapHelper::Update), Some(Kind::MapName(map))) => cost_of_update(shapes, map),
+            _ => 0,
+        },
+        _ => 0,
+    }
+}
+
+// What the instruction at each slot may need.
+fn costs_of(
+    alloc: Global,
+    text: &[u8],
+    shapes: &[Shape],
+    table: &Table,
+) -> Result<Vec<u32>, AllocError>
+    requires { AreShapes shapes.now }
+{
+    let mut costs = Vec::new(alloc);
+    for slot in 0..text.len() / 8 {
+        costs.push(cost_at(text, shapes, table, slot))?;
+    }
+    Ok(costs)
+}
+
+// What is known at the slots of a text, or why it isn't accepted.
+fn table_of(alloc: Global, text: &[u8], shapes: &[Shape], context_size: u32) -> Result<Table, Fault>
+    requires shapes { AreShapes shapes.now }
+    requires context { IsContextSize context_size }
+{
+    let program = match decode(alloc, text) {
+        Ok(program) => program,
+        Err(refused) => return Err(fault_of(refused)),
+    };
+    match judge_forward(alloc, program, shapes, context_size) {
+        Ok(Judged::Accepted(table)) => Ok(table),
+        Ok(Judged::Refused(refused)) => Err(fault_of(refused)),
+        Err(AllocError) => Err(Fault::OutOfMemory),
+    }
+}
+
+// A text's refusal as a host answers it.
+fn fault_of(refused: Refused) -> Fault {
+    if refused == Refused::OUT_OF_MEMORY {
+        Fault::OutOfMemory
+    } else {
+        Fault::Program(refused)
+    }
+}
+
+// An accepted text as a program.
+fn made(
+    alloc: Global,
+    text: &[u8],
+    context_size: u32,
+    costs: Vec<u32>,
+) -> Result<PlainProgram, AllocError> {
+    Ok(PlainProgram {
+        text: text.to_vec(alloc)?,
+        context_size: context_size as usize,
+        costs,
+    })
+}
+
+// Judges a text as a program of a tenant with these maps.
+pub(crate) fn judge(
+    alloc: Global,
+    maps: &[Option<ArrayMap>],
+    text: &[u8],
+    context_size: u32,
+) -> Result<PlainProgram, Fault>
+    requires { IsContextSize context_size }
+{
+    let Ok(shapes) = shapes_of(alloc, maps) else {
+        return Err(Fault::OutOfMemory);
+    };
+    let table = table_of(alloc, text, &shapes, context_size)?;
+    let Ok(costs) = costs_of(alloc, text, &shapes, &table) else {
+        return Err(Fault::OutOfMemory);
+    };
+    match made(alloc, text, context_size, costs) {
+        Ok(program) => Ok(program),
+        Err(AllocError) => Err(Fault::OutOfMemory),
+    }
+}

@@ -1,0 +1,306 @@
+// A tenant's private maps, its programs and its open run, and the events that name it.
+
+use crate::maps::{
+    MAPS, Maps, PageRange, copies_of, copy_of, count_of, element_at, free_number, map_at,
+    page_count, update_charge, value_of, zero_map,
+};
+use crate::pages::Pages;
+use crate::programs::{PlainProgram, judge};
+use crate::runs::{PlainRun, Written, next_written, start, step};
+use host_core::{Event, Reply};
+use host_types::{Fault, Shape};
+use plain_machine::{Machine, Made};
+use std::alloc::{AllocError, Global};
+
+// The most programs of a tenant.
+const MAX_PROGRAMS: usize = 8;
+
+// The most bytes of a context.
+const MAX_CONTEXT: u32 = 256;
+
+#[derive(Drop)]
+pub(crate) struct PlainTenant {
+    number: u32,
+    maps: Maps,
+    programs: Vec<PlainProgram>,
+    run: Option<PlainRun>,
+}
+
+// A tenant's places for maps, none of them taken.
+fn no_maps(alloc: Global) -> Result<Maps, AllocError> {
+    let mut maps = Vec::new(alloc);
+    for _ in 0..MAPS {
+        maps.push(None)?;
+    }
+    Ok(maps)
+}
+
+// Writes a value to an element of a map. A value of another size than the map's isn't written.
+fn put(map: Option<&mut Option<plain_machine::ArrayMap>>, key: u32, value: &[u8]) {
+    if let Some(Some(map)) = map {
+        if value.len() == map.shape().value_size as usize {
+            map.update(key, value, 0);
+        }
+    }
+}
+
+impl PlainTenant {
+    pub(crate) fn new(alloc: Global, number: u32) -> Result<PlainTenant, AllocError> {
+        Ok(PlainTenant {
+            number,
+            maps: no_maps(alloc)?,
+            programs: Vec::new(alloc),
+            run: None,
+        })
+    }
+
+    // What the rest of the open run may need of frames.
+    pub(crate) fn reserve(&self) -> u32 {
+        match &self.run {
+            Some(run) => match self.programs.get(run.program) {
+                Some(program) => program.reserve(run.machine.slot()),
+                None => 0,
+            },
+            None => 0,
+        }
+    }
+
+    // Lets an event of the tenant happen, where so many frames may be had.
+    pub(crate) fn serve(
+        &mut self,
+        alloc: Global,
+        pages: &mut Pages,
+        event: &Event,
+        have: u32,
+    ) -> Result<Reply, Fault> {
+        match event {
+            Event::Step { .. } => return self.step(alloc, pages),
+            Event::HostLookup { map, key, .. } => return self.lookup(alloc, *map as usize, *key),
+            _ => {}
+        }
+        if self.run.is_some() {
+            return Err(Fault::Busy);
+        }
+        match event {
+            Event::CreateMap {
+                value_size,
+                entries,
+                mergeable,
+                ..
+            } => {
+                let shape = Shape {
+                    value_size: *value_size,
+                    entries: *entries,
+                };
+                self.create_map(alloc, pages, shape, *mergeable, have)
+            }
+            Event::Load {
+                text,
+                context_size,
+                ..
+            } => self.load(alloc, text.as_slice(), *context_size),
+            Event::Begin {
+                program,
+                context,
+                ..
+            } => self.begin(alloc, *program as usize, context.as_slice(), have),
+            Event::HostUpdate {
+                map,
+                key,
+                value,
+                ..
+            } => self.update(pages, *map as usize, *key, value.as_slice(), have),
+            _ => Err(Fault::BadTenant),
+        }
+    }
+
+    // Makes a map of zeros at the first free number.
+    fn create_map(
+        &mut self,
+        alloc: Global,
+        pages: &mut Pages,
+        shape: Shape,
+        mergeable: bool,
+        have: u32,
+    ) -> Result<Reply, Fault> {
+        let Some(number) = free_number(&self.maps) else {
+            return Err(Fault::TooManyMaps);
+        };
+        if !shape.is_valid() {
+            return Err(Fault::BadShape);
+        }
+        let need = page_count(shape);
+        if have < need {
+            return Err(Fault::NoFrames { need, have });
+        }
+        let Ok(map) = zero_map(alloc, shape) else {
+            return Err(Fault::OutOfMemory);
+        };
+        let Ok(()) = pages.add(self.number, number, need, mergeable) else {
+            return Err(Fault::OutOfMemory);
+        };
+        if let Some(place) = self.maps.get_mut(number) {
+            *place = Some(map);
+        }
+        Ok(Reply::Map(count_of(number)))
+    }
+
+    // Loads a text with the next number.
+    fn load(&mut self, alloc: Global, text: &[u8], context_size: u32) -> Result<Reply, Fault> {
+        let number = self.programs.len();
+        if number >= MAX_PROGRAMS {
+            return Err(Fault::TooManyPrograms);
+        }
+        if context_size > MAX_CONTEXT || context_size % 8 != 0 {
+            return Err(Fault::BadContext);
+        }
+        let program = judge(alloc, &self.maps, text, context_size)?;
+        match self.programs.push(program) {
+            Ok(()) => Ok(Reply::Program(count_of(number))),
+            Err(_) => Err(Fault::OutOfMemory),
+        }
+    }
+
+    // Opens a run of a program, where there are frames for all that it may need.
+    fn begin(
+        &mut self,
+        alloc: Global,
+        program: usize,
+        context: &[u8],
+        have: u32,
+    ) -> Result<Reply, Fault> {
+        let need = match self.programs.get(program) {
+            None => return Err(Fault::NoProgram),
+            Some(program) if program.context_size != context.len() => {
+                return Err(Fault::BadContext);
+            }
+            Some(program) => program.reserve(0),
+        };
+        if have < need {
+            return Err(Fault::NoFrames { need, have });
+        }
+        let Ok(Some(machine)) = self.machine(alloc, context) else {
+            return Err(Fault::OutOfMemory);
+        };
+        self.run = Some(PlainRun {
+            program,
+            machine,
+            steps: 0,
+        });
+        Ok(Reply::Begun)
+    }
+
+    // The machine where a run on a context begins.
+    fn machine(&self, alloc: Global, context: &[u8]) -> Result<Option<Machine>, AllocError> {
+        let maps = copies_of(alloc, &self.maps)?;
+        let context = context.to_vec(alloc)?;
+        Ok(start(context, maps))
+    }
+
+    // Makes a step of the open run: what it writes to a map is in the tenant's maps then.
+    fn step(&mut self, alloc: Global, pages: &mut Pages) -> Result<Reply, Fault> {
+        let Some(run) = &mut self.run else {
+            return Err(Fault::NoRun);
+        };
+        let Some(program) = self.programs.get(run.program) else {
+            return Err(Fault::NoProgram);
+        };
+        let writes = next_written(&run.machine, &program.text);
+        let made = step(&mut run.machine, &program.text);
+        run.steps = run.steps.saturating_add(1);
+        let steps = run.steps;
+        match made {
+            Made::Next => {
+                if let Some(writes) = writes {
+                    self.take_over(alloc, pages, writes)?;
+                }
+                Ok(Reply::Stepped)
+            }
+            Made::Exits(ret) => {
+                self.run = None;
+                Ok(Reply::Ended { ret, steps })
+            }
+            Made::Fault => Err(Fault::NoProgram),
+        }
+    }
+
+    // Takes over a map of the machine, of which bytes were written.
+    fn take_over(
+        &mut self,
+        alloc: Global,
+        pages: &mut Pages,
+        writes: Written,
+    ) -> Result<(), Fault> {
+        let Some(run) = &self.run else {
+            return Ok(());
+        };
+        let Ok(copy) = copy_of(alloc, map_at(run.machine.maps(), writes.map)) else {
+            return Err(Fault::OutOfMemory);
+        };
+        if let Some(map) = &copy {
+            pages.written(self.number, writes.map, writes.range, map.bytes());
+        }
+        if let Some(place) = self.maps.get_mut(writes.map) {
+            *place = copy;
+        }
+        Ok(())
+    }
+
+    // Writes a value to an element, as the update helper does without a flag.
+    fn update(
+        &mut self,
+        pages: &mut Pages,
+        map: usize,
+        key: u32,
+        value: &[u8],
+        have: u32,
+    ) -> Result<Reply, Fault> {
+        let shape = self.shape(map)?;
+        if key >= shape.entries {
+            return Err(Fault::NoElement);
+        }
+        if value.len() != shape.value_size as usize {
+            return Err(Fault::BadShape);
+        }
+        if !shape.is_valid() {
+            return Err(Fault::BadShape);
+        }
+        let need = update_charge(shape);
+        if have < need {
+            return Err(Fault::NoFrames { need, have });
+        }
+        put(self.maps.get_mut(map), key, value);
+        let at = element_at(shape, key);
+        if let Some(now) = map_at(&self.maps, map) {
+            pages.written(
+                self.number,
+                map,
+                PageRange::of(at, value.len()),
+                now.bytes(),
+            );
+        }
+        Ok(Reply::Done)
+    }
+
+    // The shape of a map.
+    fn shape(&self, map: usize) -> Result<Shape, Fault> {
+        match map_at(&self.maps, map) {
+            Some(map) => Ok(map.shape()),
+            None => Err(Fault::NoMap),
+        }
+    }
+
+    // Reads the value of an element.
+    fn lookup(&self, alloc: Global, map: usize, key: u32) -> Result<Reply, Fault> {
+        let Some(map) = map_at(&self.maps, map) else {
+            return Err(Fault::NoMap);
+        };
+        if key >= map.shape().entries {
+            return Err(Fault::NoElement);
+        }
+        match value_of(alloc, map, key) {
+            Ok(value) => Ok(Reply::Value(value.into())),
+            Err(AllocError) => Err(Fault::OutOfMemory),
+        }
+    }
+}
