@@ -1,5 +1,5 @@
 -- The seats of a memory without maps are at rest.
-use Rattle.std.proofs.Common.{◌≡◌, ◌+◌, ◌∙◌, ℕ, suc, ap, List, [], ◌∷◌, Option, Some, None, tt}
+use Rattle.std.proofs.Common.{◌≡◌, ◌+◌, ◌∙◌, ℕ, suc, ap, sym, List, [], ◌∷◌, Option, Some, None}
 use Rattle.std.specs.Prelude.{All, IfSome, slice_get}
 use Rattle.std.proofs.lemmas.List.Elements.{All-nil, All-cons}
 use Rattle.atomic_table.specs.Seated.{TableId}
@@ -8,7 +8,7 @@ use Rattle.verifier_kinds.proofs.Descriptions.{get_or-one}
 use Rattle.page_table.specs.declared.tenant.Tenant.{Tenant}
 use Rattle.page_table.specs.State.{MemoryState, new_memory, new_tenant, part}
 use Rattle.turn.specs.declared.view.View.{View}
-use Rattle.turn.specs.Seats.{SeatState, IsNewSeat}
+use Rattle.turn.specs.Seats.{SeatState, IsIdle, IsNewSeat}
 use Rattle.serving.specs.AtRest.{IsAtRest}
 
 -- what holds of the element of each number holds of all
@@ -24,16 +24,21 @@ nothing_reserved : (frames tenants : ℕ) (options : Options) (t : ℕ) → (par
 unfolding part new_memory
 nothing_reserved frames tenants options t = ap (λ (tenant : Tenant). tenant.reserve) (get_or-one tenants t new_tenant)
 
+-- a new seat of a turn that is lent holds nothing
+pub new_idle : (turn lent : TableId) (first end : ℕ) (memory : MemoryState) (seat : SeatState) → lent ≡ turn → IsNewSeat turn first end memory seat → IsIdle lent seat
+new_idle turn lent first end memory seat same new = (new.0 ∙ sym same, ap (λ (v : View). v.holds) new.1)
+
 at_rest : (frames tenants : ℕ) (options : Options) (memory : MemoryState) → memory ≡ new_memory frames tenants options
-    → (turn : TableId) (t : ℕ) (seat : SeatState) → IsNewSeat turn t (t + 1) memory seat → IsAtRest turn seat
-at_rest frames tenants options memory same turn t seat new = record {
-  idle = (new.0, ap (λ (v : View). v.holds) new.1);
+    → (turn lent : TableId) → lent ≡ turn → (t : ℕ) (seat : SeatState) → IsNewSeat turn t (t + 1) memory seat → IsAtRest lent seat
+at_rest frames tenants options memory as_new turn lent same t seat new = record {
+  idle = new_idle turn lent t (t + 1) memory seat same new;
   resting =
-      ap (λ (v : View). (part v.seen v.first).reserve) new.1 ∙ (ap (λ m. (part m t).reserve) same ∙ nothing_reserved frames tenants options t);
+      ap (λ (v : View). (part v.seen v.first).reserve) new.1 ∙ (ap (λ m. (part m t).reserve) as_new ∙ nothing_reserved frames tenants options t);
 }
 
 pub all_at_rest : (frames tenants : ℕ) (options : Options) (memory : MemoryState) → memory ≡ new_memory frames tenants options
-    → (turn : TableId) (seats : List SeatState) → ((t : ℕ) → IfSome (slice_get seats t) (IsNewSeat turn t (t + 1) memory)) → All (IsAtRest turn) seats
-all_at_rest frames tenants options memory same turn seats each =
-    all_elements (IsAtRest turn) seats
-    (λ t. weaker (IsNewSeat turn t (t + 1) memory) (IsAtRest turn) (at_rest frames tenants options memory same turn t) (slice_get seats t) (each t))
+    → (turn lent : TableId) → lent ≡ turn
+    → (seats : List SeatState) → ((t : ℕ) → IfSome (slice_get seats t) (IsNewSeat turn t (t + 1) memory)) → All (IsAtRest lent) seats
+all_at_rest frames tenants options memory as_new turn lent same seats each =
+    all_elements (IsAtRest lent) seats
+    (λ t. weaker (IsNewSeat turn t (t + 1) memory) (IsAtRest lent) (at_rest frames tenants options memory as_new turn lent same t) (slice_get seats t) (each t))

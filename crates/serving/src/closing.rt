@@ -23,8 +23,10 @@ pub(crate) fn tell_runs<W: Write, E: Write>(
 ) -> Result<(), FileFault>
     ensures bad { IfErr result (λ fault. ¬ IsBad fault) }
 {
-    for (tenant, plan) in plans.iter().enumerate() {
-        tell_tenant(tenant as u32, &plan.replies, commands, told, writer, words)?;
+    let mut tenant = 0u32;
+    for plan in plans {
+        tell_tenant(tenant, &plan.replies, commands, told, writer, words)?;
+        tenant = tenant.saturating_add(1);
     }
     Ok(())
 }
@@ -107,13 +109,12 @@ fn looked_up(
     let Event::HostLookup { tenant, map, key } = event else {
         return None;
     };
-    match plans.get_mut(*tenant as usize) {
-        Some(plan) => {
-            let value = plan.shared.read(rt, alloc, &mut plan.seat, *map, *key);
-            Some(value_reply(value))
-        }
-        None => Some(Reply::Refused(Fault::BadTenant)),
+    let place = *tenant as usize;
+    if place >= plans.len() {
+        return Some(Reply::Refused(Fault::BadTenant));
     }
+    let plan = &mut plans[place];
+    Some(value_reply(plan.shared.read(rt, alloc, &mut plan.seat, *map, *key)))
 }
 
 /// What the host would answer with a value.

@@ -1,13 +1,12 @@
 //! A new memory that all tenants of a host file are lent.
 
 ghost use Rattle.std.specs.Prelude.{◌≡◌, All, IfOk};
-ghost use Rattle.std.specs.Vec.IntoIter.{into_iter_items};
 ghost use Rattle.turn.specs.Seats.{IsIdle};
 ghost use Rattle.tenant_workers.specs.Plans.{IsFor};
 ghost use Rattle.serving.specs.AtRest.{IsAtRest};
 
 use host_file::HostFile;
-use host_types::{Fault, Options};
+use host_types::Fault;
 use page_table::Memory;
 use std::alloc::{AllocError, Global};
 use tenant_workers::{Shared, TenantPlan};
@@ -26,7 +25,6 @@ pub(crate) struct House {
 }
 
 /// A new memory as a host file wants it, lent. Refusals are those of a new memory, and 41.
-#[tactic(auto, using(crate::proofs::Resting::all_at_rest))]
 pub(crate) fn open_house(alloc: Global, file: &HostFile) -> Result<House, Fault> {
     let memory = Memory::new(alloc, file.frames, file.tenants, file.options)?;
     let (turn, seats, scanner, host) = Turn::new(alloc, memory, file.tenants)?;

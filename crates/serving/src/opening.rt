@@ -46,6 +46,7 @@ pub(crate) fn open_all<W: Write, E: Write>(
 }
 
 /// Does what an event asks for before a thread starts.
+#[tactic(auto, using(crate::proofs::Kept::own_set))]
 fn apply(
     rt: &impl Wait,
     alloc: Global,
@@ -65,10 +66,11 @@ fn apply(
     let Some(tenant) = event.tenant() else {
         return Ok(());
     };
-    match plans.get_mut(tenant as usize) {
-        Some(plan) => apply_for(rt, alloc, plan, event),
-        None => Err(Fault::BadTenant),
+    let place = tenant as usize;
+    if place >= plans.len() {
+        return Err(Fault::BadTenant);
     }
+    apply_for(rt, alloc, &mut plans[place], event)
 }
 
 /// Does what an event asks for a tenant before a thread starts.

@@ -20,20 +20,50 @@ pub(crate) fn add_runs(
     ensures { All (IsFor shared.now) plans.new }
 {
     for command in commands {
-        if let Command::Run(
-            Event::Begin {
-                tenant,
-                program,
-                context,
-            },
-        ) = command
-        {
-            if let Some(plan) = plans.get_mut(*tenant as usize) {
-                let context = context.as_slice().to_vec(alloc)?;
-                plan.runs.push((*program, context))?;
-            }
-        }
+        add_run(alloc, shared, plans, command)?;
     }
+    Ok(())
+}
+
+/// Adds the run that a command asks for, if it does, to the plan of its tenant.
+#[tactic(auto, using(crate::proofs::Kept::own_set))]
+fn add_run(
+    alloc: Global,
+    shared: &Shared,
+    plans: &mut [TenantPlan<'_>],
+    command: &Command,
+) -> Result<(), AllocError>
+    requires { All (IsFor shared.now) plans.old }
+    ensures { All (IsFor shared.now) plans.new }
+{
+    let Command::Run(
+        Event::Begin {
+            tenant,
+            program,
+            context,
+        },
+    ) = command
+    else {
+        return Ok(());
+    };
+    let place = *tenant as usize;
+    if place >= plans.len() {
+        return Ok(());
+    }
+    plan_run(alloc, &mut plans[place], *program, context.as_slice())
+}
+
+/// Adds a run to a tenant's plan.
+fn plan_run(
+    alloc: Global,
+    plan: &mut TenantPlan<'_>,
+    program: u32,
+    context: &[u8],
+) -> Result<(), AllocError>
+    ensures { plan.new.shared.now ≡ plan.old.shared.now }
+{
+    let context = context.to_vec(alloc)?;
+    plan.runs.push((program, context))?;
     Ok(())
 }
 

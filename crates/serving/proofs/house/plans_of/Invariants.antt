@@ -1,5 +1,5 @@
 use Rattle.std.specs.Prelude.{All}
-use Rattle.std.specs.Vec.IntoIter.{into_iter_items}
+use Rattle.std.specs.Vec.Iter.{into_iter_items}
 use Rattle.tenant_workers.specs.Plans.{IsFor}
 use Rattle.serving.specs.AtRest.{IsAtRest}
 use Rattle.serving.proofs.house.plans_of.Given as goal
