@@ -8,6 +8,8 @@ mod creating;
 #[cfg(test)]
 mod ends;
 #[cfg(test)]
+mod gates;
+#[cfg(test)]
 mod numbers;
 #[cfg(test)]
 mod programs;
@@ -15,6 +17,8 @@ mod programs;
 mod row;
 #[cfg(test)]
 mod runs;
+#[cfg(test)]
+mod serving;
 #[cfg(test)]
 mod settings;
 #[cfg(test)]

@@ -82,7 +82,7 @@ pub(crate) fn told(counters: Counters) -> [u32; 4] {
     ]
 }
 
-fn length_and_first(value: Result<Vec<u8>, Fault>) -> Option<(usize, u8)> {
+pub(crate) fn length_and_first(value: Result<Vec<u8>, Fault>) -> Option<(usize, u8)> {
     let bytes = value.ok()?;
     let first = *bytes.first()?;
     Some((bytes.len(), first))

@@ -16,18 +16,19 @@ use tenant_workers::{Gate, Shared};
 use turn::Seat;
 
 /// A gate that returns at once.
-struct Open;
+pub(crate) struct Open;
 
 impl Gate for Open {
     fn at<R: Wait>(&self, _rt: &R, _tenant: u32, _slot: u32) {}
 }
 
-/// What a run of the counter by a seat answers.
-fn counted(
+/// What a run of the counter by a seat answers, with a gate.
+pub(crate) fn counted(
     rt: &impl Wait,
     alloc: Global,
     shared: &Shared,
     seat: &mut Seat,
+    gate: &impl Gate,
 ) -> Result<RunReply, Fault>
     requires idle { IsIdle shared.now seat.old }
     requires resting { IsResting (part_of seat.old) }
@@ -38,7 +39,7 @@ fn counted(
         return Err(Fault::OutOfMemory);
     };
     let program = shared.load_program(rt, alloc, seat, &text, 0)?;
-    shared.run_program(rt, alloc, seat, &program, &[], &Open)
+    shared.run_program(rt, alloc, seat, &program, &[], gate)
 }
 
 /// What is told after four visits and after each run.
@@ -49,7 +50,7 @@ struct Row {
     counters: [[u32; 4]; 4],
 }
 
-const fn returned(ret: u64) -> Result<RunReply, Fault> {
+pub(crate) const fn returned(ret: u64) -> Result<RunReply, Fault> {
     Ok(RunReply { ret, steps: 11 })
 }
 
@@ -70,11 +71,11 @@ fn ran(rt: &impl Wait, alloc: Global, two: Two) -> Row
     } = two;
     shared.scan_batch(rt, &mut scanner, 4);
     let merged = told(shared.counters(rt, &mut host));
-    let one = counted(rt, alloc, &shared, &mut first);
+    let one = counted(rt, alloc, &shared, &mut first, &Open);
     let parted = told(shared.counters(rt, &mut host));
-    let other = counted(rt, alloc, &shared, &mut second);
+    let other = counted(rt, alloc, &shared, &mut second, &Open);
     let apart = told(shared.counters(rt, &mut host));
-    let again = counted(rt, alloc, &shared, &mut first);
+    let again = counted(rt, alloc, &shared, &mut first, &Open);
     let last = told(shared.counters(rt, &mut host));
     Row {
         replies: [one, other, again],
@@ -105,7 +106,7 @@ fn crowded(rt: &impl Wait, alloc: Global, two: Two) -> Result<RunReply, Fault>
         scanner: _scanner,
         host: _host,
     } = two;
-    counted(rt, alloc, &shared, &mut first)
+    counted(rt, alloc, &shared, &mut first, &Open)
 }
 
 #[test]
