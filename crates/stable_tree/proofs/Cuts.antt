@@ -32,6 +32,34 @@ offset-within (c ∷ cs) frames (suc k) are =
     let few = are.1 in
     omega (arith, rest, left, few)
 
+-- there are no more chains than frames
+cut-few : (chains : List Chain) (frames : List ℕ) → AreCut chains frames → length chains ≤ length frames
+unfolding AreCut
+cut-few [] frames are = omega arith
+cut-few (c ∷ cs) frames are =
+    let rest = cut-few cs (drop c.groups frames) are.3 in
+    let left = length-drop c.groups frames in
+    let some = are.0 in
+    let few = are.1 in
+    omega (arith, rest, left, some, few)
+
+-- where there are as many of both, each chain has one
+pub offset-alone : (chains : List Chain) (frames : List ℕ) (k : ℕ) → AreCut chains frames → length frames ≡ length chains → k ≤ length chains → offset chains k ≡ k
+unfolding offset AreCut
+offset-alone [] frames zero are e h = refl
+offset-alone [] frames (suc k) are e h = absurd (omega (arith, h))
+offset-alone (c ∷ cs) frames zero are e h = refl
+offset-alone (c ∷ cs) frames (suc k) are e h =
+    let rest = cut-few cs (drop c.groups frames) are.3 in
+    let left = length-drop c.groups frames in
+    let some = are.0 in
+    let few = are.1 in
+    let same : length (drop c.groups frames) ≡ length cs = omega (arith, rest, left, some, few, e) in
+    let one : c.groups ≡ 1 = omega (arith, rest, left, some, few, e) in
+    let there : k ≤ length cs = omega (arith, h) in
+    let behind = offset-alone cs (drop c.groups frames) k are.3 same there in
+    omega (arith, one, behind)
+
 -- a chain that stands nowhere
 abbrev pub none : Chain
 none = record { first = 0; groups = 0 }

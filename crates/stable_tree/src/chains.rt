@@ -18,6 +18,10 @@ pub(crate) fn offset(chains: &[Chain], frames: &[u32], chain: usize) -> usize
     ensures value { result ≡ offset chains.now chain }
     ensures within { result ≤ length frames.now }
 {
+    // Where there are no more frames than chains, each chain has one.
+    if frames.len() == chains.len() {
+        return chain;
+    }
     let mut start = 0;
     for place in 0..chain {
         start += chains[place].groups;

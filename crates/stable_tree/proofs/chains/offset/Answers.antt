@@ -1,7 +1,11 @@
 use Rattle.std.proofs.Common.{ℕ, ◌+◌, slice_index_or, refl, sym, ap, ◌∙◌, arith}
 use Rattle.stable_tree.specs.Cut.{offset}
-use Rattle.stable_tree.proofs.Cuts.{none, offset-more, offset-within}
+use Rattle.stable_tree.proofs.Cuts.{none, offset-alone, offset-more, offset-within}
 use Rattle.stable_tree.proofs.chains.offset.Goals as goal
+
+pub returns-then-frames-chains-clause-value : goal.returns-then-frames-chains-clause-value
+returns-then-frames-chains-clause-value c =
+    sym (offset-alone c.args.chains.now c.args.frames.now c.args.chain c.requires.cut (omega arith) c.requires.chain)
 
 pub loop-place-init : goal.loop-place-init
 unfolding offset
