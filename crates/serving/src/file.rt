@@ -155,7 +155,9 @@ fn serve_plan<T: Threads + Wait + Sync, W: Write, E: Write>(
     if told.has_refused {
         return Ok(());
     }
-    add_runs(alloc, shared, &mut plan.tenants, commands)?;
+    if add_runs(alloc, shared, &mut plan.tenants, commands).is_err() {
+        return Err(FileFault::OutOfMemory(AllocError));
+    }
     if let Err(fault) = serve(rt, alloc, shared, plan, &Open) {
         told.has_refused = true;
         return refuse(file, fault, writer, words);
