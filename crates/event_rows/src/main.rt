@@ -18,7 +18,7 @@ use std::io;
 /// How many lists are drawn for each number of frames.
 const LISTS: u32 = 8;
 
-/// How many events a list has, 10,000 in all.
+/// How many events a list has, 9,984 in all.
 const EVENTS: u32 = 312;
 
 /// Where both first differed.
