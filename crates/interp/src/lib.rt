@@ -4,8 +4,6 @@
 
 mod need;
 mod run;
-#[cfg(test)]
-mod tests;
 mod way;
 
 pub use need::Need;

@@ -4,7 +4,5 @@
 
 mod answer;
 mod helpers;
-#[cfg(test)]
-mod tests;
 
 pub use helpers::{delete, lookup, update, update_charge, update_needs};

@@ -7,6 +7,8 @@ mod agreement;
 #[cfg(test)]
 mod arithmetic;
 #[cfg(test)]
+mod contexts;
+#[cfg(test)]
 mod machine;
 #[cfg(test)]
 mod text;

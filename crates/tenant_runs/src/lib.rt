@@ -6,8 +6,6 @@
 mod driving;
 mod meeting;
 mod running;
-#[cfg(test)]
-mod tests;
 
 pub use driving::{RunReply, answer, finish};
 pub use meeting::meet;

@@ -4,13 +4,13 @@
 ghost use Rattle.std.specs.Prelude.{◌≡◌, IfOk};
 ghost use Rattle.page_table.specs.State.{part};
 
-use crate::{RunReply, run};
 use bpf_decode::decode;
 use host_types::{Fault, Options, Shape};
 use page_table::Memory;
 use scanner::visit;
 use std::alloc::{AllocError, Global};
 use std::test::Fail;
+use tenant_runs::{RunReply, run};
 use verifier::{Verified, verify};
 
 /// A map of one number.

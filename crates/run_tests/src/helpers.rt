@@ -1,5 +1,7 @@
-use crate::{delete, lookup, update, update_charge, update_needs};
+//! What the three helpers answer and do.
+
 use host_types::{Fault, MapNo, Options, Shape};
+use map_helpers::{delete, lookup, update, update_charge, update_needs};
 use page_table::Memory;
 use scanner::visit;
 use std::alloc::Global;

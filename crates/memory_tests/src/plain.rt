@@ -1,5 +1,7 @@
-use crate::{PlainPage, PlainSharing, page_content};
+//! What the plain program of sharing counts.
+
 use host_types::{Options, Status};
+use plain_sharing::{PlainPage, PlainSharing, page_content};
 use std::test::Fail;
 
 /// The first pages of two tenants, each of which has 2,048 places.
