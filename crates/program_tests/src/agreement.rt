@@ -41,7 +41,7 @@ fn ended(mut run: Run, program: &Verified) -> Ending
 }
 
 /// How a program goes on the fast interpreter.
-fn run_fast(alloc: Global, context: &[u8], slots: &[u64]) -> Result<Ending, Fault> {
+pub(crate) fn run_fast(alloc: Global, context: &[u8], slots: &[u64]) -> Result<Ending, Fault> {
     match accepted(alloc, slots) {
         Ok(program) => {
             let run = Run::begin(alloc, &program, context)?;
