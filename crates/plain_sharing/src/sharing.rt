@@ -42,7 +42,7 @@ pub struct PlainSharing {
     cursor: Option<usize>,
     options: Options,
     // how many passes ended
-    full_scans: u64,
+    pub(crate) full_scans: u64,
 }
 
 impl Model for PlainSharing {

@@ -72,3 +72,18 @@ fn the_last_page_is_filled_with_zeros(rt: HostRuntime) -> Result<(), Fail> {
     assert_eq!(rt; page[0], 0);
     Ok(())
 }
+
+/// Each visit of the only page ends a pass. The number of passes is set to the last one before its end,
+/// where no number of visits would get.
+#[test]
+fn the_number_of_passes_stays_at_its_end(rt: HostRuntime) -> Result<(), Fail> {
+    let mut sharing = PlainSharing::new(rt.alloc(), 1, Options::standard())?;
+    sharing.add(0, true);
+    sharing.full_scans = u64::MAX - 1;
+    sharing.visit(rt.alloc(), &[])?;
+    let at_its_end = sharing.full_scans();
+    sharing.visit(rt.alloc(), &[])?;
+    let one_later = sharing.full_scans();
+    assert_eq!(rt; [at_its_end, one_later], [u64::MAX, u64::MAX]);
+    Ok(())
+}
