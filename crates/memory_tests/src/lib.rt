@@ -10,4 +10,6 @@ mod breaks;
 #[cfg(test)]
 mod maps;
 #[cfg(test)]
+mod sharing;
+#[cfg(test)]
 mod trees;

@@ -6,8 +6,6 @@ mod contents;
 mod groups;
 mod pages;
 mod sharing;
-#[cfg(test)]
-mod tests;
 mod waiting;
 
 pub use pages::page_content;

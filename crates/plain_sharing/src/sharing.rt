@@ -42,7 +42,7 @@ pub struct PlainSharing {
     cursor: Option<usize>,
     options: Options,
     // how many passes ended
-    pub(crate) full_scans: u64,
+    full_scans: u64,
 }
 
 impl Model for PlainSharing {
@@ -207,6 +207,13 @@ impl PlainSharing {
         ensures { result ≡ self.now.full_scans }
     {
         self.full_scans
+    }
+
+    /// Counts the passes on from a number, as from one that visits would take too long to come to.
+    pub fn count_from(&mut self, full_scans: u64)
+        ensures { self.new ≡ record self.old { full_scans = full_scans } }
+    {
+        self.full_scans = full_scans;
     }
 
     /// The groups in order of creation, each the list of its pages' places in their order.

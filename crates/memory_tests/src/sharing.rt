@@ -1,25 +1,37 @@
-use crate::{PlainPage, PlainSharing, page_content};
+//! The plain program of pages that share frames, by itself. A test asserts once: each assertion makes its
+//! proof longer.
+
 use host_types::{Options, Status};
+use plain_sharing::{PlainPage, PlainSharing, page_content};
 use std::test::Fail;
 
-/// The first pages of two tenants, each of which has 2,048 places.
+/// How many of four frames are free, and how many the breaks of the first pages of two tenants take, each
+/// of which has 2,048 places.
+fn frames(sharing: &PlainSharing) -> (usize, u32, u32) {
+    (
+        sharing.frames_free(4),
+        sharing.break_cost(0),
+        sharing.break_cost(2048),
+    )
+}
+
 #[test]
 fn a_pair_shares_a_frame_until_a_break(rt: HostRuntime) -> Result<(), Fail> {
     let mut sharing = PlainSharing::new(rt.alloc(), 4096, Options::standard())?;
-    assert_eq!(rt; sharing.frames_free(4), 3);
+    let empty = frames(&sharing);
     sharing.add(0, true);
     sharing.add(2048, true);
-    assert_eq!(rt; sharing.frames_free(4), 1);
+    let apart = frames(&sharing);
     sharing.pair(rt.alloc(), 2048, 0)?;
-    assert_eq!(rt; sharing.frames_free(4), 2);
-    assert_eq!(rt; sharing.break_cost(0), 1);
-    assert_eq!(rt; sharing.break_cost(2048), 1);
+    let together = frames(&sharing);
     sharing.break_page(0);
-    assert_eq!(rt; sharing.frames_free(4), 1);
-    assert_eq!(rt; sharing.break_cost(0), 0);
-    assert_eq!(rt; sharing.break_cost(2048), 0);
+    let broken = frames(&sharing);
     sharing.break_page(2048);
-    assert_eq!(rt; sharing.frames_free(4), 1);
+    let seen = [empty, apart, together, broken, frames(&sharing)];
+    assert_eq!(rt;
+        seen,
+        [(3, 0, 0), (1, 0, 0), (2, 1, 1), (1, 0, 0), (1, 0, 0)]
+    );
     Ok(())
 }
 
@@ -30,11 +42,9 @@ fn pages_of_zeros_take_no_frame(rt: HostRuntime) -> Result<(), Fail> {
     sharing.add(2048, true);
     sharing.zero(0);
     sharing.zero(2048);
-    assert_eq!(rt; sharing.frames_free(4), 3);
-    assert_eq!(rt; sharing.break_cost(0), 1);
-    assert_eq!(rt; sharing.break_cost(2048), 1);
+    let zeros = frames(&sharing);
     sharing.break_page(0);
-    assert_eq!(rt; sharing.frames_free(4), 2);
+    assert_eq!(rt; [zeros, frames(&sharing)], [(3, 1, 1), (2, 0, 1)]);
     Ok(())
 }
 
@@ -45,15 +55,14 @@ fn a_store_to_both_pages_of_a_pair_takes_one_frame(rt: HostRuntime) -> Result<()
     sharing.add(0, true);
     sharing.add(1, false);
     sharing.pair(rt.alloc(), 0, 1)?;
-    assert_eq!(rt; sharing.break_pages(0, 2), 1);
+    let taken = sharing.break_pages(0, 2);
     let page = PlainPage {
         mergeable: false,
         status: Status::Volatile,
         last: None,
     };
-    assert_eq!(rt; sharing.page(1), Some(page));
-    assert_eq!(rt; sharing.page(2), None);
-    assert_eq!(rt; sharing.frames_free(2), 0);
+    let pages = sharing.page(1) == Some(page) && sharing.page(2).is_none();
+    assert!(rt; pages && taken == 1 && sharing.frames_free(2) == 0);
     Ok(())
 }
 
@@ -64,26 +73,22 @@ fn the_last_page_is_filled_with_zeros(rt: HostRuntime) -> Result<(), Fail> {
     bytes[4097] = 7;
     let mut page = vec![in rt.alloc(); 9; 4096]?;
     page_content(&bytes, 1, &mut page);
-    assert_eq!(rt; page[0], 1);
-    assert_eq!(rt; page[1], 7);
-    assert_eq!(rt; page[2], 0);
-    assert_eq!(rt; page[4095], 0);
+    let last = [page[0], page[1], page[2], page[4095]];
     page_content(&bytes, 2, &mut page);
-    assert_eq!(rt; page[0], 0);
+    assert!(rt; last == [1, 7, 0, 0] && page[0] == 0);
     Ok(())
 }
 
-/// Each visit of the only page ends a pass. The number of passes is set to the last one before its end,
-/// where no number of visits would get.
+/// Each visit of the only page ends a pass. The count begins where no number of visits would get, one pass
+/// before its end.
 #[test]
 fn the_number_of_passes_stays_at_its_end(rt: HostRuntime) -> Result<(), Fail> {
     let mut sharing = PlainSharing::new(rt.alloc(), 1, Options::standard())?;
     sharing.add(0, true);
-    sharing.full_scans = u64::MAX - 1;
+    sharing.count_from(u64::MAX - 1);
     sharing.visit(rt.alloc(), &[])?;
     let at_its_end = sharing.full_scans();
     sharing.visit(rt.alloc(), &[])?;
-    let one_later = sharing.full_scans();
-    assert_eq!(rt; [at_its_end, one_later], [u64::MAX, u64::MAX]);
+    assert_eq!(rt; [at_its_end, sharing.full_scans()], [u64::MAX, u64::MAX]);
     Ok(())
 }
