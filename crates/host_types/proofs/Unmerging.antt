@@ -9,14 +9,8 @@ use Rattle.std.proofs.Math.Bool.{or-false}
 use Rattle.host_types.specs.declared.status.Status.{Status}
 use Rattle.host_types.specs.declared.status.Status.TheVariants.{New, Volatile, Waiting, Grouped, Zero}
 use Rattle.host_types.specs.Sharing.{Sharing, PageState, state_at, is_shared, is_shared_page, is_among, without, left_by, is_in_company, broken, broken_page, break_cost, broken_from, cost_from, cost_of}
+use Rattle.host_types.proofs.Without.{one_when, times, without-length, times-gone, times-kept, kept_group, some_kept}
 use Rattle.host_types.specs.Unmerging.{unmerged, members, zeros_at, zero_pages, unmerge_need, SharesNothing}
-
-abbrev pub one_when : Bool → ℕ
-one_when b = if b then 1 else 0
-
--- how often a place stands in a group
-abbrev pub times : ℕ → List ℕ → ℕ
-times i places = sum_by (λ j. one_when (j == i)) places
 
 -- how often it stands in all groups
 abbrev pub listed : ℕ → List (List ℕ) → ℕ
@@ -42,43 +36,6 @@ grouped_at (Some state) = one_if_grouped state.status
 pub record AreListed (s : Sharing) : Type 0 where
   pub some : AreSome s.groups
   pub once : (i : ℕ) → listed i s.groups ≡ grouped_at (state_at s i)
-
-not_equal : (i j : ℕ) → j ≢ i → (j == i) ≡ false
-not_equal i j ne = grind (arith, nat_tests)
-
--- a group without one of its pages
-without-length : (i : ℕ) (g : List ℕ) → length (without i g) + times i g ≡ length g
-without-length i [] = refl
-without-length i (j ∷ g) =
-    let split = sum_by-cons (λ (x : ℕ). one_when (x == i)) j g in
-    by_test (j == i) refl (without-length i g) split
-  where
-    by_test : (b : Bool) → (j == i) ≡ b → length (without i g) + times i g ≡ length g → times i (j ∷ g) ≡ one_when (j == i) + times i g
-        → length (if not b then j ∷ without i g else without i g) + times i (j ∷ g) ≡ suc (length g)
-    by_test true e rest split = let one = ap one_when e in omega (arith, rest, split, one)
-    by_test false e rest split = let one = ap one_when e in omega (arith, rest, split, one)
-
-times-gone : (i : ℕ) (g : List ℕ) → times i (without i g) ≡ 0
-times-gone i [] = refl
-times-gone i (j ∷ g) = by_test (j == i) refl (times-gone i g)
-  where
-    by_test : (b : Bool) → (j == i) ≡ b → times i (without i g) ≡ 0 → times i (if not b then j ∷ without i g else without i g) ≡ 0
-    by_test true e rest = rest
-    by_test false e rest =
-        let split = sum_by-cons (λ (x : ℕ). one_when (x == i)) j (without i g) in
-        let one = ap one_when e in
-        omega (arith, rest, split, one)
-
-times-kept : (i k : ℕ) (g : List ℕ) → k ≢ i → times k (without i g) ≡ times k g
-times-kept i k [] ne = refl
-times-kept i k (j ∷ g) ne =
-    let split = sum_by-cons (λ (x : ℕ). one_when (x == k)) j g in
-    ⊎_elim
-    (λ same. ap (λ b. times k (if not b then j ∷ without i g else without i g)) same.0
-    ∙ let rest = times-kept i k g ne in let one = ap one_when (not_equal k j (λ e. ne (sym e ∙ same.1))) in omega (arith, rest, split, one))
-    (λ other. ap (λ b. times k (if not b then j ∷ without i g else without i g)) other.0
-    ∙ let rest = times-kept i k g ne in let more = sum_by-cons (λ (x : ℕ). one_when (x == k)) j (without i g) in omega (arith, rest, split, more))
-    (eqb_tells j i)
 
 without-none : (i : ℕ) (g : List ℕ) → times i g ≡ 0 → without i g ≡ g
 without-none i [] h = refl
@@ -110,15 +67,6 @@ among-some i (j ∷ g) h =
     by_test : (b : Bool) → (j == i) ≡ b → times i (j ∷ g) ≡ one_when (j == i) + times i g → (1 ≤ times i g → is_among i g ≡ true) → (b || is_among i g) ≡ true
     by_test true e split rest = refl
     by_test false e split rest = rest (let one = ap one_when e in omega (arith, h, split, one))
-
--- a group in front of others, unless it is empty
-abbrev kept_group : List ℕ → List (List ℕ) → List (List ℕ)
-kept_group group rest = if nat_lt 0 (length group) then group ∷ rest else rest
-
-some_kept : (group : List ℕ) (rest : List (List ℕ)) → 0 < length group → kept_group group rest ≡ group ∷ rest
-some_kept group rest h =
-    let some : nat_lt 0 (length group) ≡ true = grind (arith, nat_tests) in
-    ap (λ (b : Bool). if b then group ∷ rest else rest) some
 
 sum-kept : (f : List ℕ → ℕ) (group : List ℕ) (rest : List (List ℕ)) → f [] ≡ 0 → sum_by f (kept_group group rest) ≡ f group + sum_by f rest
 sum-kept f [] rest none = omega (arith, none)

@@ -10,6 +10,6 @@ mod breaks;
 #[cfg(test)]
 mod maps;
 #[cfg(test)]
-mod plain;
+mod sharing;
 #[cfg(test)]
 mod trees;

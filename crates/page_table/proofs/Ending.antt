@@ -1,12 +1,12 @@
 -- A page table stays sound where the last page leaves its group and keeps the frame.
-use Rattle.std.proofs.Common.{◌≡◌, ◌≢◌, ◌∙◌, inl, inr, ◌⊎◌, ⊎_elim, ℕ, suc, ◌+◌, ◌<◌, ◌≤◌, ◌==◌, nat_lt, not, Bool, true, false, if◌then◌else◌, List, [], ◌∷◌, length, map, filter, slice_index_or, slice_set, Option, Some, None, IfSome, option_map, refl, sym, ap, subst, arith}
+use Rattle.std.proofs.Common.{◌≡◌, ◌≢◌, ◌∙◌, inl, inr, ◌⊎◌, ⊎_elim, ℕ, ◌+◌, ◌<◌, ◌≤◌, ◌==◌, not, Bool, true, false, if◌then◌else◌, List, [], ◌∷◌, length, map, filter, slice_index_or, slice_set, Option, Some, None, IfSome, option_map, refl, sym, ap, subst, arith}
 use Rattle.std.proofs.lemmas.List.{length-set, map-set, set-get_or, nil_from_length, get_or-set_same}
-use Rattle.std.proofs.lemmas.List.Sums.{sum_by-cons}
-use Rattle.std.proofs.lemmas.Bool.Decides.{nat_tests, eqb_tells}
+use Rattle.std.proofs.lemmas.Bool.Decides.{eqb_tells}
 use Rattle.page_table.specs.declared.pass.Pass.{Pass}
 use Rattle.host_types.specs.declared.status.Status.{Status}
 use Rattle.host_types.specs.declared.status.Status.TheVariants.{New, Volatile, Waiting, Grouped, Zero}
 use Rattle.host_types.specs.Sharing.{PageState, state_at, is_shared, broken, broken_page, without, left_by}
+use Rattle.host_types.proofs.Without.{without-length, times-gone, times-kept, kept_group, some_kept}
 use Rattle.frame_arena.specs.Pages.{page_at}
 use Rattle.page_table.specs.declared.entry.Entry.{Entry}
 use Rattle.page_table.specs.Table.{TableState, CountsState, IsTable, IsEntry, IsAlone, IsGroup, IsOwnAt, IsSound, AreCountsOf, LiesRight, times, one_if_zero, entry_at, state_of, states_of, contents_of, groups_of, sharing_of, is_on, places_on, pages_on, used_by}
@@ -19,49 +19,6 @@ use Rattle.page_table.proofs.Putting.{entry_fits, content_at}
 -- a list of frames without one of them
 abbrev pub but : ℕ → List ℕ → List ℕ
 but f frames = filter (λ g. not (g == f)) frames
-
--- one frame less for each time that it occurred
-pub length-but : (f : ℕ) (frames : List ℕ) → length (but f frames) + times f frames ≡ length frames
-length-but f [] = refl
-length-but f (g ∷ gs) =
-    let split = sum_by-cons (λ (x : ℕ). one_when (x == f)) g gs in
-    by_test (g == f) refl (length-but f gs) split
-  where
-    by_test : (b : Bool) → (g == f) ≡ b → length (but f gs) + times f gs ≡ length gs → times f (g ∷ gs) ≡ one_when (g == f) + times f gs
-        → length (if not b then g ∷ but f gs else but f gs) + times f (g ∷ gs) ≡ suc (length gs)
-    by_test true e rest split = let one = ap one_when e in omega (arith, rest, split, one)
-    by_test false e rest split = let one = ap one_when e in omega (arith, rest, split, one)
-
-pub times-gone : (f : ℕ) (frames : List ℕ) → times f (but f frames) ≡ 0
-times-gone f [] = refl
-times-gone f (g ∷ gs) = by_test (g == f) refl (times-gone f gs)
-  where
-    by_test : (b : Bool) → (g == f) ≡ b → times f (but f gs) ≡ 0 → times f (if not b then g ∷ but f gs else but f gs) ≡ 0
-    by_test true e rest = rest
-    by_test false e rest =
-        let split = sum_by-cons (λ (x : ℕ). one_when (x == f)) g (but f gs) in
-        let one = ap one_when e in
-        omega (arith, rest, split, one)
-
-pub times-kept : (f h : ℕ) (frames : List ℕ) → h ≢ f → times h (but f frames) ≡ times h frames
-times-kept f h [] ne = refl
-times-kept f h (g ∷ gs) ne =
-    let split = sum_by-cons (λ (x : ℕ). one_when (x == h)) g gs in
-    ⊎_elim
-    (λ same. ap (λ b. times h (if not b then g ∷ but f gs else but f gs)) same.0
-    ∙ let rest = times-kept f h gs ne in let one = ap one_when (not_equal h g (λ e. ne (sym e ∙ same.1))) in omega (arith, rest, split, one))
-    (λ other. ap (λ b. times h (if not b then g ∷ but f gs else but f gs)) other.0
-    ∙ let rest = times-kept f h gs ne in let more = sum_by-cons (λ (x : ℕ). one_when (x == h)) g (but f gs) in omega (arith, rest, split, more))
-    (eqb_tells g f)
-
--- a group in front of others, unless it is empty
-abbrev kept_group : List ℕ → List (List ℕ) → List (List ℕ)
-kept_group group rest = if nat_lt 0 (length group) then group ∷ rest else rest
-
-some_kept : (group : List ℕ) (rest : List (List ℕ)) → 0 < length group → kept_group group rest ≡ group ∷ rest
-some_kept group rest h =
-    let some : nat_lt 0 (length group) ≡ true = grind (arith, nat_tests) in
-    ap (λ (b : Bool). if b then group ∷ rest else rest) some
 
 -- the groups after the only page of one left it
 left-groups : (old new : List (Option Entry)) (f i : ℕ) (groups : List ℕ) → without i (places_on 0 f old) ≡ []
@@ -190,7 +147,7 @@ module _ (table : TableState) (i : ℕ) (entry new : Entry) (is : IsTable table)
       let count = own_pages-set table.entries i (Some new) there in
       let none : own_one (entry_at table.entries i) ≡ 0 = ap own_one here ∙ ap (λ (b : Bool). if b then 0 else 1) shared in
       let one : own_one (Some new) ≡ 1 = ap (λ (s : Status). if is_shared s then 0 else 1) status-ended in
-      let long = length-but entry.frame table.groups in
+      let long = without-length entry.frame table.groups in
       omega (arith, count, none, one, long, one_group)
 
   IsTable-ended : new.protected ≡ false → IsTable (ended table i new entry.frame)

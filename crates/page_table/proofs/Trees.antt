@@ -9,7 +9,8 @@ use Rattle.frame_arena.specs.Pages.{page_at}
 use Rattle.stable_tree.specs.Groups.{Groups, IsSorted, IsChain, has, content}
 use Rattle.stable_tree.proofs.Removing.{has-itself}
 use Rattle.page_table.specs.Table.{TableState, CountsState, IsSound, IsGroup, IsTreeOf, times, pages_on, is_open_frame}
-use Rattle.page_table.proofs.Ending.{but, length-but, times-gone, times-kept}
+use Rattle.page_table.proofs.Ending.{but}
+use Rattle.host_types.proofs.Without.{without-length, times-gone, times-kept}
 use Rattle.page_table.proofs.Entries.{one_when, times-head, times-tail, not_equal}
 use Rattle.page_table.proofs.Joining.{group_of, group-inside}
 use Rattle.page_table.proofs.Moving.{no_holder}
@@ -46,8 +47,8 @@ same-length n [] (y ∷ ys) few same = let here = times-head y ys in let none = 
 same-length zero (x ∷ xs) ys few same = absurd (omega (arith, few))
 same-length (suc n) (x ∷ xs) ys few same =
     let here = times-head x xs in
-    let left = length-but x (x ∷ xs) in
-    let right = length-but x ys in
+    let left = without-length x (x ∷ xs) in
+    let right = without-length x ys in
     let both = same x in
     let rest = same-length n (but x (x ∷ xs)) (but x ys) (omega (arith, left, here, few)) less in
     omega (arith, rest, left, right, both)

@@ -5,6 +5,7 @@ use Rattle.host_types.specs.declared.status.Status.{Status}
 use Rattle.host_types.specs.declared.status.Status.TheVariants.{New, Volatile, Waiting, Grouped, Zero}
 use Rattle.host_types.specs.Sharing.{Sharing, PageState, state_at, is_shared_page, broken, break_cost, broken_from, cost_from}
 use Rattle.host_types.specs.Unmerging.{unmerged, members, zeros_at, one_if_zeros, zero_pages, unmerge_need, SharesNothing}
+use Rattle.host_types.proofs.Without as without
 use Rattle.host_types.proofs.Unmerging as law
 use Rattle.page_table.specs.declared.entry.Entry.{Entry}
 use Rattle.page_table.specs.declared.pass.Pass.{Pass}
@@ -25,46 +26,46 @@ use Rattle.page_table.proofs.Moving.{pages_on-le}
 use Rattle.page_table.proofs.Putting.{entry_fits, content_at}
 
 -- a place before the first one doesn't stand among those on a frame
-before-places : (n f : ℕ) (xs : List (Option Entry)) (i : ℕ) → i < n → law.times i (places_on n f xs) ≡ 0
+before-places : (n f : ℕ) (xs : List (Option Entry)) (i : ℕ) → i < n → without.times i (places_on n f xs) ≡ 0
 unfolding places_on
 before-places n f [] i h = refl
 before-places n f (x ∷ xs) i h = by_head (is_on f x) (before-places (n + 1) f xs i (omega arith))
   where
-    by_head : (b : Bool) → law.times i (places_on (n + 1) f xs) ≡ 0 → law.times i (if b then n ∷ places_on (n + 1) f xs else places_on (n + 1) f xs) ≡ 0
+    by_head : (b : Bool) → without.times i (places_on (n + 1) f xs) ≡ 0 → without.times i (if b then n ∷ places_on (n + 1) f xs else places_on (n + 1) f xs) ≡ 0
     by_head true rest =
-        let split = sum_by-cons (λ (j : ℕ). law.one_when (j == i)) n (places_on (n + 1) f xs) in
-        let none = ap law.one_when (not_equal i n (λ e. omega arith)) in
+        let split = sum_by-cons (λ (j : ℕ). without.one_when (j == i)) n (places_on (n + 1) f xs) in
+        let none = ap without.one_when (not_equal i n (λ e. omega arith)) in
         omega (arith, split, none, rest)
     by_head false rest = rest
 
 -- a place stands once among those on the frame of its page
-times-places : (n f : ℕ) (xs : List (Option Entry)) (i : ℕ) → law.times (n + i) (places_on n f xs) ≡ on_one f (entry_at xs i)
+times-places : (n f : ℕ) (xs : List (Option Entry)) (i : ℕ) → without.times (n + i) (places_on n f xs) ≡ on_one f (entry_at xs i)
 unfolding places_on
 times-places n f [] i = refl
 times-places n f (x ∷ xs) zero =
     let here : n + 0 ≡ n = omega arith in
     rw here (by_head (is_on f x) (before-places (n + 1) f xs n (omega arith)))
   where
-    by_head : (b : Bool) → law.times n (places_on (n + 1) f xs) ≡ 0 → law.times n (if b then n ∷ places_on (n + 1) f xs else places_on (n + 1) f xs) ≡ one_when b
+    by_head : (b : Bool) → without.times n (places_on (n + 1) f xs) ≡ 0 → without.times n (if b then n ∷ places_on (n + 1) f xs else places_on (n + 1) f xs) ≡ one_when b
     by_head true rest =
-        let split = sum_by-cons (λ (j : ℕ). law.one_when (j == n)) n (places_on (n + 1) f xs) in
-        let one = ap law.one_when (equal n) in
+        let split = sum_by-cons (λ (j : ℕ). without.one_when (j == n)) n (places_on (n + 1) f xs) in
+        let one = ap without.one_when (equal n) in
         omega (arith, split, one, rest)
     by_head false rest = rest
 times-places n f (x ∷ xs) (suc i) =
     let next : n + suc i ≡ n + 1 + i = omega arith in
-    by_head (is_on f x) (ap (λ (m : ℕ). law.times m (places_on (n + 1) f xs)) next ∙ times-places (n + 1) f xs i)
+    by_head (is_on f x) (ap (λ (m : ℕ). without.times m (places_on (n + 1) f xs)) next ∙ times-places (n + 1) f xs i)
   where
-    by_head : (b : Bool) → law.times (n + suc i) (places_on (n + 1) f xs) ≡ on_one f (entry_at xs i)
-        → law.times (n + suc i) (if b then n ∷ places_on (n + 1) f xs else places_on (n + 1) f xs) ≡ on_one f (entry_at xs i)
+    by_head : (b : Bool) → without.times (n + suc i) (places_on (n + 1) f xs) ≡ on_one f (entry_at xs i)
+        → without.times (n + suc i) (if b then n ∷ places_on (n + 1) f xs else places_on (n + 1) f xs) ≡ on_one f (entry_at xs i)
     by_head true rest =
-        let split = sum_by-cons (λ (j : ℕ). law.one_when (j == n + suc i)) n (places_on (n + 1) f xs) in
-        let none = ap law.one_when (not_equal (n + suc i) n (λ e. omega arith)) in
+        let split = sum_by-cons (λ (j : ℕ). without.one_when (j == n + suc i)) n (places_on (n + 1) f xs) in
+        let none = ap without.one_when (not_equal (n + suc i) n (λ e. omega arith)) in
         omega (arith, split, none, rest)
     by_head false rest = rest
 
-times-at_frame : (g : ℕ) (xs : List (Option Entry)) (i : ℕ) → law.times i (places_on 0 g xs) ≡ on_one g (entry_at xs i)
-times-at_frame g xs i = let start : i ≡ 0 + i = omega arith in ap (λ (n : ℕ). law.times n (places_on 0 g xs)) start ∙ times-places 0 g xs i
+times-at_frame : (g : ℕ) (xs : List (Option Entry)) (i : ℕ) → without.times i (places_on 0 g xs) ≡ on_one g (entry_at xs i)
+times-at_frame g xs i = let start : i ≡ 0 + i = omega arith in ap (λ (n : ℕ). without.times n (places_on 0 g xs)) start ∙ times-places 0 g xs i
 
 -- how often the frame of a page is a group's
 held : Option Entry → List ℕ → ℕ
@@ -87,7 +88,7 @@ held-cons (Some entry) g gs =
 listed-frames : (xs : List (Option Entry)) (groups : List ℕ) (i : ℕ) → law.listed i (map (λ g. places_on 0 g xs) groups) ≡ held (entry_at xs i) groups
 listed-frames xs [] i = sym (held-none (entry_at xs i))
 listed-frames xs (g ∷ gs) i =
-    let split = sum_by-cons (law.times i) (places_on 0 g xs) (map (λ g. places_on 0 g xs) gs) in
+    let split = sum_by-cons (without.times i) (places_on 0 g xs) (map (λ g. places_on 0 g xs) gs) in
     let here = times-at_frame g xs i in
     let rest = listed-frames xs gs i in
     let more = held-cons (entry_at xs i) g gs in

@@ -209,6 +209,13 @@ impl PlainSharing {
         self.full_scans
     }
 
+    /// Counts the passes on from a number, as from one that visits would take too long to come to.
+    pub fn count_from(&mut self, full_scans: u64)
+        ensures { self.new ≡ record self.old { full_scans = full_scans } }
+    {
+        self.full_scans = full_scans;
+    }
+
     /// The groups in order of creation, each the list of its pages' places in their order.
     pub fn groups(&self) -> &[Vec<usize>]
         ensures { places_of result.now ≡ self.now.groups }

@@ -9,7 +9,7 @@ use Rattle.host_types.specs.Visits.{Contents, Visit, visit, begun, is_mergeable,
 use Rattle.page_table.proofs.Ahead.{none-mergeable}
 use Rattle.page_table.proofs.Next.{next-is}
 use Rattle.scanner.specs.Idle.{IsIdle}
-use Rattle.scanner.proofs.Visits.{visit-stopped, visit-none, visit-page, is-same}
+use Rattle.host_types.proofs.Visits.{visit-stopped, visit-none, visit-page, is-same}
 
 either-works : (b : Bool) (x y : Visit) → x.0 ≢ visited.Idle → y.0 ≢ visited.Idle → (if b then x else y).0 ≢ visited.Idle
 either-works true x y h k = h

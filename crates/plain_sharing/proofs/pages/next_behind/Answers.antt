@@ -1,7 +1,7 @@
 use Rattle.std.proofs.Common.{◌+◌, option_map, sym, arith}
 use Rattle.std.proofs.lemmas.List.{length-map}
 use Rattle.plain_sharing.specs.View.{page_of, pages_of}
-use Rattle.plain_sharing.proofs.Next.{next-none}
+use Rattle.host_types.proofs.Next.{next-none}
 use Rattle.plain_sharing.proofs.pages.next_behind.Goals as goal
 
 pub returns-else-place-pages : goal.returns-else-place-pages

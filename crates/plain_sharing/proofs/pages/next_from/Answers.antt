@@ -3,7 +3,7 @@ use Rattle.std.proofs.lemmas.List.{length-map}
 use Rattle.std.proofs.Math.ListN.{get_or-map}
 use Rattle.host_types.specs.Visits.{is_mergeable}
 use Rattle.plain_sharing.specs.View.{page_of, pages_of}
-use Rattle.plain_sharing.proofs.Next.{next-after, next-here, next-none}
+use Rattle.host_types.proofs.Next.{next-after, next-here, next-none}
 use Rattle.plain_sharing.proofs.pages.next_from.Goals as goal
 
 pub returns-then-is_mergeable : goal.returns-then-is_mergeable

@@ -5,12 +5,13 @@ use Rattle.host_types.specs.Visits.{had, met, find_partner, changed}
 use Rattle.frame_arena.specs.Pages.{page_at}
 use Rattle.page_table.specs.Changes.{contents_now}
 use Rattle.page_table.specs.Table.{state_of}
-use Rattle.scanner.proofs.Visits.{looked-already, looked-joined, looked-changed, looked-zeroed, looked-met}
+use Rattle.host_types.proofs.Visits.{decided-already}
+use Rattle.scanner.proofs.Visits.{looked-joined, looked-changed, looked-zeroed, looked-met}
 use Rattle.scanner.proofs.scan.look_at.Goals as goal
 
 pub returns-then-entry-clause-decided : goal.returns-then-entry-clause-decided
 returns-then-entry-clause-decided c =
-    rw (c.entry-entry.ensures.state) (looked-already (contents_now c.args.memory.now) c.args.memory.now.sharing (page_place c.args.page) (state_of c.entry-entry.result) (sym c.entry-entry.ensures.protection ∙ c.if-entry.true))
+    rw (c.entry-entry.ensures.state) (decided-already (contents_now c.args.memory.now) c.args.memory.now.sharing (page_place c.args.page) (state_of c.entry-entry.result) (sym c.entry-entry.ensures.protection ∙ c.if-entry.true))
 
 pub returns-in-Some-clause-decided : goal.returns-in-Some-clause-decided
 returns-in-Some-clause-decided c =

@@ -3,7 +3,7 @@ use Rattle.host_types.specs.declared.visited.Visited.TheVariants as visited
 use Rattle.host_types.specs.Pages.{page_place}
 use Rattle.host_types.specs.Visits.{find_partner}
 use Rattle.page_table.specs.Changes.{contents_now}
-use Rattle.scanner.proofs.Visits.{met-partner, met-none}
+use Rattle.host_types.proofs.Visits.{met-partner, met-none}
 use Rattle.scanner.proofs.scan.meet.Goals as goal
 
 pub returns-in-Some-clause-met : goal.returns-in-Some-clause-met

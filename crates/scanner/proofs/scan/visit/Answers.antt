@@ -5,7 +5,8 @@ use Rattle.host_types.specs.Sharing.{state_at}
 use Rattle.host_types.specs.Visits.{begun, decided, is_mergeable, contents_in}
 use Rattle.page_table.specs.State.{MemoryState, part}
 use Rattle.page_table.specs.Changes.{IsPageOf}
-use Rattle.scanner.proofs.Visits.{visit-stopped, visit-none, visit-page, begun-pages, moved-behind, is-same, is-other}
+use Rattle.host_types.proofs.Visits.{visit-stopped, visit-none, visit-page, begun-pages, is-same, is-other}
+use Rattle.scanner.proofs.Visits.{moved-behind}
 use Rattle.scanner.proofs.Idle.{idle-law}
 use Rattle.scanner.proofs.scan.visit.Goals as goal
 use Rattle.scanner.proofs.scan.visit.Goals.{After-advance}

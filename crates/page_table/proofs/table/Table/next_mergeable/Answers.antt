@@ -4,7 +4,8 @@ use Rattle.std.proofs.lemmas.Bool.Decides.{eqb_tells}
 use Rattle.std.proofs.Math.ListN.{get_or-map}
 use Rattle.host_types.specs.Visits.{is_mergeable}
 use Rattle.page_table.specs.Table.{state_of, states_of}
-use Rattle.page_table.proofs.Next.{next-over, next-here}
+use Rattle.host_types.proofs.Next.{next-here}
+use Rattle.page_table.proofs.Next.{next-over}
 use Rattle.page_table.proofs.table.Table.next_mergeable.Goals as goal
 use Rattle.page_table.proofs.table.Table.next_mergeable.Goals.{After-may_merge}
 

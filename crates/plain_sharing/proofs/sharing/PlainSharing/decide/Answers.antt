@@ -1,7 +1,8 @@
 use Rattle.std.proofs.Common.{◌∙◌, option_map, sym, ap}
 use Rattle.host_types.specs.Visits.{decided}
 use Rattle.plain_sharing.specs.View.{page_of, contents_of}
-use Rattle.plain_sharing.proofs.Visits.{decided-none, decided-already, decided-own}
+use Rattle.host_types.proofs.Visits.{decided-already, decided-own}
+use Rattle.plain_sharing.proofs.Visits.{decided-none}
 use Rattle.plain_sharing.proofs.sharing.PlainSharing.decide.Goals as goal
 
 pub returns-in_default : goal.returns-in_default

@@ -4,7 +4,7 @@ use Rattle.host_types.specs.Pages.{zero_page, fingerprint_of}
 use Rattle.host_types.specs.Sharing.{Sharing, zeroed}
 use Rattle.host_types.specs.Visits.{had, met, find_partner, changed, joined}
 use Rattle.plain_sharing.specs.View.{contents_of}
-use Rattle.plain_sharing.proofs.Visits.{looked-joined, looked-changed, looked-zeroed, looked-met}
+use Rattle.host_types.proofs.Visits.{looked-joined, looked-changed, looked-zeroed, looked-met}
 use Rattle.plain_sharing.proofs.sharing.PlainSharing.look_at.Goals as goal
 
 pub returns-then-is_joined : goal.returns-then-is_joined

@@ -2,7 +2,7 @@ use Rattle.std.proofs.Common.{◌∙◌, sym, ap}
 use Rattle.host_types.specs.declared.visited.Visited.TheVariants as visited
 use Rattle.host_types.specs.Visits.{find_partner}
 use Rattle.plain_sharing.specs.View.{contents_of}
-use Rattle.plain_sharing.proofs.Visits.{met-partner, met-none}
+use Rattle.host_types.proofs.Visits.{met-partner, met-none}
 use Rattle.plain_sharing.proofs.sharing.PlainSharing.meet.Goals as goal
 
 pub returns-in_ok-pair-in-Some : goal.returns-in_ok-pair-in-Some

@@ -3,7 +3,8 @@ use Rattle.host_types.specs.declared.options.Options.{Options}
 use Rattle.host_types.specs.Sharing.{Sharing, state_at}
 use Rattle.host_types.specs.Visits.{decided}
 use Rattle.plain_sharing.specs.View.{contents_of}
-use Rattle.plain_sharing.proofs.Visits.{visit-stopped, visit-none, visit-page, is-same, is-other}
+use Rattle.host_types.proofs.Visits.{visit-stopped, visit-none, is-same, is-other}
+use Rattle.plain_sharing.proofs.Visits.{visit-page}
 use Rattle.plain_sharing.proofs.sharing.PlainSharing.visit.Goals as goal
 
 pub returns-then-options-ne-RUN : goal.returns-then-options-ne-RUN
