@@ -6,24 +6,38 @@
 mod programs;
 mod rounds;
 
-use anyhow::Result;
+use anyhow::{Result, anyhow};
+use host_types::Refused;
 use programs::{WORKS, Work, program_of};
 use rounds::{Pages, least};
 use std::env;
 use std::rt::Clock;
+use verifier::Verified;
 
 /// Prints the nanoseconds of each step of a program's runs, the least of so many rounds.
-fn print_row(rt: &(impl Clock + Print + AllocGlobal), work: Work, rounds: u32) -> Result<()> {
-    let program = program_of(rt.alloc(), work)?;
-    let own = least(rt, &program, Pages::Own, rounds)?;
-    let merged = least(rt, &program, Pages::Merged, rounds)?;
-    let zero = least(rt, &program, Pages::Zero, rounds)?;
+fn print_row(
+    rt: &(impl Clock + Print + AllocGlobal),
+    program: &Verified,
+    work: Work,
+    rounds: u32,
+) -> Result<()> {
+    let own = least(rt, program, Pages::Own, rounds)?;
+    let merged = least(rt, program, Pages::Merged, rounds)?;
+    let zero = least(rt, program, Pages::Zero, rounds)?;
     println!(rt;
         "| {} | {} | {own:.2} | {merged:.2} | {zero:.2} |",
         work.name(),
         program.instructions()
     )?;
     Ok(())
+}
+
+/// Measures a program.
+fn measure(rt: &(impl Clock + Print + AllocGlobal), work: Work, rounds: u32) -> Result<()> {
+    match program_of(rt.alloc(), work) {
+        Ok(program) => print_row(rt, &program, work, rounds),
+        Err(Refused { number, slot }) => Err(anyhow!("refused {number} at {slot}")),
+    }
 }
 
 fn main(rt: HostRuntime) -> Result<()> {
@@ -36,7 +50,7 @@ fn main(rt: HostRuntime) -> Result<()> {
     println!(rt; "| ns a step | instructions | own page | merged page | zero frame |")?;
     println!(rt; "|---|---|---|---|---|")?;
     for work in WORKS {
-        print_row(&rt, work, rounds)?;
+        measure(&rt, work, rounds)?;
     }
     Ok(())
 }

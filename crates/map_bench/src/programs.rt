@@ -1,6 +1,5 @@
 //! The programs that are measured: a beginning, instructions that stand there again and again, and an end.
 
-use anyhow::{Result, anyhow};
 use bpf_decode::decode;
 use host_types::{Refused, Shape};
 use std::alloc::{AllocError, Global};
@@ -144,10 +143,9 @@ fn judged(alloc: Global, text: &[u8]) -> Result<Verified, Refused> {
 }
 
 /// The program of some work.
-pub(crate) fn program_of(alloc: Global, work: Work) -> Result<Verified> {
-    let text = text_of(alloc, work)?;
-    match judged(alloc, text.as_slice()) {
-        Ok(program) => Ok(program),
-        Err(Refused { number, slot }) => Err(anyhow!("refused {number} at {slot}")),
+pub(crate) fn program_of(alloc: Global, work: Work) -> Result<Verified, Refused> {
+    match text_of(alloc, work) {
+        Ok(text) => judged(alloc, text.as_slice()),
+        Err(AllocError) => Err(Refused::OUT_OF_MEMORY),
     }
 }

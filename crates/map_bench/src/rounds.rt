@@ -35,16 +35,15 @@ pub(crate) enum Pages {
     Zero,
 }
 
-/// A memory in which both tenants have the map.
-fn memory_of(alloc: Global, pages: Pages) -> Result<Memory, Fault> {
-    let mut options = Options::standard();
-    options.use_zero_pages = match pages {
-        Pages::Zero => 1,
-        Pages::Own | Pages::Merged => 0,
-    };
-    let mut memory = Memory::new(alloc, FRAMES, TENANTS, options)?;
-    make_maps(&mut memory)?;
-    Ok(memory)
+/// The options by which pages of zeros may go where they are to lie.
+fn options_of(pages: Pages) -> Options {
+    Options {
+        use_zero_pages: match pages {
+            Pages::Zero => 1,
+            Pages::Own | Pages::Merged => 0,
+        },
+        ..Options::standard()
+    }
 }
 
 /// Makes a map for each tenant.
@@ -98,6 +97,22 @@ fn round(
     }
 }
 
+/// The nanoseconds of each step of a program's runs on a new memory: the least of so many rounds.
+fn least_on(
+    rt: &(impl Clock + AllocGlobal),
+    memory: &mut Memory,
+    program: &Verified,
+    pages: Pages,
+    rounds: u32,
+) -> Result<f64> {
+    make_maps(memory).map_err(|fault| anyhow!("{fault}"))?;
+    let mut least = f64::INFINITY;
+    for _ in 0..rounds {
+        least = least.min(round(rt, memory, program, pages)?);
+    }
+    Ok(least)
+}
+
 /// The nanoseconds of each step of a program's runs: the least of so many rounds, since others use the
 /// machine too.
 pub(crate) fn least(
@@ -106,10 +121,8 @@ pub(crate) fn least(
     pages: Pages,
     rounds: u32,
 ) -> Result<f64> {
-    let mut memory = memory_of(rt.alloc(), pages).map_err(|fault| anyhow!("{fault}"))?;
-    let mut least = f64::INFINITY;
-    for _ in 0..rounds {
-        least = least.min(round(rt, &mut memory, program, pages)?);
+    match Memory::new(rt.alloc(), FRAMES, TENANTS, options_of(pages)) {
+        Ok(mut memory) => least_on(rt, &mut memory, program, pages, rounds),
+        Err(fault) => Err(anyhow!("{fault}")),
     }
-    Ok(least)
 }
