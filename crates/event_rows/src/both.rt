@@ -1,7 +1,8 @@
 //! A host and the plain host, to which the same happens.
 
+use crate::tally::{Tally, merged_pages};
 use host_core::{Event, Host, Reply};
-use host_types::{Options, Visited};
+use host_types::Options;
 use plain_host::PlainHost;
 use std::alloc::{AllocError, Global};
 
@@ -14,19 +15,13 @@ const PAGES: u32 = 2;
 /// How many maps a tenant may have.
 const MAPS: u32 = 8;
 
-/// What happened, by its replies.
-#[derive(Clone, Copy, Drop)]
-pub(crate) struct Tally {
-    pub(crate) ended: u32,
-    pub(crate) merged: u32,
-    pub(crate) refused: u32,
-}
-
-/// A host, and the plain host beside it.
+/// A host and the plain host beside it, how many pages are merged, and whether the last event was refused.
 #[derive(Drop)]
 pub(crate) struct Both {
     host: Host,
     plain: PlainHost,
+    merged: u32,
+    was_refused: bool,
 }
 
 /// What both answered of an element.
@@ -51,28 +46,6 @@ fn both_told(told: &Reply, plain: &Reply) -> Looked {
     }
 }
 
-impl Tally {
-    pub(crate) fn none() -> Tally {
-        Tally {
-            ended: 0,
-            merged: 0,
-            refused: 0,
-        }
-    }
-
-    /// Counts a reply.
-    fn count(&mut self, reply: &Reply) {
-        match reply {
-            Reply::Ended { .. } => self.ended = self.ended.saturating_add(1),
-            Reply::Visited(Visited::Joined | Visited::Paired | Visited::Zeroed) => {
-                self.merged = self.merged.saturating_add(1);
-            }
-            Reply::Refused(_) => self.refused = self.refused.saturating_add(1),
-            _ => {}
-        }
-    }
-}
-
 impl Both {
     /// Both without maps, programs and runs; none where there is no host of so many frames and tenants.
     pub(crate) fn new(
@@ -83,7 +56,12 @@ impl Both {
     ) -> Result<Option<Both>, AllocError> {
         let plain = PlainHost::new(alloc, frames, tenants, PAGES, options)?;
         match Host::new(alloc, frames, tenants, options) {
-            Ok(host) => Ok(Some(Both { host, plain })),
+            Ok(host) => Ok(Some(Both {
+                host,
+                plain,
+                merged: 0,
+                was_refused: false,
+            })),
             Err(_) => Ok(None),
         }
     }
@@ -92,20 +70,30 @@ impl Both {
     fn replies_agree(&mut self, event: &Event, tally: &mut Tally) -> bool {
         let told = self.host.apply(event);
         tally.count(&told);
+        self.was_refused = matches!(told, Reply::Refused(_));
         told == self.plain.apply(event)
     }
 
-    /// Whether both tell the same counters.
-    fn counters_agree(&mut self) -> bool {
-        let event = Event::Counters;
-        self.host.apply(&event) == self.plain.apply(&event)
+    /// Whether both tell the same counters after an event.
+    fn counters_agree(&mut self, event: &Event, tally: &mut Tally) -> bool {
+        let counters = Event::Counters;
+        let told = self.host.apply(&counters);
+        let merged = merged_pages(&told);
+        tally.count_parted(event, self.merged, merged);
+        self.merged = merged;
+        told == self.plain.apply(&counters)
     }
 
     /// Lets an event happen to both. It answers whether both gave the same reply, tell the same counters
     /// now, and have frames for all that open runs may need.
     pub(crate) fn happens(&mut self, event: &Event, tally: &mut Tally) -> bool {
         let is_same = self.replies_agree(event, tally);
-        is_same && self.counters_agree() && self.plain.is_covered()
+        is_same && self.counters_agree(event, tally) && self.plain.is_covered()
+    }
+
+    /// Whether the last event was refused.
+    pub(crate) fn was_refused(&self) -> bool {
+        self.was_refused
     }
 
     /// What both answer of an element.

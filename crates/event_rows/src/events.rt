@@ -1,40 +1,34 @@
-//! Events as the generator draws them.
+//! Events as the generator draws them. Tenants have maps of mostly one shape, and write few values, so that
+//! pages of several tenants are often alike.
 
-ghost use Rattle.std.specs.Prelude.{◌<◌, ◌≤◌};
+ghost use Rattle.std.specs.Prelude.{◌<◌};
 
-use crate::draws::Draws;
 use host_core::Event;
 use host_types::{Opt, Options, Shape};
-use plain_host::texts::{COUNTER, GUARDED, MASKED, RETURN, UPDATE};
 use std::alloc::{AllocError, Global};
+use test_inputs::Draws;
+use test_inputs::texts::{COUNTER, GUARDED, MASKED, RETURN, UPDATE};
 
-/// The most steps that are drawn one after another.
+/// One more than the most steps that are drawn together.
 const STEPS: u32 = 14;
 
-/// The shape with a number: of a word, of some pages, and out of limits.
+/// One more than the most visits that are drawn together.
+const VISITS: u32 = 24;
+
+/// The shape with a number: four that most maps of a list may have, and then a large one and a wrong one.
 fn shape_of(number: u32) -> Shape {
     let (value_size, entries) = match number {
         0 => (24, 200),
         1 => (64, 1),
         2 => (8, 512),
-        3 => (4096, 2),
-        4 => (7, 0),
+        4 => (4096, 2),
+        5 => (7, 0),
         _ => (8, 1),
     };
     Shape {
         value_size,
         entries,
     }
-}
-
-/// Draws the events of a list, and how many steps are left of those that are drawn together.
-#[derive(Drop)]
-pub(crate) struct Events {
-    draws: Draws,
-    tenants: u32,
-    opened: u32,
-    stepped: u32,
-    left: u32,
 }
 
 /// The text with a number.
@@ -71,54 +65,83 @@ fn turn(text: &mut [u8], at: u32, bit: u32)
     }
 }
 
+/// Draws the events of a list: how many maps and programs were drawn first, and how many steps of a tenant and
+/// visits are left of those that are drawn together.
+#[derive(Drop)]
+pub(crate) struct Events {
+    draws: Draws,
+    list: u32,
+    tenants: u32,
+    opened: u32,
+    stepped: u32,
+    steps: u32,
+    visits: u32,
+}
+
 impl Events {
-    /// The events of a list for so many tenants.
-    pub(crate) fn new(seed: u64, tenants: u32) -> Events
-        requires some { 0 < tenants }
-        requires few { tenants ≤ 16 }
-    {
+    /// The events of the list with a number, for so many tenants.
+    pub(crate) fn new(seed: u64, list: u32, tenants: u32) -> Events {
         Events {
             draws: Draws::new(seed),
+            list,
             tenants,
             opened: 0,
             stepped: 0,
-            left: 0,
+            steps: 0,
+            visits: 0,
         }
     }
 
     /// Options that let few pages share a frame.
     pub(crate) fn options(&mut self) -> Options {
         Options {
-            use_zero_pages: self.draws.below(2),
+            use_zero_pages: self.list % 2,
             max_page_sharing: self.draws.below(3) + 2,
             ..Options::standard()
         }
     }
 
-    /// A tenant, rarely one that isn't there.
+    /// A tenant, the first ones more often, and rarely one that isn't there.
     fn tenant(&mut self) -> u32 {
-        let limit = self.tenants.saturating_mul(64).saturating_add(1);
-        self.draws.below(limit) / 64
+        let limit = self.tenants.saturating_mul(16).saturating_add(1);
+        let last = self.draws.below(limit) / 16;
+        self.draws.below(last.saturating_add(1))
     }
 
-    /// The next event: first each tenant gets a map and a program.
-    pub(crate) fn next(&mut self, alloc: Global) -> Result<Event, AllocError> {
+    /// The next event: first each tenant gets a map and a program. No steps follow an event that was refused.
+    pub(crate) fn next(&mut self, alloc: Global, was_refused: bool) -> Result<Event, AllocError> {
+        if was_refused {
+            self.steps = 0;
+        }
+        if self.visits > 0 {
+            self.visits -= 1;
+            return Ok(Event::Visit);
+        }
+        if self.steps > 0 {
+            return Ok(self.between_steps());
+        }
         let tenant = self.opened / 2;
         if tenant < self.tenants {
             self.opened = self.opened.saturating_add(1);
             return self.opening(alloc, tenant);
         }
-        if self.left > 0 {
-            self.left -= 1;
-            return Ok(Event::Step {
-                tenant: self.stepped,
-            });
-        }
         self.drawn(alloc)
     }
 
-    /// A map or a program of a tenant.
+    /// A step of those that are left, or a visit before it.
+    fn between_steps(&mut self) -> Event {
+        if self.draws.below(4) == 0 {
+            return Event::Visit;
+        }
+        self.steps = self.steps.saturating_sub(1);
+        Event::Step {
+            tenant: self.stepped,
+        }
+    }
+
+    /// A map or a program of a tenant. Some visits are to follow it.
     fn opening(&mut self, alloc: Global, tenant: u32) -> Result<Event, AllocError> {
+        self.visits = self.draws.below(4);
         if self.opened % 2 == 1 {
             Ok(self.create_map(tenant))
         } else {
@@ -132,19 +155,28 @@ impl Events {
         match self.draws.below(64) {
             0..=2 => Ok(self.create_map(tenant)),
             3..=4 => self.load(alloc, tenant),
-            5..=16 => self.begin(alloc, tenant),
-            17..=24 => Ok(self.steps()),
-            25..=28 => self.update(alloc, tenant),
-            29 => Ok(self.lookup(tenant)),
-            30..=32 => Ok(self.set()),
-            33 => Ok(Event::Unmerge),
-            _ => Ok(Event::Visit),
+            5..=15 => self.begin(alloc, tenant),
+            16..=18 => Ok(self.steps()),
+            19..=36 => self.update(alloc, tenant),
+            37..=38 => Ok(self.lookup(tenant)),
+            39..=40 => Ok(self.set()),
+            41 => Ok(Event::Unmerge),
+            _ => Ok(self.visits()),
+        }
+    }
+
+    /// The number of the shape that most maps have, or of any shape.
+    fn shape_number(&mut self) -> u32 {
+        if self.draws.below(4) == 0 {
+            self.draws.below(8)
+        } else {
+            self.list / 2 % 4
         }
     }
 
     /// A new map.
     fn create_map(&mut self, tenant: u32) -> Event {
-        let shape = shape_of(self.draws.below(8));
+        let shape = shape_of(self.shape_number());
         Event::CreateMap {
             tenant,
             value_size: shape.value_size,
@@ -173,15 +205,15 @@ impl Events {
         })
     }
 
-    /// The beginning of a run, on no context or one of a word. Some steps are to follow it.
+    /// The beginning of a run, mostly on no context. Some steps are to follow it.
     fn begin(&mut self, alloc: Global, tenant: u32) -> Result<Event, AllocError> {
         self.stepped = tenant;
-        self.left = self.draws.below(STEPS);
-        let len = if self.draws.below(3) == 0 { 8 } else { 0 };
+        self.steps = self.draws.below(STEPS);
+        let len = if self.draws.below(6) == 0 { 8 } else { 0 };
         let byte = self.draws.below(64) as u8;
         Ok(Event::Begin {
             tenant,
-            program: self.draws.below(12) / 8,
+            program: self.draws.below(12) / 10,
             context: bytes_of(alloc, len, byte)?.into(),
         })
     }
@@ -191,20 +223,33 @@ impl Events {
         if self.draws.below(3) == 0 {
             self.stepped = self.tenant();
         }
-        self.left = self.draws.below(STEPS);
+        self.steps = self.draws.below(STEPS);
         Event::Step {
             tenant: self.stepped,
         }
     }
 
-    /// A value of one of the sizes that maps have, of zeros or ones.
+    /// The first of some visits, or that the scanner runs again before them, since an unmerging stops it.
+    fn visits(&mut self) -> Event {
+        self.visits = self.draws.below(VISITS);
+        if self.draws.below(4) == 0 {
+            Event::Set {
+                option: Opt::Run,
+                value: 1,
+            }
+        } else {
+            Event::Visit
+        }
+    }
+
+    /// A value of zeros or ones, mostly to a first map of the shape that most maps have.
     fn update(&mut self, alloc: Global, tenant: u32) -> Result<Event, AllocError> {
-        let shape = shape_of(self.draws.below(8));
+        let shape = shape_of(self.shape_number());
         let byte = self.draws.below(2) as u8;
         let value = bytes_of(alloc, shape.value_size, byte)?;
         Ok(Event::HostUpdate {
             tenant,
-            map: self.draws.below(3),
+            map: self.draws.below(8) / 6,
             key: self.key(),
             value: value.into(),
         })
@@ -212,10 +257,11 @@ impl Events {
 
     /// The key of one of the first elements, or of one that lies in two pages.
     fn key(&mut self) -> u32 {
-        if self.draws.below(4) == 0 {
-            170
-        } else {
-            self.draws.below(3)
+        match self.draws.below(8) {
+            0 => 170,
+            1 => 1,
+            2 => 2,
+            _ => 0,
         }
     }
 

@@ -1,25 +1,24 @@
 //! A host beside the plain host, over lists of events that a fixed generator draws: maps, loads, runs, steps,
 //! visits, updates, options and unmergings of 1 to 16 tenants. After each event both have to give the same
-//! reply and to tell the same counters, and after each list the same values. The file `stdout` says what is
-//! wanted.
+//! reply and to tell the same counters, and after each list the same values. The file `stdout` says that they
+//! do, and tells of the lists how much happened in them.
 #![tactic(auto)]
 
-ghost use Rattle.std.specs.Prelude.{◌<◌, ◌≤◌};
-
 mod both;
-mod draws;
 mod events;
+mod tally;
 
-use both::{Both, Tally};
+use both::Both;
 use events::Events;
 use std::alloc::{AllocError, Global};
 use std::io;
+use tally::Tally;
 
 /// How many lists are drawn for each number of frames.
 const LISTS: u32 = 8;
 
-/// How many events a list has, 9,984 in all.
-const EVENTS: u32 = 312;
+/// How many events a list has, 16,384 in all.
+const EVENTS: u32 = 512;
 
 /// Where both first differed.
 #[derive(Clone, Copy, Drop)]
@@ -40,7 +39,7 @@ fn first_wrong(
     tally: &mut Tally,
 ) -> Result<Option<u32>, AllocError> {
     for number in 0..EVENTS {
-        let event = events.next(alloc)?;
+        let event = events.next(alloc, both.was_refused())?;
         if !both.happens(&event, tally) {
             return Ok(Some(number));
         }
@@ -49,10 +48,7 @@ fn first_wrong(
 }
 
 /// How many tenants a list has.
-fn tenants_of(list: u32) -> u32
-    ensures some { 0 < result }
-    ensures few { result ≤ 16 }
-{
+fn tenants_of(list: u32) -> u32 {
     match list {
         0 => 1,
         1 | 4 => 2,
@@ -64,7 +60,22 @@ fn tenants_of(list: u32) -> u32
     }
 }
 
-/// Lets a list happen to a new host and a new plain host.
+/// Lets a list happen to a host and a plain host that are new.
+fn outcome_of(
+    alloc: Global,
+    both: &mut Both,
+    events: &mut Events,
+    list: u32,
+    tally: &mut Tally,
+) -> Result<Outcome, AllocError> {
+    match first_wrong(alloc, both, events, tally)? {
+        Some(number) => Ok(Outcome::Event { list, number }),
+        None if both.values_agree(tenants_of(list)) => Ok(Outcome::Same),
+        None => Ok(Outcome::Values { list }),
+    }
+}
+
+/// Makes a host and a plain host, and lets a list happen to them.
 fn compare(
     alloc: Global,
     frames: u32,
@@ -72,18 +83,12 @@ fn compare(
     tally: &mut Tally,
 ) -> Result<Outcome, AllocError> {
     let tenants = tenants_of(list);
-    let mut events = Events::new(u64::from(frames) * 1000 + u64::from(list), tenants);
+    let seed = u64::from(frames) * 1000 + u64::from(list);
+    let mut events = Events::new(seed, list, tenants);
     let options = events.options();
-    let Some(mut both) = Both::new(alloc, frames, tenants, options)? else {
-        return Ok(Outcome::Values { list });
-    };
-    if let Some(number) = first_wrong(alloc, &mut both, &mut events, tally)? {
-        return Ok(Outcome::Event { list, number });
-    }
-    if both.values_agree(tenants) {
-        Ok(Outcome::Same)
-    } else {
-        Ok(Outcome::Values { list })
+    match Both::new(alloc, frames, tenants, options)? {
+        Some(mut both) => outcome_of(alloc, &mut both, &mut events, list, tally),
+        None => Ok(Outcome::Values { list }),
     }
 }
 
@@ -98,19 +103,14 @@ fn compare_all(alloc: Global, frames: u32, tally: &mut Tally) -> Result<Outcome,
     Ok(Outcome::Same)
 }
 
-/// Prints the line for a number of frames.
-fn print_line(rt: &(impl AllocGlobal + Print), frames: u32) -> io::Result<()> {
+/// Prints the lines for a number of frames.
+fn print_lines(rt: &(impl AllocGlobal + Print), frames: u32) -> io::Result<()> {
     let mut tally = Tally::none();
-    let outcome = compare_all(rt.alloc(), frames, &mut tally);
-    let Tally {
-        ended,
-        merged,
-        refused,
-    } = tally;
-    match outcome {
-        Ok(Outcome::Same) => println!(rt;
-            "{frames} frames: {LISTS} lists of {EVENTS} events agree; {ended} runs ended, {merged} pages merged, {refused} refusals"
-        ),
+    match compare_all(rt.alloc(), frames, &mut tally) {
+        Ok(Outcome::Same) => {
+            println!(rt; "{frames} frames: {LISTS} lists of {EVENTS} events agree")?;
+            tally.print(rt)
+        }
         Ok(Outcome::Event { list, number }) => {
             println!(rt; "{frames} frames: event {number} of list {list} differs")
         }
@@ -123,7 +123,7 @@ fn print_line(rt: &(impl AllocGlobal + Print), frames: u32) -> io::Result<()> {
 
 fn main(rt: HostRuntime) -> io::Result<()> {
     for frames in [2, 3, 4, 64] {
-        print_line(&rt, frames)?;
+        print_lines(&rt, frames)?;
     }
     Ok(())
 }

@@ -6,13 +6,12 @@
 ghost use Rattle.std.specs.Prelude.{◌<◌, ◌≤◌};
 
 mod both;
-mod draws;
 
 use both::{Both, MAPS, TENANTS};
-use draws::Draws;
 use host_types::{Opt, Options};
 use std::alloc::{AllocError, Global};
 use std::io;
+use test_inputs::Draws;
 
 /// How many operations are drawn for each number of frames.
 const OPERATIONS: u32 = 10_000;

@@ -13,7 +13,7 @@ pub struct PlainHost {
     pages: Pages,
 }
 
-// A refusal is a reply too.
+/// A refusal is a reply too.
 fn told(served: Result<Reply, Fault>) -> Reply {
     match served {
         Ok(reply) => reply,
@@ -21,7 +21,7 @@ fn told(served: Result<Reply, Fault>) -> Reply {
     }
 }
 
-// Tenants by number without maps, programs and runs.
+/// Tenants by number without maps, programs and runs.
 fn new_tenants(alloc: Global, tenants: u32) -> Result<Vec<PlainTenant>, AllocError> {
     let mut all = Vec::new(alloc);
     for number in 0..tenants {

@@ -10,6 +10,5 @@ mod pages;
 mod programs;
 mod runs;
 mod tenant;
-pub mod texts;
 
 pub use host::PlainHost;

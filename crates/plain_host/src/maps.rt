@@ -1,4 +1,4 @@
-// Flat maps as lists of bytes, and where their pages stand.
+//! Flat maps as lists of bytes, and where their pages stand.
 
 ghost use Rattle.std.specs.Prelude.{length, IfOk};
 ghost use Rattle.host_types.specs.Shapes.{IsShape};
@@ -7,19 +7,19 @@ use host_types::Shape;
 use plain_machine::ArrayMap;
 use std::alloc::{AllocError, Global};
 
-// How many map numbers a tenant has.
+/// How many map numbers a tenant has.
 pub(crate) const MAPS: usize = 8;
 
-// The most pages of a map.
+/// The most pages of a map.
 pub(crate) const MAX_PAGES: usize = 256;
 
-// The bytes of a page.
+/// The bytes of a page.
 pub(crate) const PAGE_SIZE: usize = 4096;
 
-// A tenant's maps by number.
+/// A tenant's maps by number.
 pub(crate) type Maps = Vec<Option<ArrayMap>>;
 
-// The pages that some bytes of a map lie in: the first, and how many there are.
+/// The pages that some bytes of a map lie in: the first, and how many there are.
 #[derive(Clone, Copy, Drop)]
 pub(crate) struct PageRange {
     pub(crate) first: usize,
@@ -27,7 +27,7 @@ pub(crate) struct PageRange {
 }
 
 impl PageRange {
-    // The pages of `size` bytes from a place on; the last is that of the last byte.
+    /// The pages of `size` bytes from a place on; the last is that of the last byte.
     pub(crate) fn of(at: usize, size: usize) -> Self {
         let first = at / PAGE_SIZE;
         let last = at.saturating_add(size).saturating_sub(1) / PAGE_SIZE;
@@ -38,26 +38,26 @@ impl PageRange {
     }
 }
 
-// A number of things as 32 bits; none that a host counts is larger.
+/// A number of things as 32 bits; none that a host counts is larger.
 pub(crate) fn count_of(number: usize) -> u32 {
     u32::try_from(number).unwrap_or(u32::MAX)
 }
 
-// How many pages a map of a shape has.
+/// How many pages a map of a shape has.
 pub(crate) fn page_count(shape: Shape) -> u32
     requires { IsShape shape }
 {
     shape.byte_len().div_ceil(4096)
 }
 
-// How many frames an update of a map is charged: a value lies in one page where the stride divides a page.
+/// How many frames an update of a map is charged: a value lies in one page where the stride divides a page.
 pub(crate) fn update_charge(shape: Shape) -> u32
     requires { IsShape shape }
 {
     if 4096 % shape.stride() == 0 { 1 } else { 2 }
 }
 
-// A map of zeros.
+/// A map of zeros.
 pub(crate) fn zero_map(alloc: Global, shape: Shape) -> Result<ArrayMap, AllocError>
     requires { IsShape shape }
 {
@@ -65,7 +65,7 @@ pub(crate) fn zero_map(alloc: Global, shape: Shape) -> Result<ArrayMap, AllocErr
     Ok(ArrayMap::new(shape, bytes))
 }
 
-// A copy of a map, if it is there.
+/// A copy of a map, if it is there.
 pub(crate) fn copy_of(
     alloc: Global,
     map: Option<&ArrayMap>,
@@ -81,7 +81,7 @@ pub(crate) fn copy_of(
     Ok(Some(ArrayMap::new(shape, bytes)))
 }
 
-// The map with a number, if it is there.
+/// The map with a number, if it is there.
 pub(crate) fn map_at(maps: &[Option<ArrayMap>], number: usize) -> Option<&ArrayMap> {
     match maps.get(number) {
         Some(Some(map)) => Some(map),
@@ -89,7 +89,7 @@ pub(crate) fn map_at(maps: &[Option<ArrayMap>], number: usize) -> Option<&ArrayM
     }
 }
 
-// A copy of all maps by number.
+/// A copy of all maps by number.
 pub(crate) fn copies_of(alloc: Global, maps: &[Option<ArrayMap>]) -> Result<Maps, AllocError> {
     let mut copies = Vec::new(alloc);
     for number in 0..MAPS {
@@ -99,7 +99,7 @@ pub(crate) fn copies_of(alloc: Global, maps: &[Option<ArrayMap>]) -> Result<Maps
     Ok(copies)
 }
 
-// The first number that no map has, below 8.
+/// The first number that no map has, below 8.
 pub(crate) fn free_number(maps: &[Option<ArrayMap>]) -> Option<usize> {
     for (number, map) in maps.iter().enumerate() {
         if map.is_none() {
@@ -109,7 +109,7 @@ pub(crate) fn free_number(maps: &[Option<ArrayMap>]) -> Option<usize> {
     None
 }
 
-// Where an element begins.
+/// Where an element begins.
 pub(crate) fn element_at(shape: Shape, key: u32) -> usize {
     if !shape.is_valid() {
         return 0;
@@ -117,7 +117,7 @@ pub(crate) fn element_at(shape: Shape, key: u32) -> usize {
     shape.stride() as usize * key as usize
 }
 
-// The value of an element, which is there.
+/// The value of an element, which is there.
 pub(crate) fn value_of(alloc: Global, map: &ArrayMap, key: u32) -> Result<Vec<u8>, AllocError> {
     let shape = map.shape();
     let at = element_at(shape, key);

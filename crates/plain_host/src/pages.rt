@@ -1,4 +1,4 @@
-// The pages of all tenants' maps: which share frames, and the bytes of each.
+//! The pages of all tenants' maps: which share frames, and the bytes of each.
 
 ghost use Rattle.std.specs.Prelude.{◌<◌};
 
@@ -9,7 +9,7 @@ use ksm_counters::Counters;
 use plain_sharing::{PlainSharing, page_content};
 use std::alloc::{AllocError, Global};
 
-// Which pages share frames, the bytes of the page at each place, and how many frames there are.
+/// Which pages share frames, the bytes of the page at each place, and how many frames there are.
 #[derive(Drop)]
 pub(crate) struct Pages {
     alloc: Global,
@@ -19,13 +19,13 @@ pub(crate) struct Pages {
     most_pages: u32,
 }
 
-// The place of the first page of a tenant's map, where each map has as many places.
+/// The place of the first page of a tenant's map, where each map has as many places.
 fn place_of(tenant: u32, map: usize, most_pages: u32) -> usize {
     let maps = (tenant as usize).saturating_mul(MAPS).saturating_add(map);
     maps.saturating_mul(most_pages as usize)
 }
 
-// Writes the bytes of a map's page to its place.
+/// Writes the bytes of a map's page to its place.
 fn refresh(contents: &mut [Vec<u8>], place: usize, bytes: &[u8], number: usize) {
     if number >= MAX_PAGES {
         return;
@@ -59,17 +59,17 @@ impl Pages {
         })
     }
 
-    // The place of the first page of a tenant's map.
+    /// The place of the first page of a tenant's map.
     fn first_place(&self, tenant: u32, map: usize) -> usize {
         place_of(tenant, map, self.most_pages)
     }
 
-    // How many frames are free.
+    /// How many frames are free.
     pub(crate) fn free(&self) -> u32 {
         count_of(self.sharing.frames_free(self.frames as usize))
     }
 
-    // Adds the pages of a new map of zeros, which there is no room for where they are too many.
+    /// Adds the pages of a new map of zeros, which there is no room for where they are too many.
     pub(crate) fn add(
         &mut self,
         tenant: u32,
@@ -92,7 +92,7 @@ impl Pages {
         Ok(())
     }
 
-    // Bytes of a tenant's map were written, which are these now: each page that they lie in is broken.
+    /// Bytes of a tenant's map were written, which are these now: each page that they lie in is broken.
     pub(crate) fn written(&mut self, tenant: u32, map: usize, range: PageRange, bytes: &[u8]) {
         let first = self.first_place(tenant, map);
         for page in 0..range.count {
@@ -103,7 +103,7 @@ impl Pages {
         }
     }
 
-    // Lets an event that names no tenant happen, where so many frames may be had.
+    /// Lets an event that names no tenant happen, where so many frames may be had.
     pub(crate) fn serve(&mut self, event: &Event, have: u32) -> Result<Reply, Fault> {
         match event {
             Event::Visit => self.visit(),
@@ -116,7 +116,7 @@ impl Pages {
         }
     }
 
-    // Visits a page.
+    /// Visits a page.
     fn visit(&mut self) -> Result<Reply, Fault> {
         match self.sharing.visit(self.alloc, &self.contents) {
             Ok(visited) => Ok(Reply::Visited(visited)),
@@ -124,7 +124,7 @@ impl Pages {
         }
     }
 
-    // Gives each page that shares a frame one of its own, where there are as many.
+    /// Gives each page that shares a frame one of its own, where there are as many.
     fn unmerge(&mut self, have: u32) -> Result<Reply, Fault> {
         let need = u32::try_from(self.sharing.unmerge_need()).unwrap_or(u32::MAX);
         if have < need {
@@ -134,7 +134,7 @@ impl Pages {
         Ok(Reply::Done)
     }
 
-    // The counters.
+    /// The counters.
     fn counters(&self) -> Counters {
         let sharing = &self.sharing;
         Counters {

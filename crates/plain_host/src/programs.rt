@@ -1,4 +1,4 @@
-// Programs as the plain verifier accepts them, with what each slot may need of frames.
+//! Programs as the plain verifier accepts them, with what each slot may need of frames.
 
 ghost use Rattle.std.specs.Prelude.{◌<◌, length, IfOk, OnOk};
 ghost use Rattle.host_types.specs.Shapes.{IsShape};
@@ -13,10 +13,10 @@ use plain_verifier::{Judged, Table, judge_forward};
 use std::alloc::{AllocError, Global};
 use verifier_kinds::Kind;
 
-// The last register.
+/// The last register.
 const LAST_REGISTER: u8 = 10;
 
-// An accepted program: its text, the size of its context, and what the instruction at each slot may need.
+/// An accepted program: its text, the size of its context, and what the instruction at each slot may need.
 #[derive(Drop)]
 pub(crate) struct PlainProgram {
     pub(crate) text: Vec<u8>,
@@ -25,7 +25,7 @@ pub(crate) struct PlainProgram {
 }
 
 impl PlainProgram {
-    // What the rest of a run may need from a slot on: the sum of what its slots may need.
+    /// What the rest of a run may need from a slot on: the sum of what its slots may need.
     pub(crate) fn reserve(&self, slot: usize) -> u32 {
         let mut sum = 0u32;
         for cost in self.costs.iter().skip(slot) {
@@ -35,7 +35,7 @@ impl PlainProgram {
     }
 }
 
-// Puts a shape behind others.
+/// Puts a shape behind others.
 fn add(shapes: &mut Vec<Shape>, shape: Shape) -> Result<(), AllocError>
     requires shapes { AreShapes shapes.old.items }
     requires shape { IsShape shape }
@@ -46,7 +46,7 @@ fn add(shapes: &mut Vec<Shape>, shape: Shape) -> Result<(), AllocError>
     Ok(())
 }
 
-// The shapes of a tenant's maps by number, up to the first number that no map has.
+/// The shapes of a tenant's maps by number, up to the first number that no map has.
 fn shapes_of(alloc: Global, maps: &[Option<ArrayMap>]) -> Result<Vec<Shape>, AllocError>
     ensures { IfOk result (λ shapes. AreShapes shapes.items) }
 {
@@ -63,7 +63,7 @@ fn shapes_of(alloc: Global, maps: &[Option<ArrayMap>]) -> Result<Vec<Shape>, All
     Ok(shapes)
 }
 
-// The instruction at a slot, if the text has the slot.
+/// The instruction at a slot, if the text has the slot.
 pub(crate) fn insn_at(text: &[u8], slot: usize) -> Option<Insn> {
     if text.len() % 8 != 0 || slot >= text.len() / 8 {
         return None;
@@ -71,7 +71,7 @@ pub(crate) fn insn_at(text: &[u8], slot: usize) -> Option<Insn> {
     Some(Insn::read(text, slot))
 }
 
-// The kind of a register before a slot, if the slot is reached and something is known of it.
+/// The kind of a register before a slot, if the slot is reached and something is known of it.
 fn kind_at(table: &Table, slot: usize, register: u8) -> Option<Kind> {
     if register > LAST_REGISTER {
         return None;
@@ -79,7 +79,7 @@ fn kind_at(table: &Table, slot: usize, register: u8) -> Option<Kind> {
     table.kind(u32::try_from(slot).unwrap_or(u32::MAX), register)
 }
 
-// What an update of a map may need.
+/// What an update of a map may need.
 fn cost_of_update(shapes: &[Shape], map: u32) -> u32
     requires { AreShapes shapes.now }
 {
@@ -89,8 +89,8 @@ fn cost_of_update(shapes: &[Shape], map: u32) -> u32
     }
 }
 
-// What the instruction at a slot may need: a store through a map's value one frame, and an update what is
-// charged for it. A slot that isn't reached needs nothing.
+/// What the instruction at a slot may need: a store through a map's value one frame, and an update what is
+/// charged for it. A slot that isn't reached needs nothing.
 fn cost_at(text: &[u8], shapes: &[Shape], table: &Table, slot: usize) -> u32
     requires { AreShapes shapes.now }
 {
@@ -110,7 +110,7 @@ fn cost_at(text: &[u8], shapes: &[Shape], table: &Table, slot: usize) -> u32
     }
 }
 
-// What the instruction at each slot may need.
+/// What the instruction at each slot may need.
 fn costs_of(
     alloc: Global,
     text: &[u8],
@@ -126,7 +126,7 @@ fn costs_of(
     Ok(costs)
 }
 
-// What is known at the slots of a text, or why it isn't accepted.
+/// What is known at the slots of a text, or why it isn't accepted.
 fn table_of(alloc: Global, text: &[u8], shapes: &[Shape], context_size: u32) -> Result<Table, Fault>
     requires shapes { AreShapes shapes.now }
     requires context { IsContextSize context_size }
@@ -142,7 +142,7 @@ fn table_of(alloc: Global, text: &[u8], shapes: &[Shape], context_size: u32) -> 
     }
 }
 
-// A text's refusal as a host answers it.
+/// A text's refusal as a host answers it.
 fn fault_of(refused: Refused) -> Fault {
     if refused == Refused::OUT_OF_MEMORY {
         Fault::OutOfMemory
@@ -151,7 +151,7 @@ fn fault_of(refused: Refused) -> Fault {
     }
 }
 
-// An accepted text as a program.
+/// An accepted text as a program.
 fn made(
     alloc: Global,
     text: &[u8],
@@ -165,7 +165,7 @@ fn made(
     })
 }
 
-// Judges a text as a program of a tenant with these maps.
+/// Judges a text as a program of a tenant with these maps.
 pub(crate) fn judge(
     alloc: Global,
     maps: &[Option<ArrayMap>],

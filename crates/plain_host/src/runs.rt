@@ -1,4 +1,4 @@
-// Runs of the standard's machine, and which bytes of a map its next step writes.
+//! Runs of the standard's machine, and which bytes of a map its next step writes.
 
 use crate::maps::{Maps, PageRange, element_at, map_at};
 use crate::programs::insn_at;
@@ -6,22 +6,22 @@ use bpf_decode::{Insn, Operation, Size};
 use host_types::MapHelper;
 use plain_machine::{ArrayMap, Machine, Made};
 
-// The number of the region of map 0's values, which those of the other maps follow.
+/// The number of the region of map 0's values, which those of the other maps follow.
 const MAP_VALUES: u64 = 16;
 
-// The number of the region of map 0's name, which those of the other maps follow.
+/// The number of the region of map 0's name, which those of the other maps follow.
 const MAP_NAMES: u64 = 8;
 
-// How many addresses a region has.
+/// How many addresses a region has.
 const REGION: u64 = 4294967296;
 
-// The flag of an update that writes an element that is there or not.
+/// The flag of an update that writes an element that is there or not.
 const ANY: u64 = 0;
 
-// The flag of an update that writes an element that is there.
+/// The flag of an update that writes an element that is there.
 const EXIST: u64 = 2;
 
-// An open run: the number of its program, its machine, and how many steps it made.
+/// An open run: the number of its program, its machine, and how many steps it made.
 #[derive(Drop)]
 pub(crate) struct PlainRun {
     pub(crate) program: usize,
@@ -29,14 +29,14 @@ pub(crate) struct PlainRun {
     pub(crate) steps: u32,
 }
 
-// Bytes of a map that are written, by the pages that they lie in.
+/// Bytes of a map that are written, by the pages that they lie in.
 #[derive(Clone, Copy, Drop)]
 pub(crate) struct Written {
     pub(crate) map: usize,
     pub(crate) range: PageRange,
 }
 
-// The machine where a run begins, with at most eight maps.
+/// The machine where a run begins, with at most eight maps.
 pub(crate) fn start(context: Vec<u8>, maps: Maps) -> Option<Machine> {
     if maps.len() > 8 {
         return None;
@@ -44,7 +44,7 @@ pub(crate) fn start(context: Vec<u8>, maps: Maps) -> Option<Machine> {
     Some(Machine::start(context, maps))
 }
 
-// Makes a step of a text; one of no whole slots is a fault.
+/// Makes a step of a text; one of no whole slots is a fault.
 pub(crate) fn step(machine: &mut Machine, text: &[u8]) -> Made {
     if text.len() % 8 != 0 {
         return Made::Fault;
@@ -52,7 +52,7 @@ pub(crate) fn step(machine: &mut Machine, text: &[u8]) -> Made {
     machine.step(text)
 }
 
-// What the next step writes to a map, where it is no fault.
+/// What the next step writes to a map, where it is no fault.
 pub(crate) fn next_written(machine: &Machine, text: &[u8]) -> Option<Written> {
     let insn = insn_at(text, machine.slot())?;
     match Operation::of(insn.opcode) {
@@ -62,7 +62,7 @@ pub(crate) fn next_written(machine: &Machine, text: &[u8]) -> Option<Written> {
     }
 }
 
-// What a store writes: the bytes at its address, where that is in the values of a map.
+/// What a store writes: the bytes at its address, where that is in the values of a map.
 fn written_by_store(machine: &Machine, insn: &Insn, size: Size) -> Option<Written> {
     let base = machine.register(insn.dst)?;
     let address = base.wrapping_add(i64::from(insn.offset).cast_unsigned());
@@ -76,7 +76,7 @@ fn written_by_store(machine: &Machine, insn: &Insn, size: Size) -> Option<Writte
     })
 }
 
-// What an update writes: the value of its element, where the answer is 0.
+/// What an update writes: the value of its element, where the answer is 0.
 fn written_by_call(machine: &Machine, insn: &Insn) -> Option<Written> {
     if MapHelper::of(insn.immediate()) != Some(MapHelper::Update) {
         return None;
@@ -93,7 +93,7 @@ fn written_by_call(machine: &Machine, insn: &Insn) -> Option<Written> {
     })
 }
 
-// The pages that the value of an element lies in, if the map has the element.
+/// The pages that the value of an element lies in, if the map has the element.
 fn range_of(map: &ArrayMap, key: u64) -> Option<PageRange> {
     let shape = map.shape();
     let key = u32::try_from(key).ok()?;

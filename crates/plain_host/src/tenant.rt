@@ -1,4 +1,4 @@
-// A tenant's private maps, its programs and its open run, and the events that name it.
+//! A tenant's private maps, its programs and its open run, and the events that name it.
 
 use crate::maps::{
     MAPS, Maps, PageRange, copies_of, copy_of, count_of, element_at, free_number, map_at,
@@ -12,10 +12,10 @@ use host_types::{Fault, Shape};
 use plain_machine::{Machine, Made};
 use std::alloc::{AllocError, Global};
 
-// The most programs of a tenant.
+/// The most programs of a tenant.
 const MAX_PROGRAMS: usize = 8;
 
-// The most bytes of a context.
+/// The most bytes of a context.
 const MAX_CONTEXT: u32 = 256;
 
 #[derive(Drop)]
@@ -26,7 +26,7 @@ pub(crate) struct PlainTenant {
     run: Option<PlainRun>,
 }
 
-// A tenant's places for maps, none of them taken.
+/// A tenant's places for maps, none of them taken.
 fn no_maps(alloc: Global) -> Result<Maps, AllocError> {
     let mut maps = Vec::new(alloc);
     for _ in 0..MAPS {
@@ -35,7 +35,7 @@ fn no_maps(alloc: Global) -> Result<Maps, AllocError> {
     Ok(maps)
 }
 
-// Writes a value to an element of a map. A value of another size than the map's isn't written.
+/// Writes a value to an element of a map. A value of another size than the map's isn't written.
 fn put(map: Option<&mut Option<plain_machine::ArrayMap>>, key: u32, value: &[u8]) {
     if let Some(Some(map)) = map {
         if value.len() == map.shape().value_size as usize {
@@ -54,7 +54,7 @@ impl PlainTenant {
         })
     }
 
-    // What the rest of the open run may need of frames.
+    /// What the rest of the open run may need of frames.
     pub(crate) fn reserve(&self) -> u32 {
         match &self.run {
             Some(run) => match self.programs.get(run.program) {
@@ -65,7 +65,7 @@ impl PlainTenant {
         }
     }
 
-    // Lets an event of the tenant happen, where so many frames may be had.
+    /// Lets an event of the tenant happen, where so many frames may be had.
     pub(crate) fn serve(
         &mut self,
         alloc: Global,
@@ -114,7 +114,7 @@ impl PlainTenant {
         }
     }
 
-    // Makes a map of zeros at the first free number.
+    /// Makes a map of zeros at the first free number.
     fn create_map(
         &mut self,
         alloc: Global,
@@ -145,7 +145,7 @@ impl PlainTenant {
         Ok(Reply::Map(count_of(number)))
     }
 
-    // Loads a text with the next number.
+    /// Loads a text with the next number.
     fn load(&mut self, alloc: Global, text: &[u8], context_size: u32) -> Result<Reply, Fault> {
         let number = self.programs.len();
         if number >= MAX_PROGRAMS {
@@ -161,7 +161,7 @@ impl PlainTenant {
         }
     }
 
-    // Opens a run of a program, where there are frames for all that it may need.
+    /// Opens a run of a program, where there are frames for all that it may need.
     fn begin(
         &mut self,
         alloc: Global,
@@ -190,14 +190,14 @@ impl PlainTenant {
         Ok(Reply::Begun)
     }
 
-    // The machine where a run on a context begins.
+    /// The machine where a run on a context begins.
     fn machine(&self, alloc: Global, context: &[u8]) -> Result<Option<Machine>, AllocError> {
         let maps = copies_of(alloc, &self.maps)?;
         let context = context.to_vec(alloc)?;
         Ok(start(context, maps))
     }
 
-    // Makes a step of the open run: what it writes to a map is in the tenant's maps then.
+    /// Makes a step of the open run: what it writes to a map is in the tenant's maps then.
     fn step(&mut self, alloc: Global, pages: &mut Pages) -> Result<Reply, Fault> {
         let Some(run) = &mut self.run else {
             return Err(Fault::NoRun);
@@ -224,7 +224,7 @@ impl PlainTenant {
         }
     }
 
-    // Takes over a map of the machine, of which bytes were written.
+    /// Takes over a map of the machine, of which bytes were written.
     fn take_over(
         &mut self,
         alloc: Global,
@@ -246,7 +246,7 @@ impl PlainTenant {
         Ok(())
     }
 
-    // Writes a value to an element, as the update helper does without a flag.
+    /// Writes a value to an element, as the update helper does without a flag.
     fn update(
         &mut self,
         pages: &mut Pages,
@@ -282,7 +282,7 @@ impl PlainTenant {
         Ok(Reply::Done)
     }
 
-    // The shape of a map.
+    /// The shape of a map.
     fn shape(&self, map: usize) -> Result<Shape, Fault> {
         match map_at(&self.maps, map) {
             Some(map) => Ok(map.shape()),
@@ -290,7 +290,7 @@ impl PlainTenant {
         }
     }
 
-    // Reads the value of an element.
+    /// Reads the value of an element.
     fn lookup(&self, alloc: Global, map: usize, key: u32) -> Result<Reply, Fault> {
         let Some(map) = map_at(&self.maps, map) else {
             return Err(Fault::NoMap);

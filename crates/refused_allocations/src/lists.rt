@@ -1,8 +1,8 @@
 //! Lists of events of two tenants, which share pages while frames are few.
 
 use host_core::{Bytes, Event};
-use plain_host::texts::{COUNTER, UPDATE};
 use std::alloc::{AllocError, Global};
+use test_inputs::texts::{COUNTER, UPDATE};
 
 /// A list of events that is made.
 #[derive(Drop)]

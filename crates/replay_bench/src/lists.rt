@@ -1,8 +1,8 @@
 //! Lists of events that are measured.
 
 use host_core::Event;
-use plain_host::texts::RETURN;
 use std::alloc::{AllocError, Global};
+use test_inputs::texts::RETURN;
 
 /// How many tenants there are.
 pub(crate) const TENANTS: u32 = 16;
@@ -124,21 +124,30 @@ fn updates(alloc: Global) -> Result<Vec<Event>, AllocError> {
 }
 
 /// The lists that are measured.
-#[derive(Drop)]
-pub(crate) struct Lists {
-    pub(crate) steps: Vec<Event>,
-    pub(crate) runs: Vec<Event>,
-    pub(crate) visits: Vec<Event>,
-    pub(crate) updates: Vec<Event>,
+#[derive(Clone, Copy)]
+pub(crate) enum List {
+    Steps,
+    Runs,
+    Visits,
+    Updates,
 }
 
-impl Lists {
-    pub(crate) fn new(alloc: Global) -> Result<Lists, AllocError> {
-        Ok(Lists {
-            steps: steps(alloc)?,
-            runs: runs(alloc)?,
-            visits: visits(alloc)?,
-            updates: updates(alloc)?,
-        })
+impl List {
+    /// Whether a run is opened before the list happens.
+    pub(crate) fn needs_run(self) -> bool {
+        match self {
+            List::Steps => true,
+            List::Runs | List::Visits | List::Updates => false,
+        }
+    }
+
+    /// The events of the list.
+    pub(crate) fn events(self, alloc: Global) -> Result<Vec<Event>, AllocError> {
+        match self {
+            List::Steps => steps(alloc),
+            List::Runs => runs(alloc),
+            List::Visits => visits(alloc),
+            List::Updates => updates(alloc),
+        }
     }
 }

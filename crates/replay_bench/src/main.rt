@@ -8,10 +8,10 @@ mod lists;
 use anyhow::{Result, anyhow};
 use host_core::{Event, Host, Reply};
 use host_types::{Fault, Options};
-use lists::{Lists, TENANTS, begin, loads, map_of};
+use lists::{List, TENANTS, begin, loads, map_of};
 use std::alloc::{AllocError, Global};
 use std::env;
-use std::rt::Clock;
+use std::rt::{Clock, Env};
 use std::time::Instant;
 
 /// How many frames there are.
@@ -48,29 +48,14 @@ fn refusal(fault: Fault) -> anyhow::Error {
     anyhow!("{fault}")
 }
 
-fn no_memory(_error: AllocError) -> anyhow::Error {
-    anyhow!("no memory")
-}
-
 impl Bench {
-    /// A host whose tenants have a map, and the first one two programs.
-    fn new(alloc: Global) -> Result<Bench> {
-        let host = Host::new(alloc, FRAMES, TENANTS, Options::standard()).map_err(refusal)?;
-        let mut bench = Bench { alloc, host };
-        bench.prepare()?;
-        Ok(bench)
-    }
-
-    /// Makes the maps and loads the programs.
+    /// Makes a map for each tenant, and loads the programs of the first one.
     fn prepare(&mut self) -> Result<()> {
         for tenant in 0..TENANTS {
             self.taken(&map_of(tenant))?;
         }
-        let events = loads(self.alloc).map_err(no_memory)?;
-        for event in &events {
-            self.taken(event)?;
-        }
-        Ok(())
+        let events = loads(self.alloc)?;
+        self.pass(&events)
     }
 
     /// Lets an event happen that isn't refused.
@@ -140,7 +125,7 @@ impl Bench {
     }
 
     /// Measures events both ways, and prints their row.
-    fn row(
+    fn print_row(
         &mut self,
         rt: &(impl Clock + Print),
         name: &str,
@@ -154,6 +139,18 @@ impl Bench {
         Ok(())
     }
 
+    /// Makes a list, measures it and prints its row.
+    fn row(
+        &mut self,
+        rt: &(impl Clock + Print),
+        name: &str,
+        list: List,
+        rounds: u32,
+    ) -> Result<()> {
+        let events = list.events(self.alloc)?;
+        self.print_row(rt, name, &events, rounds, list.needs_run())
+    }
+
     /// Lets events happen before the next row.
     fn pass(&mut self, events: &[Event]) -> Result<()> {
         if self.each(events) > 0 {
@@ -161,51 +158,53 @@ impl Bench {
         }
         Ok(())
     }
+
+    /// Lets a list happen before the next row, so many times.
+    fn repeat(&mut self, list: List, times: u32) -> Result<()> {
+        let events = list.events(self.alloc)?;
+        for _ in 0..times {
+            self.pass(&events)?;
+        }
+        Ok(())
+    }
+
+    /// Measures all rows. Three visits of each page of zeros merge all, and two of pages that differ let all
+    /// wait.
+    fn measure(&mut self, rt: &(impl Clock + Print), rounds: u32) -> Result<()> {
+        self.prepare()?;
+        self.row(rt, "Step", List::Steps, rounds)?;
+        let runs = "Begin, and the two steps to its end";
+        self.row(rt, runs, List::Runs, rounds)?;
+        self.repeat(List::Visits, 3)?;
+        self.row(rt, "Visit, all pages merged", List::Visits, rounds)?;
+        self.repeat(List::Updates, 1)?;
+        self.row(rt, "HostUpdate", List::Updates, rounds)?;
+        self.repeat(List::Visits, 2)?;
+        self.row(rt, "Visit, all pages different", List::Visits, rounds)
+    }
 }
 
-/// Measures all rows. Three visits of each page of zeros merge all, and two of pages that differ let all wait.
-fn measure(rt: &(impl Clock + Print), bench: &mut Bench, lists: &Lists, rounds: u32) -> Result<()> {
-    bench.row(rt, "Step", &lists.steps, rounds, true)?;
-    bench.row(
-        rt,
-        "Begin, and the two steps to its end",
-        &lists.runs,
-        rounds,
-        false,
-    )?;
-    for _ in 0..3 {
-        bench.pass(&lists.visits)?;
+/// Measures a new host.
+fn measure_new(rt: &(impl Clock + Print), alloc: Global, rounds: u32) -> Result<()> {
+    match Host::new(alloc, FRAMES, TENANTS, Options::standard()) {
+        Ok(host) => Bench { alloc, host }.measure(rt, rounds),
+        Err(fault) => Err(refusal(fault)),
     }
-    bench.row(rt, "Visit, all pages merged", &lists.visits, rounds, false)?;
-    bench.pass(&lists.updates)?;
-    bench.row(rt, "HostUpdate", &lists.updates, rounds, false)?;
-    for _ in 0..2 {
-        bench.pass(&lists.visits)?;
-    }
-    bench.row(
-        rt,
-        "Visit, all pages different",
-        &lists.visits,
-        rounds,
-        false,
-    )
 }
 
-/// Prepares and measures.
-fn prepared(rt: &(impl Clock + Print), alloc: Global, rounds: u32) -> Result<()> {
-    let lists = Lists::new(alloc).map_err(no_memory)?;
-    let mut bench = Bench::new(alloc)?;
-    measure(rt, &mut bench, &lists, rounds)
+/// The number of rounds that is asked for, if it is one.
+fn rounds_of(rt: &(impl AllocGlobal + Env)) -> Result<Option<u32>> {
+    match env::args(rt)?.nth(1) {
+        Some(word) => Ok(word.as_str().parse().ok()),
+        None => Ok(None),
+    }
 }
 
 fn main(rt: HostRuntime) -> Result<()> {
-    let Some(word) = env::args(&rt)?.nth(1) else {
-        return Ok(());
-    };
-    let Ok(rounds) = word.as_str().parse::<u32>() else {
+    let Some(rounds) = rounds_of(&rt)? else {
         return Ok(());
     };
     println!(rt; "| events a second | by `apply` | by `apply_all` |")?;
     println!(rt; "|---|---|---|")?;
-    prepared(&rt, rt.alloc(), rounds)
+    measure_new(&rt, rt.alloc(), rounds)
 }

@@ -4,17 +4,18 @@ ghost use Rattle.std.specs.Prelude.{◌<◌};
 
 /// The generator, by the number that it gave last.
 #[derive(Drop)]
-pub(crate) struct Draws {
+pub struct Draws {
     last: u64,
 }
 
 impl Draws {
-    pub(crate) fn new(seed: u64) -> Self {
+    /// The generator that begins behind a number.
+    pub fn new(seed: u64) -> Self {
         Draws { last: seed }
     }
 
     /// A number below a limit, from the upper half of the generator's next number.
-    pub(crate) fn below(&mut self, limit: u32) -> u32
+    pub fn below(&mut self, limit: u32) -> u32
         requires { 0 < limit }
         ensures { result < limit }
     {
