@@ -66,8 +66,9 @@ fn runs_scanned(rt: &impl Wait, alloc: Global, two: Two) -> Runs
     (replies, values)
 }
 
+/// A run that held the turn to its end would wait for ever for its gate, which takes turns to scan.
 #[test]
-fn a_gate_scans_before_each_instruction(rt: HostRuntime) -> Result<(), Fail> {
+fn turn_held_through_run(rt: HostRuntime) -> Result<(), Fail> {
     let runs = runs_scanned(&rt, rt.alloc(), two_tenants(rt.alloc(), 8)?);
     assert!(rt; runs == ([returned(1); 2], [Some((8, 1)); 2]));
     Ok(())

@@ -210,8 +210,8 @@ fn meetings<R: Threads + Wait + Sync>(rt: &R, alloc: Global) -> Result<u32, Faul
     Ok(met)
 }
 
-/// A `serve` that holds the turn through a run, that runs one tenant after the other, or that invents the
-/// replies meets its contract, so this test rules all three out.
+/// A `serve` that runs one tenant after the other, or that invents the replies, meets its contract, so
+/// this test rules both out; one that holds the turn through a run is ruled out by `turn_held_through_run`.
 #[test]
 fn serve_invents_replies(rt: HostRuntime) -> Result<(), Fail> {
     assert!(rt; meetings(&rt, rt.alloc())? == 20);
