@@ -1,6 +1,8 @@
 -- Numbers and their bytes.
 use Rattle.std.specs.Prelude.{◌≡◌, ℕ, zero, suc, ◌+◌, ◌*◌, ◌/◌, ◌%◌, ◌^◌, ◌<◌, List, [], ◌∷◌, length, All, refl}
-use Rattle.std.proofs.Common.{arith, ap}
+use Rattle.std.specs.Int.{byte_at, bytes_low_first}
+use Rattle.std.proofs.Common.{arith, ap, sym, ◌∙◌}
+use Rattle.std.proofs.Math.Nat.{div-one, div-div-eq-div-mul, pow-suc}
 use Rattle.std.proofs.lemmas.List.Elements.{All-cons, All-nil, All-head, All-tail}
 use Rattle.host_types.specs.Bytes.{number_of, bytes_of}
 
@@ -31,3 +33,22 @@ number_of-small (byte ∷ bytes) h =
     let rest = number_of-small bytes (All-tail (λ byte. byte < 256) byte bytes h) in
     let more : byte + 256 * number_of bytes < 256 ^ suc (length bytes) = omega arith in
     more
+
+-- a byte of a number, by its place
+byte_at-pow : (k x : ℕ) → byte_at k x ≡ x / 256 ^ k % 256
+byte_at-pow zero x = ap (λ (y : ℕ). y % 256) (sym (div-one x))
+byte_at-pow (suc k) x = refl
+
+-- the n bytes of a number from byte i
+bytes_low_first-shifted : (i n x : ℕ) → bytes_low_first i n x ≡ bytes_of n (x / 256 ^ i)
+unfolding bytes_of
+bytes_low_first-shifted i zero x = refl
+bytes_low_first-shifted i (suc n) x =
+    let shift : x / 256 ^ suc i ≡ x / 256 ^ i / 256 =
+    ap (λ (p : ℕ). x / p) (pow-suc 256 i) ∙ sym (div-div-eq-div-mul x (256 ^ i) 256) in
+    let rest = bytes_low_first-shifted (suc i) n x in
+    rw (byte_at-pow i x, rest, shift) refl
+
+-- the lowest n bytes of a number, as std names them
+pub bytes_low_first-bytes_of : (n x : ℕ) → bytes_low_first 0 n x ≡ bytes_of n x
+bytes_low_first-bytes_of n x = bytes_low_first-shifted 0 n x ∙ ap (bytes_of n) (div-one x)

@@ -5,13 +5,11 @@ use Rattle.std.proofs.lemmas.Nat.Gcd.{dvd_of_mod-eq-zero}
 use Rattle.std.proofs.Math.Arith.{mod-mul}
 use Rattle.std.proofs.Math.Nat.{mod-lt, div-mul_cancel, mul-mod_right, mul-le-mul_right}
 use Rattle.host_types.specs.declared.shape.Shape.{Shape}
-use Rattle.host_types.specs.declared.status.Status.{Status}
-use Rattle.host_types.specs.declared.status.Status.TheVariants.{New, Volatile, Waiting, Grouped, Zero}
 use Rattle.host_types.specs.Helpers.{element_at, update_charge}
 use Rattle.host_types.specs.Shapes.{IsShape, stride_of, byte_len_of}
-use Rattle.host_types.specs.Sharing.{Sharing, PageState, state_at, cost_of, is_in_company, break_cost, broken, cost_from}
+use Rattle.host_types.specs.Sharing.{Sharing}
 use Rattle.write_break.specs.Stores.{touched, store_cost, place_of_byte}
-use Rattle.write_break.proofs.Stores.{touched-some, touched-one}
+use Rattle.write_break.proofs.Stores.{touched-some, touched-one, cost_from-few}
 
 -- a value has at most a stride
 pub value-in-stride : (shape : Shape) → shape.value_size ≤ stride_of shape
@@ -58,32 +56,6 @@ touched-charged shape key is = by_test (4096 % stride_of shape == 0) refl
         let some = touched-some (element_at shape key) shape.value_size is.sized in
         let small = is.small in
         rw (e, some) (omega (arith, small))
-
--- the break of a page takes one frame at most
-break_cost-few : (sharing : Sharing) (i : ℕ) → break_cost sharing i ≤ 1
-unfolding break_cost
-break_cost-few sharing i = by_page (state_at sharing i) refl
-  where
-    by_status : (company : Bool) (status : Status) → cost_of company status ≤ 1
-    by_status company New = omega arith
-    by_status company Volatile = omega arith
-    by_status company Waiting = omega arith
-    by_status true Grouped = omega arith
-    by_status false Grouped = omega arith
-    by_status company Zero = omega arith
-
-    by_page : (page : Option PageState) → state_at sharing i ≡ page → break_cost sharing i ≤ 1
-    by_page None e = rw e (omega arith)
-    by_page (Some state) e = rw e (by_status (is_in_company sharing i) state.status)
-
--- the breaks of some pages take one frame each at most
-cost_from-few : (sharing : Sharing) (i n : ℕ) → cost_from sharing i n ≤ n
-unfolding cost_from
-cost_from-few sharing i zero = omega arith
-cost_from-few sharing i (suc n) =
-    let first = break_cost-few sharing i in
-    let rest = cost_from-few (broken sharing i) (i + 1) n in
-    omega (arith, first, rest)
 
 -- the store of a value takes what is charged for an update at most
 pub cost-charged : (sharing : Sharing) (tenant m key : ℕ) (shape : Shape) → IsShape shape → store_cost sharing tenant m (element_at shape key) shape.value_size ≤ update_charge shape

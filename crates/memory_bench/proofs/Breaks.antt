@@ -9,22 +9,6 @@ use Rattle.host_types.specs.Sharing.{Sharing, PageState, state_at, is_shared, is
 abbrev cost_in : Bool → Option PageState → ℕ
 cost_in company x = unwrap_or (option_map (λ (state : PageState). cost_of company state.status) x) 0
 
-pub cost-small : (s : Sharing) (i : ℕ) → break_cost s i ≤ 1
-unfolding break_cost
-cost-small s i = by_page (is_in_company s i) (state_at s i)
-  where
-    by_status : (company : Bool) (status : Status) → cost_of company status ≤ 1
-    by_status company New = omega arith
-    by_status company Volatile = omega arith
-    by_status company Waiting = omega arith
-    by_status true Grouped = omega arith
-    by_status false Grouped = omega arith
-    by_status company Zero = omega arith
-
-    by_page : (company : Bool) (x : Option PageState) → cost_in company x ≤ 1
-    by_page company None = omega arith
-    by_page company (Some state) = by_status company state.status
-
 -- a page with its own frame takes none
 own-cost : (company : Bool) (x : Option PageState) → is_shared_page x ≡ false → cost_in company x ≡ 0
 own-cost company None own = refl

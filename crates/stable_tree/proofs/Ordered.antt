@@ -18,21 +18,24 @@ use Rattle.stable_tree.specs.Groups.{IsChain, IsSorted, IsCutAt, content, order,
 use Rattle.stable_tree.proofs.Sorting.{unlike-chain, both, is_lt-less}
 use Rattle.stable_tree.proofs.Pairs.{All-insert, AllPairs-insert}
 
--- where a frame of a new chain stands among all
-concat-added : (chains : List (List ℕ)) (k f : ℕ) → k ≤ length chains → (e : ℕ) × (e ≤ length (concat chains)) × (concat (insert chains k (f ∷ [])) ≡ insert (concat chains) e f)
-concat-added chains zero f h = (0, omega arith, refl)
-concat-added [] (suc k) f h = absurd (omega (arith, h))
-concat-added (c ∷ cs) (suc k) f h =
-    let rest = concat-added cs k f (omega arith) in
-    let long = length-append c (concat cs) in
+-- what is put into a list is put into what stands before it and the list, so much further behind
+put-behind : (c xs : List ℕ) (f : ℕ) {after : List ℕ} → ((e : ℕ) × (e ≤ length xs) × (after ≡ insert xs e f)) → (e : ℕ) × (e ≤ length (c ++ xs)) × (c ++ after ≡ insert (c ++ xs) e f)
+put-behind c xs f rest =
+    let long = length-append c xs in
     let within = rest.1 in
     let less : length c + rest.0 - length c ≡ rest.0 = omega arith in (
       length c + rest.0,
       omega (arith, long, within),
       ap (λ l. c ++ l) rest.2
-          ∙ ap (λ (n : ℕ). c ++ insert (concat cs) n f) (sym less)
-          ∙ sym (insert-append_right c (concat cs) (length c) (length c + rest.0) f refl (omega arith)),
+          ∙ ap (λ (n : ℕ). c ++ insert xs n f) (sym less)
+          ∙ sym (insert-append_right c xs (length c) (length c + rest.0) f refl (omega arith)),
     )
+
+-- where a frame of a new chain stands among all
+concat-added : (chains : List (List ℕ)) (k f : ℕ) → k ≤ length chains → (e : ℕ) × (e ≤ length (concat chains)) × (concat (insert chains k (f ∷ [])) ≡ insert (concat chains) e f)
+concat-added chains zero f h = (0, omega arith, refl)
+concat-added [] (suc k) f h = absurd (omega (arith, h))
+concat-added (c ∷ cs) (suc k) f h = put-behind c (concat cs) f (concat-added cs k f (omega arith))
 
 -- where a frame at a chain's end stands among all
 concat-lengthened : (chains : List (List ℕ)) (k f : ℕ) → k < length chains → (e : ℕ) × (e ≤ length (concat chains)) × (concat (slice_set chains k (slice_index_or chains k [] ++ f ∷ [])) ≡ insert (concat chains) e f)
@@ -46,17 +49,7 @@ concat-lengthened (c ∷ cs) zero f h =
           ∙ ap (λ (n : ℕ). c ++ insert (concat cs) n f) (sym less)
           ∙ sym (insert-append_right c (concat cs) (length c) (length c) f refl (omega arith)),
     )
-concat-lengthened (c ∷ cs) (suc k) f h =
-    let rest = concat-lengthened cs k f (omega arith) in
-    let long = length-append c (concat cs) in
-    let within = rest.1 in
-    let less : length c + rest.0 - length c ≡ rest.0 = omega arith in (
-      length c + rest.0,
-      omega (arith, long, within),
-      ap (λ l. c ++ l) rest.2
-          ∙ ap (λ (n : ℕ). c ++ insert (concat cs) n f) (sym less)
-          ∙ sym (insert-append_right c (concat cs) (length c) (length c + rest.0) f refl (omega arith)),
-    )
+concat-lengthened (c ∷ cs) (suc k) f h = put-behind c (concat cs) f (concat-lengthened cs k f (omega arith))
 
 -- no frame stands twice, where one that stood nowhere is put in
 once-inserted : (xs : List ℕ) (e f : ℕ) → e ≤ length xs → AllPairs (λ g h. g ≢ h) xs → All (λ g. g ≢ f) xs → AllPairs (λ g h. g ≢ h) (insert xs e f)

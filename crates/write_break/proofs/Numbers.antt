@@ -1,30 +1,8 @@
 -- Numbers as bytes, and where loads and stores lie in pages.
 use Rattle.std.proofs.Common.{◌≡◌, ◌⊎◌, ℕ, zero, suc, ◌+◌, ◌/◌, ◌%◌, ◌^◌, ◌≤◌, ◌∷◌, take, refl, sym, ap, subst, ⊎_elim, ◌∙◌, arith}
-use Rattle.std.proofs.Math.Nat.{div-div-eq-div-mul, div-one, pow-suc}
 use Rattle.std.proofs.lemmas.Bool.Decides.{nat_tests}
-use Rattle.std.specs.Int.{byte_at, bytes_low_first}
 use Rattle.host_types.specs.Bytes.{bytes_of}
 use Rattle.frame_arena.specs.Pages.{IsAccessSize}
-
--- the byte at a place is the lowest byte of what is above it
-byte_at-shifted : (i number : ℕ) → byte_at i number ≡ number / 256 ^ i % 256
-byte_at-shifted zero number = ap (λ (n : ℕ). n % 256) (sym (div-one number))
-byte_at-shifted (suc i) number = refl
-
--- bytes cut out by places are those of the number shifted down
-bytes_low_first-shifted : (i n number : ℕ) → bytes_low_first i n number ≡ bytes_of n (number / 256 ^ i)
-unfolding bytes_of
-bytes_low_first-shifted i zero number = refl
-bytes_low_first-shifted i (suc n) number =
-    let next : number / 256 ^ suc i ≡ number / 256 ^ i / 256 =
-    ap (λ (d : ℕ). number / d) (pow-suc 256 i) ∙ sym (div-div-eq-div-mul number (256 ^ i) 256) in
-    let rest : bytes_low_first (suc i) n number ≡ bytes_of n (number / 256 ^ i / 256) =
-    bytes_low_first-shifted (suc i) n number ∙ ap (bytes_of n) next in
-    rw (byte_at-shifted i number, rest) refl
-
--- the bytes of a number by their places
-pub bytes_low_first-bytes_of : (n number : ℕ) → bytes_low_first 0 n number ≡ bytes_of n number
-bytes_low_first-bytes_of n number = bytes_low_first-shifted 0 n number ∙ ap (bytes_of n) (div-one number)
 
 -- the first bytes of a number are its lowest
 pub take-bytes_of : (size n number : ℕ) → size ≤ n → take size (bytes_of n number) ≡ bytes_of size number

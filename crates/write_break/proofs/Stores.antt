@@ -44,7 +44,7 @@ touched-two at zero small = omega arith
 touched-two at (suc n) small = omega arith
 
 -- the break of a page takes one frame at most
-break_cost-few : (sharing : Sharing) (i : ℕ) → break_cost sharing i ≤ 1
+pub break_cost-few : (sharing : Sharing) (i : ℕ) → break_cost sharing i ≤ 1
 unfolding break_cost
 break_cost-few sharing i = by_page (state_at sharing i) refl
   where
