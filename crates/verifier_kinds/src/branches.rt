@@ -6,9 +6,6 @@ ghost use Rattle.verifier_kinds.specs.Arithmetic.{between};
 ghost use Rattle.verifier_kinds.specs.Kinds.{IsKind, IsNormal, factor, greatest_align};
 ghost use Rattle.verifier_kinds.specs.Refinement.{is_told, kept_by, negated, refine_of, refined, some_of, without};
 
-#[cfg(test)]
-mod tests;
-
 use crate::kind::{Align, Kind, Range};
 use bpf_decode::{Comparison, Insn, Operation, Width};
 

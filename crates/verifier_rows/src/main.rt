@@ -2,7 +2,8 @@
 //! four texts between tabs: a name, a program in hex, the size of its context with the shapes of its maps
 //! behind it, and places `slot.register`. Its line is the name and the answer: that the program is accepted,
 //! with what is known at the places, or the number and the slot of its refusal; and whether both passes of
-//! the plain verifier differ from that. The file `stdout` of this crate says what is wanted.
+//! the plain verifier differ from that. Other rows ask a rule of kinds alone, with `insn` or `join` behind the
+//! name (`rules.rt`). The file `stdout` of this crate says what is wanted.
 #![tactic(auto)]
 
 ghost use Rattle.std.specs.Prelude.{◌<◌, length, IfOk, IfSome, OnOk};
@@ -10,38 +11,19 @@ ghost use Rattle.host_types.specs.Shapes.{IsShape};
 ghost use Rattle.verifier.specs.Subject.{IsContextSize};
 ghost use Rattle.verifier.specs.Verified.{AreShapes};
 
+mod kinds;
+mod rules;
+
 use bpf_decode::decode;
 use host_types::{Refused, Shape};
 use kernel_check::judge_alike;
+use kinds::print_kind;
+use rules::{print_insn, print_join};
 use std::alloc::{AllocError, Global};
 use std::io;
 use std::io::Input;
 use verifier::{Verified, verify};
-use verifier_kinds::{Kind, Offsets, Range};
-
-/// Prints the offsets of a pointer to a value of a map.
-fn print_value(rt: &impl Print, map: u32, offsets: Offsets) -> io::Result<()> {
-    let low = i64::from(offsets.low) - 65536;
-    let high = i64::from(offsets.high) - 65536;
-    let align = offsets.align.factor();
-    print!(rt; "value of {map}, {low} to {high} by {align}")
-}
-
-/// Prints what is known of a register at a slot.
-fn print_kind(rt: &impl Print, kind: Option<Kind>) -> io::Result<()> {
-    match kind {
-        None => print!(rt; "nothing"),
-        Some(Kind::Context(offset)) => print!(rt; "context {offset}"),
-        Some(Kind::Stack(offset)) => print!(rt; "stack {offset}"),
-        Some(Kind::Scalar(Range { low, high, align })) => {
-            let align = align.factor();
-            print!(rt; "{low} to {high} by {align}")
-        }
-        Some(Kind::MapValue { map, offsets }) => print_value(rt, map, offsets),
-        Some(Kind::MaybeValue { map, call }) => print!(rt; "value of {map} or 0, from {call}"),
-        Some(Kind::MapName(map)) => print!(rt; "map {map}"),
-    }
-}
+use verifier_kinds::Kind;
 
 /// The kind at a place, which is written `slot.register`.
 fn kind_at(program: &Verified, place: &str) -> Option<Kind> {
@@ -120,19 +102,18 @@ fn answer_of(alloc: Global, hex: &str, given: &str) -> Result<Answer, AllocError
     Ok(Answer { outcome, is_alike })
 }
 
-/// Prints the line of a row.
-fn print_answer(rt: &(impl AllocGlobal + Print), row: &str) -> io::Result<()> {
-    let mut fields = row.split('\t');
-    let name = fields.next().unwrap_or("");
+/// Prints what is answered to a row's text, and what is known at its places.
+fn print_answer(rt: &(impl AllocGlobal + Print), asked: &str) -> io::Result<()> {
+    let mut fields = asked.split('\t');
     let hex = fields.next().unwrap_or("");
     let given = fields.next().unwrap_or("");
     let Answer { outcome, is_alike } = answer_of(rt.alloc(), hex, given)?;
     match outcome {
-        Err(Refused { number, slot }) => print!(rt; "{name}\trefused {number} at {slot}")?,
+        Err(Refused { number, slot }) => print!(rt; "refused {number} at {slot}")?,
         Ok(program) => {
             let slots = program.slots();
             let instructions = program.instructions();
-            print!(rt; "{name}\taccepted {slots} {instructions}")?;
+            print!(rt; "accepted {slots} {instructions}")?;
             for place in fields {
                 print!(rt; "\t{place}: ")?;
                 print_kind(rt, kind_at(&program, place))?;
@@ -140,15 +121,27 @@ fn print_answer(rt: &(impl AllocGlobal + Print), row: &str) -> io::Result<()> {
         }
     }
     if is_alike {
-        println!(rt;)
+        Ok(())
     } else {
-        println!(rt; "\tthe plain verifier differs")
+        print!(rt; "\tthe plain verifier differs")
     }
+}
+
+/// Prints the line of a row.
+fn print_line(rt: &(impl AllocGlobal + Print), row: &str) -> io::Result<()> {
+    let (name, asked) = row.split_once('\t').unwrap_or((row, ""));
+    print!(rt; "{name}\t")?;
+    match asked.split_once('\t') {
+        Some(("insn", operands)) => print_insn(rt, operands)?,
+        Some(("join", slots)) => print_join(rt, slots)?,
+        _ => print_answer(rt, asked)?,
+    }
+    println!(rt;)
 }
 
 fn main(rt: HostRuntime) -> io::Result<()> {
     for line in rt.lines(rt.alloc()) {
-        print_answer(&rt, line?.as_str())?;
+        print_line(&rt, line?.as_str())?;
     }
     Ok(())
 }
