@@ -5,6 +5,6 @@ use Rattle.host_types.specs.declared.fault.Fault.TheVariants.{NoFrames}
 use Rattle.page_table.specs.State.{MemoryState, have_of}
 
 -- when no frames are reserved for a run: it needs more than new pages may have
-abbrev pub RefusesRun : MemoryState → ℕ → Fault → Type 0
-RefusesRun memory needed (NoFrames need have) = (need ≡ needed) × (have ≡ have_of memory) × (have < need)
-RefusesRun memory needed _ = ⊥
+abbrev pub RefusesFrames : MemoryState → ℕ → Fault → Type 0
+RefusesFrames memory needed (NoFrames need have) = (need ≡ needed) × (have ≡ have_of memory) × (have < need)
+RefusesFrames memory needed _ = ⊥

@@ -2,7 +2,7 @@ ghost use Rattle.std.specs.Prelude.{◌≡◌, ◌+◌, ◌≤◌, length, OnOk,
 ghost use Rattle.page_table.specs.State.{part, have_of};
 ghost use Rattle.page_table.specs.Changes.{IsKeptBut, with_reserve, with_record};
 ghost use Rattle.verifier.specs.Reserve.{reserve_from};
-ghost use Rattle.admission.specs.Refusals.{RefusesRun};
+ghost use Rattle.admission.specs.Refusals.{RefusesFrames};
 
 use host_types::Fault;
 use page_table::Memory;
@@ -28,7 +28,7 @@ pub fn admit(memory: &mut Memory, tenant: u32, need: u32) -> Result<(), Fault>
     ensures have { OnOk result (have_of memory.new + need ≡ have_of memory.old) }
     ensures all { OnOk result (memory.new ≡ with_record memory.old tenant need) }
     ensures others { IsKeptBut tenant memory.old memory.new }
-    ensures err { IfErr result (RefusesRun memory.old need) }
+    ensures err { IfErr result (RefusesFrames memory.old need) }
     ensures unchanged { OnErr result (memory.new ≡ memory.old) }
 {
     let have = memory.have();

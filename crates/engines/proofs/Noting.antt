@@ -20,7 +20,7 @@ use Rattle.host_core.proofs.Joined.{AllHappen-join}
 use Rattle.engines.specs.declared.session.Session.{Session}
 use Rattle.engines.specs.Lines.{line_of, refusal_text, reply_lines}
 use Rattle.engines.specs.Replay.{AreOf, AreOfAll, AreIfBegun, AreStepsUpTo, AreStepsToEnd, AreVisits, IsReplayed, refused, happened, latest_run, begun_after, pages_after, pages_by, lines_from, is_refusal, has_refusal}
-use Rattle.engines.specs.Sessions.{AreStepsMade, HasTold, HasNoted, IsAlone, Performs, begun_by}
+use Rattle.engines.specs.Sessions.{AreStepsMade, HasTold, HasNoted, IsOneEvent, Performs, begun_by}
 
 -- an output that took nothing
 pub Appends-none : (known : Option (List ℕ)) → Appends known known []
@@ -241,14 +241,14 @@ performs-stepped host t limit old was makes ends w stands =
 pub performs-told : (host : HostView) (event : Event) (reply : Reply) (old new : Session) (was is : Option (List ℕ))
     → ((x : System) → StandsForSystem old.host x
     → (next : System) × StandsForSystem host next × Happens x event reply next × IsPromised x event reply next × IsCovered next)
-    → HasTold event reply (with_host old host) new was is → Performs (IsAlone event reply) old new was is
+    → HasTold event reply (with_host old host) new was is → Performs (IsOneEvent event reply) old new was is
 performs-told host event reply old new was is happens told w stands =
     let (next, stands', happen, promised, covered) = happens w stands in
     (event ∷ [], reply ∷ [], next, (refl, refl), noted-told w next host event reply old new was is stands' happen promised covered told)
 
 -- a run that began and went on
 pub performs-run : (pages t : ℕ) (event : Event) (old half new : Session) (was mid_way is : Option (List ℕ)) → tenant_of event ≡ Some t
-    → Performs (IsAlone event Begun) old half was mid_way → Performs (AreStepsToEnd t) half new mid_way is → Performs (AreOf pages (Run event)) old new was is
+    → Performs (IsOneEvent event Begun) old half was mid_way → Performs (AreStepsToEnd t) half new mid_way is → Performs (AreOf pages (Run event)) old new was is
 performs-run pages t event old half new was mid_way is named begins goes w stands =
     let (first, replied, mid, (one, answer), noted) = begins w stands in
     let (more, further, next, steps, noted') = goes mid noted.stands in (
@@ -289,9 +289,9 @@ nothing-more (Some t) reply other = not_begun t reply (λ e. other e refl)
 
 -- a run that didn't begin
 pub performs-no_run : (pages : ℕ) (event : Event) (reply : Reply) (old new : Session) (was is : Option (List ℕ)) → (reply ≡ Begun → IsSome (tenant_of event) → ⊥)
-    → Performs (IsAlone event reply) old new was is → Performs (AreOf pages (Run event)) old new was is
+    → Performs (IsOneEvent event reply) old new was is → Performs (AreOf pages (Run event)) old new was is
 performs-no_run pages event reply old new was is other =
-    performs-as (IsAlone event reply) (AreOf pages (Run event)) old new was is
+    performs-as (IsOneEvent event reply) (AreOf pages (Run event)) old new was is
     (λ events replies alone. (reply, [], [], alone.0, alone.1, nothing-more (tenant_of event) reply other))
 
 -- no visits, and one more visit
@@ -302,7 +302,7 @@ one-more : (n : ℕ) → replicate n Visit ++ Visit ∷ [] ≡ replicate (n + 1)
 one-more n = replicate-append-replicate n 1 Visit
 
 pub performs-visit : (n : ℕ) (reply : Reply) (old half new : Session) (was mid_way is : Option (List ℕ))
-    → Performs (AreVisits n) old half was mid_way → Performs (IsAlone Visit reply) half new mid_way is → Performs (AreVisits (n + 1)) old new was is
+    → Performs (AreVisits n) old half was mid_way → Performs (IsOneEvent Visit reply) half new mid_way is → Performs (AreVisits (n + 1)) old new was is
 performs-visit n reply old half new was mid_way is before last w stands =
     let (first, replied, mid, (visits, counted), noted) = before w stands in
     let (more, further, next, (one, answer), noted') = last mid noted.stands in (

@@ -11,8 +11,8 @@ use Rattle.engines.specs.Lines.{reply_lines}
 use Rattle.engines.specs.Replay.{latest_run, begun_after, pages_after, pages_by, lines_from, is_refusal, has_refusal}
 
 -- one event, with its reply
-abbrev pub IsAlone : Event → Reply → List Event → List Reply → Type 0
-IsAlone event reply events replies = (events ≡ event ∷ []) × (replies ≡ reply ∷ [])
+abbrev pub IsOneEvent : Event → Reply → List Event → List Reply → Type 0
+IsOneEvent event reply events replies = (events ≡ event ∷ []) × (replies ≡ reply ∷ [])
 
 -- steps of a tenant up to a limit, and none after one with which the run ends or that is refused; a limit from
 -- 2^32 on never comes first

@@ -6,7 +6,7 @@ ghost use Rattle.host_core.specs.HostView.{tenant_of};
 ghost use Rattle.host_file.specs.Faults.{IsBad};
 ghost use Rattle.host_file.specs.declared.command.Command.TheVariants.{Run};
 ghost use Rattle.engines.specs.Replay.{AreOf, AreOfAll, AreStepsToEnd, AreVisits, latest_run, one_more_run, pages_after, runs_begun};
-ghost use Rattle.engines.specs.Sessions.{AreStepsMade, HasTold, IsAlone, Performs};
+ghost use Rattle.engines.specs.Sessions.{AreStepsMade, HasTold, IsOneEvent, Performs};
 
 use crate::explanation::explain_event;
 use crate::lines::write_reply;
@@ -145,7 +145,7 @@ impl Session {
         writer: &mut W,
         words: &mut E,
     ) -> Result<Reply, FileFault>
-        ensures performs { IfOk result (λ reply. Performs (IsAlone event.now reply) self.old self.new (W.contents writer.old) (W.contents writer.new)) }
+        ensures performs { IfOk result (λ reply. Performs (IsOneEvent event.now reply) self.old self.new (W.contents writer.old) (W.contents writer.new)) }
         ensures bad { IfErr result (λ fault. ¬ IsBad fault) }
     {
         let reply = self.host.apply(event);

@@ -4,12 +4,12 @@ use Rattle.host_types.specs.declared.fault.Fault.TheVariants.{Program, NoFrames,
 use Rattle.page_table.specs.State.{MemoryState}
 use Rattle.verifier.specs.Reserve.{reserve_from}
 use Rattle.verifier.specs.Verified.{Accepted}
-use Rattle.admission.specs.Refusals.{RefusesRun}
+use Rattle.admission.specs.Refusals.{RefusesFrames}
 use Rattle.host_calls.specs.Calls.{TellsHave}
 use Rattle.host_calls.specs.Programs.{RefusesBegin}
 
 module _ (memory : MemoryState) (v : Accepted) where
-  pub begin_refused : (fault : Fault) → RefusesRun memory (reserve_from v 0) fault → RefusesBegin v fault
+  pub begin_refused : (fault : Fault) → RefusesFrames memory (reserve_from v 0) fault → RefusesBegin v fault
   begin_refused (Program refused) impossible = absurd impossible
   begin_refused (NoFrames need have) (is_need, is_have, less) = (is_need, less)
   begin_refused TooManyMaps impossible = absurd impossible
@@ -26,7 +26,7 @@ module _ (memory : MemoryState) (v : Accepted) where
   begin_refused PagesShared impossible = absurd impossible
   begin_refused TooManyPrograms impossible = absurd impossible
 
-  pub begin_told : (fault : Fault) → RefusesRun memory (reserve_from v 0) fault → TellsHave memory fault
+  pub begin_told : (fault : Fault) → RefusesFrames memory (reserve_from v 0) fault → TellsHave memory fault
   begin_told (Program refused) impossible = absurd impossible
   begin_told (NoFrames need have) (is_need, is_have, less) = is_have
   begin_told TooManyMaps impossible = absurd impossible

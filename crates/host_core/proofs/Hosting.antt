@@ -17,7 +17,7 @@ use Rattle.host_core.specs.declared.event.Event.TheVariants.{CreateMap, Load, Be
 use Rattle.host_core.specs.declared.event.Reply.{Reply}
 use Rattle.host_core.specs.declared.event.Reply.TheVariants.{Visited as WasVisited, Done, Counters as AreCounters, Refused}
 use Rattle.host_core.specs.World.{System, all_maps, have_in, IsCovered}
-use Rattle.host_core.specs.Happens.{Happens, IsPromised, IsPromisedOf, SetHappens, UnmergeHappens, AllHappen, StepsHappen, changed}
+use Rattle.host_core.specs.Happens.{Happens, IsPromised, IsPromisedOf, SetHappens, UnmergeHappens, AllHappen, StepsHappen, changed_system}
 use Rattle.host_core.specs.HostView.{TenantView, HostView, StandsForTenant, StandsForMemory, StandsForSystem, IsKept, IsServed, HasMadeSteps, reply_of, tenant_of}
 use Rattle.page_table.specs.Reads.{ReadsAs}
 use Rattle.host_core.proofs.Joined.{AllHappen-join}
@@ -134,7 +134,7 @@ pub hosts-served : (views : List TenantView) (before after : MemoryState) (t : �
 hosts-served views before after t old new event reply there served x stands =
     let (tenant, found, stood) = AllZip-found StandsForTenant views x.world t old stands.tenants there in
     let (next, sharing, stands', memory', happens, promised) = served x tenant found stood stands.memory in
-    (changed x t next sharing, record { memory = memory'; tenants = AllZip-set StandsForTenant views x.world t new next stands.tenants stands' }, happens, promised)
+    (changed_system x t next sharing, record { memory = memory'; tenants = AllZip-set StandsForTenant views x.world t new next stands.tenants stands' }, happens, promised)
 
 -- the tenant and the memory of a host stand for a system
 pub kept_in : (views : List TenantView) (memory : MemoryState) (t : ℕ) (old : TenantView) → (x : System) × StandsForSystem (record { tenants = views; memory = memory }) x → slice_get views t ≡ Some old → IsKept t old memory
@@ -186,7 +186,7 @@ pub host-made : (views : List TenantView) (before after : MemoryState) (t limit 
 host-made views before after t limit old new last there made x stands =
     let (tenant, found, stood) = AllZip-found StandsForTenant views x.world t old stands.tenants there in
     let (next, sharing, stands', memory', happen) = made x tenant found stood stands.memory in
-    (changed x t next sharing, record { memory = memory'; tenants = AllZip-set StandsForTenant views x.world t new next stands.tenants stands' }, happen)
+    (changed_system x t next sharing, record { memory = memory'; tenants = AllZip-set StandsForTenant views x.world t new next stands.tenants stands' }, happen)
 
 -- steps of no tenant
 pub host-no_tenant : (views : List TenantView) (memory : MemoryState) (t limit : ℕ) → 0 < limit → ReadsAs memory → slice_get views t ≡ None

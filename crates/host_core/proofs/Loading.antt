@@ -20,7 +20,7 @@ use Rattle.host_core.specs.declared.event.Event.TheVariants.{Load}
 use Rattle.host_core.specs.declared.event.Reply.TheVariants.{Program, Refused}
 use Rattle.host_core.specs.declared.tenant.OpenRun.{OpenRun as KeptRun}
 use Rattle.host_core.specs.World.{OpenRun, Tenant, System, owned_by}
-use Rattle.host_core.specs.Happens.{MayLackMemory, LoadHappens, load_refusal, is_context_size, changed}
+use Rattle.host_core.specs.Happens.{MayLackMemory, LoadHappens, load_refusal, is_context_size, changed_system}
 use Rattle.host_core.specs.HostView.{TenantView, StandsForAnyRun, StandsForTenant, IsServed}
 use Rattle.host_core.proofs.Worlds.{OfTenant-there, RefusedOr-refused, RefusedOr-else}
 use Rattle.host_core.proofs.Systems.{part_stands, changed_stands}
@@ -165,7 +165,7 @@ module _ (t : ℕ) (old : TenantView) (memory : MemoryState) (text : List ℕ) (
             let same : p ≡ v.subject = sym (is ∙ ap (λ o. subject_of o text size) owned) in
             let next : Tenant = record tenant { programs = tenant.programs ++ p ∷ [] } in
             let reply = Program (length old.programs) in
-            let x' : System = changed x t next x.sharing in
+            let x' : System = changed_system x t next x.sharing in
             let tight : IsTightTable p v.table = subst (λ q. IsTightTable q v.table) (sym same) verified.tight in
             let happens : LoadHappens x t tenant p reply x' = LoadHappens.loaded well v.table tight (ap Program (sym (length-programs old tenant stands)), refl) in (
               next,

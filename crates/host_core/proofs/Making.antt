@@ -7,13 +7,13 @@ use Rattle.host_core.specs.declared.event.Event.TheVariants.{Step}
 use Rattle.host_core.specs.declared.event.Reply.{Reply}
 use Rattle.host_core.specs.declared.event.Reply.TheVariants.{Stepped}
 use Rattle.host_core.specs.World.{Tenant, System}
-use Rattle.host_core.specs.Happens.{Happens, IsPromised, AllHappen, AreSteps, changed}
+use Rattle.host_core.specs.Happens.{Happens, IsPromised, AllHappen, AreSteps, changed_system}
 use Rattle.host_core.specs.HostView.{TenantView, StandsForTenant, StandsForMemory, StandsForAnyRun, IsKept, IsServed, HasMadeSteps, HasCounted, steps_of}
 use Rattle.host_core.proofs.Joined.{AllHappen-join}
 use Rattle.interp.proofs.Counting.{instructions_fit}
 use Rattle.host_core.specs.declared.tenant.OpenRun.{OpenRun as KeptRun}
 use Rattle.host_core.proofs.Stepping.{run-found, verified-at}
-use Rattle.host_core.proofs.Worlds.{changed-same, changed-twice, slice_get-set}
+use Rattle.host_core.proofs.Worlds.{changed_system-same, changed_system-twice, slice_get-set}
 
 -- one event that happens alone
 alone : (x x' : System) (event : Event) (reply : Reply) → AllHappen x (event ∷ []) (reply ∷ []) x' → Happens x event reply x' × IsPromised x event reply x'
@@ -23,7 +23,7 @@ alone x x' event reply (next, happens, promised, covered, same) = rw same (happe
 pub served-stepped : (t : ℕ) (old new : TenantView) (before after : MemoryState) → HasMadeSteps t old before 1 None new after → IsServed t old before (Step t) Stepped new after
 served-stepped t old new before after made x tenant there s memory =
     let (next, sharing, stands, memory', (events, replies, (steps, all_stepped), all)) = made x tenant there s memory in
-    let (happens, promised) = alone x (changed x t next sharing) (Step t) Stepped (rw (steps, all_stepped) at all) in
+    let (happens, promised) = alone x (changed_system x t next sharing) (Step t) Stepped (rw (steps, all_stepped) at all) in
     (next, sharing, stands, memory', happens, promised)
 
 -- where one step may be made and there is another reply, that is the reply to one step
@@ -31,14 +31,14 @@ pub served-last : (t : ℕ) (old new : TenantView) (before after : MemoryState) 
 served-last t old new before after last made x tenant there s memory =
     let (next, sharing, stands, memory', (events, replies, (n, few, other, steps, all_replies), all)) = made x tenant there s memory in
     let none : n ≡ 0 = omega (arith, few) in
-    let (happens, promised) = alone x (changed x t next sharing) (Step t) last (rw (steps, all_replies, none) at all) in
+    let (happens, promised) = alone x (changed_system x t next sharing) (Step t) last (rw (steps, all_replies, none) at all) in
     (next, sharing, stands, memory', happens, promised)
 
 -- a tenant and a memory that made steps still stand for a system
 pub kept-made : (t limit : ℕ) (old new : TenantView) (before after : MemoryState) (last : Option Reply) → HasMadeSteps t old before limit last new after → IsKept t old before → IsKept t new after
 kept-made t limit old new before after last made (x, tenant, there, s, memory) =
     let (next, sharing, stands, memory', happen) = made x tenant there s memory in
-    (changed x t next sharing, next, slice_get-set x.world t tenant next there, stands, memory')
+    (changed_system x t next sharing, next, slice_get-set x.world t tenant next there, stands, memory')
 
 -- some of one kind before others and one more
 replicated : {X : Type 0} (n k : ℕ) (one last : X) → replicate n one ++ (replicate k one ++ last ∷ []) ≡ replicate (n + k) one ++ last ∷ []
@@ -56,9 +56,9 @@ pub made-join : (t n k : ℕ) (one two three : TenantView) (before between after
     → HasMadeSteps t one before n None two between → HasMadeSteps t two between k last three after → HasMadeSteps t one before (n + k) last three after
 made-join t n k one two three before between after last first second x tenant there s memory =
     let (next, sharing, stands, memory', (events, replies, steps, all)) = first x tenant there s memory in
-    let x' = changed x t next sharing in
+    let x' = changed_system x t next sharing in
     let (next', sharing', stands', memory'', (more, further, rest, behind)) = second x' next (slice_get-set x.world t tenant next there) stands memory' in
-    let same = changed-twice x t next next' sharing sharing' in (
+    let same = changed_system-twice x t next next' sharing sharing' in (
       next',
       sharing',
       stands',
@@ -67,14 +67,14 @@ made-join t n k one two three before between after last first second x tenant th
         events ++ more,
         replies ++ further,
         steps-join t n k last events more replies further steps rest,
-        subst (AllHappen x (events ++ more) (replies ++ further)) same (AllHappen-join x x' (changed x' t next' sharing') events more replies further all behind),
+        subst (AllHappen x (events ++ more) (replies ++ further)) same (AllHappen-join x x' (changed_system x' t next' sharing') events more replies further all behind),
       ),
     )
 
 -- no steps
 pub made-none : (t : ℕ) (old : TenantView) (memory : MemoryState) → HasMadeSteps t old memory 0 None old memory
 made-none t old memory x tenant there s stands =
-    let same : changed x t tenant x.sharing ≡ x = changed-same x t tenant there in
+    let same : changed_system x t tenant x.sharing ≡ x = changed_system-same x t tenant there in
     (tenant, x.sharing, s, subst (StandsForMemory memory) (sym same) stands, ([], [], (refl, refl), same))
 
 -- fewer than 2^32 steps were made of a run that is open

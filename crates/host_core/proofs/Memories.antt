@@ -9,8 +9,8 @@ use Rattle.std.proofs.Math.Seq.{take-append_seam, drop-append-add}
 use Rattle.host_types.specs.Bytes.{part_of}
 use Rattle.host_types.specs.Memory.{FlatMaps}
 use Rattle.page_table.specs.declared.tenant.Tenant.{Tenant as Recorded}
-use Rattle.page_table.specs.State.{MemoryState, part, new_tenant}
-use Rattle.host_core.specs.World.{Tenant, World, all_maps, owned_by, new_tenant as new_host_tenant}
+use Rattle.page_table.specs.State.{MemoryState, part, unreserved_tenant}
+use Rattle.host_core.specs.World.{Tenant, World, all_maps, owned_by, new_tenant}
 use Rattle.host_core.specs.HostView.{recorded_of}
 
 -- the tenant has its eight places for maps
@@ -96,12 +96,12 @@ memory_of_parts memory w eight tenants maps parts = (
 )
   where
     default : Tenant
-    default = new_host_tenant
+    default = new_tenant
 
     recorded : (k : ℕ) (d : Recorded) → k < length w → get_or memory.tenants k d ≡ get_or (map recorded_of w) k d
     recorded k d less =
         let there = slice_get-get_or w k default less in
         let read = get_or_from_slice_get (map recorded_of w) k (recorded_of (get_or w k default)) d (slice_get-map recorded_of w k ∙ ap (option_map recorded_of) there) in
-        let same : get_or memory.tenants k d ≡ get_or memory.tenants k new_tenant = get_or_default memory.tenants k d new_tenant (omega (arith, less, tenants)) in
-        let here : (get_or memory.tenants k new_tenant).reserve ≡ (recorded_of (get_or w k default)).reserve = ap (λ owned. owned.reserve) (parts k (get_or w k default) there) in
+        let same : get_or memory.tenants k d ≡ get_or memory.tenants k unreserved_tenant = get_or_default memory.tenants k d unreserved_tenant (omega (arith, less, tenants)) in
+        let here : (get_or memory.tenants k unreserved_tenant).reserve ≡ (recorded_of (get_or w k default)).reserve = ap (λ owned. owned.reserve) (parts k (get_or w k default) there) in
         same ∙ ap (λ n. record { reserve = n }) here ∙ sym read

@@ -25,7 +25,7 @@ use Rattle.host_calls.specs.Programs.{RefusesBegin}
 use Rattle.host_core.specs.declared.event.Event.TheVariants.{Begin}
 use Rattle.host_core.specs.declared.event.Reply.TheVariants.{Begun, Refused}
 use Rattle.host_core.specs.World.{OpenRun, Tenant, System, begun_run, accepted_of, owned_by, reserve_of, have_in}
-use Rattle.host_core.specs.Happens.{BeginHappens, begin_refusal, changed}
+use Rattle.host_core.specs.Happens.{BeginHappens, begin_refusal, changed_system}
 use Rattle.host_core.specs.HostView.{TenantView, StandsForTenant, IsKept, IsServed}
 use Rattle.host_core.proofs.Worlds.{OfTenant-there, RefusedOr-refused, RefusedOr-else}
 use Rattle.host_core.proofs.Systems.{part_stands, have_stands, changed_stands}
@@ -203,7 +203,7 @@ begin-begun t k old before after context run v idle found fits begun none_made a
     let sizes = record_keeps before after t (reserve_from v 0) admits.all in
     let shares : after.sharing ≡ x.sharing = ap (λ (memory : MemoryState). memory.sharing) admits.all ∙ holds.sharing in
     let none = begin_refusal-none tenant k context v.subject (none-open t k old context v idle found tenant stands) (numbered t k old context v idle found tenant stands) fits in
-    let x' : System = changed x t next x.sharing in
+    let x' : System = changed_system x t next x.sharing in
     let happens : BeginHappens x t tenant k context Begun x' = (v.subject, numbered t k old context v idle found tenant stands, inr (enough, (refl, refl))) in (
       next,
       x.sharing,

@@ -28,9 +28,9 @@ use Rattle.host_core.specs.declared.event.Reply.{Reply}
 use Rattle.host_core.specs.declared.event.Reply.TheVariants.{Map, Done, Value, Refused}
 use Rattle.host_core.specs.declared.tenant.OpenRun.{OpenRun as KeptRun}
 use Rattle.host_core.specs.World.{OpenRun, Tenant, System, owned_by, have_in}
-use Rattle.host_core.specs.Happens.{Happens, IsPromised, RefusesCreate, RefusesHostUpdate, changed}
+use Rattle.host_core.specs.Happens.{Happens, IsPromised, RefusesCreate, RefusesHostUpdate, changed_system}
 use Rattle.host_core.specs.HostView.{TenantView, StandsForAnyRun, StandsForTenant, StandsForMemory, IsKept, IsServed}
-use Rattle.host_core.proofs.Worlds.{changed-same, OfTenant-there}
+use Rattle.host_core.proofs.Worlds.{changed_system-same, OfTenant-there}
 use Rattle.host_core.proofs.Systems.{part_stands, have_stands, changed_stands}
 
 -- there is an open run on both sides, or on none
@@ -50,7 +50,7 @@ pub served-same : (t : ℕ) (old : TenantView) (memory : MemoryState) (event : E
     → ((x : System) (tenant : Tenant) → slice_get x.world t ≡ Some tenant → StandsForTenant old tenant → StandsForMemory memory x → Happens x event reply x × IsPromised x event reply x)
     → IsServed t old memory event reply old memory
 served-same t old memory event reply happens x tenant there stands holds =
-    let same = changed-same x t tenant there in
+    let same = changed_system-same x t tenant there in
     let both = happens x tenant there stands holds in (
       tenant,
       x.sharing,
@@ -158,7 +158,7 @@ create-made t old before after value_size entries mergeable m idle made x tenant
       sharing,
       with_maps old tenant next.maps none stands flat have,
       changed_stands before after x t tenant next sharing holds there (ap length made.settings.tenants) made.settings.frames made.reads eight is made.others shares,
-      OfTenant-there x t (Map m) (changed x t next sharing) _ tenant there (inr (none, fits, enough, (m, free, (refl, refl)))),
+      OfTenant-there x t (Map m) (changed_system x t next sharing) _ tenant there (inr (none, fits, enough, (m, free, (refl, refl)))),
       tt,
     )
 
@@ -246,7 +246,7 @@ update-done t old before after m key value idle made x tenant there stands holds
       sharing,
       with_maps old tenant next.maps none stands flat have,
       changed_stands before after x t tenant next sharing holds there (ap length made.settings.tenants) made.settings.frames made.reads eight is made.others shares,
-      OfTenant-there x t Done (changed x t next sharing) _ tenant there (inr (none, fits, charged, (next.maps, helped, (refl, refl)))),
+      OfTenant-there x t Done (changed_system x t next sharing) _ tenant there (inr (none, fits, charged, (next.maps, helped, (refl, refl)))),
       tt,
     )
 

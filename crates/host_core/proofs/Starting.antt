@@ -7,7 +7,7 @@ use Rattle.std.proofs.lemmas.Slice.Zip.{all_zipped_more}
 use Rattle.host_types.specs.declared.options.Options.{Options}
 use Rattle.host_types.specs.Memory.{FlatMap, FlatMaps}
 use Rattle.host_types.specs.Pages.{zero_page}
-use Rattle.page_table.specs.State.{MemoryState, new_memory, new_tenant as new_record}
+use Rattle.page_table.specs.State.{MemoryState, new_memory, unreserved_tenant as new_record}
 use Rattle.host_core.specs.World.{all_maps, new_tenant, new_system}
 use Rattle.host_core.specs.HostView.{TenantView, StandsForTenant, StandsForMemory, StandsForSystem, recorded_of}
 use Rattle.host_core.proofs.Memories.{IsEight}

@@ -39,10 +39,10 @@ use Rattle.host_core.specs.declared.event.Reply.{Reply}
 use Rattle.host_core.specs.declared.event.Reply.TheVariants.{Stepped, Ended, Refused}
 use Rattle.host_core.specs.declared.tenant.OpenRun.{OpenRun as KeptRun}
 use Rattle.host_core.specs.World.{OpenRun, Tenant, System, IsTenant, IsOpenRun, IsCovered, accepted_of, reserve_of, reserved_in, owned_by}
-use Rattle.host_core.specs.Happens.{Answers, StepHappens, Happens, IsPromised, IsPromisedOf, AllHappen, StepsHappen, changed, sharing_after}
+use Rattle.host_core.specs.Happens.{Answers, StepHappens, Happens, IsPromised, IsPromisedOf, AllHappen, StepsHappen, changed_system, sharing_after}
 use Rattle.host_core.specs.HostView.{TenantView, StandsForRun, StandsForAnyRun, StandsForTenant, StandsForMemory, IsKept, HasMadeSteps, steps_of}
 use Rattle.host_core.specs.Stretches.{IsUnderWayAt, HasAdvanced, HasDone, IsQuiet, IsAnswered, IsEnded, quiet, answered, ended, part_in}
-use Rattle.host_core.proofs.Worlds.{slice_get-set, OfTenant-there, changed-same, changed-twice}
+use Rattle.host_core.proofs.Worlds.{slice_get-set, OfTenant-there, changed_system-same, changed_system-twice}
 use Rattle.host_core.proofs.Systems.{part_stands, covered, changed_stands}
 use Rattle.host_core.proofs.Joined.{AllHappen-join}
 use Rattle.host_core.proofs.Advances.{some_instruction}
@@ -146,7 +146,7 @@ all_have_alike : (programs : List Accepted) (maps later : FlatMaps) → ((j : �
 all_have_alike programs maps later same all k v less = have_alike (get_or programs k v).subject.shapes maps later same (all k v less)
 
 -- a system stays covered where a tenant needs no more than before
-pub covered-changed : (x : System) (t : ℕ) (tenant next : Tenant) → slice_get x.world t ≡ Some tenant → IsCovered x → reserve_of next.run ≤ reserve_of tenant.run → IsCovered (changed x t next x.sharing)
+pub covered-changed : (x : System) (t : ℕ) (tenant next : Tenant) → slice_get x.world t ≡ Some tenant → IsCovered x → reserve_of next.run ≤ reserve_of tenant.run → IsCovered (changed_system x t next x.sharing)
 covered-changed x t tenant next there covers less =
     let need : Tenant → ℕ = λ one. reserve_of one.run in
     let sums = sum_by-set need x.world t next tenant (slice_get_within x.world t tenant there) in
@@ -180,22 +180,22 @@ tenant_after tenant maps = record tenant { maps = maps; run = None }
 -- a step after which an open run goes on
 step-on : (x : System) (t : ℕ) (tenant : Tenant) (r : OpenRun) (u : MachineState) (sharing : Sharing) → slice_get x.world t ≡ Some tenant → tenant.run ≡ Some r → Runs r.program.text r.context r.maps r.steps (Next r.state)
     → step r.program.text r.state ≡ Some (Next u) → sharing ≡ sharing_after x.sharing t (written r.program.text r.state) → suc r.steps < instructions_of r.program.text
-    → Happens x (Step t) Stepped (changed x t (tenant_at tenant r (suc r.steps) u) sharing) × IsPromised x (Step t) Stepped (changed x t (tenant_at tenant r (suc r.steps) u) sharing)
+    → Happens x (Step t) Stepped (changed_system x t (tenant_at tenant r (suc r.steps) u) sharing) × IsPromised x (Step t) Stepped (changed_system x t (tenant_at tenant r (suc r.steps) u) sharing)
 step-on x t tenant r u sharing there is_open reached makes shares few =
     let next = tenant_at tenant r (suc r.steps) u in
-    step-open x t tenant r Stepped (changed x t next sharing) there is_open
-    (Next u, makes, (refl, ap (changed x t next) shares))
+    step-open x t tenant r Stepped (changed_system x t next sharing) there is_open
+    (Next u, makes, (refl, ap (changed_system x t next) shares))
     (u, (r.state, reached, makes), few, subst (λ o. IsSomeAnd o (λ one. one.maps ≡ u.memory.maps)) (sym (slice_get-set x.world t tenant next there)) refl)
 
 -- a step with which an open run ends
 step-last : (x : System) (t : ℕ) (tenant : Tenant) (r : OpenRun) (number : ℕ) (maps : FlatMaps) → slice_get x.world t ≡ Some tenant → tenant.run ≡ Some r → Runs r.program.text r.context r.maps r.steps (Next r.state)
     → step r.program.text r.state ≡ Some (Exits number maps) → suc r.steps ≤ instructions_of r.program.text
-    → Happens x (Step t) (Ended number (suc r.steps)) (changed x t (tenant_after tenant maps) x.sharing) × IsPromised x (Step t) (Ended number (suc r.steps)) (changed x t (tenant_after tenant maps) x.sharing)
+    → Happens x (Step t) (Ended number (suc r.steps)) (changed_system x t (tenant_after tenant maps) x.sharing) × IsPromised x (Step t) (Ended number (suc r.steps)) (changed_system x t (tenant_after tenant maps) x.sharing)
 step-last x t tenant r number maps there is_open reached makes few =
     let next = tenant_after tenant maps in
     let shares : x.sharing ≡ sharing_after x.sharing t (written r.program.text r.state) = ap (sharing_after x.sharing t) (sym (exit_writes r.program.text r.state number maps makes)) in
-    step-open x t tenant r (Ended number (suc r.steps)) (changed x t next x.sharing) there is_open
-    (Exits number maps, makes, (refl, ap (changed x t next) shares))
+    step-open x t tenant r (Ended number (suc r.steps)) (changed_system x t next x.sharing) there is_open
+    (Exits number maps, makes, (refl, ap (changed_system x t next) shares))
     (maps, (r.state, reached, makes), few, subst (λ o. IsSomeAnd o (λ one. one.maps ≡ maps)) (sym (slice_get-set x.world t tenant next there)) refl)
 
 -- one more event
@@ -223,22 +223,22 @@ tenant_at-same tenant r u is_open maps same =
 -- steps that write to no map, and where they lead
 steps-on : (x : System) (t : ℕ) (tenant : Tenant) (r : OpenRun) (n : ℕ) (u : MachineState) → slice_get x.world t ≡ Some tenant → tenant.run ≡ Some r → tenant.maps ≡ r.state.memory.maps → IsCovered x
     → Runs r.program.text r.context r.maps r.steps (Next r.state) → ReachesQuietly (accepted_of r.program) r.state n u → r.steps + n < instructions_of r.program.text
-    → AllHappen x (replicate n (Step t)) (replicate n Stepped) (changed x t (tenant_at tenant r (r.steps + n) u) x.sharing) × Runs r.program.text r.context r.maps (r.steps + n) (Next u) × IsNoMore (accepted_of r.program) r.state u
+    → AllHappen x (replicate n (Step t)) (replicate n Stepped) (changed_system x t (tenant_at tenant r (r.steps + n) u) x.sharing) × Runs r.program.text r.context r.maps (r.steps + n) (Next u) × IsNoMore (accepted_of r.program) r.state u
 steps-on x t tenant r zero u there is_open maps covers reached led few =
     let here : u ≡ r.state = led in
     let same = tenant_at-same tenant r u is_open maps here in
     let less : reserve_from (accepted_of r.program) r.state.slot ≤ reserve_from (accepted_of r.program) r.state.slot = omega arith in
-    (ap (λ one. changed x t one x.sharing) same ∙ changed-same x t tenant there, rw (add-zero r.steps, here) reached, rw here less)
+    (ap (λ one. changed_system x t one x.sharing) same ∙ changed_system-same x t tenant there, rw (add-zero r.steps, here) reached, rw here less)
 steps-on x t tenant r (suc n) u there is_open maps covers reached (v, led, makes, writes, less) few =
     let (before, come, fewer) = steps-on x t tenant r n v there is_open maps covers reached led (omega (arith, few)) in
     let here = tenant_at tenant r (r.steps + n) v in
     let next = tenant_at tenant r (suc (r.steps + n)) u in
     let shares : x.sharing ≡ sharing_after x.sharing t (written r.program.text v) = ap (sharing_after x.sharing t) (sym writes) in
-    let one = step-on (changed x t here x.sharing) t here (run_at r (r.steps + n) v) u x.sharing (slice_get-set x.world t tenant here there) refl come makes shares (omega (arith, few)) in
-    let twice = changed-twice x t here next x.sharing x.sharing in
+    let one = step-on (changed_system x t here x.sharing) t here (run_at r (r.steps + n) v) u x.sharing (slice_get-set x.world t tenant here there) refl come makes shares (omega (arith, few)) in
+    let twice = changed_system-twice x t here next x.sharing x.sharing in
     let now : reserve_from (accepted_of r.program) u.slot ≤ reserve_of tenant.run = rw is_open (omega (arith, less, fewer)) in
     let covers' = subst IsCovered (sym twice) (covered-changed x t tenant next there covers now) in
-    let all = push-same x (changed x t here x.sharing) (changed (changed x t here x.sharing) t next x.sharing) n (Step t) Stepped before one covers' in
+    let all = push-same x (changed_system x t here x.sharing) (changed_system (changed_system x t here x.sharing) t next x.sharing) n (Step t) Stepped before one covers' in
     rw (add-suc r.steps n) (subst (λ y. AllHappen x (replicate (suc n) (Step t)) (replicate (suc n) Stepped) y) twice all, (v, come, makes), omega (arith, less, fewer))
 
 -- the maps of a tenant are those of its run
@@ -277,13 +277,13 @@ under-way-kept programs kept t memory (x, tenant, there, stood, stands) =
 -- in a system steps happen, up to a limit, and leave a tenant and pages for which tenant and memory stand now
 abbrev pub MadeSteps : System → ℕ → ℕ → Option Reply → TenantView → MemoryState → Type 0
 MadeSteps x t limit last new later =
-    (next : Tenant) × (sharing : Sharing) × StandsForTenant new next × StandsForMemory later (changed x t next sharing) × StepsHappen x t limit last (changed x t next sharing)
+    (next : Tenant) × (sharing : Sharing) × StandsForTenant new next × StandsForMemory later (changed_system x t next sharing) × StepsHappen x t limit last (changed_system x t next sharing)
 
 -- steps of no run
 pub made-no_run : (kept : TenantView) (t limit : ℕ) (memory : MemoryState) → kept.run ≡ None → 0 < limit → ReadsAs memory → HasMadeSteps t kept memory limit (Some (Refused fault.NoRun)) kept memory
 made-no_run kept t limit memory closed some reads x tenant there s stands =
-    let x' = changed x t tenant x.sharing in
-    let same = changed-same x t tenant there in
+    let x' = changed_system x t tenant x.sharing in
+    let same = changed_system-same x t tenant there in
     let missing : tenant.run ≡ None = run-missing kept.programs tenant.run (subst (λ r. StandsForAnyRun kept.programs r tenant.run) closed s.run) in
     let refused = Refused fault.NoRun in
     let answers : Answers x refused refused x' = (refl, same) in
@@ -320,7 +320,7 @@ made-quiet : (programs : List Accepted) (kept after : KeptRun) (t n : ℕ) (befo
     → slice_get x.world t ≡ Some tenant → StandsForTenant (record { programs = programs; run = Some kept }) tenant → StandsForMemory before x → tenant.run ≡ Some r → (run : StandsForRun programs kept r)
     → ReadsAs before → ReadsAs later → IsKeptBut t before later → KeepsSizes before later → after.program ≡ kept.program → after.run.steps ≡ kept.run.steps + n
     → IsQuiet run.accepted r.state n t before after.run later
-    → (next : Tenant) × (sharing : Sharing) × StandsForTenant (record { programs = programs; run = Some after }) next × StandsForMemory later (changed x t next sharing) × StepsHappen x t n None (changed x t next sharing)
+    → (next : Tenant) × (sharing : Sharing) × StandsForTenant (record { programs = programs; run = Some after }) next × StandsForMemory later (changed_system x t next sharing) × StepsHappen x t n None (changed_system x t next sharing)
 made-quiet programs kept after t n before later x tenant r there stood stands is_open run reads reads' others sizes same_program made did =
     let u = did.next in
     let v = run.accepted in
@@ -342,7 +342,7 @@ made-answered : (programs : List Accepted) (kept after : KeptRun) (t n : ℕ) (b
     → slice_get x.world t ≡ Some tenant → StandsForTenant (record { programs = programs; run = Some kept }) tenant → StandsForMemory before x → tenant.run ≡ Some r → (run : StandsForRun programs kept r)
     → ReadsAs before → ReadsAs later → IsKeptBut t before later → KeepsSizes before later → after.program ≡ kept.program → after.run.steps ≡ kept.run.steps + n
     → IsAnswered run.accepted r.state n t before after.run later
-    → (next : Tenant) × (sharing : Sharing) × StandsForTenant (record { programs = programs; run = Some after }) next × StandsForMemory later (changed x t next sharing) × StepsHappen x t n None (changed x t next sharing)
+    → (next : Tenant) × (sharing : Sharing) × StandsForTenant (record { programs = programs; run = Some after }) next × StandsForMemory later (changed_system x t next sharing) × StepsHappen x t n None (changed_system x t next sharing)
 made-answered programs kept after t n before later x tenant r there stood stands is_open run reads reads' others sizes same_program made did =
     let m = did.made in
     let h = did.here in
@@ -362,22 +362,22 @@ made-answered programs kept after t n before later x tenant r there stood stands
     let next = tenant_at tenant r (suc (r.steps + m)) u in
     let sharing = sharing_after x.sharing t (written r.program.text h) in
     let shares : later.sharing ≡ sharing = did.sharing ∙ ap (λ old. sharing_after old t (written v.subject.text h)) stands.sharing ∙ ap (λ q. sharing_after x.sharing t (written q.text h)) (sym run.program) in
-    let one = step-on (changed x t middle x.sharing) t middle (run_at r (r.steps + m) h) u sharing (slice_get-set x.world t tenant middle there) refl come makes refl few in
-    let twice = changed-twice x t middle next x.sharing sharing in
+    let one = step-on (changed_system x t middle x.sharing) t middle (run_at r (r.steps + m) h) u sharing (slice_get-set x.world t tenant middle there) refl come makes refl few in
+    let twice = changed_system-twice x t middle next x.sharing sharing in
     let shapes : (j : ℕ) → shape_in u.memory.maps j ≡ shape_in tenant.maps j = λ j. ap (λ m. shape_in m j) did.writes ∙ after_shapes did.need did.value h.memory.maps j ∙ ap (λ m. shape_in m j) (did.maps ∙ sym maps) in
     let stood' = stood-on programs kept after tenant r (suc (r.steps + m)) u stood run same_program did.stands shapes counted (h, come, makes) in
     let stands' = changed_stands before later x t tenant next sharing stands there sizes.tenants sizes.frames reads' did.stands.state.maps.eight (did.owned ∙ owned-on tenant r v (suc (r.steps + m)) u same) others shares in
-    let covers = subst IsCovered (sym twice) (covered later (changed x t next sharing) reads' stands') in
-    let all = push-same x (changed x t middle x.sharing) (changed (changed x t middle x.sharing) t next sharing) m (Step t) Stepped happen one covers in
+    let covers = subst IsCovered (sym twice) (covered later (changed_system x t next sharing) reads' stands') in
+    let all = push-same x (changed_system x t middle x.sharing) (changed_system (changed_system x t middle x.sharing) t next sharing) m (Step t) Stepped happen one covers in
     let all' = subst (λ y. AllHappen x (replicate (suc m) (Step t)) (replicate (suc m) Stepped) y) twice all in
-    (next, sharing, stood', stands', (replicate n (Step t), replicate n Stepped, (refl, refl), subst (λ k. AllHappen x (replicate k (Step t)) (replicate k Stepped) (changed x t next sharing)) (sym last) all'))
+    (next, sharing, stood', stands', (replicate n (Step t), replicate n Stepped, (refl, refl), subst (λ k. AllHappen x (replicate k (Step t)) (replicate k Stepped) (changed_system x t next sharing)) (sym last) all'))
 
 -- quiet steps, and one more with which the run ends
 made-ended : (programs : List Accepted) (kept : KeptRun) (run_after : Running) (t n number steps : ℕ) (before later : MemoryState) (x : System) (tenant : Tenant) (r : OpenRun)
     → slice_get x.world t ≡ Some tenant → StandsForTenant (record { programs = programs; run = Some kept }) tenant → StandsForMemory before x → tenant.run ≡ Some r → (run : StandsForRun programs kept r)
     → ReadsAs before → ReadsAs later → IsKeptBut t before later → KeepsSizes before later → run_after.steps ≡ kept.run.steps + n → steps ≡ run_after.steps
     → IsEnded run.accepted r.state n t number before run_after later
-    → (next : Tenant) × (sharing : Sharing) × StandsForTenant (record { programs = programs; run = None }) next × StandsForMemory later (changed x t next sharing) × StepsHappen x t n (Some (Ended number steps)) (changed x t next sharing)
+    → (next : Tenant) × (sharing : Sharing) × StandsForTenant (record { programs = programs; run = None }) next × StandsForMemory later (changed_system x t next sharing) × StepsHappen x t n (Some (Ended number steps)) (changed_system x t next sharing)
 made-ended programs kept run_after t n number steps before later x tenant r there stood stands is_open run reads reads' others sizes made told did =
     let m = did.made in
     let h = did.here in
@@ -394,8 +394,8 @@ made-ended programs kept run_after t n number steps before later x tenant r ther
     let makes = subst (λ q. step q.text h ≡ Some (Exits number final)) (sym run.program) did.makes in
     let middle = tenant_at tenant r (r.steps + m) h in
     let next = tenant_after tenant final in
-    let one = step-last (changed x t middle x.sharing) t middle (run_at r (r.steps + m) h) number final (slice_get-set x.world t tenant middle there) refl come makes few in
-    let twice = changed-twice x t middle next x.sharing x.sharing in
+    let one = step-last (changed_system x t middle x.sharing) t middle (run_at r (r.steps + m) h) number final (slice_get-set x.world t tenant middle there) refl come makes few in
+    let twice = changed_system-twice x t middle next x.sharing x.sharing in
     let stood' : StandsForTenant (record { programs = programs; run = None }) next = record {
       programs = stood.programs;
       verified = stood.verified;
@@ -404,11 +404,11 @@ made-ended programs kept run_after t n number steps before later x tenant r ther
       meets = record { maps = subst AreFlatMaps maps stood.meets.maps; run = tt; same = tt };
     } in
     let stands' = changed_stands before later x t tenant next x.sharing stands there sizes.tenants sizes.frames reads' stood'.meets.maps.eight did.owned others (did.sharing ∙ stands.sharing) in
-    let covers = subst IsCovered (sym twice) (covered later (changed x t next x.sharing) reads' stands') in
-    let all = AllHappen-push x (changed x t middle x.sharing) (changed (changed x t middle x.sharing) t next x.sharing) (replicate m (Step t)) (replicate m Stepped) (Step t) (Ended number (suc (r.steps + m))) happen one covers in
+    let covers = subst IsCovered (sym twice) (covered later (changed_system x t next x.sharing) reads' stands') in
+    let all = AllHappen-push x (changed_system x t middle x.sharing) (changed_system (changed_system x t middle x.sharing) t next x.sharing) (replicate m (Step t)) (replicate m Stepped) (Step t) (Ended number (suc (r.steps + m))) happen one covers in
     let all' = subst (λ y. AllHappen x (replicate m (Step t) ++ Step t ∷ []) (replicate m Stepped ++ Ended number (suc (r.steps + m)) ∷ []) y) twice all in
     let tells : suc (r.steps + m) ≡ steps = sym counted ∙ sym told in
-    let happened = subst (λ k. AllHappen x (replicate m (Step t) ++ Step t ∷ []) (replicate m Stepped ++ Ended number k ∷ []) (changed x t next x.sharing)) tells all' in
+    let happened = subst (λ k. AllHappen x (replicate m (Step t) ++ Step t ∷ []) (replicate m Stepped ++ Ended number k ∷ []) (changed_system x t next x.sharing)) tells all' in
     (next, x.sharing, stood', stands', (replicate m (Step t) ++ Step t ∷ [], replicate m Stepped ++ Ended number steps ∷ [], (m, omega (arith, last), (λ e. cc), refl, refl), happened))
 
 -- steps after which a run goes on

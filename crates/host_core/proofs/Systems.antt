@@ -11,9 +11,9 @@ use Rattle.host_types.specs.Sharing.{Sharing}
 use Rattle.page_table.specs.declared.tenant.Tenant.{Tenant as Recorded}
 use Rattle.page_table.specs.Changes.{IsKeptBut, KeepsSettings}
 use Rattle.page_table.specs.Reads.{ReadsAs}
-use Rattle.page_table.specs.State.{MemoryState, part, have_of, new_tenant}
+use Rattle.page_table.specs.State.{MemoryState, part, have_of, unreserved_tenant}
 use Rattle.host_core.specs.World.{Tenant, World, System, owned_by, have_in, reserve_of, reserved_in, IsCovered}
-use Rattle.host_core.specs.Happens.{changed}
+use Rattle.host_core.specs.Happens.{changed_system}
 use Rattle.host_core.specs.HostView.{StandsForMemory, recorded_of}
 use Rattle.host_core.proofs.Memories.{IsEight, part_all, memory_of_parts}
 use Rattle.host_core.proofs.Worlds.{slice_get-set, slice_get-set-other}
@@ -22,7 +22,7 @@ use Rattle.host_core.proofs.Worlds.{slice_get-set, slice_get-set-other}
 pub part_stands : (memory : MemoryState) (x : System) (t : ℕ) (tenant : Tenant) → StandsForMemory memory x → slice_get x.world t ≡ Some tenant → part memory t ≡ owned_by tenant
 unfolding part
 part_stands memory x t tenant stands there =
-    let recorded = get_or_from_slice_get (map recorded_of x.world) t (recorded_of tenant) new_tenant (slice_get-map recorded_of x.world t ∙ ap (option_map recorded_of) there) in
+    let recorded = get_or_from_slice_get (map recorded_of x.world) t (recorded_of tenant) unreserved_tenant (slice_get-map recorded_of x.world t ∙ ap (option_map recorded_of) there) in
     let maps = part_all x.world t tenant stands.eight there in
     rw (stands.maps, stands.recorded, maps, recorded) refl
 
@@ -60,7 +60,7 @@ shares_stands before after x sharing stands kept maps is = record {
 -- a memory of which one tenant's part and the pages that share frames changed
 pub changed_stands : (before after : MemoryState) (x : System) (t : ℕ) (tenant next : Tenant) (sharing : Sharing) → StandsForMemory before x → slice_get x.world t ≡ Some tenant
     → length after.tenants ≡ length before.tenants → length after.arena ≡ length before.arena → ReadsAs after → length next.maps ≡ 8
-    → part after t ≡ owned_by next → IsKeptBut t before after → after.sharing ≡ sharing → StandsForMemory after (changed x t next sharing)
+    → part after t ≡ owned_by next → IsKeptBut t before after → after.sharing ≡ sharing → StandsForMemory after (changed_system x t next sharing)
 changed_stands before after x t tenant next sharing stands there tenants frames reads eight owned others is =
     let w' : World = set x.world t next in
     let all : All IsEight w' = All-set IsEight x.world t next eight stands.eight in

@@ -9,7 +9,7 @@ use Rattle.host_core.specs.declared.event.Reply.{Reply}
 use Rattle.host_core.specs.declared.event.Reply.TheVariants.{Refused}
 use Rattle.host_types.specs.Sharing.{Sharing}
 use Rattle.host_core.specs.World.{Tenant, World, System}
-use Rattle.host_core.specs.Happens.{Answers, RefusedOr, OfTenant, changed}
+use Rattle.host_core.specs.Happens.{Answers, RefusedOr, OfTenant, changed_system}
 
 -- an item that is written over itself
 pub set-same : {X : Type 0} (xs : List X) (i : ℕ) (x : X) → slice_get xs i ≡ Some x → set xs i x ≡ xs
@@ -59,12 +59,12 @@ slice_get-set-other (x ∷ xs) (suc i) zero y other = refl
 slice_get-set-other (x ∷ xs) (suc i) (suc j) y other = slice_get-set-other xs i j y (λ same. other (ap suc same))
 
 -- a system in which a tenant is written over itself, and the pages are what they were
-pub changed-same : (x : System) (t : ℕ) (tenant : Tenant) → slice_get x.world t ≡ Some tenant → changed x t tenant x.sharing ≡ x
-changed-same x t tenant there = ap (λ (w : World). record x { world = w }) (set-same x.world t tenant there)
+pub changed_system-same : (x : System) (t : ℕ) (tenant : Tenant) → slice_get x.world t ≡ Some tenant → changed_system x t tenant x.sharing ≡ x
+changed_system-same x t tenant there = ap (λ (w : World). record x { world = w }) (set-same x.world t tenant there)
 
 -- a system in which a tenant changed twice
-pub changed-twice : (x : System) (t : ℕ) (one two : Tenant) (first second : Sharing) → changed (changed x t one first) t two second ≡ changed x t two second
-changed-twice x t one two first second = ap (λ (w : World). record x { world = w; sharing = second }) (set-set x.world t one two)
+pub changed_system-twice : (x : System) (t : ℕ) (one two : Tenant) (first second : Sharing) → changed_system (changed_system x t one first) t two second ≡ changed_system x t two second
+changed_system-twice x t one two first second = ap (λ (w : World). record x { world = w; sharing = second }) (set-set x.world t one two)
 
 -- what happens to the tenant that is there
 pub OfTenant-there : (x : System) (t : ℕ) (reply : Reply) (x' : System) (Happening : Tenant → Type 0) (tenant : Tenant) → slice_get x.world t ≡ Some tenant → Happening tenant → OfTenant x t reply x' Happening

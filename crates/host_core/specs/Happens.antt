@@ -40,12 +40,12 @@ abbrev pub Answers : System → Reply → Reply → System → Type 0
 Answers x answer reply x' = (reply ≡ answer) × (x' ≡ x)
 
 -- the system with another tenant at a number, and with other pages that share frames
-abbrev pub changed : System → ℕ → Tenant → Sharing → System
-changed x t tenant sharing = record x { world = slice_set x.world t tenant; sharing = sharing }
+abbrev pub changed_system : System → ℕ → Tenant → Sharing → System
+changed_system x t tenant sharing = record x { world = slice_set x.world t tenant; sharing = sharing }
 
 -- an event was answered so, and left one tenant and the pages so, and all other tenants as they were
 abbrev pub Leaves : System → ℕ → Tenant → Sharing → Reply → Reply → System → Type 0
-Leaves x t tenant sharing answer reply x' = (reply ≡ answer) × (x' ≡ changed x t tenant sharing)
+Leaves x t tenant sharing answer reply x' = (reply ≡ answer) × (x' ≡ changed_system x t tenant sharing)
 
 -- an event was answered so, and left the pages so, and all tenants as they were
 abbrev pub Shares : System → Sharing → Reply → Reply → System → Type 0

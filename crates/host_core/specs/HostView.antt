@@ -14,7 +14,7 @@ use Rattle.host_core.specs.declared.event.Reply.{Reply}
 use Rattle.host_core.specs.declared.event.Reply.TheVariants.{Refused}
 use Rattle.host_core.specs.declared.tenant.OpenRun.{OpenRun as KeptRun}
 use Rattle.host_core.specs.World.{OpenRun, Tenant, System, IsTenant, all_maps, reserve_of}
-use Rattle.host_core.specs.Happens.{Happens, IsPromised, StepsHappen, changed}
+use Rattle.host_core.specs.Happens.{Happens, IsPromised, StepsHappen, changed_system}
 
 -- a tenant as a host keeps it: its accepted programs by number, and its open run, if it has one
 pub record TenantView : Type 0 where
@@ -90,16 +90,16 @@ reply_of (Err fault) = Refused fault
 abbrev pub IsServed : ℕ → TenantView → MemoryState → Event → Reply → TenantView → MemoryState → Type 0
 IsServed t old before event reply new after =
     (x : System) (tenant : Tenant) → slice_get x.world t ≡ Some tenant → StandsForTenant old tenant → StandsForMemory before x
-    → (next : Tenant) × (sharing : Sharing) × StandsForTenant new next × StandsForMemory after (changed x t next sharing)
-    × Happens x event reply (changed x t next sharing) × IsPromised x event reply (changed x t next sharing)
+    → (next : Tenant) × (sharing : Sharing) × StandsForTenant new next × StandsForMemory after (changed_system x t next sharing)
+    × Happens x event reply (changed_system x t next sharing) × IsPromised x event reply (changed_system x t next sharing)
 
 -- Steps of a tenant were made, up to a limit: in each such system they happen as Step events of that
 -- tenant, and leave one there and pages for which tenant and memory stand now.
 abbrev pub HasMadeSteps : ℕ → TenantView → MemoryState → ℕ → Option Reply → TenantView → MemoryState → Type 0
 HasMadeSteps t old before limit last new after =
     (x : System) (tenant : Tenant) → slice_get x.world t ≡ Some tenant → StandsForTenant old tenant → StandsForMemory before x
-    → (next : Tenant) × (sharing : Sharing) × StandsForTenant new next × StandsForMemory after (changed x t next sharing)
-    × StepsHappen x t limit last (changed x t next sharing)
+    → (next : Tenant) × (sharing : Sharing) × StandsForTenant new next × StandsForMemory after (changed_system x t next sharing)
+    × StepsHappen x t limit last (changed_system x t next sharing)
 
 -- how many steps a kept run made
 abbrev pub steps_of : Option KeptRun → ℕ

@@ -96,13 +96,13 @@ pub record IsOptionTable (ms : Members) (options : Options) : Type 0 where
   pub use_zero_pages : HasNumberOr default_options.use_zero_pages ms key.UseZeroPages options.use_zero_pages
   pub max_page_sharing : HasNumberOr default_options.max_page_sharing ms key.MaxPageSharing options.max_page_sharing
 
-abbrev pub AreOptions : Data → Options → Type 0
-AreOptions (table ms) options = IsOptionTable ms options
-AreOptions _ options = ⊥
+abbrev pub IsOptionData : Data → Options → Type 0
+IsOptionData (table ms) options = IsOptionTable ms options
+IsOptionData _ options = ⊥
 
 -- the options of a document; with no table of them all are as by default
 abbrev pub HasOptions : Members → Options → Type 0
-HasOptions ms options = MatchOption (value_at ms key.Options) (options ≡ default_options) (λ value. AreOptions value options)
+HasOptions ms options = MatchOption (value_at ms key.Options) (options ≡ default_options) (λ value. IsOptionData value options)
 
 -- a table does what it says, and has none but these keys
 abbrev pub IsRow : Members → List ℕ → List Key → Type 0

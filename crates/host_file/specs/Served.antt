@@ -15,8 +15,8 @@ IsServedEvent tenants (Set opt value) = Unit {0}
 IsServedEvent tenants _ = ⊥
 
 -- one of those, a whole run of one of so many tenants, or visits
-abbrev pub IsServed : ℕ → Command → Type 0
-IsServed tenants (Apply event) = IsServedEvent tenants event
-IsServed tenants (Run (Begin tenant program context)) = tenant < tenants
-IsServed tenants (Visit count) = Unit {0}
-IsServed tenants _ = ⊥
+abbrev pub IsServedCommand : ℕ → Command → Type 0
+IsServedCommand tenants (Apply event) = IsServedEvent tenants event
+IsServedCommand tenants (Run (Begin tenant program context)) = tenant < tenants
+IsServedCommand tenants (Visit count) = Unit {0}
+IsServedCommand tenants _ = ⊥

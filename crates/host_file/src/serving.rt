@@ -1,6 +1,6 @@
 ghost use Rattle.std.specs.Prelude.{◌<◌, All, Any, IfErr, OnOk};
 ghost use Rattle.host_file.specs.Faults.{IsBad};
-ghost use Rattle.host_file.specs.Served.{IsServed, IsServedEvent};
+ghost use Rattle.host_file.specs.Served.{IsServedCommand, IsServedEvent};
 
 use crate::command::Command;
 use crate::fault::{BadFile, Cause, FileFault, Place};
@@ -10,9 +10,9 @@ use host_core::Event;
 /// Refuses a host file that asks for what isn't served: steps that are made one by one, what all tenants
 /// would have to wait for, or a tenant that isn't there.
 pub fn require_served(file: &HostFile) -> Result<(), FileFault>
-    ensures served { OnOk result (All (IsServed file.now.tenants) file.now.commands) }
+    ensures served { OnOk result (All (IsServedCommand file.now.tenants) file.now.commands) }
     ensures bad { IfErr result IsBad }
-    ensures refused { IfErr result (λ _. Any (λ command. ¬ IsServed file.now.tenants command) file.now.commands) }
+    ensures refused { IfErr result (λ _. Any (λ command. ¬ IsServedCommand file.now.tenants command) file.now.commands) }
 {
     for (number, command) in file.commands.as_slice().iter().enumerate() {
         if let Err(cause) = served(file.tenants, command) {
@@ -27,8 +27,8 @@ pub fn require_served(file: &HostFile) -> Result<(), FileFault>
 
 /// Why a command isn't served, if it isn't.
 fn served(tenants: u32, command: &Command) -> Result<(), Cause>
-    ensures served { OnOk result (IsServed tenants command.now) }
-    ensures refused { IfErr result (λ _. ¬ IsServed tenants command.now) }
+    ensures served { OnOk result (IsServedCommand tenants command.now) }
+    ensures refused { IfErr result (λ _. ¬ IsServedCommand tenants command.now) }
 {
     match command {
         Command::Apply(event) => served_event(tenants, event),

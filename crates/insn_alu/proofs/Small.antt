@@ -12,7 +12,7 @@ use Rattle.bpf_decode.specs.declared.operation.Width.TheVariants.{Bits32, Bits64
 use Rattle.bpf_decode.specs.declared.operation.AluCode.{AluCode}
 use Rattle.bpf_decode.specs.declared.operation.AluCode.TheVariants.{Add, Sub, Mul, Div, Or, And, Lsh, Rsh, Neg, Mod, Xor, Mov, Arsh, ToLittleEndian, ToBigEndian, SwapBytes}
 use Rattle.bpf_decode.specs.Opcodes.{is}
-use Rattle.insn_alu.specs.Arithmetic.{alu, low, modulus, signed, unsigned, count, quotient, remainder, moved, cut, swapped, is_swap}
+use Rattle.insn_alu.specs.Arithmetic.{alu, low, modulus, signed, unsigned, count, quotient, remainder, moved, cut_to, swapped, is_swap}
 use Rattle.insn_alu.proofs.Halves.{of_lows}
 
 -- the low bits of a number are a number of the width
@@ -156,7 +156,7 @@ greatest_of_bits bits =
     if bits == 16 then 65535 else (
     if bits == 32 then 4294967295 else 18446744073709551615)
 
-cut_at_most : (bits a : ℕ) → a < 2 ^ 64 → cut bits a ≤ greatest_of_bits bits
+cut_at_most : (bits a : ℕ) → a < 2 ^ 64 → cut_to bits a ≤ greatest_of_bits bits
 cut_at_most bits a h = by_bits (bits == 16) (bits == 32)
   where
     by_bits : (p q : Bool) → (if p then a % 65536 else (if q then a % 4294967296 else a)) ≤ (if p then 65535 else (if q then 4294967295 else 18446744073709551615))

@@ -10,7 +10,7 @@ mod swap;
 mod wide;
 mod word;
 
-use crate::swap::{cut, swapped};
+use crate::swap::{cut_to, swapped};
 use crate::wide::computed_64;
 use crate::word::computed_32;
 use bpf_decode::{AluCode, Insn, Operation, Width};
@@ -40,7 +40,7 @@ pub fn computed(code: AluCode, width: Width, offset: i16, a: u64, b: u64) -> u64
     ensures { result ≡ alu code width offset a b }
 {
     match (code, width) {
-        (AluCode::ToLittleEndian, _) => cut(b, a),
+        (AluCode::ToLittleEndian, _) => cut_to(b, a),
         (AluCode::ToBigEndian | AluCode::SwapBytes, _) => swapped(b, a),
         (_, Width::Bits64) => computed_64(code, offset, a, b),
         (_, Width::Bits32) => u64::from(computed_32(

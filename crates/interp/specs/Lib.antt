@@ -4,4 +4,4 @@ pub mod Runs
 pub mod Fits
 pub mod Needs
 pub mod StandsFor
-pub mod Plain
+pub mod OwnNumbers

@@ -12,9 +12,9 @@ error_number Exists = eexist
 error_number Invalid = einval
 
 -- the answer of a helper that may refuse
-abbrev pub answer_of : Option HelperError → ℕ
-answer_of None = 0
-answer_of (Some error) = failed (error_number error)
+abbrev pub refusal_answer : Option HelperError → ℕ
+refusal_answer None = 0
+refusal_answer (Some error) = failed (error_number error)
 
 -- the flag with a number
 abbrev pub flag_of : ℕ → Option UpdateFlag

@@ -1,6 +1,6 @@
 ghost use Rattle.std.specs.Prelude.{◌≡◌, ◌<◌, ◌==◌, is_none, IsNone};
 ghost use Rattle.host_types.specs.Helpers.{failed, update_answer};
-ghost use Rattle.map_helpers.specs.Answers.{answer_of, error_number, flag_of};
+ghost use Rattle.map_helpers.specs.Answers.{refusal_answer, error_number, flag_of};
 
 use host_types::Shape;
 
@@ -52,7 +52,7 @@ impl HelperError {
 /// Why an update refuses, if it does. All elements of an array map are there.
 #[tactic(auto, unfolding(host_types::specs::Helpers::update_answer))]
 pub(crate) fn update_error(shape: Shape, key: u32, flags: u64) -> Option<HelperError>
-    ensures answer { answer_of result ≡ update_answer shape key flags }
+    ensures answer { refusal_answer result ≡ update_answer shape key flags }
     ensures refused { (update_answer shape key flags == 0) ≡ is_none result }
     ensures there { IsNone result → key < shape.entries }
 {

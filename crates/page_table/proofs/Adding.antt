@@ -10,7 +10,7 @@ use Rattle.host_types.specs.Pages.{zero_page}
 use Rattle.frame_arena.proofs.Pages.{length-zero_page}
 use Rattle.page_table.specs.declared.entry.Entry.{Entry}
 use Rattle.page_table.specs.Table.{TableState, CountsState, IsTable, IsEntry, IsAlone, IsGroup, IsSound, AreCountsOf, LiesRight, times, one_if_zero, entry_at, state_of, states_of, contents_of, groups_of, is_on, pages_on, own_pages, used_by}
-use Rattle.page_table.proofs.Entries.{one_when, on_one, elsewhere, not_equal, equal, pages_on-set, none_on, at_set, content-kept, contents-set, places_on-set, groups-kept, pages-set}
+use Rattle.page_table.proofs.Entries.{one_when, on_one, elsewhere, not_equal, equal, pages_on-set, none_on, at_set, entry_content-kept, contents-set, places_on-set, groups-kept, pages-set}
 
 -- one where the page has a frame of its own
 abbrev pub own_one : Option Entry → ℕ
@@ -96,7 +96,7 @@ module _ (table : TableState) (i f : ℕ) (mergeable : Bool) (is : IsTable table
   contents-added =
       contents-set table.arena (slice_set table.arena f zero_page) table.entries i (Some (added_entry f mergeable)) zero_page
       (get_or-set_same table.arena f zero_page [] free.there)
-      (λ j ne. content-kept table.arena f zero_page (entry_at table.entries j) (none_on f table.entries j free.empty))
+      (λ j ne. entry_content-kept table.arena f zero_page (entry_at table.entries j) (none_on f table.entries j free.empty))
 
   pub states-added : states_of (added table i f mergeable).entries ≡ slice_set (states_of table.entries) i (Some (new_page mergeable))
   states-added = map-set (option_map state_of) table.entries i (Some (added_entry f mergeable))

@@ -21,7 +21,7 @@ use Rattle.page_table.proofs.Maps.{maps_of-changed, AreMaps-changed, length-maps
 use Rattle.page_table.proofs.Reading.{content_in, few_pages, map_at-part}
 use Rattle.page_table.proofs.Writing.{part-set_same, part-set_other, maps-set_other}
 use Rattle.page_table.proofs.Free.{free_is}
-use Rattle.page_table.specs.Table.{TableState, groups_of, used_by, state_of, states_of, maps_of, flat_of, ArePages, ArePagesOf, contents_of, content}
+use Rattle.page_table.specs.Table.{TableState, groups_of, used_by, state_of, states_of, maps_of, flat_of, ArePages, ArePagesOf, contents_of, entry_content}
 
 -- a part longer by one element is that element set behind it
 pub with_part-more : {X : Type 0} (xs ys : List X) (at : ℕ) (x : X) → at + length ys < length xs → slice_set (with_part xs at ys) (at + length ys) x ≡ with_part xs at (ys ++ x ∷ [])
@@ -100,7 +100,7 @@ with_part-none xs at =
 
 pub length-contents : (table : TableState) → length (contents_of table) ≡ length table.entries
 unfolding contents_of
-length-contents table = length-map table.entries (content table.arena)
+length-contents table = length-map table.entries (entry_content table.arena)
 
 pub length-states : (entries : List (Option Entry)) → length (states_of entries) ≡ length entries
 length-states entries = length-map entries (option_map state_of)

@@ -9,8 +9,8 @@ use Rattle.host_types.specs.Pages.{zero_page}
 use Rattle.page_table.specs.declared.entry.Entry.{Entry}
 use Rattle.page_table.specs.declared.tenant.Tenant.{Tenant}
 use Rattle.page_table.specs.Limits.{AreLimits}
-use Rattle.page_table.specs.State.{new_memory, new_tenant}
-use Rattle.page_table.specs.Table.{TableState, ArePages, content, contents_of, groups_of, own_pages, state_of, maps_of, used_by, new_pass}
+use Rattle.page_table.specs.State.{new_memory, unreserved_tenant}
+use Rattle.page_table.specs.Table.{TableState, ArePages, entry_content, contents_of, groups_of, own_pages, state_of, maps_of, used_by, new_pass}
 use Rattle.page_table.specs.View.{view_of, IsMemory, IsPass}
 use Rattle.page_table.proofs.Adding.{own_one}
 use Rattle.page_table.proofs.Putting.{empty_table}
@@ -47,20 +47,20 @@ module _ (frames tenants : ℕ) (options : Options) (limits : AreLimits frames t
 
   no_contents : contents_of table ≡ replicate (tenants * 2048) []
   unfolding contents_of
-  no_contents = map-replicate (content (replicate frames zero_page)) (tenants * 2048) None
+  no_contents = map-replicate (entry_content (replicate frames zero_page)) (tenants * 2048) None
 
   used_none : used_by table ≡ 1
   unfolding own_pages
   used_none = let none = sum_by-replicate own_one (tenants * 2048) None in omega (arith, none)
 
-  no_reserves : sum_by (λ (tenant : Tenant). tenant.reserve) (replicate tenants new_tenant) ≡ 0
-  no_reserves = sum_by-replicate (λ (tenant : Tenant). tenant.reserve) tenants new_tenant ∙ omega arith
+  no_reserves : sum_by (λ (tenant : Tenant). tenant.reserve) (replicate tenants unreserved_tenant) ≡ 0
+  no_reserves = sum_by-replicate (λ (tenant : Tenant). tenant.reserve) tenants unreserved_tenant ∙ omega arith
 
-  pub memory_new : IsMemory table (replicate (tenants * 8) None) (replicate tenants new_tenant) 0
+  pub memory_new : IsMemory table (replicate (tenants * 8) None) (replicate tenants unreserved_tenant) 0
   memory_new =
       let long = length-replicate {A = Option Shape} (tenants * 8) None in
       let places = ap length no_contents ∙ length-replicate {A = List ℕ} (tenants * 2048) [] in
-      let count = length-replicate tenants new_tenant in
+      let count = length-replicate tenants unreserved_tenant in
       let arena = length-replicate frames zero_page in
       let used = used_none in
       record {
@@ -78,7 +78,7 @@ module _ (frames tenants : ℕ) (options : Options) (limits : AreLimits frames t
       pages : (k : ℕ) (shape : Option Shape) → shape ≡ None → ArePages shape (part_of (contents_of table) (k * 256) 256)
       pages k shape e = rw e (λ n. part_nothing (contents_of table) (k * 256) 256 n (λ i. ap (λ l. slice_index_or l i []) no_contents ∙ nothing (tenants * 2048) i))
 
-  pub view_new : view_of table (replicate (tenants * 8) None) (replicate tenants new_tenant) (new_pass frames options) ≡ new_memory frames tenants options
+  pub view_new : view_of table (replicate (tenants * 8) None) (replicate tenants unreserved_tenant) (new_pass frames options) ≡ new_memory frames tenants options
   unfolding view_of groups_of new_memory
   view_new = rw (no_maps (tenants * 8) (contents_of table), map-replicate {X = Option Entry} (option_map state_of) (tenants * 2048) None, map-replicate {X = Option Entry} (option_map (λ (entry : Entry). entry.frame)) (tenants * 2048) None) refl
 

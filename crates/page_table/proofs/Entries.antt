@@ -6,7 +6,7 @@ use Rattle.std.proofs.lemmas.Bool.Decides.{nat_tests, eqb_tells}
 use Rattle.host_types.specs.Sharing.{is_shared}
 use Rattle.frame_arena.specs.Pages.{page_at}
 use Rattle.page_table.specs.declared.entry.Entry.{Entry}
-use Rattle.page_table.specs.Table.{times, entry_at, content, is_on, places_on, pages_on}
+use Rattle.page_table.specs.Table.{times, entry_at, entry_content, is_on, places_on, pages_on}
 
 abbrev pub one_when : Bool → ℕ
 one_when b = if b then 1 else 0
@@ -82,20 +82,20 @@ at_set P (y ∷ ys) (suc i) zero x none here there = there (λ e. omega arith)
 at_set P (y ∷ ys) (suc i) (suc j) x none here there = at_set P ys i j x none here (λ ne. there (λ e. ne (omega arith)))
 
 -- the content of a page that doesn't lie on the frame which is written
-pub content-kept : (arena : List (List ℕ)) (f : ℕ) (page : List ℕ) (x : Option Entry) → is_on f x ≡ false → content (slice_set arena f page) x ≡ content arena x
-content-kept arena f page None h = refl
-content-kept arena f page (Some entry) h = get_or-set_other arena f entry.frame page [] (elsewhere f entry.frame h)
+pub entry_content-kept : (arena : List (List ℕ)) (f : ℕ) (page : List ℕ) (x : Option Entry) → is_on f x ≡ false → entry_content (slice_set arena f page) x ≡ entry_content arena x
+entry_content-kept arena f page None h = refl
+entry_content-kept arena f page (Some entry) h = get_or-set_other arena f entry.frame page [] (elsewhere f entry.frame h)
 
 -- the contents of pages each of which stays
-pub contents-same : (old new : List (List ℕ)) (xs : List (Option Entry)) → ((j : ℕ) → content new (entry_at xs j) ≡ content old (entry_at xs j))
-    → map (content new) xs ≡ map (content old) xs
+pub contents-same : (old new : List (List ℕ)) (xs : List (Option Entry)) → ((j : ℕ) → entry_content new (entry_at xs j) ≡ entry_content old (entry_at xs j))
+    → map (entry_content new) xs ≡ map (entry_content old) xs
 contents-same old new [] h = refl
 contents-same old new (x ∷ xs) h = let first = h 0 in let rest = contents-same old new xs (λ j. h (suc j)) in cc
 
 -- the contents where one entry is replaced and each other page stays
-pub contents-set : (old new : List (List ℕ)) (xs : List (Option Entry)) (i : ℕ) (x : Option Entry) (page : List ℕ) → content new x ≡ page
-    → ((j : ℕ) → j ≢ i → content new (entry_at xs j) ≡ content old (entry_at xs j))
-    → map (content new) (slice_set xs i x) ≡ slice_set (map (content old) xs) i page
+pub contents-set : (old new : List (List ℕ)) (xs : List (Option Entry)) (i : ℕ) (x : Option Entry) (page : List ℕ) → entry_content new x ≡ page
+    → ((j : ℕ) → j ≢ i → entry_content new (entry_at xs j) ≡ entry_content old (entry_at xs j))
+    → map (entry_content new) (slice_set xs i x) ≡ slice_set (map (entry_content old) xs) i page
 contents-set old new [] i x page e h = refl
 contents-set old new (y ∷ ys) zero x page e h =
     let rest = contents-same old new ys (λ j. h (suc j) (λ e. omega arith)) in cc

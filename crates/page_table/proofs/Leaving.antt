@@ -10,7 +10,7 @@ use Rattle.host_types.specs.Sharing.{broken, broken_page, is_shared, left_by, wi
 use Rattle.frame_arena.specs.Pages.{page_at}
 use Rattle.page_table.specs.declared.entry.Entry.{Entry}
 use Rattle.page_table.specs.Table.{TableState, CountsState, IsTable, IsEntry, IsAlone, IsGroup, IsSound, AreCountsOf, LiesRight, times, one_if_zero, entry_at, state_of, states_of, contents_of, groups_of, sharing_of, is_on, places_on, pages_on, used_by}
-use Rattle.page_table.proofs.Entries.{one_when, on_one, elsewhere, not_equal, equal, pages_on-set, none_on, inside, alone, at_set, content-kept, contents-set, pages-set, times-head, times-tail}
+use Rattle.page_table.proofs.Entries.{one_when, on_one, elsewhere, not_equal, equal, pages_on-set, none_on, inside, alone, at_set, entry_content-kept, contents-set, pages-set, times-head, times-tail}
 use Rattle.page_table.proofs.Adding.{own_one, own_pages-set, IsEntry-kept, IsUnused}
 use Rattle.page_table.proofs.Putting.{entry_fits, content_at}
 use Rattle.page_table.proofs.Groups.{length-places, without-places}
@@ -98,7 +98,7 @@ module _ (table : TableState) (i : ℕ) (entry next : Entry) (is : IsTable table
   contents-left =
       contents-set table.arena (slice_set table.arena next.frame (page_at table.arena entry.frame)) table.entries i (Some next) (page_at table.arena entry.frame)
       (get_or-set_same table.arena next.frame (page_at table.arena entry.frame) [] free.there)
-      (λ j ne. content-kept table.arena next.frame (page_at table.arena entry.frame) (entry_at table.entries j) (none_on next.frame table.entries j free.empty))
+      (λ j ne. entry_content-kept table.arena next.frame (page_at table.arena entry.frame) (entry_at table.entries j) (none_on next.frame table.entries j free.empty))
       ∙ ap (slice_set (contents_of table) i) (sym (content_at table i entry here))
       ∙ set-get_or (contents_of table) i []
 

@@ -9,8 +9,8 @@ use Rattle.host_types.specs.Pages.{zero_page}
 use Rattle.frame_arena.specs.Pages.{page_at}
 use Rattle.frame_arena.proofs.Pages.{length-zero_page}
 use Rattle.page_table.specs.declared.entry.Entry.{Entry}
-use Rattle.page_table.specs.Table.{TableState, CountsState, IsPageAt, IsTable, IsEntry, IsAlone, IsGroup, IsSound, AreCountsOf, LiesRight, one_if_zero, entry_at, content, contents_of, is_on, pages_on, own_pages}
-use Rattle.page_table.proofs.Entries.{on_one, equal, alone, content-kept, contents-set, inside, pages-set}
+use Rattle.page_table.specs.Table.{TableState, CountsState, IsPageAt, IsTable, IsEntry, IsAlone, IsGroup, IsSound, AreCountsOf, LiesRight, one_if_zero, entry_at, entry_content, contents_of, is_on, pages_on, own_pages}
+use Rattle.page_table.proofs.Entries.{on_one, equal, alone, entry_content-kept, contents-set, inside, pages-set}
 use Rattle.page_table.proofs.Adding.{own_one, IsEntry-kept}
 
 -- a page that isn't shared is alone on its frame
@@ -37,7 +37,7 @@ pub page_inside : (table : TableState) (i : ℕ) → IsPageAt table i → i < le
 unfolding contents_of
 page_inside table i h = by_list table.entries i h
   where
-    by_list : (xs : List (Option Entry)) (i : ℕ) → length (slice_index_or (map (content table.arena) xs) i []) ≡ 4096 → i < length xs
+    by_list : (xs : List (Option Entry)) (i : ℕ) → length (slice_index_or (map (entry_content table.arena) xs) i []) ≡ 4096 → i < length xs
     by_list [] i h = absurd (omega (arith, h))
     by_list (x ∷ xs) zero h = omega arith
     by_list (x ∷ xs) (suc i) h = let rest = by_list xs i h in omega arith
@@ -46,15 +46,15 @@ pub page_there : (table : TableState) (i : ℕ) → IsPageAt table i → entry_a
 unfolding contents_of
 page_there table i h e =
     let there = page_inside table i h in
-    let none : slice_index_or (map (content table.arena) table.entries) i [] ≡ [] = get_or-map (content table.arena) table.entries i None [] there ∙ ap (content table.arena) e in
-    let zero : length (slice_index_or (map (content table.arena) table.entries) i []) ≡ 0 = ap length none in
+    let none : slice_index_or (map (entry_content table.arena) table.entries) i [] ≡ [] = get_or-map (entry_content table.arena) table.entries i None [] there ∙ ap (entry_content table.arena) e in
+    let zero : length (slice_index_or (map (entry_content table.arena) table.entries) i []) ≡ 0 = ap length none in
     omega (arith, zero, h)
 
 -- the content of a page that is there
 pub content_at : (table : TableState) (i : ℕ) (entry : Entry) → entry_at table.entries i ≡ Some entry → slice_index_or (contents_of table) i [] ≡ page_at table.arena entry.frame
 unfolding contents_of
 content_at table i entry e =
-    get_or-map (content table.arena) table.entries i None [] (inside table.entries i entry e) ∙ ap (content table.arena) e
+    get_or-map (entry_content table.arena) table.entries i None [] (inside table.entries i entry e) ∙ ap (entry_content table.arena) e
 
 -- where no bytes are, there is no page
 pub no_entry_of_content : (table : TableState) (i : ℕ) → IsTable table → slice_index_or (contents_of table) i [] ≡ [] → entry_at table.entries i ≡ None
@@ -78,11 +78,11 @@ module _ (table : TableState) (i : ℕ) (entry : Entry) (page : List ℕ) (is : 
   unfolding contents_of
   contents-put =
       let fits = entry_fits table i entry is here in
-      let changed : map (content (slice_set table.arena entry.frame page)) (slice_set table.entries i (entry_at table.entries i)) ≡ slice_set (map (content table.arena) table.entries) i page =
+      let changed : map (entry_content (slice_set table.arena entry.frame page)) (slice_set table.entries i (entry_at table.entries i)) ≡ slice_set (map (entry_content table.arena) table.entries) i page =
       contents-set table.arena (slice_set table.arena entry.frame page) table.entries i (entry_at table.entries i) page
-      (ap (content (slice_set table.arena entry.frame page)) here ∙ get_or-set_same table.arena entry.frame page [] fits.frame)
-      (λ j ne. content-kept table.arena entry.frame page (entry_at table.entries j) (alone entry.frame table.entries i j there lone.one lies ne)) in
-      ap (map (content (slice_set table.arena entry.frame page))) (sym (set-get_or table.entries i None)) ∙ changed
+      (ap (entry_content (slice_set table.arena entry.frame page)) here ∙ get_or-set_same table.arena entry.frame page [] fits.frame)
+      (λ j ne. entry_content-kept table.arena entry.frame page (entry_at table.entries j) (alone entry.frame table.entries i j there lone.one lies ne)) in
+      ap (map (entry_content (slice_set table.arena entry.frame page))) (sym (set-get_or table.entries i None)) ∙ changed
 
   IsTable-put : IsTable (with_page table entry.frame page)
   IsTable-put =

@@ -8,7 +8,7 @@ use Rattle.host_types.specs.Tenant.{IsFlatMap, AreFlatMaps}
 use Rattle.frame_arena.specs.Pages.{IsPage}
 use Rattle.page_table.specs.declared.pass.Pass.{Pass}
 use Rattle.page_table.specs.declared.tenant.Tenant.{Tenant}
-use Rattle.page_table.specs.State.{MemoryState, part, new_tenant, free_of, have_of}
+use Rattle.page_table.specs.State.{MemoryState, part, unreserved_tenant, free_of, have_of}
 use Rattle.page_table.specs.Changes.{IsKeptBut, with_reserve, with_record}
 use Rattle.page_table.specs.Table.{TableState, contents_of, maps_of, used_by}
 use Rattle.page_table.specs.View.{view_of, IsMemory}
@@ -22,11 +22,11 @@ reserve_in tenant = tenant.reserve
 
 -- the reserves of all tenants, where one of them has another
 pub sum-recorded : (tenants : List Tenant) (t reserve : ℕ) → t < length tenants
-    → sum_by reserve_in (slice_set tenants t (record { reserve = reserve })) + (slice_index_or tenants t new_tenant).reserve ≡ sum_by reserve_in tenants + reserve
-sum-recorded tenants t reserve inside = sum_by-set reserve_in tenants t (record { reserve = reserve }) new_tenant inside
+    → sum_by reserve_in (slice_set tenants t (record { reserve = reserve })) + (slice_index_or tenants t unreserved_tenant).reserve ≡ sum_by reserve_in tenants + reserve
+sum-recorded tenants t reserve inside = sum_by-set reserve_in tenants t (record { reserve = reserve }) unreserved_tenant inside
 
 -- a tenant's reserve is one of all
-pub reserve-small : (tenants : List Tenant) (t : ℕ) → t < length tenants → (slice_index_or tenants t new_tenant).reserve ≤ sum_by reserve_in tenants
+pub reserve-small : (tenants : List Tenant) (t : ℕ) → t < length tenants → (slice_index_or tenants t unreserved_tenant).reserve ≤ sum_by reserve_in tenants
 reserve-small tenants t inside = let told = sum-recorded tenants t 0 inside in omega (arith, told)
 
 module _ (table : TableState) (shapes : List (Option Shape)) (tenants : List Tenant) (pass : Pass) (reserved : ℕ) (is : IsMemory table shapes tenants reserved) where
@@ -75,7 +75,7 @@ module _ (table : TableState) (shapes : List (Option Shape)) (tenants : List Ten
     recorded = slice_set tenants t (record { reserve = reserve })
 
     abbrev before : ℕ
-    before = (slice_index_or tenants t new_tenant).reserve
+    before = (slice_index_or tenants t unreserved_tenant).reserve
 
     pub before_small : before ≤ reserved
     before_small = let told = reserve-small tenants t (tenant_there t eight) in omega (arith, told, is.sum)
@@ -109,11 +109,11 @@ module _ (table : TableState) (shapes : List (Option Shape)) (tenants : List Ten
 
     pub part_recorded : part after t ≡ with_reserve reserve (part memory t)
     unfolding view_of part
-    part_recorded = rw (get_or-set_same tenants t (record { reserve = reserve }) new_tenant (tenant_there t eight)) refl
+    part_recorded = rw (get_or-set_same tenants t (record { reserve = reserve }) unreserved_tenant (tenant_there t eight)) refl
 
     pub others_recorded : IsKeptBut t memory after
     unfolding view_of part
-    others_recorded s ne = rw (get_or-set_other tenants t s (record { reserve = reserve }) new_tenant ne) refl
+    others_recorded s ne = rw (get_or-set_other tenants t s (record { reserve = reserve }) unreserved_tenant ne) refl
 
     pub have_recorded : have_of after + reserve ≡ have_of memory + (part memory t).reserve
     unfolding view_of part
@@ -143,7 +143,7 @@ module _ (table : TableState) (shapes : List (Option Shape)) (tenants : List Ten
   room_here : reserve ≤ have_of (view_of table shapes tenants pass) + (part (view_of table shapes tenants pass) t).reserve
   room_here = rw (← same) at room
 
-  pub before_is : before ≡ (slice_index_or tenants t new_tenant).reserve
+  pub before_is : before ≡ (slice_index_or tenants t unreserved_tenant).reserve
   unfolding view_of part
   before_is = rw (← same) at told
 

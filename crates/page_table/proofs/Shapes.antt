@@ -17,7 +17,7 @@ use Rattle.page_table.specs.Limits.{page_count}
 use Rattle.page_table.specs.declared.entry.Entry.{Entry}
 use Rattle.page_table.specs.declared.tenant.Tenant.{Tenant}
 use Rattle.page_table.specs.State.{MemoryState, part, free_number}
-use Rattle.page_table.specs.Table.{TableState, maps_of, flat_of, content, contents_of, ArePages, ArePagesOf, AreMaps}
+use Rattle.page_table.specs.Table.{TableState, maps_of, flat_of, entry_content, contents_of, ArePages, ArePagesOf, AreMaps}
 use Rattle.page_table.specs.View.{view_of}
 use Rattle.page_table.proofs.Maps.{map_at-maps_of, length-maps_of, length-concat}
 use Rattle.page_table.proofs.Reading.{map_at-part, map_at-past}
@@ -106,10 +106,10 @@ pages_small [] f all = All-nil IsByte
 pages_small (page ∷ arena) zero all = IsPage.bytes (All-head IsPage page arena all)
 pages_small (page ∷ arena) (suc f) all = pages_small arena f (All-tail IsPage page arena all)
 
-contents_small : (arena : List (List ℕ)) (entries : List (Option Entry)) → All IsPage arena → All (λ page. All IsByte page) (map (content arena) entries)
+contents_small : (arena : List (List ℕ)) (entries : List (Option Entry)) → All IsPage arena → All (λ page. All IsByte page) (map (entry_content arena) entries)
 contents_small arena [] all = All-nil (λ page. All IsByte page)
-contents_small arena (None ∷ xs) all = All-cons (λ page. All IsByte page) [] (map (content arena) xs) (All-nil IsByte) (contents_small arena xs all)
-contents_small arena (Some x ∷ xs) all = All-cons (λ page. All IsByte page) (page_at arena x.frame) (map (content arena) xs) (pages_small arena x.frame all) (contents_small arena xs all)
+contents_small arena (None ∷ xs) all = All-cons (λ page. All IsByte page) [] (map (entry_content arena) xs) (All-nil IsByte) (contents_small arena xs all)
+contents_small arena (Some x ∷ xs) all = All-cons (λ page. All IsByte page) (page_at arena x.frame) (map (entry_content arena) xs) (pages_small arena x.frame all) (contents_small arena xs all)
 
 concat_small : (pages : List (List ℕ)) → All (λ page. All IsByte page) pages → All IsByte (concat pages)
 concat_small [] all = All-nil IsByte

@@ -98,15 +98,15 @@ filter-kept old new bytes (x ∷ xs) same =
     ∙ ap (λ (l : List ℕ). if bytes_eq (page_at old x) bytes then x ∷ l else l) rest
 
 module _ (old new : List (List ℕ)) (size : length new ≡ length old) where
-  content-kept : (chain : List ℕ) → 0 < length chain → ((f : ℕ) → 1 ≤ times f chain → page_at new f ≡ page_at old f) → content new chain ≡ content old chain
-  content-kept chain filled same = same (slice_index_or chain 0 0) (stands chain 0 0 filled)
+  entry_content-kept : (chain : List ℕ) → 0 < length chain → ((f : ℕ) → 1 ≤ times f chain → page_at new f ≡ page_at old f) → content new chain ≡ content old chain
+  entry_content-kept chain filled same = same (slice_index_or chain 0 0) (stands chain 0 0 filled)
 
   chain-kept : (chain : List ℕ) → IsChain old chain → ((f : ℕ) → 1 ≤ times f chain → page_at new f ≡ page_at old f) → IsChain new chain
   chain-kept chain is same =
       record {
         filled = is.filled;
         there = λ k d less. let inside = is.there k d less in omega (arith, inside, size);
-        alike = λ k d less. same (slice_index_or chain k d) (stands chain k d less) ∙ is.alike k d less ∙ sym (content-kept chain is.filled same);
+        alike = λ k d less. same (slice_index_or chain k d) (stands chain k d less) ∙ is.alike k d less ∙ sym (entry_content-kept chain is.filled same);
       }
 
   sorted-kept : (chains : List (List ℕ)) → IsSorted old chains → ((f : ℕ) → 1 ≤ times f (concat chains) → page_at new f ≡ page_at old f) → IsSorted new chains
@@ -118,7 +118,7 @@ module _ (old new : List (List ℕ)) (size : length new ≡ length old) where
       }
     where
       kept : (i : ℕ) (d : List ℕ) → i < length chains → content new (slice_index_or chains i d) ≡ content old (slice_index_or chains i d)
-      kept i d less = content-kept (slice_index_or chains i d) (IsChain.filled (sorted.alike i d less)) (λ f some. same f (in-chain chains i d f less some))
+      kept i d less = entry_content-kept (slice_index_or chains i d) (IsChain.filled (sorted.alike i d less)) (λ f some. same f (in-chain chains i d f less some))
 
   pub tree-kept : (groups : List ℕ) (tree : Groups) → IsTreeOf old groups tree → ((f : ℕ) → 1 ≤ times f groups → page_at new f ≡ page_at old f) → IsTreeOf new groups tree
   tree-kept groups tree is same =

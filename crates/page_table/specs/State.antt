@@ -19,8 +19,8 @@ pub record MemoryState : Type 0 where
   pub frames : List (Option ℕ)
 
 -- a tenant for whose run no frame is reserved
-abbrev pub new_tenant : Tenant
-new_tenant = record { reserve = 0 }
+abbrev pub unreserved_tenant : Tenant
+unreserved_tenant = record { reserve = 0 }
 
 -- the state of sharing without pages
 abbrev pub no_sharing : ℕ → Options → Sharing
@@ -31,7 +31,7 @@ no_sharing places options =
 unfoldable pub new_memory : ℕ → ℕ → Options → MemoryState
 new_memory frames tenants options =
     record {
-      tenants = replicate tenants new_tenant;
+      tenants = replicate tenants unreserved_tenant;
       maps = replicate (tenants * 8) None;
       sharing = no_sharing (tenants * 2048) options;
       arena = replicate frames zero_page;
@@ -41,7 +41,7 @@ new_memory frames tenants options =
 -- what belongs to the tenant t
 unfoldable pub part : MemoryState → ℕ → TenantPart
 part memory t =
-    record { maps = part_of memory.maps (t * 8) 8; reserve = (slice_index_or memory.tenants t new_tenant).reserve }
+    record { maps = part_of memory.maps (t * 8) 8; reserve = (slice_index_or memory.tenants t unreserved_tenant).reserve }
 
 -- the bytes of a tenant's map; none where there is no such map
 abbrev pub map_bytes : TenantPart → ℕ → List ℕ

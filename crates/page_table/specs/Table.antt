@@ -68,13 +68,13 @@ abbrev pub frames_of : List (Option Entry) → List (Option ℕ)
 frames_of entries = map (option_map (λ (entry : Entry). entry.frame)) entries
 
 -- the bytes of a page that is there, else none
-abbrev pub content : List (List ℕ) → Option Entry → List ℕ
-content arena None = []
-content arena (Some entry) = page_at arena entry.frame
+abbrev pub entry_content : List (List ℕ) → Option Entry → List ℕ
+entry_content arena None = []
+entry_content arena (Some entry) = page_at arena entry.frame
 
 -- the bytes of the page at each place
 unfoldable pub contents_of : TableState → List (List ℕ)
-contents_of table = map (content table.arena) table.entries
+contents_of table = map (entry_content table.arena) table.entries
 
 -- a page is there
 abbrev pub IsPageAt : TableState → ℕ → Type 0

@@ -10,7 +10,7 @@ ghost use Rattle.host_types.specs.Unmerging.{with_option, MaySet, unmerged, unme
 ghost use Rattle.host_types.specs.Visits.{page_to_visit, is_mergeable, flushed, moved_on, changed, waits, has_open, joined};
 ghost use Rattle.frame_arena.specs.Pages.{page_at};
 ghost use Rattle.page_table.specs.Limits.{AreLimits, page_count, shape_of};
-ghost use Rattle.page_table.specs.State.{MemoryState, part, bytes_of_map, free_number, new_memory, new_tenant, free_of, have_of, frame_at};
+ghost use Rattle.page_table.specs.State.{MemoryState, part, bytes_of_map, free_number, new_memory, unreserved_tenant, free_of, have_of, frame_at};
 ghost use Rattle.page_table.specs.Reads.{ReadsAs};
 ghost use Rattle.page_table.specs.Changes.{IsNotWaiting, HadFingerprint, contents_now, open_frame, partner_place, zero_map, part_written, part_created, AreKept, MayMerge, IsKeptBut, AreMapsKeptBut, KeepsSettings, with_reserve, with_record, IsPageOf, IsOwn, with_new_pages, FitsMap, RefusesMap, RefusesMemory};
 ghost use Rattle.page_table.specs.declared.entry.Entry.{Entry};
@@ -661,7 +661,7 @@ impl Memory {
 
 /// What is recorded of a tenant.
 fn reserve_of(tenants: &[Tenant], tenant: u32) -> u32
-    ensures { result ≡ (slice_index_or tenants.now tenant new_tenant).reserve }
+    ensures { result ≡ (slice_index_or tenants.now tenant unreserved_tenant).reserve }
 {
     match tenants.get(tenant as usize) {
         Some(tenant) => tenant.reserve,

@@ -39,6 +39,6 @@ updated_from_stack memory m key at flags =
     >>= updated_by memory m key flags
 
 -- what a helper answers in a state, and the maps afterwards
-abbrev pub answer_in : MapHelper → MachineState → ℕ → ℕ → Option (ℕ × FlatMaps)
-answer_in asked s m key =
+abbrev pub helper_answer : MapHelper → MachineState → ℕ → ℕ → Option (ℕ × FlatMaps)
+helper_answer asked s m key =
     value_arguments asked s m >>= λ arguments. helper asked s.memory.maps m key arguments.0 arguments.1

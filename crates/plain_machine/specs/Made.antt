@@ -26,9 +26,9 @@ IsExit s (made.Exits number) = register s 0 ≡ Some number
 IsExit s made.Fault = register s 0 ≡ None
 
 -- what was done goes on at the slot behind; what wasn't is a fault
-abbrev pub IsPassed : Option (Unit {0}) → ℕ → MachineState → Made → MachineState → Type 0
-IsPassed (Some _) behind old result new = (result ≡ made.Next) × (new ≡ record old { slot = behind })
-IsPassed None behind old result new = (result ≡ made.Fault) × (new ≡ old)
+abbrev pub GoesOnIfDone : Option (Unit {0}) → ℕ → MachineState → Made → MachineState → Type 0
+GoesOnIfDone (Some _) behind old result new = (result ≡ made.Next) × (new ≡ record old { slot = behind })
+GoesOnIfDone None behind old result new = (result ≡ made.Fault) × (new ≡ old)
 
 -- where a jump goes on; before the text there is nothing
 abbrev pub IsLanded : ℤ → MachineState → Made → MachineState → Type 0

@@ -25,16 +25,16 @@ with_number_in_stack memory at size number =
     only_if (nat_le (at + size) stack_size) (record memory { stack = with_part memory.stack at (map Some (bytes_of size number)) })
 
 -- the map with a number written as `size` of its bytes
-abbrev pub with_number : FlatMap → ℕ → ℕ → ℕ → FlatMap
-with_number flat at size number = record flat { bytes = with_part flat.bytes at (bytes_of size number) }
+abbrev pub map_with_number : FlatMap → ℕ → ℕ → ℕ → FlatMap
+map_with_number flat at size number = record flat { bytes = with_part flat.bytes at (bytes_of size number) }
 
 -- the memory with a number written as `size` bytes of a map, if they lie whole in the value of one element
 abbrev pub with_number_in_map : FlatMemory → ℕ → ℕ → ℕ → ℕ → Option FlatMemory
 with_number_in_map memory m at size number =
     map_at memory.maps m >>= λ flat.
-    only_if (is_in_value flat.shape at size) (record memory { maps = slice_set memory.maps m (Some (with_number flat at size number)) })
+    only_if (is_in_value flat.shape at size) (record memory { maps = slice_set memory.maps m (Some (map_with_number flat at size number)) })
 
 -- the memory with a number written as `size` bytes of a map that is there
 abbrev pub with_number_put : FlatMemory → ℕ → ℕ → ℕ → ℕ → FlatMemory
 with_number_put memory m at size number =
-    record memory { maps = slice_set memory.maps m (option_map (λ flat. with_number flat at size number) (map_at memory.maps m)) }
+    record memory { maps = slice_set memory.maps m (option_map (λ flat. map_with_number flat at size number) (map_at memory.maps m)) }

@@ -3,7 +3,7 @@ ghost use Rattle.host_types.specs.Bytes.{number_of, part_of};
 ghost use Rattle.host_types.specs.Helpers.{failed, lookup_answer, update_answer, delete_answer, map_updated};
 ghost use Rattle.host_types.specs.Memory.{FlatMap, is_in_value};
 ghost use Rattle.host_types.specs.Shapes.{IsShape, byte_len_of};
-ghost use Rattle.plain_machine.specs.Regions.{with_number};
+ghost use Rattle.plain_machine.specs.Regions.{map_with_number};
 
 use crate::number::{number_of_bytes, put_bytes, put_part};
 use host_types::{MapNo, Shape};
@@ -143,7 +143,7 @@ impl ArrayMap {
     pub fn put_number(&mut self, at: usize, size: usize, number: u64)
         requires small { size ≤ 8 }
         requires within { at + size ≤ length self.old.bytes }
-        ensures { self.new ≡ with_number self.old at size number }
+        ensures { self.new ≡ map_with_number self.old at size number }
     {
         put_bytes(&mut self.bytes, at, size, number);
     }

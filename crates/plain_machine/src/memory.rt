@@ -2,7 +2,7 @@ ghost use Rattle.std.specs.Prelude.{◌≡◌, ◌≤◌, ◌<◌, replicate, op
 ghost use Rattle.host_types.specs.Helpers.{lookup_answer, update_answer, maps_updated};
 ghost use Rattle.host_types.specs.Layout.{stack_size, region_size, map_name};
 ghost use Rattle.host_types.specs.Memory.{FlatMemory, FlatMaps, fetch, place, map_at};
-ghost use Rattle.interp.specs.Machine.{name_in, map_named};
+ghost use Rattle.interp.specs.Machine.{name_of_map, map_named};
 ghost use Rattle.plain_machine.specs.Calls.{key_at, updated_from, updated_from_context, updated_from_stack};
 ghost use Rattle.plain_machine.specs.Regions.{number_in_context, number_in_stack, number_in_map, with_number_in_stack, with_number_in_map, with_number_put};
 
@@ -192,7 +192,7 @@ impl Memory {
 
     // The name of the map with a number, if it is there.
     pub(crate) fn name(&self, number: i32) -> Option<u64>
-        ensures { result ≡ name_in self.now.maps number }
+        ensures { result ≡ name_of_map self.now.maps number }
     {
         if number < 0 {
             return None;

@@ -11,21 +11,21 @@ abbrev pub page_of : PlainPage → PageState
 page_of page = record { mergeable = page.mergeable; status = page.status; last = page.last }
 
 -- the pages by place
-abbrev pub pages_of : List (Option PlainPage) → List (Option PageState)
-pages_of pages = map (option_map page_of) pages
+abbrev pub page_states : List (Option PlainPage) → List (Option PageState)
+page_states pages = map (option_map page_of) pages
 
 -- the groups as lists of places
 abbrev pub places_of : List (Vec ℕ Global) → List (List ℕ)
 places_of groups = map (λ group. group.items) groups
 
 -- a state in which no page waits and none was visited
-abbrev pub sharing_of : List (Option PageState) → List (List ℕ) → Options → Sharing
-sharing_of pages groups options =
+abbrev pub sharing_at_rest : List (Option PageState) → List (List ℕ) → Options → Sharing
+sharing_at_rest pages groups options =
     record { pages = pages; groups = groups; waiting = []; cursor = None; options = options; full_scans = 0 }
 
 -- the bytes of the page at each place, none past the list's end
-abbrev pub contents_of : List (Vec ℕ Global) → Contents
-contents_of pages i = slice_index_or (map (λ page. page.items) pages) i []
+abbrev pub plain_contents : List (Vec ℕ Global) → Contents
+plain_contents pages i = slice_index_or (map (λ page. page.items) pages) i []
 
 -- the bytes of each group's pages, in order of creation
 abbrev pub bytes_of_each : Contents → List (Vec ℕ Global) → List (List ℕ)

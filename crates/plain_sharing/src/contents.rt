@@ -2,11 +2,11 @@
 ghost use Rattle.std.specs.Prelude.{◌≡◌, bytes_eq};
 ghost use Rattle.host_types.specs.Pages.{fingerprint_of, zero_page};
 ghost use Rattle.host_types.specs.Visits.{group_bytes};
-ghost use Rattle.plain_sharing.specs.View.{contents_of};
+ghost use Rattle.plain_sharing.specs.View.{plain_contents};
 
 // The bytes of the page at a place, none past the list's end.
 pub(crate) fn bytes_at(contents: &[Vec<u8>], place: usize) -> &[u8]
-    ensures { result.now ≡ contents_of contents.now place }
+    ensures { result.now ≡ plain_contents contents.now place }
 {
     match contents.get(place) {
         Some(bytes) => bytes.as_slice(),
@@ -16,7 +16,7 @@ pub(crate) fn bytes_at(contents: &[Vec<u8>], place: usize) -> &[u8]
 
 // The bytes of a group's pages, which are those of its first one.
 pub(crate) fn group_bytes<'a>(contents: &'a [Vec<u8>], group: &[usize]) -> &'a [u8]
-    ensures { result.now ≡ group_bytes (contents_of contents.now) group.now }
+    ensures { result.now ≡ group_bytes (plain_contents contents.now) group.now }
 {
     match group.first() {
         Some(place) => bytes_at(contents, *place),

@@ -4,7 +4,7 @@ ghost use Rattle.std.specs.List.{list_any};
 ghost use Rattle.host_types.specs.Counters.{times_among, repeated_among, seconds_behind};
 ghost use Rattle.host_types.specs.Sharing.{is_among, without, left_by, joined_by};
 ghost use Rattle.host_types.specs.Visits.{group_bytes, join_first};
-ghost use Rattle.plain_sharing.specs.View.{places_of, contents_of, bytes_of_each, is_open_below};
+ghost use Rattle.plain_sharing.specs.View.{places_of, plain_contents, bytes_of_each, is_open_below};
 
 use crate::contents;
 use std::alloc::{AllocError, Global};
@@ -73,9 +73,9 @@ pub(crate) fn join_first(
     limit: usize,
 ) -> Result<bool, AllocError>
     ensures told { IfOk result (λ is_joined. is_joined
-        ≡ list_any (is_open_below limit (contents_of contents.now) (contents_of contents.now place)) (places_of groups.old)) }
+        ≡ list_any (is_open_below limit (plain_contents contents.now) (plain_contents contents.now place)) (places_of groups.old)) }
     ensures joined { IfOk result (λ _. places_of groups.new
-        ≡ join_first (is_open_below limit (contents_of contents.now) (contents_of contents.now place)) place (places_of groups.old)) }
+        ≡ join_first (is_open_below limit (plain_contents contents.now) (plain_contents contents.now place)) place (places_of groups.old)) }
 {
     for group in groups.iter_mut() {
         if is_open(group, contents, place, limit) {
@@ -88,7 +88,7 @@ pub(crate) fn join_first(
 
 // Whether a group has the bytes of the page at a place, and fewer pages than the limit.
 fn is_open(group: &[usize], contents: &[Vec<u8>], place: usize, limit: usize) -> bool
-    ensures { result ≡ is_open_below limit (contents_of contents.now) (contents_of contents.now place) group.now }
+    ensures { result ≡ is_open_below limit (plain_contents contents.now) (plain_contents contents.now place) group.now }
 {
     let bytes = contents::bytes_at(contents, place);
     contents::are_same(contents::group_bytes(contents, group), bytes) && group.len() < limit
@@ -138,14 +138,14 @@ fn size(group: &[usize]) -> u128
 
 // Whether a group has some bytes.
 fn has_bytes(group: &[usize], contents: &[Vec<u8>], bytes: &[u8]) -> bool
-    ensures { result ≡ bytes_eq (group_bytes (contents_of contents.now) group.now) bytes.now }
+    ensures { result ≡ bytes_eq (group_bytes (plain_contents contents.now) group.now) bytes.now }
 {
     contents::are_same(contents::group_bytes(contents, group), bytes)
 }
 
 // How many groups have some bytes.
 fn count_alike(groups: &[Vec<usize>], contents: &[Vec<u8>], bytes: &[u8]) -> usize
-    ensures { result ≡ times_among bytes.now (bytes_of_each (contents_of contents.now) groups.now) }
+    ensures { result ≡ times_among bytes.now (bytes_of_each (plain_contents contents.now) groups.now) }
 {
     let mut count = 0;
     for group in groups {
@@ -157,8 +157,8 @@ fn count_alike(groups: &[Vec<usize>], contents: &[Vec<u8>], bytes: &[u8]) -> usi
 // How many of the groups before one have its bytes.
 fn count_before(groups: &[Vec<usize>], contents: &[Vec<u8>], index: usize) -> usize
     requires { index < length groups.now }
-    ensures { result ≡ times_among (slice_index_or (bytes_of_each (contents_of contents.now) groups.now) index [])
-        (take index (bytes_of_each (contents_of contents.now) groups.now)) }
+    ensures { result ≡ times_among (slice_index_or (bytes_of_each (plain_contents contents.now) groups.now) index [])
+        (take index (bytes_of_each (plain_contents contents.now) groups.now)) }
 {
     let bytes = contents::group_bytes(contents, &groups[index]);
     count_alike(&groups[..index], contents, bytes)
@@ -166,7 +166,7 @@ fn count_before(groups: &[Vec<usize>], contents: &[Vec<u8>], index: usize) -> us
 
 // How many groups are the second one of their bytes.
 pub(crate) fn count_seconds(groups: &[Vec<usize>], contents: &[Vec<u8>]) -> usize
-    ensures { result ≡ seconds_behind [] (bytes_of_each (contents_of contents.now) groups.now) }
+    ensures { result ≡ seconds_behind [] (bytes_of_each (plain_contents contents.now) groups.now) }
 {
     let mut count = 0;
     for index in 0..groups.len() {
@@ -177,16 +177,16 @@ pub(crate) fn count_seconds(groups: &[Vec<usize>], contents: &[Vec<u8>]) -> usiz
 
 // Whether a group's bytes are those of another group too.
 fn is_repeated(groups: &[Vec<usize>], contents: &[Vec<u8>], group: &[usize]) -> bool
-    ensures { result ≡ nat_lt 1 (times_among (group_bytes (contents_of contents.now) group.now)
-        (bytes_of_each (contents_of contents.now) groups.now)) }
+    ensures { result ≡ nat_lt 1 (times_among (group_bytes (plain_contents contents.now) group.now)
+        (bytes_of_each (plain_contents contents.now) groups.now)) }
 {
     count_alike(groups, contents, contents::group_bytes(contents, group)) > 1
 }
 
 // How many groups have bytes that another group has too.
 pub(crate) fn count_repeated(groups: &[Vec<usize>], contents: &[Vec<u8>]) -> usize
-    ensures { result ≡ repeated_among (bytes_of_each (contents_of contents.now) groups.now)
-        (bytes_of_each (contents_of contents.now) groups.now) }
+    ensures { result ≡ repeated_among (bytes_of_each (plain_contents contents.now) groups.now)
+        (bytes_of_each (plain_contents contents.now) groups.now) }
 {
     let mut count = 0;
     for group in groups {

@@ -5,7 +5,7 @@ ghost use Rattle.host_types.specs.Unmerging.{zeros_at};
 ghost use Rattle.host_types.specs.Visits.{first_mergeable, is_mergeable};
 ghost use Rattle.host_types.specs.Sharing.{own_frame, with_status};
 ghost use Rattle.host_types.specs.Pages.{page_bytes};
-ghost use Rattle.plain_sharing.specs.View.{page_of, pages_of};
+ghost use Rattle.plain_sharing.specs.View.{page_of, page_states};
 
 use crate::sharing::PlainPage;
 use host_types::Status;
@@ -22,7 +22,7 @@ pub(crate) fn at(pages: &[Option<PlainPage>], place: usize) -> Option<PlainPage>
 
 // Puts a page at a place, if the place is there.
 pub(crate) fn put(pages: &mut [Option<PlainPage>], place: usize, page: Option<PlainPage>)
-    ensures { pages_of pages.new ≡ slice_set (pages_of pages.old) place (option_map page_of page) }
+    ensures { page_states pages.new ≡ slice_set (page_states pages.old) place (option_map page_of page) }
 {
     if place < pages.len() {
         pages[place] = page;
@@ -31,7 +31,7 @@ pub(crate) fn put(pages: &mut [Option<PlainPage>], place: usize, page: Option<Pl
 
 // Gives the page at a place, if there is one, another status.
 pub(crate) fn set_status(pages: &mut [Option<PlainPage>], place: usize, status: Status)
-    ensures { pages_of pages.new ≡ slice_set (pages_of pages.old) place (option_map (with_status status) (slice_index_or (pages_of pages.old) place None)) }
+    ensures { page_states pages.new ≡ slice_set (page_states pages.old) place (option_map (with_status status) (slice_index_or (page_states pages.old) place None)) }
 {
     let page = match at(pages, place) {
         Some(page) => Some(PlainPage { status, ..page }),
@@ -42,7 +42,7 @@ pub(crate) fn set_status(pages: &mut [Option<PlainPage>], place: usize, status: 
 
 // How many pages have a frame of their own.
 pub(crate) fn own_frames(pages: &[Option<PlainPage>]) -> usize
-    ensures { result ≡ sum_by own_frame (pages_of pages.now) }
+    ensures { result ≡ sum_by own_frame (page_states pages.now) }
 {
     let mut own = 0;
     for page in pages {
@@ -64,7 +64,7 @@ fn own_frame(page: Option<PlainPage>) -> usize
 
 // How many pages lie on the frame of zeros.
 pub(crate) fn zero_pages(pages: &[Option<PlainPage>]) -> usize
-    ensures count { result ≡ sum_by zeros_at (pages_of pages.now) }
+    ensures count { result ≡ sum_by zeros_at (page_states pages.now) }
     ensures few { result ≤ length pages.now }
 {
     let mut zeros = 0;
@@ -87,7 +87,7 @@ fn zeros_at(page: Option<PlainPage>) -> usize
 
 // How many pages wait for another one of their bytes.
 pub(crate) fn unshared_pages(pages: &[Option<PlainPage>]) -> usize
-    ensures count { result ≡ sum_by unshared_at (pages_of pages.now) }
+    ensures count { result ≡ sum_by unshared_at (page_states pages.now) }
     ensures few { result ≤ length pages.now }
 {
     let mut waiting = 0;
@@ -110,7 +110,7 @@ fn unshared_at(page: Option<PlainPage>) -> usize
 
 // How many pages changed since they were visited last.
 pub(crate) fn volatile_pages(pages: &[Option<PlainPage>]) -> usize
-    ensures count { result ≡ sum_by volatile_at (pages_of pages.now) }
+    ensures count { result ≡ sum_by volatile_at (page_states pages.now) }
     ensures few { result ≤ length pages.now }
 {
     let mut changed = 0;
@@ -133,7 +133,7 @@ fn volatile_at(page: Option<PlainPage>) -> usize
 
 // The place of the first page from a place on that may be merged.
 pub(crate) fn next_from(pages: &[Option<PlainPage>], from: usize) -> Option<usize>
-    ensures { result ≡ first_mergeable from (drop from (pages_of pages.now)) }
+    ensures { result ≡ first_mergeable from (drop from (page_states pages.now)) }
 {
     for place in from..pages.len() {
         if is_mergeable(pages[place]) {
@@ -145,7 +145,7 @@ pub(crate) fn next_from(pages: &[Option<PlainPage>], from: usize) -> Option<usiz
 
 // The place of the first page behind a place that may be merged.
 pub(crate) fn next_behind(pages: &[Option<PlainPage>], place: usize) -> Option<usize>
-    ensures { result ≡ first_mergeable (place + 1) (drop (place + 1) (pages_of pages.now)) }
+    ensures { result ≡ first_mergeable (place + 1) (drop (place + 1) (page_states pages.now)) }
 {
     if place < pages.len() {
         next_from(pages, place + 1)

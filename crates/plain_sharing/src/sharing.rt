@@ -5,7 +5,7 @@ ghost use Rattle.host_types.specs.Sharing.{new_page, state_at, is_in_company, br
 ghost use Rattle.host_types.specs.Counters.{pages_shared, pages_sharing, pages_unshared, pages_volatile, stable_node_chains, stable_node_dups};
 ghost use Rattle.host_types.specs.Unmerging.{zero_pages, unmerged, unmerge_need, with_option, MaySet, RefusesSet};
 ghost use Rattle.host_types.specs.Visits.{visit, page_to_visit, begun, decided, looked_at, had, met, find_partner, changed, waits, joined, has_open};
-ghost use Rattle.plain_sharing.specs.View.{page_of, places_of, contents_of, sharing_of};
+ghost use Rattle.plain_sharing.specs.View.{page_of, places_of, plain_contents, sharing_at_rest};
 
 use crate::{contents, groups, pages, waiting};
 use host_types::{Fault, Opt, Options, Status, Visited};
@@ -48,12 +48,12 @@ pub struct PlainSharing {
 impl Model for PlainSharing {
     ghost use Rattle.std.specs.Prelude.{map};
     ghost use Rattle.host_types.specs.Sharing.{Sharing};
-    ghost use Rattle.plain_sharing.specs.View.{pages_of, places_of};
+    ghost use Rattle.plain_sharing.specs.View.{page_states, places_of};
 
     ghost Value = { Sharing };
 
     ghost view = { λ s. record {
-      pages = pages_of s.pages.items;
+      pages = page_states s.pages.items;
       groups = places_of s.groups.items;
       waiting = s.waiting.items;
       cursor = s.cursor;
@@ -65,7 +65,7 @@ impl Model for PlainSharing {
 impl PlainSharing {
     /// So many places without pages.
     pub fn new(alloc: Global, places: usize, options: Options) -> Result<Self, AllocError>
-        ensures { IfOk result (λ s. s ≡ sharing_of (replicate places None) [] options) }
+        ensures { IfOk result (λ s. s ≡ sharing_at_rest (replicate places None) [] options) }
     {
         let pages = vec![in alloc; None; places]?;
         Ok(PlainSharing {
@@ -227,7 +227,7 @@ impl PlainSharing {
     /// contents are the bytes of the page at each place, none past the list's end. It is refused only
     /// where memory ran out; what is left then isn't told.
     pub fn visit(&mut self, alloc: Global, contents: &[Vec<u8>]) -> Result<Visited, AllocError>
-        ensures { IfOk result (λ visited. visit (contents_of contents.now) self.old ≡ (visited, self.new)) }
+        ensures { IfOk result (λ visited. visit (plain_contents contents.now) self.old ≡ (visited, self.new)) }
     {
         if self.options().run != RUN {
             return Ok(Visited::Idle);
@@ -274,7 +274,7 @@ impl PlainSharing {
         contents: &[Vec<u8>],
         place: usize,
     ) -> Result<Visited, AllocError>
-        ensures { IfOk result (λ visited. decided (contents_of contents.now) self.old place
+        ensures { IfOk result (λ visited. decided (plain_contents contents.now) self.old place
             (state_at self.old place) ≡ (visited, self.new)) }
     {
         let Some(page) = self.page(place) else {
@@ -296,7 +296,7 @@ impl PlainSharing {
         place: usize,
         last: Option<u64>,
     ) -> Result<Visited, AllocError>
-        ensures { IfOk result (λ visited. looked_at (contents_of contents.now) self.old place last
+        ensures { IfOk result (λ visited. looked_at (plain_contents contents.now) self.old place last
             ≡ (visited, self.new)) }
     {
         let is_joined = self.join(contents, place)?;
@@ -326,9 +326,9 @@ impl PlainSharing {
 
     // Puts a page into the earliest open group of its bytes. It answers whether there is one.
     fn join(&mut self, contents: &[Vec<u8>], place: usize) -> Result<bool, AllocError>
-        ensures told { IfOk result (λ is_joined. is_joined ≡ has_open (contents_of contents.now) self.old place) }
+        ensures told { IfOk result (λ is_joined. is_joined ≡ has_open (plain_contents contents.now) self.old place) }
         ensures joined { IfOk result (λ is_joined. self.new ≡
-            (if is_joined then joined (contents_of contents.now) self.old place else self.old)) }
+            (if is_joined then joined (plain_contents contents.now) self.old place else self.old)) }
     {
         let limit = self.options.max_page_sharing as usize;
         let is_joined = groups::join_first(&mut self.groups, contents, place, limit)?;
@@ -363,7 +363,7 @@ impl PlainSharing {
         fingerprint: u64,
     ) -> Result<Visited, AllocError>
         ensures { IfOk result (λ visited. met self.old place fingerprint
-            (find_partner (contents_of contents.now) self.old place fingerprint) ≡ (visited, self.new)) }
+            (find_partner (plain_contents contents.now) self.old place fingerprint) ≡ (visited, self.new)) }
     {
         match self.partner(contents, place, fingerprint) {
             Some(other) => {
@@ -380,7 +380,7 @@ impl PlainSharing {
     // The place of the page that waits longest for a page's bytes.
     fn partner(&self, contents: &[Vec<u8>], place: usize, fingerprint: u64) -> Option<usize>
         ensures { result ≡ option_map (λ (entry : ℕ × ℕ). entry.0)
-            (find_partner (contents_of contents.now) self.now place fingerprint) }
+            (find_partner (plain_contents contents.now) self.now place fingerprint) }
     {
         let bytes = contents::bytes_at(contents, place);
         match waiting::find_partner(&self.waiting, contents, fingerprint, bytes) {
@@ -523,7 +523,7 @@ impl PlainSharing {
     /// How many contents have two groups or more. The contents are the bytes of the page at each place.
     #[tactic(auto, unfolding(host_types::specs::Counters::group_contents))]
     pub fn node_chains(&self, contents: &[Vec<u8>]) -> usize
-        ensures { result ≡ stable_node_chains (contents_of contents.now) self.now }
+        ensures { result ≡ stable_node_chains (plain_contents contents.now) self.now }
     {
         groups::count_seconds(&self.groups, contents)
     }
@@ -531,7 +531,7 @@ impl PlainSharing {
     /// How many groups such contents have.
     #[tactic(auto, unfolding(host_types::specs::Counters::group_contents))]
     pub fn node_dups(&self, contents: &[Vec<u8>]) -> usize
-        ensures { result ≡ stable_node_dups (contents_of contents.now) self.now }
+        ensures { result ≡ stable_node_dups (plain_contents contents.now) self.now }
     {
         groups::count_repeated(&self.groups, contents)
     }

@@ -2,7 +2,7 @@
 ghost use Rattle.std.specs.Prelude.{◌≡◌, ◌++◌, ◌∷◌, [], find, IfOk};
 ghost use Rattle.host_types.specs.Sharing.{waiting_without};
 ghost use Rattle.host_types.specs.Visits.{is_partner};
-ghost use Rattle.plain_sharing.specs.View.{contents_of};
+ghost use Rattle.plain_sharing.specs.View.{plain_contents};
 
 use crate::contents;
 use std::alloc::AllocError;
@@ -33,7 +33,7 @@ pub(crate) fn find_partner(
     fingerprint: u64,
     bytes: &[u8],
 ) -> Option<(usize, u64)>
-    ensures { result ≡ find (is_partner (contents_of contents.now) fingerprint bytes.now) waiting.now }
+    ensures { result ≡ find (is_partner (plain_contents contents.now) fingerprint bytes.now) waiting.now }
 {
     for entry in waiting {
         if is_partner(*entry, contents, fingerprint, bytes) {
@@ -45,7 +45,7 @@ pub(crate) fn find_partner(
 
 // Whether a waiting page had a fingerprint, and has some bytes now.
 fn is_partner(entry: (usize, u64), contents: &[Vec<u8>], fingerprint: u64, bytes: &[u8]) -> bool
-    ensures { result ≡ is_partner (contents_of contents.now) fingerprint bytes.now entry }
+    ensures { result ≡ is_partner (plain_contents contents.now) fingerprint bytes.now entry }
 {
     entry.1 == fingerprint && contents::bytes_at(contents, entry.0) == bytes
 }

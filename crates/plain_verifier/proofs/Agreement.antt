@@ -4,7 +4,7 @@ use Rattle.std.proofs.lemmas.List.{reverse-append}
 use Rattle.verifier_kinds.specs.declared.description.Description.{Description}
 use Rattle.verifier_kinds.specs.Descriptions.{start_description, join_of}
 use Rattle.verifier.specs.Subject.{Subject}
-use Rattle.verifier.specs.Table.{Table, flows_from, joined, arrived, incoming}
+use Rattle.verifier.specs.Table.{Table, flows_from, known_with, arrived, incoming}
 use Rattle.verifier.proofs.Tables.{if_same}
 use Rattle.plain_verifier.specs.declared.orders.Order.{Order}
 use Rattle.plain_verifier.specs.declared.orders.Order.TheVariants.{Forward, Backward}
@@ -30,7 +30,7 @@ both_parts-assoc (Some d) None c = refl
 both_parts-assoc (Some d) (Some e) None = refl
 both_parts-assoc (Some d) (Some e) (Some f) = ap Some (join_of-assoc d e f)
 
-joined_is : (known : Option Description) (d : Description) → Some (joined known d) ≡ both_parts known (Some d)
+joined_is : (known : Option Description) (d : Description) → Some (known_with known d) ≡ both_parts known (Some d)
 joined_is None d = refl
 joined_is (Some e) d = refl
 
@@ -40,15 +40,15 @@ arrived_apart slot None [] = refl
 arrived_apart slot (Some d) [] = refl
 arrived_apart slot known (t ∷ targets) =
     let P : Option Description → Option Description → Type 0 = λ next alone. arrived slot next targets ≡ both_parts known (arrived slot alone targets) in
-    let reached : P (Some (joined known t.1)) (Some t.1) =
-    arrived_apart slot (Some (joined known t.1)) targets
+    let reached : P (Some (known_with known t.1)) (Some t.1) =
+    arrived_apart slot (Some (known_with known t.1)) targets
     ∙ ap (λ o. both_parts o (arrived slot None targets)) (joined_is known t.1)
     ∙ both_parts-assoc known (Some t.1) (arrived slot None targets)
     ∙ ap (both_parts known) (sym (arrived_apart slot (Some t.1) targets)) in
     let passed : P known None = arrived_apart slot known targets in
     of_test (t.0 == slot) reached passed
   where
-    of_test : (test : Bool) → (arrived slot (Some (joined known t.1)) targets ≡ both_parts known (arrived slot (Some t.1) targets)) → (arrived slot known targets ≡ both_parts known (arrived slot None targets)) → arrived slot (if test then Some (joined known t.1) else known) targets ≡ both_parts known (arrived slot (if test then Some t.1 else None) targets)
+    of_test : (test : Bool) → (arrived slot (Some (known_with known t.1)) targets ≡ both_parts known (arrived slot (Some t.1) targets)) → (arrived slot known targets ≡ both_parts known (arrived slot None targets)) → arrived slot (if test then Some (known_with known t.1) else known) targets ≡ both_parts known (arrived slot (if test then Some t.1 else None) targets)
     of_test true reached passed = reached
     of_test false reached passed = passed
 

@@ -1,7 +1,7 @@
 //! The two orders in which that which flows to a slot is joined.
 
 ghost use Rattle.std.specs.Prelude.{◌≡◌, [], ◌∷◌, reverse, Some, None};
-ghost use Rattle.verifier.specs.Table.{joined, arrived};
+ghost use Rattle.verifier.specs.Table.{known_with, arrived};
 ghost use Rattle.plain_verifier.specs.Orders.{pair_of, pairs_of, in_order};
 
 use verifier::Target;
@@ -18,7 +18,7 @@ pub(crate) enum Order {
 
 /// Joins what is known with what a target says.
 fn join_into(known: &mut Option<Description>, description: &Description)
-    ensures { known.new ≡ Some (joined known.old description.now) }
+    ensures { known.new ≡ Some (known_with known.old description.now) }
 {
     *known = match &*known {
         Some(before) => Some(before.join(description)),

@@ -8,7 +8,7 @@ use Rattle.host_types.specs.Sharing.{Sharing, PageState, state_at, is_shared}
 use Rattle.host_types.specs.Visits.{Contents, Visit, visit, begun, is_mergeable, look_from, next_from, page_to_visit, decided, looked_at, has_open, had, met, find_partner}
 use Rattle.page_table.proofs.Ahead.{none-mergeable}
 use Rattle.page_table.proofs.Next.{next-is}
-use Rattle.scanner.specs.Idle.{IsIdle}
+use Rattle.scanner.specs.Idle.{ScansNothing}
 use Rattle.host_types.proofs.Visits.{visit-stopped, visit-none, visit-page, is-same}
 
 either-works : (b : Bool) (x y : Visit) → x.0 ≢ visited.Idle → y.0 ≢ visited.Idle → (if b then x else y).0 ≢ visited.Idle
@@ -46,7 +46,7 @@ no-page s (Some c) ahead none i = absurd (let no = gone (next_from s (c + 1)) no
 is-one : (n : ℕ) → (n == 1) ≡ true → n ≡ 1
 is-one n h = grind (arith, nat_tests)
 
-pub idle-law : (contents : Contents) (s after : Sharing) (result : Visited) → IfSome s.cursor (λ c. IsSome (next_from s (c + 1))) → visit contents s ≡ (result, after) → (result ≡ visited.Idle ↔ IsIdle s)
+pub idle-law : (contents : Contents) (s after : Sharing) (result : Visited) → IfSome s.cursor (λ c. IsSome (next_from s (c + 1))) → visit contents s ≡ (result, after) → (result ≡ visited.Idle ↔ ScansNothing s)
 idle-law contents s after result ahead told = by_run (s.options.run == 1) refl
   where
     named : (v : Visit) → visit contents s ≡ v → result ≡ v.0
@@ -55,7 +55,7 @@ idle-law contents s after result ahead told = by_run (s.options.run == 1) refl
     other : (s.options.run == 1) ≡ false → s.options.run ≢ 1
     other h same = let yes = is-same s.options.run 1 same in cc
 
-    by_next : (x : Option ℕ) → (s.options.run == 1) ≡ true → page_to_visit s ≡ x → (result ≡ visited.Idle ↔ IsIdle s)
+    by_next : (x : Option ℕ) → (s.options.run == 1) ≡ true → page_to_visit s ≡ x → (result ≡ visited.Idle ↔ ScansNothing s)
     by_next None runs next =
         (λ e. inr (no-page s s.cursor ahead next), λ h. named (visited.Idle, s) (visit-none contents s runs next))
     by_next (Some i) runs next =
@@ -66,6 +66,6 @@ idle-law contents s after result ahead told = by_run (s.options.run == 1) refl
           λ h. absurd (⊎_elim (λ stopped. stopped (is-one s.options.run runs)) (λ none. let no : true ≡ false = sym may ∙ none i in cc) h),
         )
 
-    by_run : (b : Bool) → (s.options.run == 1) ≡ b → (result ≡ visited.Idle ↔ IsIdle s)
+    by_run : (b : Bool) → (s.options.run == 1) ≡ b → (result ≡ visited.Idle ↔ ScansNothing s)
     by_run false h = (λ e. inl (other h), λ idle. named (visited.Idle, s) (visit-stopped contents s h))
     by_run true h = by_next (page_to_visit s) h refl

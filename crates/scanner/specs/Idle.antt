@@ -4,5 +4,5 @@ use Rattle.host_types.specs.Sharing.{Sharing, state_at}
 use Rattle.host_types.specs.Visits.{is_mergeable}
 
 -- the scanner is stopped, or no page may be merged
-abbrev pub IsIdle : Sharing → Type 0
-IsIdle sharing = (sharing.options.run ≢ 1) ⊎ ((i : ℕ) → is_mergeable (state_at sharing i) ≡ false)
+abbrev pub ScansNothing : Sharing → Type 0
+ScansNothing sharing = (sharing.options.run ≢ 1) ⊎ ((i : ℕ) → is_mergeable (state_at sharing i) ≡ false)

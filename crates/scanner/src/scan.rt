@@ -6,7 +6,7 @@ ghost use Rattle.host_types.specs.Visits.{visit, decided, had, met, find_partner
 ghost use Rattle.frame_arena.specs.Pages.{page_at};
 ghost use Rattle.page_table.specs.State.{MemoryState, part, frame_at};
 ghost use Rattle.page_table.specs.Changes.{AreKept, KeepsSettings, IsPageOf, MayMerge, IsNotWaiting, HadFingerprint, contents_now};
-ghost use Rattle.scanner.specs.Idle.{IsIdle};
+ghost use Rattle.scanner.specs.Idle.{ScansNothing};
 
 use host_types::{Page, Visited};
 use page_table::{Entry, Memory};
@@ -22,7 +22,7 @@ const USE_ZERO_PAGES: u32 = 1;
 /// no page may be merged.
 pub fn visit(memory: &mut Memory) -> Visited
     ensures visited { visit (contents_in memory.old.maps) memory.old.sharing ≡ (result, memory.new.sharing) }
-    ensures idle { result ≡ Idle ↔ IsIdle memory.old.sharing }
+    ensures idle { result ≡ Idle ↔ ScansNothing memory.old.sharing }
     ensures maps { memory.new.maps ≡ memory.old.maps }
     ensures kept { AreKept memory.old memory.new }
     ensures settings { KeepsSettings memory.old memory.new }

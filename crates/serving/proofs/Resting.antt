@@ -6,7 +6,7 @@ use Rattle.atomic_table.specs.Seated.{TableId}
 use Rattle.host_types.specs.declared.options.Options.{Options}
 use Rattle.verifier_kinds.proofs.Descriptions.{get_or-one}
 use Rattle.page_table.specs.declared.tenant.Tenant.{Tenant}
-use Rattle.page_table.specs.State.{MemoryState, new_memory, new_tenant, part}
+use Rattle.page_table.specs.State.{MemoryState, new_memory, unreserved_tenant, part}
 use Rattle.turn.specs.declared.view.View.{View}
 use Rattle.turn.specs.Seats.{SeatState, IsIdle, IsNewSeat}
 use Rattle.serving.specs.AtRest.{IsAtRest}
@@ -22,7 +22,7 @@ weaker P Q f (Some x) h = f x h
 
 nothing_reserved : (frames tenants : ℕ) (options : Options) (t : ℕ) → (part (new_memory frames tenants options) t).reserve ≡ 0
 unfolding part new_memory
-nothing_reserved frames tenants options t = ap (λ (tenant : Tenant). tenant.reserve) (get_or-one tenants t new_tenant)
+nothing_reserved frames tenants options t = ap (λ (tenant : Tenant). tenant.reserve) (get_or-one tenants t unreserved_tenant)
 
 -- a new seat of a turn that is lent holds nothing
 pub new_idle : (turn lent : TableId) (first end : ℕ) (memory : MemoryState) (seat : SeatState) → lent ≡ turn → IsNewSeat turn first end memory seat → IsIdle lent seat

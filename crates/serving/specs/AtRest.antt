@@ -1,10 +1,10 @@
 -- Seats between calls.
 use Rattle.std.specs.Prelude.{◌≡◌}
 use Rattle.atomic_table.specs.Seated.{TableId}
-use Rattle.turn.specs.Seats.{SeatState, IsIdle, part_of}
+use Rattle.turn.specs.Seats.{SeatState, IsIdle, own_part}
 use Rattle.tenant_workers.specs.Runs.{IsResting}
 
 -- a tenant's seat holds nothing, and nothing is reserved for a run
 pub record IsAtRest (turn : TableId) (seat : SeatState) : Type 0 where
   pub idle : IsIdle turn seat
-  pub resting : IsResting (part_of seat)
+  pub resting : IsResting (own_part seat)

@@ -18,8 +18,8 @@ pub record Groups : Type 0 where
   pub room : ℕ
 
 -- the frames of all groups
-abbrev pub groups_of : Groups → List ℕ
-groups_of tree = concat tree.chains
+abbrev pub group_frames : Groups → List ℕ
+group_frames tree = concat tree.chains
 
 -- one for a content with two groups or more
 abbrev pub many_in : ℕ → ℕ

@@ -1,7 +1,7 @@
 ghost use Rattle.std.specs.Prelude.{◌≡◌, ◌≢◌, ◌++◌, ◌∷◌, [], ◌==◌, ◌+◌, ◌<◌, ◌≤◌, ℕ, List, not, nat_lt, filter, find, insert, remove, length, max, All, IsTrue, ◌↔◌, if◌then◌else◌, OnOk, OnErr, IfSome, slice_index_or, slice_set};
 ghost use Rattle.std.specs.Ordering.{is_lt};
 ghost use Rattle.frame_arena.specs.Pages.{page_at};
-ghost use Rattle.stable_tree.specs.Groups.{Groups, IsSorted, IsSpot, IsCutAt, has, order, is_before, is_there, groups_of, groups_at, groups_found, chains_among, dups_among};
+ghost use Rattle.stable_tree.specs.Groups.{Groups, IsSorted, IsSpot, IsCutAt, has, order, is_before, is_there, group_frames, groups_at, groups_found, chains_among, dups_among};
 
 use crate::chains::{
     Chain, add, first_below, first_of, frames_of, lengthen, position_of, shorten, size_of, take_out,
@@ -81,7 +81,7 @@ impl StableTree {
 
     /// How many groups there are.
     pub fn groups(&self) -> usize
-        ensures { result ≡ length (groups_of self.now) }
+        ensures { result ≡ length (group_frames self.now) }
     {
         self.frames.len()
     }
@@ -105,7 +105,7 @@ impl StableTree {
     pub fn find(&self, arena: &FrameArena, frame: u32) -> Option<Spot>
         requires frame { frame < length arena.now }
         requires sorted { IsSorted arena.now self.now.chains }
-        ensures found { groups_found self.now result ≡ filter (has arena.now (page_at arena.now frame)) (groups_of self.now) }
+        ensures found { groups_found self.now result ≡ filter (has arena.now (page_at arena.now frame)) (group_frames self.now) }
         ensures spot { IfSome result (IsSpot self.now) }
     {
         let chain = self.lower_bound(arena, frame);
@@ -128,10 +128,10 @@ impl StableTree {
     pub fn insert(&mut self, arena: &FrameArena, frame: u32)
         requires frame { frame < length arena.now }
         requires sorted { IsSorted arena.now self.old.chains }
-        requires new { All (λ group. group ≢ frame) (groups_of self.old) }
-        requires room { length (groups_of self.old) < self.old.room }
-        ensures inserted { (bytes : List ℕ) → filter (has arena.now bytes) (groups_of self.new)
-            ≡ filter (has arena.now bytes) (groups_of self.old) ++ filter (has arena.now bytes) (frame ∷ []) }
+        requires new { All (λ group. group ≢ frame) (group_frames self.old) }
+        requires room { length (group_frames self.old) < self.old.room }
+        ensures inserted { (bytes : List ℕ) → filter (has arena.now bytes) (group_frames self.new)
+            ≡ filter (has arena.now bytes) (group_frames self.old) ++ filter (has arena.now bytes) (frame ∷ []) }
         ensures sorted { IsSorted arena.now self.new.chains }
         ensures room { self.new.room ≡ self.old.room }
     {
@@ -147,7 +147,7 @@ impl StableTree {
     pub fn remove(&mut self, arena: &FrameArena, frame: u32)
         requires frame { frame < length arena.now }
         requires sorted { IsSorted arena.now self.old.chains }
-        ensures removed { groups_of self.new ≡ filter (λ group. not (group == frame)) (groups_of self.old) }
+        ensures removed { group_frames self.new ≡ filter (λ group. not (group == frame)) (group_frames self.old) }
         ensures sorted { IsSorted arena.now self.new.chains }
         ensures room { self.new.room ≡ self.old.room }
     {
@@ -203,7 +203,7 @@ impl StableTree {
     // Puts a frame at the end of a chain.
     fn lengthen(&mut self, chain: usize, frame: u32)
         requires chain { chain < length self.old.chains }
-        requires room { length (groups_of self.old) < self.old.room }
+        requires room { length (group_frames self.old) < self.old.room }
         ensures { self.new ≡ record self.old {
           chains = slice_set self.old.chains chain (slice_index_or self.old.chains chain [] ++ frame ∷ []);
         } }
@@ -216,7 +216,7 @@ impl StableTree {
     // Makes a chain of one frame.
     fn add(&mut self, chain: usize, frame: u32)
         requires chain { chain ≤ length self.old.chains }
-        requires room { length (groups_of self.old) < self.old.room }
+        requires room { length (group_frames self.old) < self.old.room }
         ensures { self.new ≡ record self.old { chains = insert self.old.chains chain (frame ∷ []) } }
     {
         add(&mut self.chains, &mut self.frames, chain, frame);

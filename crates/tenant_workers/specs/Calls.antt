@@ -11,8 +11,8 @@ abbrev pub IsSameSeat : SeatState → SeatState → Type 0
 IsSameSeat old new = new ≡ gave old new.view.seen
 
 -- the memory as the seat's last turn left it: a call that changed nothing found it so
-abbrev pub left_by : SeatState → MemoryState
-left_by seat = seat.view.seen
+abbrev pub memory_left : SeatState → MemoryState
+memory_left seat = seat.view.seen
 
 -- a visit of the scanner left the memory so
 pub record IsVisited (memory : MemoryState) : Type 0 where

@@ -6,12 +6,12 @@ use Rattle.host_types.specs.Tenant.{TenantPart}
 use Rattle.verifier.specs.Verified.{Accepted}
 use Rattle.tenant_runs.specs.declared.driving.RunReply.{RunReply}
 use Rattle.tenant_runs.specs.UnderWay.{HasRun}
-use Rattle.tenant_workers.specs.Runs.{RefusesProgram}
+use Rattle.tenant_workers.specs.Runs.{RefusesRunOnContext}
 
 -- the answer to a run of a program on a context: it was made, or it wasn't and the part stays
 abbrev pub RepliesTo : Accepted → List ℕ → TenantPart → Result RunReply Fault → TenantPart → Type 0
 RepliesTo v context old (Ok reply) new = HasRun v context old new reply
-RepliesTo v context old (Err fault) new = RefusesProgram v context old fault × (new ≡ old)
+RepliesTo v context old (Err fault) new = RefusesRunOnContext v context old fault × (new ≡ old)
 
 -- the answer to a run of the program of a number: where no program has it, `NoProgram`, and the part stays
 abbrev pub RepliesBy : List Accepted → ℕ → List ℕ → TenantPart → Result RunReply Fault → TenantPart → Type 0

@@ -19,12 +19,12 @@ IsResting owned = owned.reserve ≡ 0
 
 -- when a run isn't made: the shapes of the program's maps are no beginning of the tenant's, or else there
 -- aren't the frames for it
-abbrev pub RefusesRun : Accepted → TenantPart → Fault → Type 0
-RefusesRun v owned fault =
+abbrev pub RefusesRunOfTenant : Accepted → TenantPart → Fault → Type 0
+RefusesRunOfTenant v owned fault =
     ((fault ≡ NoProgram) × ¬ (HaveShapes v.subject.shapes owned.maps)) ⊎ (HaveShapes v.subject.shapes owned.maps × RefusesBegin v fault)
 
 -- why a run of a program isn't made on a context: the context hasn't the program's size; or it has, and memory
 -- ran out, or the run itself isn't made
-abbrev pub RefusesProgram : Accepted → List ℕ → TenantPart → Fault → Type 0
-RefusesProgram v context owned fault =
-    ((fault ≡ BadContext) × (length context ≢ v.subject.context_size)) ⊎ ((length context ≡ v.subject.context_size) × ((fault ≡ OutOfMemory) ⊎ RefusesRun v owned fault))
+abbrev pub RefusesRunOnContext : Accepted → List ℕ → TenantPart → Fault → Type 0
+RefusesRunOnContext v context owned fault =
+    ((fault ≡ BadContext) × (length context ≢ v.subject.context_size)) ⊎ ((length context ≡ v.subject.context_size) × ((fault ≡ OutOfMemory) ⊎ RefusesRunOfTenant v owned fault))

@@ -3,7 +3,7 @@ ghost use Rattle.bpf_decode.specs.Text.{instructions_of};
 ghost use Rattle.interp.specs.Machine.{MachineState, Next, Exits, step};
 ghost use Rattle.interp.specs.Runs.{Reaches};
 ghost use Rattle.tenant_runs.specs.UnderWay.{IsUnderWay, IsAsking};
-ghost use Rattle.turn.specs.Seats.{IsIdle, part_of};
+ghost use Rattle.turn.specs.Seats.{IsIdle, own_part};
 ghost use Rattle.tenant_workers.specs.Calls.{IsSameSeat};
 
 use crate::gate::Gate;
@@ -26,11 +26,11 @@ pub(crate) fn drive(
     gate: &impl Gate,
 ) -> RunReply
     requires idle { IsIdle shared.now seat.old }
-    requires under_way { (s : MachineState) × IsUnderWay program.now run.old s (part_of seat.old) }
+    requires under_way { (s : MachineState) × IsUnderWay program.now run.old s (own_part seat.old) }
     ensures idle { IsIdle shared.now seat.new }
     ensures same { IsSameSeat seat.old seat.new }
-    ensures ended { (s : MachineState) → IsUnderWay program.now run.old s (part_of seat.old)
-        → (n : ℕ) × Reaches program.now.subject.text s n (Exits result.ret (part_of seat.new).maps) × (result.steps ≡ run.old.steps + n) }
+    ensures ended { (s : MachineState) → IsUnderWay program.now run.old s (own_part seat.old)
+        → (n : ℕ) × Reaches program.now.subject.text s n (Exits result.ret (own_part seat.new).maps) × (result.steps ≡ run.old.steps + n) }
     ensures few { result.steps ≤ instructions_of program.now.subject.text }
 {
     program.facts();
@@ -59,11 +59,11 @@ fn meet(
     need: Need,
 )
     requires idle { IsIdle shared.now seat.old }
-    requires asks { (s : MachineState) × IsAsking program.now s need run.old (part_of seat.old) }
+    requires asks { (s : MachineState) × IsAsking program.now s need run.old (own_part seat.old) }
     ensures idle { IsIdle shared.now seat.new }
     ensures same { IsSameSeat seat.old seat.new }
-    ensures goes_on { (s : MachineState) → IsAsking program.now s need run.old (part_of seat.old)
-        → (next : MachineState) × (step program.now.subject.text s ≡ Some (Next next)) × IsUnderWay program.now run.new next (part_of seat.new) }
+    ensures goes_on { (s : MachineState) → IsAsking program.now s need run.old (own_part seat.old)
+        → (next : MachineState) × (step program.now.subject.text s ≡ Some (Next next)) × IsUnderWay program.now run.new next (own_part seat.new) }
     ensures steps { run.new.steps ≡ run.old.steps }
 {
     let tenant = seat.tenant();

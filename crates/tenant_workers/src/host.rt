@@ -5,7 +5,7 @@ ghost use Rattle.page_table.specs.State.{have_of};
 ghost use Rattle.page_table.specs.Changes.{contents_now};
 ghost use Rattle.ksm_counters.specs.Counters.{counters_of};
 ghost use Rattle.turn.specs.Seats.{IsIdle};
-ghost use Rattle.tenant_workers.specs.Calls.{IsSameSeat, left_by};
+ghost use Rattle.tenant_workers.specs.Calls.{IsSameSeat, memory_left};
 
 use crate::shared::Shared;
 use host_calls::{host_set, host_unmerge};
@@ -30,10 +30,10 @@ impl Shared {
         requires idle { IsIdle self.now seat.old }
         ensures idle { IsIdle self.now seat.new }
         ensures same { IsSameSeat seat.old seat.new }
-        ensures may { OnOk result (MayBe option value × MaySet (left_by seat.new).sharing option) }
-        ensures set { OnOk result ((left_by seat.new).sharing.options
-            ≡ with_option (left_by seat.new).sharing.options option value) }
-        ensures refused { IfErr result (RefusesSet (left_by seat.new).sharing option value) }
+        ensures may { OnOk result (MayBe option value × MaySet (memory_left seat.new).sharing option) }
+        ensures set { OnOk result ((memory_left seat.new).sharing.options
+            ≡ with_option (memory_left seat.new).sharing.options option value) }
+        ensures refused { IfErr result (RefusesSet (memory_left seat.new).sharing option value) }
     {
         let mut held = self.turn.take(rt, seat);
         let answer = host_set(held.memory_mut(), option, value);
@@ -50,10 +50,10 @@ impl Shared {
         requires idle { IsIdle self.now seat.old }
         ensures idle { IsIdle self.now seat.new }
         ensures same { IsSameSeat seat.old seat.new }
-        ensures unmerged { OnOk result (SharesNothing (left_by seat.new).sharing) }
-        ensures stopped { OnOk result ((left_by seat.new).sharing.options.run ≡ 2) }
+        ensures unmerged { OnOk result (SharesNothing (memory_left seat.new).sharing) }
+        ensures stopped { OnOk result ((memory_left seat.new).sharing.options.run ≡ 2) }
         ensures refused { IfErr result
-            (RefusesUnmerge (left_by seat.new).sharing (have_of (left_by seat.new))) }
+            (RefusesUnmerge (memory_left seat.new).sharing (have_of (memory_left seat.new))) }
     {
         let mut held = self.turn.take(rt, seat);
         let answer = host_unmerge(held.memory_mut());
@@ -66,8 +66,8 @@ impl Shared {
         requires idle { IsIdle self.now seat.old }
         ensures idle { IsIdle self.now seat.new }
         ensures same { IsSameSeat seat.old seat.new }
-        ensures told { result ≡ counters_of (length (left_by seat.new).arena)
-            (contents_now (left_by seat.new)) (left_by seat.new).sharing }
+        ensures told { result ≡ counters_of (length (memory_left seat.new).arena)
+            (contents_now (memory_left seat.new)) (memory_left seat.new).sharing }
     {
         let held = self.turn.take(rt, seat);
         let counters = ksm_counters::counters(held.memory());

@@ -4,8 +4,8 @@ ghost use Rattle.page_table.specs.Limits.{shape_of};
 ghost use Rattle.page_table.specs.State.{free_number};
 ghost use Rattle.map_helpers.specs.Updates.{part_updated};
 ghost use Rattle.host_calls.specs.Calls.{FitsNewMap, FitsValue, IsValue, RefusesNewMap, RefusesUpdate, RefusesLookup, TellsHave};
-ghost use Rattle.turn.specs.Seats.{IsIdle, part_of};
-ghost use Rattle.tenant_workers.specs.Calls.{IsSameSeat, left_by};
+ghost use Rattle.turn.specs.Seats.{IsIdle, own_part};
+ghost use Rattle.tenant_workers.specs.Calls.{IsSameSeat, memory_left};
 
 use crate::shared::Shared;
 use host_calls::{host_create_map, host_lookup, host_update};
@@ -32,14 +32,14 @@ impl Shared {
         requires idle { IsIdle self.now seat.old }
         ensures idle { IsIdle self.now seat.new }
         ensures same { IsSameSeat seat.old seat.new }
-        ensures fits { OnOk result (FitsNewMap (part_of seat.old) (shape_of value_size entries)) }
-        ensures number { IfOk result (λ m. free_number (part_of seat.old) ≡ Some m) }
+        ensures fits { OnOk result (FitsNewMap (own_part seat.old) (shape_of value_size entries)) }
+        ensures number { IfOk result (λ m. free_number (own_part seat.old) ≡ Some m) }
         ensures created { IfOk result (λ m.
-            part_of seat.new ≡ part_created (part_of seat.old) m (shape_of value_size entries)) }
+            own_part seat.new ≡ part_created (own_part seat.old) m (shape_of value_size entries)) }
         ensures refused { IfErr result
-            (RefusesNewMap (part_of seat.old) (shape_of value_size entries)) }
-        ensures told { IfErr result (TellsHave (left_by seat.new)) }
-        ensures kept { OnErr result (part_of seat.new ≡ part_of seat.old) }
+            (RefusesNewMap (own_part seat.old) (shape_of value_size entries)) }
+        ensures told { IfErr result (TellsHave (memory_left seat.new)) }
+        ensures kept { OnErr result (own_part seat.new ≡ own_part seat.old) }
     {
         let tenant = seat.tenant();
         let mut held = self.turn.take(rt, seat);
@@ -66,12 +66,12 @@ impl Shared {
         requires idle { IsIdle self.now seat.old }
         ensures idle { IsIdle self.now seat.new }
         ensures same { IsSameSeat seat.old seat.new }
-        ensures fits { OnOk result (FitsValue (part_of seat.old) map key value.now) }
+        ensures fits { OnOk result (FitsValue (own_part seat.old) map key value.now) }
         ensures updated { OnOk result
-            (part_of seat.new ≡ part_updated (part_of seat.old) map key value.now 0) }
-        ensures refused { IfErr result (RefusesUpdate (part_of seat.old) map key value.now) }
-        ensures told { IfErr result (TellsHave (left_by seat.new)) }
-        ensures kept { OnErr result (part_of seat.new ≡ part_of seat.old) }
+            (own_part seat.new ≡ part_updated (own_part seat.old) map key value.now 0) }
+        ensures refused { IfErr result (RefusesUpdate (own_part seat.old) map key value.now) }
+        ensures told { IfErr result (TellsHave (memory_left seat.new)) }
+        ensures kept { OnErr result (own_part seat.new ≡ own_part seat.old) }
     {
         let tenant = seat.tenant();
         let mut held = self.turn.take(rt, seat);
@@ -95,9 +95,9 @@ impl Shared {
         requires idle { IsIdle self.now seat.old }
         ensures idle { IsIdle self.now seat.new }
         ensures same { IsSameSeat seat.old seat.new }
-        ensures kept { part_of seat.new ≡ part_of seat.old }
-        ensures value { IfOk result (λ bytes. IsValue (part_of seat.old) map key bytes.items) }
-        ensures refused { IfErr result (RefusesLookup (part_of seat.old) map key) }
+        ensures kept { own_part seat.new ≡ own_part seat.old }
+        ensures value { IfOk result (λ bytes. IsValue (own_part seat.old) map key bytes.items) }
+        ensures refused { IfErr result (RefusesLookup (own_part seat.old) map key) }
     {
         let tenant = seat.tenant();
         let held = self.turn.take(rt, seat);

@@ -1,5 +1,5 @@
 ghost use Rattle.std.specs.Prelude.{◌≡◌};
-ghost use Rattle.turn.specs.Seats.{IsIdle, part_of};
+ghost use Rattle.turn.specs.Seats.{IsIdle, own_part};
 ghost use Rattle.tenant_workers.specs.Calls.{IsSameSeat};
 ghost use Rattle.tenant_workers.specs.Runs.{IsResting};
 
@@ -23,7 +23,7 @@ pub struct TenantPlan<'a> {
     /// What the runs were answered, in their order.
     pub replies: Vec<Result<RunReply, Fault>>,
     pub ghost idle: { IsIdle shared.now seat },
-    pub ghost resting: { IsResting (part_of seat) },
+    pub ghost resting: { IsResting (own_part seat) },
 }
 
 /// What the scanner's thread does: so many visits. The type keeps that the seat is one of this turn and holds

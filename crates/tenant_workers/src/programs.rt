@@ -2,7 +2,7 @@ ghost use Rattle.std.specs.Prelude.{◌≡◌, IfOk, IfErr};
 ghost use Rattle.bpf_decode.specs.Text.{IsWellFormed};
 ghost use Rattle.verifier.specs.Verified.{AreShapes, IsVerified};
 ghost use Rattle.host_calls.specs.Programs.{RefusesProgram, shapes_of, subject_of};
-ghost use Rattle.turn.specs.Seats.{IsIdle, part_of};
+ghost use Rattle.turn.specs.Seats.{IsIdle, own_part};
 ghost use Rattle.tenant_workers.specs.Calls.{IsSameSeat};
 
 use crate::shared::Shared;
@@ -30,11 +30,11 @@ impl Shared {
         requires idle { IsIdle self.now seat.old }
         ensures idle { IsIdle self.now seat.new }
         ensures same { IsSameSeat seat.old seat.new }
-        ensures kept { part_of seat.new ≡ part_of seat.old }
-        ensures subject { IfOk result (λ v. v.subject ≡ subject_of (part_of seat.old) text.now ctx_size) }
+        ensures kept { own_part seat.new ≡ own_part seat.old }
+        ensures subject { IfOk result (λ v. v.subject ≡ subject_of (own_part seat.old) text.now ctx_size) }
         ensures well_formed { IfOk result (λ _. IsWellFormed text.now) }
         ensures verified { IfOk result IsVerified }
-        ensures refused { IfErr result (RefusesProgram (subject_of (part_of seat.old) text.now ctx_size)) }
+        ensures refused { IfErr result (RefusesProgram (subject_of (own_part seat.old) text.now ctx_size)) }
     {
         if !is_context_size(ctx_size) {
             return Err(Fault::BadContext);
@@ -55,8 +55,8 @@ impl Shared {
         requires idle { IsIdle self.now seat.old }
         ensures idle { IsIdle self.now seat.new }
         ensures same { IsSameSeat seat.old seat.new }
-        ensures kept { part_of seat.new ≡ part_of seat.old }
-        ensures shapes { IfOk result (λ shapes. shapes.items ≡ shapes_of (part_of seat.old).maps) }
+        ensures kept { own_part seat.new ≡ own_part seat.old }
+        ensures shapes { IfOk result (λ shapes. shapes.items ≡ shapes_of (own_part seat.old).maps) }
         ensures valid { IfOk result (λ shapes. AreShapes shapes.items) }
     {
         let tenant = seat.tenant();

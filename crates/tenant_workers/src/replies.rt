@@ -1,5 +1,5 @@
 ghost use Rattle.std.specs.Prelude.{◌≡◌, length, map};
-ghost use Rattle.turn.specs.Seats.{IsIdle, part_of};
+ghost use Rattle.turn.specs.Seats.{IsIdle, own_part};
 ghost use Rattle.tenant_workers.specs.Calls.{IsSameSeat};
 ghost use Rattle.tenant_workers.specs.Replies.{AllReply, RepliesBy};
 ghost use Rattle.tenant_workers.specs.Runs.{IsResting};
@@ -27,7 +27,7 @@ impl Shared {
         ensures same { IsSameSeat plan.old.seat plan.new.seat }
         ensures count { length plan.new.replies.items ≡ length plan.new.runs.items }
         ensures replies { AllReply plan.old.programs.items (map (λ run. (run.0, run.1.items)) plan.old.runs.items)
-            (part_of plan.old.seat) plan.new.replies.items (part_of plan.new.seat) }
+            (own_part plan.old.seat) plan.new.replies.items (own_part plan.new.seat) }
     {
         for place in 0..plan.runs.len() {
             let (number, context) = &plan.runs[place];
@@ -56,11 +56,11 @@ impl Shared {
         gate: &impl Gate,
     ) -> Result<RunReply, Fault>
         requires idle { IsIdle self.now seat.old }
-        requires resting { IsResting (part_of seat.old) }
+        requires resting { IsResting (own_part seat.old) }
         ensures idle { IsIdle self.now seat.new }
         ensures same { IsSameSeat seat.old seat.new }
-        ensures resting { IsResting (part_of seat.new) }
-        ensures reply { RepliesBy programs.now number context.now (part_of seat.old) result (part_of seat.new) }
+        ensures resting { IsResting (own_part seat.new) }
+        ensures reply { RepliesBy programs.now number context.now (own_part seat.old) result (own_part seat.new) }
     {
         match programs.get(number as usize) {
             Some(program) => self.run_program(rt, alloc, seat, program, context, gate),

@@ -5,9 +5,9 @@ ghost use Rattle.page_table.specs.Changes.{IsKeptBut, with_reserve};
 ghost use Rattle.verifier.specs.Reserve.{reserve_from};
 ghost use Rattle.host_calls.specs.Calls.{IsThere, TellsHave};
 ghost use Rattle.tenant_runs.specs.UnderWay.{HasRun};
-ghost use Rattle.turn.specs.Seats.{IsIdle, part_of};
-ghost use Rattle.tenant_workers.specs.Calls.{IsSameSeat, left_by};
-ghost use Rattle.tenant_workers.specs.Runs.{IsFresh, IsResting, RefusesProgram, RefusesRun};
+ghost use Rattle.turn.specs.Seats.{IsIdle, own_part};
+ghost use Rattle.tenant_workers.specs.Calls.{IsSameSeat, memory_left};
+ghost use Rattle.tenant_workers.specs.Runs.{IsFresh, IsResting, RefusesRunOnContext, RefusesRunOfTenant};
 
 use crate::driving::drive;
 use crate::gate::Gate;
@@ -42,15 +42,15 @@ impl Shared {
         gate: &impl Gate,
     ) -> Result<RunReply, Fault>
         requires idle { IsIdle self.now seat.old }
-        requires resting { IsResting (part_of seat.old) }
+        requires resting { IsResting (own_part seat.old) }
         requires fresh { IsFresh program.now run }
         ensures idle { IsIdle self.now seat.new }
         ensures same { IsSameSeat seat.old seat.new }
-        ensures resting { IsResting (part_of seat.new) }
-        ensures ran { IfOk result (HasRun program.now run.context (part_of seat.old) (part_of seat.new)) }
-        ensures refused { IfErr result (RefusesRun program.now (part_of seat.old)) }
-        ensures told { IfErr result (TellsHave (left_by seat.new)) }
-        ensures kept { OnErr result (part_of seat.new ≡ part_of seat.old) }
+        ensures resting { IsResting (own_part seat.new) }
+        ensures ran { IfOk result (HasRun program.now run.context (own_part seat.old) (own_part seat.new)) }
+        ensures refused { IfErr result (RefusesRunOfTenant program.now (own_part seat.old)) }
+        ensures told { IfErr result (TellsHave (memory_left seat.new)) }
+        ensures kept { OnErr result (own_part seat.new ≡ own_part seat.old) }
     {
         seat.facts();
         self.begin(rt, seat, program)?;
@@ -73,13 +73,13 @@ impl Shared {
         gate: &impl Gate,
     ) -> Result<RunReply, Fault>
         requires idle { IsIdle self.now seat.old }
-        requires resting { IsResting (part_of seat.old) }
+        requires resting { IsResting (own_part seat.old) }
         ensures idle { IsIdle self.now seat.new }
         ensures same { IsSameSeat seat.old seat.new }
-        ensures resting { IsResting (part_of seat.new) }
-        ensures ran { IfOk result (HasRun program.now context.now (part_of seat.old) (part_of seat.new)) }
-        ensures refused { IfErr result (RefusesProgram program.now context.now (part_of seat.old)) }
-        ensures kept { OnErr result (part_of seat.new ≡ part_of seat.old) }
+        ensures resting { IsResting (own_part seat.new) }
+        ensures ran { IfOk result (HasRun program.now context.now (own_part seat.old) (own_part seat.new)) }
+        ensures refused { IfErr result (RefusesRunOnContext program.now context.now (own_part seat.old)) }
+        ensures kept { OnErr result (own_part seat.new ≡ own_part seat.old) }
     {
         let run = Run::begin(alloc, program, context)?;
         self.run(rt, seat, program, run, gate)
@@ -88,15 +88,15 @@ impl Shared {
     /// The turn in which a run begins: its frames are reserved.
     fn begin(&self, rt: &impl Wait, seat: &mut Seat, program: &Verified) -> Result<(), Fault>
         requires idle { IsIdle self.now seat.old }
-        requires resting { IsResting (part_of seat.old) }
+        requires resting { IsResting (own_part seat.old) }
         ensures idle { IsIdle self.now seat.new }
         ensures same { IsSameSeat seat.old seat.new }
-        ensures shapes { OnOk result (HaveShapes program.now.subject.shapes (part_of seat.old).maps) }
+        ensures shapes { OnOk result (HaveShapes program.now.subject.shapes (own_part seat.old).maps) }
         ensures recorded { OnOk result
-            (part_of seat.new ≡ with_reserve (reserve_from program.now 0) (part_of seat.old)) }
-        ensures refused { IfErr result (RefusesRun program.now (part_of seat.old)) }
-        ensures told { IfErr result (TellsHave (left_by seat.new)) }
-        ensures kept { OnErr result (part_of seat.new ≡ part_of seat.old) }
+            (own_part seat.new ≡ with_reserve (reserve_from program.now 0) (own_part seat.old)) }
+        ensures refused { IfErr result (RefusesRunOfTenant program.now (own_part seat.old)) }
+        ensures told { IfErr result (TellsHave (memory_left seat.new)) }
+        ensures kept { OnErr result (own_part seat.new ≡ own_part seat.old) }
     {
         let tenant = seat.tenant();
         let mut held = self.turn.take(rt, seat);
@@ -110,7 +110,7 @@ impl Shared {
         requires idle { IsIdle self.now seat.old }
         ensures idle { IsIdle self.now seat.new }
         ensures same { IsSameSeat seat.old seat.new }
-        ensures released { part_of seat.new ≡ with_reserve 0 (part_of seat.old) }
+        ensures released { own_part seat.new ≡ with_reserve 0 (own_part seat.old) }
     {
         let tenant = seat.tenant();
         let mut held = self.turn.take(rt, seat);
@@ -127,7 +127,7 @@ fn begin_run(memory: &mut Memory, tenant: u32, program: &Verified) -> Result<(),
     ensures recorded { OnOk result
         (part memory.new tenant ≡ with_reserve (reserve_from program.now 0) (part memory.old tenant)) }
     ensures others { IsKeptBut tenant memory.old memory.new }
-    ensures refused { IfErr result (RefusesRun program.now (part memory.old tenant)) }
+    ensures refused { IfErr result (RefusesRunOfTenant program.now (part memory.old tenant)) }
     ensures told { IfErr result (TellsHave memory.old) }
     ensures unchanged { OnErr result (memory.new ≡ memory.old) }
 {

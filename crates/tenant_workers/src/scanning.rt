@@ -1,6 +1,6 @@
 ghost use Rattle.std.specs.Prelude.{◌≡◌, ◌<◌};
 ghost use Rattle.turn.specs.Seats.{IsIdle};
-ghost use Rattle.tenant_workers.specs.Calls.{IsSameSeat, IsVisited, left_by};
+ghost use Rattle.tenant_workers.specs.Calls.{IsSameSeat, IsVisited, memory_left};
 
 use crate::shared::Shared;
 use scanner::visit;
@@ -13,7 +13,7 @@ impl Shared {
         requires idle { IsIdle self.now seat.old }
         ensures idle { IsIdle self.now seat.new }
         ensures same { IsSameSeat seat.old seat.new }
-        ensures visited { 0 < visits → IsVisited (left_by seat.new) }
+        ensures visited { 0 < visits → IsVisited (memory_left seat.new) }
     {
         for _visit in 0..visits {
             self.scan(rt, seat);
@@ -25,7 +25,7 @@ impl Shared {
         requires idle { IsIdle self.now seat.old }
         ensures idle { IsIdle self.now seat.new }
         ensures same { IsSameSeat seat.old seat.new }
-        ensures visited { IsVisited (left_by seat.new) }
+        ensures visited { IsVisited (memory_left seat.new) }
     {
         let mut held = self.turn.take(rt, seat);
         let _visited = visit(held.memory_mut());

@@ -8,7 +8,7 @@ use Rattle.atomic_table.specs.Table.{State, Me, step, Allows, Splits, Valid, ste
 use Rattle.atomic_table.proofs.Lists.{set_again, set_else, at_longer}
 use Rattle.page_table.specs.State.{MemoryState, part}
 use Rattle.turn.specs.declared.view.View.{View}
-use Rattle.turn.specs.Views.{Has, Agrees, Spares, holding, resting}
+use Rattle.turn.specs.Views.{Has, RemembersParts, Spares, holding, resting}
 use Rattle.turn.specs.Rule.{Each, Apart, IsHome, IsOut, IsInTurn, Takes, Gives}
 use Rattle.turn.proofs.Views.{at_set_same, Each-set, Each-more, Apart-set, Apart-split}
 
@@ -32,7 +32,7 @@ take_wins id me s r home there =
     let next : IsInTurn (state (1 ∷ []) (none ∷ []) (set s.views id new)) = record {
       memory = r.memory;
       apart = Apart-set s.views id me.0 new there (λ t has. has) r.apart;
-      agree = Each-set s.views id new (λ i view. Agrees view r.memory) (λ t has. refl) (λ i view ne at. r.agree i view at);
+      agree = Each-set s.views id new (λ i view. RemembersParts view r.memory) (λ t has. refl) (λ i view ne at. r.agree i view at);
       place = inr (record {
         word = refl;
         slot = refl;
@@ -112,7 +112,7 @@ give_home id view memory s r out there holds spares =
     let next : IsInTurn (state (0 ∷ []) (some (Some memory) ∷ []) (set s.views id new)) = record {
       memory = memory;
       apart = Apart-set s.views id view new there (λ t has. has) r.apart;
-      agree = Each-set s.views id new (λ i other. Agrees other memory) (λ t has. refl)
+      agree = Each-set s.views id new (λ i other. RemembersParts other memory) (λ t has. refl)
           (λ i other ne at t has.
           spares t (λ has'. ne (r.apart i other at id view there t has has'))
           ∙ ap (λ (m : MemoryState). part m t) taken
@@ -150,11 +150,11 @@ split_keeps id old left right seen seen' idle idle_left idle_right less more cut
     let views = set s.views id left ++ right ∷ [] in
     let apart : Apart views = Apart-split s.views id old left right there less more cut r.apart in
     let known = r.agree id old there in
-    let left_known : Agrees left r.memory = λ t has. known t (less t has) ∙ ap (λ (m : MemoryState). part m t) (sym seen) in
-    let right_known : Agrees right r.memory = λ t has. known t (more t has) ∙ ap (λ (m : MemoryState). part m t) (sym seen') in
-    let agree : Each views (λ i view. Agrees view r.memory) =
-    Each-more (set s.views id left) right (λ i view. Agrees view r.memory) right_known
-    (Each-set s.views id left (λ i view. Agrees view r.memory) left_known (λ i view ne at. r.agree i view at)) in
+    let left_known : RemembersParts left r.memory = λ t has. known t (less t has) ∙ ap (λ (m : MemoryState). part m t) (sym seen) in
+    let right_known : RemembersParts right r.memory = λ t has. known t (more t has) ∙ ap (λ (m : MemoryState). part m t) (sym seen') in
+    let agree : Each views (λ i view. RemembersParts view r.memory) =
+    Each-more (set s.views id left) right (λ i view. RemembersParts view r.memory) right_known
+    (Each-set s.views id left (λ i view. RemembersParts view r.memory) left_known (λ i view ne at. r.agree i view at)) in
     let home : IsHome s r.memory → IsHome (state s.words s.homes views) r.memory = λ h. record {
       word = h.word;
       slot = h.slot;
@@ -185,7 +185,7 @@ split_keeps id old left right seen seen' idle idle_left idle_right less more cut
 
 -- where the word is 0 at the end, a memory in the slot has the seat's own parts
 pub closes : (id : ℕ) (view : View) (words : List ℕ) (slots : List (Option MemoryState)) (memory : MemoryState)
-    → Final (Seen IsInTurn id view) words slots → get_elem? words 0 ≡ some 0 → get_elem? slots 0 ≡ some (Some memory) → Agrees view memory
+    → Final (Seen IsInTurn id view) words slots → get_elem? words 0 ≡ some 0 → get_elem? slots 0 ≡ some (Some memory) → RemembersParts view memory
 closes id view words slots memory end home at =
     let s = end.0 in
     let r = end.1.0 in
@@ -193,7 +193,7 @@ closes id view words slots memory end home at =
     (λ h.
     let kept : get_elem? slots 0 ≡ some (Some r.memory) = end.4 0 (Some r.memory) (ap (λ (homes : List (mathlib.Core.Option.Option (Option MemoryState))). get_elem? homes 0) h.slot) in
     let same : r.memory ≡ memory = same_Some r.memory memory (some-injective (Some r.memory) (Some memory) (sym kept ∙ at)) in
-    subst (λ (x : MemoryState). Agrees view x) same (r.agree id view end.1.1))
+    subst (λ (x : MemoryState). RemembersParts view x) same (r.agree id view end.1.1))
     (λ o.
     let one : some 1 ≡ some 0 = ap (λ (ws : List ℕ). get_elem? ws 0) (sym o.word ∙ end.2) ∙ home in
     absurd (omega (arith, some-injective 1 0 one)))

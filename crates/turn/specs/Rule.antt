@@ -6,7 +6,7 @@ use lib.ListN.{get_elem?}
 use Rattle.atomic_table.specs.Table.{State, Me, Step}
 use Rattle.page_table.specs.State.{MemoryState}
 use Rattle.turn.specs.declared.view.View.{View}
-use Rattle.turn.specs.Views.{Has, Agrees, holding, resting}
+use Rattle.turn.specs.Views.{Has, RemembersParts, holding, resting}
 
 -- a fact of each view, by the number of its seat
 abbrev pub Each : List View → (ℕ → View → Type 0) → Type 0
@@ -38,14 +38,14 @@ pub record IsOut (s : State (Option MemoryState) View) (memory : MemoryState) : 
 pub record IsInTurn (s : State (Option MemoryState) View) : Type 0 where
   pub memory : MemoryState
   pub apart : Apart s.views
-  pub agree : Each s.views (λ i view. Agrees view memory)
+  pub agree : Each s.views (λ i view. RemembersParts view memory)
   pub place : IsHome s memory ⊎ IsOut s memory
 
 -- what a take tells: where it found the memory home it wins, and its seat holds a memory that has
 -- its own parts; else it loses, and nothing changes
 abbrev pub Takes : Step (Option MemoryState) → Me (Option MemoryState) View → ℕ → Me (Option MemoryState) View → Type 0
 Takes step before found after =
-    (found ≡ 0 → (memory : MemoryState) × (after ≡ (holding before.0 memory, (0, Some memory) ∷ before.1)) × Agrees before.0 memory)
+    (found ≡ 0 → (memory : MemoryState) × (after ≡ (holding before.0 memory, (0, Some memory) ∷ before.1)) × RemembersParts before.0 memory)
     × (found ≢ 0 → after ≡ before)
 
 -- what a give tells: its seat's parts are those of the memory that it put back

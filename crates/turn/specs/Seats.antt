@@ -15,8 +15,8 @@ pub record SeatState : Type 0 where
   pub view : View
 
 -- what a tenant's seat knows: the part of its tenant
-abbrev pub part_of : SeatState → TenantPart
-part_of seat = part seat.view.seen seat.view.first
+abbrev pub own_part : SeatState → TenantPart
+own_part seat = part seat.view.seen seat.view.first
 
 -- the seat belongs to the turn, and holds nothing
 abbrev pub IsIdle : TableId → SeatState → Type 0
@@ -31,8 +31,8 @@ abbrev pub gave : SeatState → MemoryState → SeatState
 gave seat memory = record seat { view = resting seat.view memory }
 
 -- the slots that a seat has out: the memory's, which is empty then, where it holds
-abbrev pub slots_of : Bool → List (ℕ × Option MemoryState)
-slots_of holds = if holds then (0, None) ∷ [] else []
+abbrev pub slots_out : Bool → List (ℕ × Option MemoryState)
+slots_out holds = if holds then (0, None) ∷ [] else []
 
 -- a new seat of a turn: it holds nothing, and knows its tenants' parts of the memory
 abbrev pub IsNewSeat : TableId → ℕ → ℕ → MemoryState → SeatState → Type 0

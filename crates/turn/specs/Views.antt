@@ -9,8 +9,8 @@ abbrev pub Has : View → ℕ → Type 0
 Has view t = (view.first ≤ t) × (t < view.end)
 
 -- the view's own tenants have in the memory the parts that the view remembers
-abbrev pub Agrees : View → MemoryState → Type 0
-Agrees view memory = (t : ℕ) → Has view t → part memory t ≡ part view.seen t
+abbrev pub RemembersParts : View → MemoryState → Type 0
+RemembersParts view memory = (t : ℕ) → Has view t → part memory t ≡ part view.seen t
 
 -- every other tenant has in the memory the part that the view remembers
 abbrev pub Spares : View → MemoryState → Type 0

@@ -51,24 +51,24 @@ pub type HostSeat = Place<OfHost>;
 impl<K: Kind> Model for Place<K> {
     ghost use Rattle.std.specs.Prelude.{◌≡◌};
     ghost use Rattle.turn.specs.Views.{KnowsMaps};
-    ghost use Rattle.turn.specs.Seats.{SeatState, slots_of};
+    ghost use Rattle.turn.specs.Seats.{SeatState, slots_out};
 
     ghost Value = { SeatState };
 
     ghost view = { λ p. record { turn = p.token.table_id; id = p.token.id; view = p.token.me.0 } };
 
-    ghost invariant = { λ p. (p.token.me.1 ≡ slots_of p.token.me.0.holds) × (p.token.me.0.first ≡ p.tenant) × K.spans p.token.me.0.first p.token.me.0.end × KnowsMaps p.token.me.0 };
+    ghost invariant = { λ p. (p.token.me.1 ≡ slots_out p.token.me.0.holds) × (p.token.me.0.first ≡ p.tenant) × K.spans p.token.me.0.first p.token.me.0.end × KnowsMaps p.token.me.0 };
 }
 
 impl Place<OfTenant> {
     ghost use Rattle.std.specs.Prelude.{◌≡◌, ◌+◌};
     ghost use Rattle.host_types.specs.Tenant.{AreFlatMaps};
-    ghost use Rattle.turn.specs.Seats.{part_of};
+    ghost use Rattle.turn.specs.Seats.{own_part};
 
     /// What each tenant's seat meets: its tenant is there, and the maps that it has are flat. The function
     /// does nothing.
     pub fn facts(&self)
-        ensures { AreFlatMaps (part_of self.now).maps }
+        ensures { AreFlatMaps (own_part self.now).maps }
     {
         let _opened = &self.token;
     }

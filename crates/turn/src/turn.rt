@@ -2,7 +2,7 @@ ghost use Rattle.std.specs.Prelude.{◌≡◌, ◌+◌, ◌<◌, ◌≤◌, ℕ,
 ghost use Rattle.atomic_table.specs.Seated.{TableId};
 ghost use Rattle.page_table.specs.State.{MemoryState, part};
 ghost use Rattle.host_types.specs.Tenant.{AreFlatMaps};
-ghost use Rattle.turn.specs.Views.{Agrees, AreThere, HasMaps, Spares, new_view, holding, resting};
+ghost use Rattle.turn.specs.Views.{RemembersParts, AreThere, HasMaps, Spares, new_view, holding, resting};
 ghost use Rattle.turn.specs.Seats.{SeatState, took, gave, IsNewSeat, RefusesTurn};
 ghost use Rattle.turn.specs.Held.{memory_of, IsBy};
 
@@ -165,7 +165,7 @@ impl Turn {
         requires free { seat.old.view.holds ≡ false }
         ensures seat { seat.new ≡ took seat.old (memory_of result) }
         ensures by { IsBy result seat.old }
-        ensures known { Agrees seat.old.view (memory_of result) }
+        ensures known { RemembersParts seat.old.view (memory_of result) }
         ensures maps { HasMaps seat.old.view (memory_of result) }
     {
         if let Some(held) = self.try_take(seat) {
@@ -184,7 +184,7 @@ impl Turn {
         ensures none { IfNone result (seat.new ≡ seat.old) }
         ensures seat { IfSome result (λ held. seat.new ≡ took seat.old (memory_of held)) }
         ensures by { IfSome result (λ held. IsBy held seat.old) }
-        ensures known { IfSome result (λ held. Agrees seat.old.view (memory_of held)) }
+        ensures known { IfSome result (λ held. RemembersParts seat.old.view (memory_of held)) }
         ensures maps { IfSome result (λ held. HasMaps seat.old.view (memory_of held)) }
     {
         for _try in 0..TRIES {
@@ -203,7 +203,7 @@ impl Turn {
         requires free { seat.old.view.holds ≡ false }
         ensures seat { seat.new ≡ took seat.old (memory_of result) }
         ensures by { IsBy result seat.old }
-        ensures known { Agrees seat.old.view (memory_of result) }
+        ensures known { RemembersParts seat.old.view (memory_of result) }
         ensures maps { HasMaps seat.old.view (memory_of result) }
     {
         for _ in rt.forever() {
@@ -237,7 +237,7 @@ impl Turn {
         ensures none { IfNone result (seat.new ≡ seat.old) }
         ensures seat { IfSome result (λ held. seat.new ≡ took seat.old (memory_of held)) }
         ensures by { IfSome result (λ held. IsBy held seat.old) }
-        ensures known { IfSome result (λ held. Agrees seat.old.view (memory_of held)) }
+        ensures known { IfSome result (λ held. RemembersParts seat.old.view (memory_of held)) }
         ensures maps { IfSome result (λ held. HasMaps seat.old.view (memory_of held)) }
     {
         let memory = self.take_out(&mut seat.token)?;
@@ -253,7 +253,7 @@ impl Turn {
         ensures same { (token.new.table_id ≡ token.old.table_id) × (token.new.id ≡ token.old.id) }
         ensures won { IfSome result (λ memory.
             token.new.me ≡ (holding token.old.me.0 memory.value, (0, None) ∷ [])) }
-        ensures known { IfSome result (λ memory. Agrees token.old.me.0 memory.value) }
+        ensures known { IfSome result (λ memory. RemembersParts token.old.me.0 memory.value) }
     {
         let shared = &self.table.shared;
         let found = shared.compare_exchange::<Take>(token, 0, HOME, OUT);
@@ -296,7 +296,7 @@ impl Turn {
     /// Ends the turn, and gives the memory if it is home. In it the seat's tenant has its part.
     pub fn close(self, seat: Seat) -> Option<Memory>
         requires { seat.turn ≡ self }
-        ensures { IfSome result (λ memory. Agrees seat.view memory) }
+        ensures { IfSome result (λ memory. RemembersParts seat.view memory) }
     {
         let Turn { table, bell: _ } = self;
         let Place {

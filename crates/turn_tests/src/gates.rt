@@ -2,7 +2,7 @@
 //! those instructions, no contract says.
 
 ghost use Rattle.std.specs.Prelude.{◌≡◌};
-ghost use Rattle.turn.specs.Seats.{IsIdle, part_of};
+ghost use Rattle.turn.specs.Seats.{IsIdle, own_part};
 ghost use Rattle.tenant_workers.specs.Runs.{IsResting};
 
 use crate::programs::{COUNTER, text_of};
@@ -37,8 +37,8 @@ fn runs_scanned(rt: &impl Wait, alloc: Global, two: Two) -> Runs
     requires first { IsIdle two.shared two.first }
     requires second { IsIdle two.shared two.second }
     requires scanner { IsIdle two.shared two.scanner }
-    requires first_rests { IsResting (part_of two.first) }
-    requires second_rests { IsResting (part_of two.second) }
+    requires first_rests { IsResting (own_part two.first) }
+    requires second_rests { IsResting (own_part two.second) }
 {
     let Two {
         shared,
@@ -83,7 +83,7 @@ struct Other<'a> {
     program: Verified,
     last: Result<RunReply, Fault>,
     ghost idle: { IsIdle shared.now seat },
-    ghost resting: { IsResting (part_of seat) },
+    ghost resting: { IsResting (own_part seat) },
 }
 
 impl<'a> Other<'a> {
@@ -113,7 +113,7 @@ fn with_counter<'a>(
     mut seat: Seat,
 ) -> Result<Other<'a>, Fault>
     requires idle { IsIdle shared.now seat }
-    requires rests { IsResting (part_of seat) }
+    requires rests { IsResting (own_part seat) }
 {
     let Ok(text) = text_of(alloc, &COUNTER) else {
         return Err(Fault::OutOfMemory);
@@ -136,8 +136,8 @@ fn run_overtaken(
 ) -> Result<[Result<RunReply, Fault>; 2], Fault>
     requires first { IsIdle two.shared two.first }
     requires second { IsIdle two.shared two.second }
-    requires first_rests { IsResting (part_of two.first) }
-    requires second_rests { IsResting (part_of two.second) }
+    requires first_rests { IsResting (own_part two.first) }
+    requires second_rests { IsResting (own_part two.second) }
 {
     let Two {
         shared,
@@ -208,7 +208,7 @@ fn run_watched(rt: &impl Wait, alloc: Global, two: Two) -> ([[u32; 4]; 2], Resul
     requires first { IsIdle two.shared two.first }
     requires scanner { IsIdle two.shared two.scanner }
     requires host { IsIdle two.shared two.host }
-    requires first_rests { IsResting (part_of two.first) }
+    requires first_rests { IsResting (own_part two.first) }
 {
     let Two {
         shared,

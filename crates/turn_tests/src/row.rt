@@ -2,7 +2,7 @@
 //! succeed, and what the counters tell, no contract of a turn says.
 
 ghost use Rattle.std.specs.Prelude.{◌≡◌, IfOk};
-ghost use Rattle.turn.specs.Seats.{IsIdle, part_of};
+ghost use Rattle.turn.specs.Seats.{IsIdle, own_part};
 ghost use Rattle.tenant_workers.specs.Runs.{IsResting};
 
 use crate::numbers::with_numbers;
@@ -56,8 +56,8 @@ pub(crate) fn two_tenants(alloc: Global, frames: u32) -> Result<Two, Fault>
     ensures second { IfOk result (λ two. IsIdle two.shared two.second) }
     ensures scanner { IfOk result (λ two. IsIdle two.shared two.scanner) }
     ensures host { IfOk result (λ two. IsIdle two.shared two.host) }
-    ensures first_rests { IfOk result (λ two. IsResting (part_of two.first)) }
-    ensures second_rests { IfOk result (λ two. IsResting (part_of two.second)) }
+    ensures first_rests { IfOk result (λ two. IsResting (own_part two.first)) }
+    ensures second_rests { IfOk result (λ two. IsResting (own_part two.second)) }
 {
     let memory = with_numbers(alloc, frames, 2, Options::standard())?;
     let (turn, mut seats, scanner, host) = Turn::new(alloc, memory, 2)?;

@@ -2,7 +2,7 @@
 //! between its own, no contract says.
 
 ghost use Rattle.std.specs.Prelude.{◌≡◌};
-ghost use Rattle.turn.specs.Seats.{IsIdle, part_of};
+ghost use Rattle.turn.specs.Seats.{IsIdle, own_part};
 ghost use Rattle.tenant_workers.specs.Runs.{IsResting};
 
 use crate::programs::{COUNTER, text_of};
@@ -31,9 +31,9 @@ pub(crate) fn counted(
     gate: &impl Gate,
 ) -> Result<RunReply, Fault>
     requires idle { IsIdle shared.now seat.old }
-    requires resting { IsResting (part_of seat.old) }
+    requires resting { IsResting (own_part seat.old) }
     ensures idle { IsIdle shared.now seat.new }
-    ensures resting { IsResting (part_of seat.new) }
+    ensures resting { IsResting (own_part seat.new) }
 {
     let Ok(text) = text_of(alloc, &COUNTER) else {
         return Err(Fault::OutOfMemory);
@@ -59,8 +59,8 @@ fn ran(rt: &impl Wait, alloc: Global, two: Two) -> Row
     requires second { IsIdle two.shared two.second }
     requires scanner { IsIdle two.shared two.scanner }
     requires host { IsIdle two.shared two.host }
-    requires first_rests { IsResting (part_of two.first) }
-    requires second_rests { IsResting (part_of two.second) }
+    requires first_rests { IsResting (own_part two.first) }
+    requires second_rests { IsResting (own_part two.second) }
 {
     let Two {
         shared,
@@ -97,7 +97,7 @@ fn seats_run_programs_on_their_own_maps(rt: HostRuntime) -> Result<(), Fail> {
 /// What a run answers where no frame is free.
 fn crowded(rt: &impl Wait, alloc: Global, two: Two) -> Result<RunReply, Fault>
     requires first { IsIdle two.shared two.first }
-    requires rests { IsResting (part_of two.first) }
+    requires rests { IsResting (own_part two.first) }
 {
     let Two {
         shared,

@@ -2,7 +2,7 @@
 //! threads run between each other's instructions, no contract says.
 
 ghost use Rattle.std.specs.Prelude.{◌≡◌, ◌<◌, IfOk, All};
-ghost use Rattle.turn.specs.Seats.{IsIdle, part_of};
+ghost use Rattle.turn.specs.Seats.{IsIdle, own_part};
 ghost use Rattle.tenant_workers.specs.Plans.{IsFor};
 ghost use Rattle.tenant_workers.specs.Runs.{IsResting};
 
@@ -83,7 +83,7 @@ fn counting<'a>(
     mut seat: Seat,
 ) -> Result<TenantPlan<'a>, Fault>
     requires idle { IsIdle shared.now seat }
-    requires rests { IsResting (part_of seat) }
+    requires rests { IsResting (own_part seat) }
     ensures { IfOk result (IsFor shared.now) }
 {
     let Ok(text) = text_of(alloc, &COUNTER) else {
@@ -111,8 +111,8 @@ fn planned<'a>(
 ) -> Result<Plan<'a>, Fault>
     requires first { IsIdle shared.now seats.0 }
     requires second { IsIdle shared.now seats.1 }
-    requires first_rests { IsResting (part_of seats.0) }
-    requires second_rests { IsResting (part_of seats.1) }
+    requires first_rests { IsResting (own_part seats.0) }
+    requires second_rests { IsResting (own_part seats.1) }
     requires scan { scan.shared.now ≡ shared.now }
     ensures tenants { IfOk result (λ plan. All (IsFor shared.now) plan.tenants.items) }
     ensures scan { IfOk result (λ plan. plan.scan.shared.now ≡ shared.now) }
@@ -172,8 +172,8 @@ fn served<R: Threads + Wait + Sync, G: Gate + Sync>(
     requires first { IsIdle two.shared two.first }
     requires second { IsIdle two.shared two.second }
     requires scanner { IsIdle two.shared two.scanner }
-    requires first_rests { IsResting (part_of two.first) }
-    requires second_rests { IsResting (part_of two.second) }
+    requires first_rests { IsResting (own_part two.first) }
+    requires second_rests { IsResting (own_part two.second) }
 {
     let Two {
         shared,

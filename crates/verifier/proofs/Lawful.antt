@@ -9,7 +9,7 @@ use Rattle.verifier_kinds.proofs.Calls.{description_is_lawful}
 use Rattle.verifier_kinds.proofs.Order.{description_below_self}
 use Rattle.verifier.specs.Subject.{Subject}
 use Rattle.verifier.specs.Flow.{flow}
-use Rattle.verifier.specs.Table.{Table, described, flows_by, flows_from, targets_of, joined, arrived, incoming, Breaks, IsContained, IsKeptAt, IsTightTable, IsLawful}
+use Rattle.verifier.specs.Table.{Table, described, flows_by, flows_from, targets_of, known_with, arrived, incoming, Breaks, IsContained, IsKeptAt, IsTightTable, IsLawful}
 use Rattle.verifier.specs.Pass.{FlowDescribed}
 use Rattle.verifier.proofs.Tables.{if_same, below_next, IsUnder, IsTightBefore, targets_arrived, IsDescription-incoming, under_incoming}
 use Rattle.verifier.proofs.Flows.{IsAhead, flow_ahead}
@@ -25,8 +25,8 @@ arrived_instruction : (text : List ℕ) (slot : ℕ) (known : Option Description
 arrived_instruction text slot known [] k q = k
 arrived_instruction text slot known (t ∷ targets) k q =
     let head : IsInstruction text t.0 = All-head (λ t. IsInstruction text t.0) t targets q in
-    let next : IfSome (if t.0 == slot then Some (joined known t.1) else known) (λ d. IsInstruction text slot) = if_same (λ o. IfSome o (λ d. IsInstruction text slot)) t.0 slot (Some (joined known t.1)) known (λ e. subst (λ s. IsInstruction text s) e head) (λ e. k) in
-    arrived_instruction text slot (if t.0 == slot then Some (joined known t.1) else known) targets next (All-tail (λ t. IsInstruction text t.0) t targets q)
+    let next : IfSome (if t.0 == slot then Some (known_with known t.1) else known) (λ d. IsInstruction text slot) = if_same (λ o. IfSome o (λ d. IsInstruction text slot)) t.0 slot (Some (known_with known t.1)) known (λ e. subst (λ s. IsInstruction text s) e head) (λ e. k) in
+    arrived_instruction text slot (if t.0 == slot then Some (known_with known t.1) else known) targets next (All-tail (λ t. IsInstruction text t.0) t targets q)
 
 -- what flows from a slot that is an instruction's, if it is described, flows ahead
 pub flows_ahead : (p : Subject) (table : Table) (slot : ℕ) → IfSome (described table slot) (λ d. IsInstruction p.text slot) → All (IsAhead p slot) (flows_from p table slot)

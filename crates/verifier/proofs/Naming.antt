@@ -33,8 +33,8 @@ use Rattle.verifier_kinds.proofs.Calls.{arithmetic_names, join_names_of_left, ki
 use Rattle.verifier.specs.declared.jumps.Compared.{Compared}
 use Rattle.verifier.specs.declared.jumps.Compared.TheVariants.{Numbers, Answer}
 use Rattle.verifier.specs.Subject.{Subject}
-use Rattle.verifier.specs.Flow.{◌>>=◌, both, known_or, holds_or, read_kind, writable, write_kind, operand_kind, dst_is_known, computed_kind, after_alu, loaded_range, slot_kind, context_place, stack_place, value_size_of, value_access, load_kind, loaded_kind, after_load, name_kind, wide_kind, after_load_immediate, is_number, written_slot, after_stack_store, stored, after_store, comparands, checked_kind, holds_of_null, on_way, falls_to, jumps_to, target, called, answer_kind, without_arguments, after_call, after, falls_on, flow_of_branch, flow_of_jump, flow_of_exit, flow_by, flow}
-use Rattle.verifier.specs.Table.{Table, described, flows_by, flows_from, targets_of, joined, arrived, incoming}
+use Rattle.verifier.specs.Flow.{◌>>=◌, both, known_or, holds_or, read_kind, writable, write_kind, operand_kind, dst_is_known, computed_kind, after_alu, loaded_range, slot_kind, context_place, stack_place, value_size_of, value_access, load_kind, loaded_kind, after_load, name_kind, wide_kind, after_load_immediate, is_number, written_slot, after_stack_store, stored, after_store, comparands, checked_kind, holds_of_null, on_way, falls_to, jumps_to, target, called_map, answer_kind, without_arguments, after_call, after, falls_on, flow_of_branch, flow_of_jump, flow_of_exit, flow_by, flow}
+use Rattle.verifier.specs.Table.{Table, described, flows_by, flows_from, targets_of, known_with, arrived, incoming}
 use Rattle.verifier.specs.Pass.{AreDescribed, FlowDescribed}
 use Rattle.verifier.proofs.Flows.{both_ok, then_ok, known_ok, flow_ok}
 use Rattle.verifier.proofs.Tables.{if_same, below_next, IsTightBefore, IsDescription-arrived, IsDescription-incoming}
@@ -189,8 +189,8 @@ without_names slot d below =
 call_names : (slot : ℕ) (p : Subject) (insn : Insn) (d e : Description) → IsOfCallsBelow slot d → after_call p slot insn d ≡ Ok e → IsOfCallsBelow (suc slot) e
 unfolding after_call
 call_names slot p insn d e below h =
-    let helper = then_ok (known_or (helper_of (sign_extended insn.imm)) 23) (λ helper. called p helper d >>= λ m. Ok (with_kind (without_arguments d) 0 (answer_kind helper slot m))) e h in
-    let map = then_ok (called p helper.0 d) (λ m. Ok (with_kind (without_arguments d) 0 (answer_kind helper.0 slot m))) e helper.2 in
+    let helper = then_ok (known_or (helper_of (sign_extended insn.imm)) 23) (λ helper. called_map p helper d >>= λ m. Ok (with_kind (without_arguments d) 0 (answer_kind helper slot m))) e h in
+    let map = then_ok (called_map p helper.0 d) (λ m. Ok (with_kind (without_arguments d) 0 (answer_kind helper.0 slot m))) e helper.2 in
     let same : with_kind (without_arguments d) 0 (answer_kind helper.0 slot map.0) ≡ e = cc (map.2) in
     subst (IsOfCallsBelow (suc slot)) same
     (with_kind_names (suc slot) (without_arguments d) 0 (answer_kind helper.0 slot map.0) (answer_names helper.0 slot map.0)
@@ -290,7 +290,7 @@ flows_names p table slot below = of (described table slot) below
     of None below = All-nil (λ t. IsOfCallsBelow (suc slot) t.1)
     of (Some d) below = by_result d (flow p slot d) below refl
 
-joined_names : (slot : ℕ) (known : Option Description) (d : Description) → IfSome known IsDescription → IsDescription d → IfSome known (IsOfCallsBelow slot) → IsOfCallsBelow slot d → IsOfCallsBelow slot (joined known d)
+joined_names : (slot : ℕ) (known : Option Description) (d : Description) → IfSome known IsDescription → IsDescription d → IfSome known (IsOfCallsBelow slot) → IsOfCallsBelow slot d → IsOfCallsBelow slot (known_with known d)
 joined_names slot None d k q known below = below
 joined_names slot (Some e) d k q known below = join_names_of_left slot e d k q known
 
@@ -299,9 +299,9 @@ arrived_names slot known [] k q names below = names
 arrived_names slot known (t ∷ targets) k q names below =
     let head : IsDescription t.1 = All-head (λ t. IsDescription t.1) t targets q in
     let first : IsOfCallsBelow slot t.1 = All-head (λ t. IsOfCallsBelow slot t.1) t targets below in
-    let next : IfSome (if t.0 == slot then Some (joined known t.1) else known) IsDescription = IsDescription-arrived slot known (t ∷ []) k (All-cons (λ t. IsDescription t.1) t [] head (All-nil (λ t. IsDescription t.1))) in
-    let named : IfSome (if t.0 == slot then Some (joined known t.1) else known) (IsOfCallsBelow slot) = if_same (λ o. IfSome o (IsOfCallsBelow slot)) t.0 slot (Some (joined known t.1)) known (λ e. joined_names slot known t.1 k head names first) (λ e. names) in
-    arrived_names slot (if t.0 == slot then Some (joined known t.1) else known) targets next (All-tail (λ t. IsDescription t.1) t targets q) named (All-tail (λ t. IsOfCallsBelow slot t.1) t targets below)
+    let next : IfSome (if t.0 == slot then Some (known_with known t.1) else known) IsDescription = IsDescription-arrived slot known (t ∷ []) k (All-cons (λ t. IsDescription t.1) t [] head (All-nil (λ t. IsDescription t.1))) in
+    let named : IfSome (if t.0 == slot then Some (known_with known t.1) else known) (IsOfCallsBelow slot) = if_same (λ o. IfSome o (IsOfCallsBelow slot)) t.0 slot (Some (known_with known t.1)) known (λ e. joined_names slot known t.1 k head names first) (λ e. names) in
+    arrived_names slot (if t.0 == slot then Some (known_with known t.1) else known) targets next (All-tail (λ t. IsDescription t.1) t targets q) named (All-tail (λ t. IsOfCallsBelow slot t.1) t targets below)
 
 incoming_names : (p : Subject) (table : Table) (slot n : ℕ) → FlowDescribed p table n → ((s : ℕ) → s < n → IfSome (described table s) (IsOfCallsBelow s)) → n ≤ slot → IfSome (incoming p table slot n) (IsOfCallsBelow slot)
 unfolding incoming

@@ -10,8 +10,8 @@ use Rattle.verifier_kinds.specs.declared.description.Description.{Description}
 use Rattle.verifier_kinds.specs.Descriptions.{start_description, IsDescription}
 use Rattle.verifier.specs.Subject.{Subject}
 use Rattle.verifier.specs.Flow.{flow, target}
-use Rattle.verifier.specs.Table.{Table, described, flows_by, flows_from, targets_of, joined, arrived, incoming, tight_up_to, tight_table, Breaks, IsTightTable, IsRefusal, IsCleanBefore}
-use Rattle.verifier.specs.Pass.{AreDescribed, FlowDescribed, Kept, kinds_in, pending_at, falling, met, next_at, IsPassed}
+use Rattle.verifier.specs.Table.{Table, described, flows_by, flows_from, targets_of, known_with, arrived, incoming, tight_up_to, tight_table, Breaks, IsTightTable, IsRefusal, IsCleanBefore}
+use Rattle.verifier.specs.Pass.{AreDescribed, FlowDescribed, Kept, kinds_in, pending_at, falling, known_with_coming, next_at, IsPassed}
 use Rattle.verifier.specs.Verified.{IsSubject, IsVerified}
 use Rattle.verifier.proofs.Tables.{if_same, below_next, IsDescription-incoming}
 use Rattle.verifier.proofs.Tight.{tight_is_tight, length-tight, kept_next}
@@ -22,12 +22,12 @@ at_slot : (p : Subject) (kept : Kept) (pending : List (Option (Box Description))
 at_slot p kept pending coming slot h i = tight_is_tight p (slots_of p.text) slot h ∙ sym (i.ahead slot (omega arith) h)
 
 -- what arrives from one target at its own slot
-arrived_met : (slot : ℕ) (known coming : Option Description) → arrived slot known (target slot coming) ≡ met known coming
+arrived_met : (slot : ℕ) (known coming : Option Description) → arrived slot known (target slot coming) ≡ known_with_coming known coming
 arrived_met slot known None = refl
-arrived_met slot known (Some d) = if_same (λ o. o ≡ Some (joined known d)) slot slot (Some (joined known d)) known (λ _. refl) (λ ne. absurd (ne refl))
+arrived_met slot known (Some d) = if_same (λ o. o ≡ Some (known_with known d)) slot slot (Some (known_with known d)) known (λ _. refl) (λ ne. absurd (ne refl))
 
 -- at the slot of an instruction what jumped there is joined with what falls there
-pub known_at : (p : Subject) (kept : Kept) (pending : List (Option (Box Description))) (coming : Option Description) (slot : ℕ) → IsInstruction p.text slot → IsPassed p kept pending coming slot → described (tight_table p) slot ≡ met (pending_at pending slot) coming
+pub known_at : (p : Subject) (kept : Kept) (pending : List (Option (Box Description))) (coming : Option Description) (slot : ℕ) → IsInstruction p.text slot → IsPassed p kept pending coming slot → described (tight_table p) slot ≡ known_with_coming (pending_at pending slot) coming
 known_at p kept pending coming slot instruction i =
     let here : next_at p.text slot ≡ slot = rw (instruction.begins) refl in
     at_slot p kept pending coming slot instruction.within i
@@ -55,12 +55,12 @@ tight_description : (p : Subject) (slot : ℕ) → slot < slots_of p.text → Fl
 tight_description p slot h f = subst (λ o. IfSome o IsDescription) (sym (tight_is_tight p (slots_of p.text) slot h)) (IsDescription-incoming p (tight_table p) slot slot f)
 
 -- what is known at an instruction is a description of the verifier
-pub known_description : (p : Subject) (kept : Kept) (pending : List (Option (Box Description))) (coming : Option Description) (slot : ℕ) (d : Description) → IsInstruction p.text slot → IsPassed p kept pending coming slot → Some d ≡ met (pending_at pending slot) coming → IsDescription d
+pub known_description : (p : Subject) (kept : Kept) (pending : List (Option (Box Description))) (coming : Option Description) (slot : ℕ) (d : Description) → IsInstruction p.text slot → IsPassed p kept pending coming slot → Some d ≡ known_with_coming (pending_at pending slot) coming → IsDescription d
 known_description p kept pending coming slot d instruction i is =
     subst (λ o. IfSome o IsDescription) (known_at p kept pending coming slot instruction i ∙ sym is) (tight_description p slot instruction.within i.flows)
 
 -- a slot that breaks a rule refuses the text
-pub known_refusal : (p : Subject) (kept : Kept) (pending : List (Option (Box Description))) (coming : Option Description) (slot number : ℕ) (d : Description) → IsInstruction p.text slot → IsPassed p kept pending coming slot → Some d ≡ met (pending_at pending slot) coming → flow p slot d ≡ Err number → IsRefusal p (record { number = number; slot = slot })
+pub known_refusal : (p : Subject) (kept : Kept) (pending : List (Option (Box Description))) (coming : Option Description) (slot number : ℕ) (d : Description) → IsInstruction p.text slot → IsPassed p kept pending coming slot → Some d ≡ known_with_coming (pending_at pending slot) coming → flow p slot d ≡ Err number → IsRefusal p (record { number = number; slot = slot })
 known_refusal p kept pending coming slot number d instruction i is breaks =
     let within = instruction.within in
     record {
@@ -126,7 +126,7 @@ passed_between p kept after pending coming slot w h between i put =
 -- what falls to a slot doesn't arrive behind it
 falls_here : (s slot : ℕ) (known coming : Option Description) → slot < s → arrived s known (target slot coming) ≡ known
 falls_here s slot known None h = refl
-falls_here s slot known (Some d) h = if_same (λ o. o ≡ known) slot s (Some (joined known d)) known (λ e. absurd (omega arith)) (λ _. refl)
+falls_here s slot known (Some d) h = if_same (λ o. o ≡ known) slot s (Some (known_with known d)) known (λ e. absurd (omega arith)) (λ _. refl)
 
 -- what the slots ahead have is as before, once what is known at an instruction is taken
 before_ahead : (p : Subject) (pending : List (Option (Box Description))) (coming : Option Description) (slot s : ℕ) → is_instruction p.text slot ≡ true → slot < s → arrived s (pending_at pending s) (target (next_at p.text slot) coming) ≡ pending_at pending s
@@ -135,7 +135,7 @@ before_ahead p pending coming slot s begins h =
     ap (λ to. arrived s (pending_at pending s) (target to coming)) here ∙ falls_here s slot (pending_at pending s) coming h
 
 -- an instruction that isn't reached is passed over
-pub passed_unreached : (p : Subject) (kept after : Kept) (pending taken : List (Option (Box Description))) (coming next : Option Description) (slot : ℕ) → IsInstruction p.text slot → IsPassed p kept pending coming slot → None ≡ met (pending_at pending slot) coming → next ≡ None → after ≡ kept ++ None ∷ [] → length taken ≡ length pending → ((s : ℕ) → s ≢ slot → pending_at taken s ≡ pending_at pending s) → IsPassed p after taken next (slot + 1)
+pub passed_unreached : (p : Subject) (kept after : Kept) (pending taken : List (Option (Box Description))) (coming next : Option Description) (slot : ℕ) → IsInstruction p.text slot → IsPassed p kept pending coming slot → None ≡ known_with_coming (pending_at pending slot) coming → next ≡ None → after ≡ kept ++ None ∷ [] → length taken ≡ length pending → ((s : ℕ) → s ≢ slot → pending_at taken s ≡ pending_at pending s) → IsPassed p after taken next (slot + 1)
 passed_unreached p kept after pending taken coming next slot instruction i is none put len others =
     passed_on p kept after pending taken coming next None slot instruction.within i (known_at p kept pending coming slot instruction i ∙ sym is) tt (All-nil (λ t. IsDescription t.1)) put len
     (λ s k.
@@ -144,7 +144,7 @@ passed_unreached p kept after pending taken coming next slot instruction i is no
     ∙ others s other ∙ sym (before_ahead p pending coming slot s instruction.begins k))
 
 -- an instruction that is reached and flows on is passed over
-pub passed_flow : (p : Subject) (kept after : Kept) (pending taken entered : List (Option (Box Description))) (coming next : Option Description) (slot : ℕ) (d : Description) (targets : List (ℕ × Description)) → IsInstruction p.text slot → IsPassed p kept pending coming slot → Some d ≡ met (pending_at pending slot) coming → flow p slot d ≡ Ok targets → AreDescribed targets → after ≡ kept ++ Some d.registers ∷ [] → length taken ≡ length pending → ((s : ℕ) → s ≢ slot → pending_at taken s ≡ pending_at pending s) → length entered ≡ length taken → ((s : ℕ) → arrived s (pending_at entered s) (target (slot + width_at p.text slot) next) ≡ arrived s (pending_at taken s) targets) → IsPassed p after entered next (slot + 1)
+pub passed_flow : (p : Subject) (kept after : Kept) (pending taken entered : List (Option (Box Description))) (coming next : Option Description) (slot : ℕ) (d : Description) (targets : List (ℕ × Description)) → IsInstruction p.text slot → IsPassed p kept pending coming slot → Some d ≡ known_with_coming (pending_at pending slot) coming → flow p slot d ≡ Ok targets → AreDescribed targets → after ≡ kept ++ Some d.registers ∷ [] → length taken ≡ length pending → ((s : ℕ) → s ≢ slot → pending_at taken s ≡ pending_at pending s) → length entered ≡ length taken → ((s : ℕ) → arrived s (pending_at entered s) (target (slot + width_at p.text slot) next) ≡ arrived s (pending_at taken s) targets) → IsPassed p after entered next (slot + 1)
 passed_flow p kept after pending taken entered coming next slot d targets instruction i is e kinds put len others more flowed =
     let same : flows_by p slot (Some d) ≡ targets = ap targets_of e in
     passed_on p kept after pending entered coming next (Some d) slot instruction.within i (known_at p kept pending coming slot instruction i ∙ sym is) (targets, e)
@@ -174,7 +174,7 @@ passed_start p kept pending w empty whole none = record {
   ahead = λ s k within.
       let start : Option Description = Some start_description in
       let P : Option Description → Type 0 = λ o. o ≡ (if s == 0 then start else None) in
-      ap (λ o. if 0 == s then Some (joined o start_description) else o) (none s)
+      ap (λ o. if 0 == s then Some (known_with o start_description) else o) (none s)
       ∙ if_same P 0 s start None
       (λ e. if_same (λ o. start ≡ o) s 0 start None (λ _. refl) (λ ne. absurd (ne (sym e))))
       (λ ne. if_same (λ o. None ≡ o) s 0 start None (λ e. absurd (ne (sym e))) (λ _. refl));

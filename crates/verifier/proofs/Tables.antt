@@ -8,7 +8,7 @@ use Rattle.verifier_kinds.proofs.Descriptions.{start_is_description}
 use Rattle.verifier_kinds.proofs.Order.{description_below_self, description_below_trans}
 use Rattle.verifier_kinds.proofs.Joins.{below_join_left, below_join_right, join_is_description}
 use Rattle.verifier.specs.Subject.{Subject}
-use Rattle.verifier.specs.Table.{Table, described, flows_by, flows_from, joined, arrived, incoming}
+use Rattle.verifier.specs.Table.{Table, described, flows_by, flows_from, known_with, arrived, incoming}
 use Rattle.verifier.specs.Pass.{AreDescribed, FlowDescribed}
 
 -- what holds of the one value if two numbers are equal, and else of the other, holds of the choice
@@ -45,15 +45,15 @@ tables_agree p table other (suc n) t u s h =
 abbrev pub IsUnder : Description → Option Description → Type 0
 IsUnder d known = (e : Description) × (known ≡ Some e) × IsDescriptionBelow d e
 
-IsDescription-joined : (known : Option Description) (d : Description) → IfSome known IsDescription → IsDescription d → IsDescription (joined known d)
-IsDescription-joined None d k q = q
-IsDescription-joined (Some e) d k q = join_is_description e d k q
+IsDescription-known_with : (known : Option Description) (d : Description) → IfSome known IsDescription → IsDescription d → IsDescription (known_with known d)
+IsDescription-known_with None d k q = q
+IsDescription-known_with (Some e) d k q = join_is_description e d k q
 
-below_joined : (known : Option Description) (d : Description) → IfSome known IsDescription → IsDescription d → IsDescriptionBelow d (joined known d)
+below_joined : (known : Option Description) (d : Description) → IfSome known IsDescription → IsDescription d → IsDescriptionBelow d (known_with known d)
 below_joined None d k q = description_below_self d
 below_joined (Some e) d k q = below_join_right e d k q
 
-under_joined : (c : Description) (known : Option Description) (d : Description) → IfSome known IsDescription → IsDescription d → IsUnder c known → IsUnder c (Some (joined known d))
+under_joined : (c : Description) (known : Option Description) (d : Description) → IfSome known IsDescription → IsDescription d → IsUnder c known → IsUnder c (Some (known_with known d))
 under_joined c None d k q (e, same, below) = absurd cc
 under_joined c (Some b) d k q (e, same, below) =
     let P : Description → Type 0 = λ x. IsDescriptionBelow c x in
@@ -66,7 +66,7 @@ arrived-elsewhere slot known [] other = refl
 arrived-elsewhere slot known (t ∷ targets) other =
     let head : t.0 ≡ slot → ⊥ = All-head (λ t. t.0 ≡ slot → ⊥) t targets other in
     let P : Option Description → Type 0 = λ o. o ≡ known in
-    let same : (if t.0 == slot then Some (joined known t.1) else known) ≡ known = if_same P t.0 slot (Some (joined known t.1)) known (λ e. absurd (head e)) (λ ne. refl) in
+    let same : (if t.0 == slot then Some (known_with known t.1) else known) ≡ known = if_same P t.0 slot (Some (known_with known t.1)) known (λ e. absurd (head e)) (λ ne. refl) in
     ap (λ o. arrived slot o targets) same ∙ arrived-elsewhere slot known targets (All-tail (λ t. t.0 ≡ slot → ⊥) t targets other)
 
 -- what arrives is a description of the verifier
@@ -74,17 +74,17 @@ pub IsDescription-arrived : (slot : ℕ) (known : Option Description) (targets :
 IsDescription-arrived slot known [] k q = k
 IsDescription-arrived slot known (t ∷ targets) k q =
     let head : IsDescription t.1 = All-head (λ t. IsDescription t.1) t targets q in
-    let next : IfSome (if t.0 == slot then Some (joined known t.1) else known) IsDescription = if_same (λ o. IfSome o IsDescription) t.0 slot (Some (joined known t.1)) known (λ e. IsDescription-joined known t.1 k head) (λ e. k) in
-    IsDescription-arrived slot (if t.0 == slot then Some (joined known t.1) else known) targets next (All-tail (λ t. IsDescription t.1) t targets q)
+    let next : IfSome (if t.0 == slot then Some (known_with known t.1) else known) IsDescription = if_same (λ o. IfSome o IsDescription) t.0 slot (Some (known_with known t.1)) known (λ e. IsDescription-known_with known t.1 k head) (λ e. k) in
+    IsDescription-arrived slot (if t.0 == slot then Some (known_with known t.1) else known) targets next (All-tail (λ t. IsDescription t.1) t targets q)
 
 -- no less is known once targets are reached
 pub under_arrived : (c : Description) (slot : ℕ) (known : Option Description) (targets : List (ℕ × Description)) → IfSome known IsDescription → AreDescribed targets → IsUnder c known → IsUnder c (arrived slot known targets)
 under_arrived c slot known [] k q u = u
 under_arrived c slot known (t ∷ targets) k q u =
     let head : IsDescription t.1 = All-head (λ t. IsDescription t.1) t targets q in
-    let next : IfSome (if t.0 == slot then Some (joined known t.1) else known) IsDescription = if_same (λ o. IfSome o IsDescription) t.0 slot (Some (joined known t.1)) known (λ e. IsDescription-joined known t.1 k head) (λ e. k) in
-    let under : IsUnder c (if t.0 == slot then Some (joined known t.1) else known) = if_same (λ o. IsUnder c o) t.0 slot (Some (joined known t.1)) known (λ e. under_joined c known t.1 k head u) (λ e. u) in
-    under_arrived c slot (if t.0 == slot then Some (joined known t.1) else known) targets next (All-tail (λ t. IsDescription t.1) t targets q) under
+    let next : IfSome (if t.0 == slot then Some (known_with known t.1) else known) IsDescription = if_same (λ o. IfSome o IsDescription) t.0 slot (Some (known_with known t.1)) known (λ e. IsDescription-known_with known t.1 k head) (λ e. k) in
+    let under : IsUnder c (if t.0 == slot then Some (known_with known t.1) else known) = if_same (λ o. IsUnder c o) t.0 slot (Some (known_with known t.1)) known (λ e. under_joined c known t.1 k head u) (λ e. u) in
+    under_arrived c slot (if t.0 == slot then Some (known_with known t.1) else known) targets next (All-tail (λ t. IsDescription t.1) t targets q) under
 
 -- of each target at least as much is known at its slot as it says
 pub targets_arrived : (known : ℕ → Option Description) (targets : List (ℕ × Description)) → ((s : ℕ) → IfSome (known s) IsDescription) → AreDescribed targets → All (λ t. IsUnder t.1 (arrived t.0 (known t.0) targets)) targets
@@ -92,9 +92,9 @@ targets_arrived known [] k q = All-nil (λ t. IsUnder t.1 (arrived t.0 (known t.
 targets_arrived known (t ∷ targets) k q =
     let head : IsDescription t.1 = All-head (λ t. IsDescription t.1) t targets q in
     let rest : AreDescribed targets = All-tail (λ t. IsDescription t.1) t targets q in
-    let next : ℕ → Option Description = λ s. if t.0 == s then Some (joined (known s) t.1) else known s in
-    let k' : (s : ℕ) → IfSome (next s) IsDescription = λ s. if_same (λ o. IfSome o IsDescription) t.0 s (Some (joined (known s) t.1)) (known s) (λ e. IsDescription-joined (known s) t.1 (k s) head) (λ e. k s) in
-    let here : IsUnder t.1 (next t.0) = if_same (λ o. IsUnder t.1 o) t.0 t.0 (Some (joined (known t.0) t.1)) (known t.0) (λ e. (joined (known t.0) t.1, refl, below_joined (known t.0) t.1 (k t.0) head)) (λ ne. absurd (ne refl)) in
+    let next : ℕ → Option Description = λ s. if t.0 == s then Some (known_with (known s) t.1) else known s in
+    let k' : (s : ℕ) → IfSome (next s) IsDescription = λ s. if_same (λ o. IfSome o IsDescription) t.0 s (Some (known_with (known s) t.1)) (known s) (λ e. IsDescription-known_with (known s) t.1 (k s) head) (λ e. k s) in
+    let here : IsUnder t.1 (next t.0) = if_same (λ o. IsUnder t.1 o) t.0 t.0 (Some (known_with (known t.0) t.1)) (known t.0) (λ e. (known_with (known t.0) t.1, refl, below_joined (known t.0) t.1 (k t.0) head)) (λ ne. absurd (ne refl)) in
     All-cons (λ u. IsUnder u.1 (arrived u.0 (known u.0) (t ∷ targets))) t targets
     (under_arrived t.1 t.0 (next t.0) targets (k' t.0) rest here)
     (targets_arrived next targets k' rest)

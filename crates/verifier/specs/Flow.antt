@@ -34,7 +34,7 @@ use Rattle.verifier_kinds.specs.declared.description.StackSlot.{StackSlot}
 use Rattle.verifier_kinds.specs.declared.description.StackSlot.TheVariants.{Kept, Bytes}
 use Rattle.verifier_kinds.specs.declared.description.Description.{Description}
 use Rattle.verifier_kinds.specs.Kinds.{constant, factor, full, normal, shape_at}
-use Rattle.verifier_kinds.specs.Descriptions.{register_of, settled, slot_of, with_kind, with_slot, with_unset, places_of}
+use Rattle.verifier_kinds.specs.Descriptions.{register_of, settled, slot_of, with_kind, with_slot, with_unset, number_bytes}
 use Rattle.verifier_kinds.specs.Arithmetic.{arith_by}
 use Rattle.verifier_kinds.specs.Refinement.{refined}
 use Rattle.verifier.specs.declared.jumps.Compared.{Compared}
@@ -205,7 +205,7 @@ after_load_immediate p insn d = write_kind d insn.dst (wide_kind p insn)
 -- alone
 abbrev pub written_slot : Size → StackSlot → ℕ → Kind → Result StackSlot ℕ
 written_slot DoubleWord slot at kind = Ok (Kept kind)
-written_slot size slot at (Scalar range) = Ok (Bytes (bit_or (places_of slot) (places at size)))
+written_slot size slot at (Scalar range) = Ok (Bytes (bit_or (number_bytes slot) (places at size)))
 written_slot size slot at pointer = Err pointer_leaks
 
 -- no pointer is given away: not to a map, and not as what the program returns
@@ -369,8 +369,8 @@ update_arguments p Update d = first_of (value_argument p d (named_map d)) (flags
 update_arguments p other d = Ok tt
 
 -- the map that a helper is called for, if it may be called
-abbrev pub called : Subject → MapHelper → Description → Result ℕ ℕ
-called p helper d = both (named_map d) (both (key_argument p d) (update_arguments p helper d)) >>= λ x. Ok x.0
+abbrev pub called_map : Subject → MapHelper → Description → Result ℕ ℕ
+called_map p helper d = both (named_map d) (both (key_argument p d) (update_arguments p helper d)) >>= λ x. Ok x.0
 
 -- what a helper leaves in R0
 abbrev pub answer_kind : MapHelper → ℕ → ℕ → Kind
@@ -385,7 +385,7 @@ without_arguments d = with_unset (with_unset (with_unset (with_unset (with_unset
 unfoldable pub after_call : Subject → ℕ → Insn → Description → Result Description ℕ
 after_call p slot insn d = do
   helper ← known_or (helper_of (sign_extended insn.imm)) unknown_helper
-  m ← called p helper d
+  m ← called_map p helper d
   Ok (with_kind (without_arguments d) 0 (answer_kind helper slot m))
 
 -- what is known after an instruction that falls through

@@ -10,7 +10,7 @@ use Rattle.verifier.specs.declared.flow.Onward.{Onward}
 use Rattle.verifier.specs.declared.table.Pass.{Pass}
 use Rattle.verifier.specs.Subject.{Subject}
 use Rattle.verifier.specs.Flow.{target}
-use Rattle.verifier.specs.Table.{Table, flows_from, joined, arrived, incoming, tight_up_to, tight_table, IsCleanBefore}
+use Rattle.verifier.specs.Table.{Table, flows_from, known_with, arrived, incoming, tight_up_to, tight_table, IsCleanBefore}
 
 -- the target of an instruction that may lead to a slot
 abbrev pub target_in : Option Target → List (ℕ × Description)
@@ -51,9 +51,9 @@ abbrev pub falling : Bool → Description → Option Description
 falling falls d = if falls then Some d else None
 
 -- what is known, joined with what falls through
-abbrev pub met : Option Description → Option Description → Option Description
-met known None = known
-met known (Some d) = Some (joined known d)
+abbrev pub known_with_coming : Option Description → Option Description → Option Description
+known_with_coming known None = known
+known_with_coming known (Some d) = Some (known_with known d)
 
 -- the slot of the first instruction from a slot on
 abbrev pub next_at : List ℕ → ℕ → ℕ

@@ -30,14 +30,14 @@ abbrev pub flows_from : Subject → Table → ℕ → List (ℕ × Description)
 flows_from p table slot = flows_by p slot (described table slot)
 
 -- what is known, joined with what comes
-abbrev pub joined : Option Description → Description → Description
-joined None d = d
-joined (Some e) d = join_of e d
+abbrev pub known_with : Option Description → Description → Description
+known_with None d = d
+known_with (Some e) d = join_of e d
 
 -- what is known at a slot once some targets are reached, in their order
 abbrev pub arrived : ℕ → Option Description → List (ℕ × Description) → Option Description
 arrived slot known [] = known
-arrived slot known (t ∷ targets) = arrived slot (if t.0 == slot then Some (joined known t.1) else known) targets
+arrived slot known (t ∷ targets) = arrived slot (if t.0 == slot then Some (known_with known t.1) else known) targets
 
 -- what flows to a slot from the first n slots of a table, in their order; slot 0 has the start's
 -- description to begin with

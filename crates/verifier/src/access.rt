@@ -3,7 +3,7 @@
 ghost use Rattle.std.specs.Prelude.{◌≡◌, ◌+◌, ◌-◌, ◌%◌, ◌^◌, ◌<◌, ◌≤◌, pos, ◌+ℤ◌, ◌≤ℤ◌, IfOk, OnOk};
 ghost use Rattle.bpf_decode.specs.Opcodes.{byte_count};
 ghost use Rattle.verifier_kinds.specs.Kinds.{IsKind, IsNormal};
-ghost use Rattle.verifier_kinds.specs.Descriptions.{IsDescription, IsSlot, places_of};
+ghost use Rattle.verifier_kinds.specs.Descriptions.{IsDescription, IsSlot, number_bytes};
 ghost use Rattle.verifier.specs.Flow.{lies_below, aligned, context_place, stack_place, begins_in_value, ends_in_value, lies_in_value, is_aligned_in_value, value_access, loaded_range, places, slot_kind, load_kind, loaded_kind, after_load, name_kind, wide_kind, after_load_immediate, is_number, written_slot, after_stack_store, stored, after_store};
 ghost use Rattle.verifier.specs.Way.{done};
 
@@ -317,7 +317,7 @@ pub(crate) fn is_number(kind: Kind) -> Result<(), u32>
 /// The bytes of a slot that are known to hold numbers, by the bits of a number: of a kept pointer
 /// none.
 fn known_places(slot: StackSlot) -> u8
-    ensures { result ≡ places_of slot }
+    ensures { result ≡ number_bytes slot }
 {
     match slot {
         StackSlot::Kept(Kind::Scalar(_)) => u8::MAX,

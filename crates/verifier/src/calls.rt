@@ -3,7 +3,7 @@
 ghost use Rattle.std.specs.Prelude.{◌≡◌, ◌+◌, ◌≤◌, ◌<◌, IfOk, OnOk};
 ghost use Rattle.verifier_kinds.specs.Kinds.{IsKind};
 ghost use Rattle.verifier_kinds.specs.Descriptions.{IsDescription};
-ghost use Rattle.verifier.specs.Flow.{after_call, answer_kind, argument, byte_in_slot, bytes_known, called, flags_argument, flags_in, key_argument, name_in, named_map, points, update_arguments, value_argument, without_arguments};
+ghost use Rattle.verifier.specs.Flow.{after_call, answer_kind, argument, byte_in_slot, bytes_known, called_map, flags_argument, flags_in, key_argument, name_in, named_map, points, update_arguments, value_argument, without_arguments};
 ghost use Rattle.verifier.specs.Way.{done};
 
 use crate::access::{SLOT_SIZE, STACK_SIZE, aligned, lies_below};
@@ -171,9 +171,9 @@ fn update_arguments(
 }
 
 /// The map that a helper is called for, if it may be called.
-fn called(candidate: &Candidate, helper: MapHelper, d: &Description) -> Result<u32, u32>
+fn called_map(candidate: &Candidate, helper: MapHelper, d: &Description) -> Result<u32, u32>
     requires { IsDescription d.now }
-    ensures { result ≡ called candidate.now helper d.now }
+    ensures { result ≡ called_map candidate.now helper d.now }
 {
     let map = named_map(d);
     let others = both(
@@ -222,7 +222,7 @@ pub(crate) fn after_call(
     let Some(helper) = MapHelper::of(insn.immediate()) else {
         return Err(UNKNOWN_HELPER);
     };
-    let map = called(candidate, helper, d)?;
+    let map = called_map(candidate, helper, d)?;
     unset_arguments(d);
     d.set_register(0, answer_kind(helper, slot, map));
     Ok(())

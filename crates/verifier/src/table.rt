@@ -8,9 +8,9 @@ ghost use Rattle.verifier_kinds.specs.declared.kind.Kind.TheVariants.{Scalar};
 ghost use Rattle.verifier_kinds.specs.Descriptions.{with_kind};
 ghost use Rattle.verifier.specs.declared.way.Way.TheVariants.{Checks, Forks};
 ghost use Rattle.verifier.specs.Flow.{target};
-ghost use Rattle.verifier.specs.Table.{arrived, joined, tight_table, IsCleanBefore, IsRefusal};
+ghost use Rattle.verifier.specs.Table.{arrived, known_with, tight_table, IsCleanBefore, IsRefusal};
 ghost use Rattle.verifier.specs.Way.{HasDst, FallsTo, LeadsBelow, ways_of};
-ghost use Rattle.verifier.specs.Pass.{FlowDescribed, falling, kinds_in, met, pending_at, HasPassed};
+ghost use Rattle.verifier.specs.Pass.{FlowDescribed, falling, kinds_in, known_with_coming, pending_at, HasPassed};
 
 use crate::candidate::Candidate;
 use crate::way::{Check, Fork, Way};
@@ -47,12 +47,12 @@ fn none_pending(alloc: Global, slots: u32) -> Result<Pending, AllocError>
 }
 
 /// What is known, joined with what comes.
-fn joined(
+fn known_with(
     alloc: Global,
     known: Option<Box<Description>>,
     coming: &Description,
 ) -> Result<Box<Description>, AllocError>
-    ensures { IfOk result (λ after. after.value ≡ joined (option_map (λ b. b.value) known) coming.now) }
+    ensures { IfOk result (λ after. after.value ≡ known_with (option_map (λ b. b.value) known) coming.now) }
 {
     let Some(mut known) = known else {
         return Ok(Box::new(alloc, *coming)?);
@@ -73,7 +73,7 @@ fn enter(
     ensures arrived { OnOk result ((s : ℕ) → pending_at pending.new.items s ≡ arrived s (pending_at pending.old.items s) (target slot (Some coming.now))) }
 {
     let known = pending[slot as usize].take();
-    pending[slot as usize] = Some(joined(alloc, known, coming)?);
+    pending[slot as usize] = Some(known_with(alloc, known, coming)?);
     Ok(())
 }
 
@@ -132,7 +132,7 @@ impl Pass {
         requires { slot < length self.old.pending.items }
         ensures kept { self.new.kept ≡ self.old.kept }
         ensures len { length self.new.pending.items ≡ length self.old.pending.items }
-        ensures known { falling self.new.falls self.new.current ≡ met (pending_at self.old.pending.items slot) (falling self.old.falls self.old.current) }
+        ensures known { falling self.new.falls self.new.current ≡ known_with_coming (pending_at self.old.pending.items slot) (falling self.old.falls self.old.current) }
         ensures others { (s : ℕ) → s ≢ slot → pending_at self.new.pending.items s ≡ pending_at self.old.pending.items s }
     {
         let Some(known) = self.pending[slot as usize].take() else {

@@ -20,7 +20,7 @@ use Rattle.verifier_kinds.specs.declared.description.StackSlot.TheVariants.{Kept
 use Rattle.verifier_kinds.specs.declared.description.Description.{Description}
 use Rattle.verifier_kinds.specs.Kinds.{Setting, Describes, IsAnswer, IsByElement, IsKind, IsNormalKind, IsOfCallBelow, IsOfKind, is_constant, join_of_kinds, least_align, shape_at}
 use Rattle.verifier_kinds.specs.Descriptions.{DescribesRegisters, DescribesSlot, DescribesStack, IsDescription, IsLawfulAt, IsNormalSlot, IsOfCallsBelow, IsSlot, IsSlotOfCallBelow, join_of, join_of_registers, join_of_slots, kept_or_bytes, register_of, settled, settled_kind, settled_slot, slot_of, start_description, with_kind, with_slot, with_unset}
-use Rattle.verifier_kinds.specs.Arithmetic.{arith_by, copied, displaced, displaced_value, kind_of, kind_with_dst, moved_number, range_of, signed, within_value}
+use Rattle.verifier_kinds.specs.Arithmetic.{arith_by, copied, displaced, displaced_value, kind_of, kind_with_dst, moved_number, range_of, signed_offset, within_value}
 use Rattle.verifier_kinds.proofs.Descriptions.{get_or-one, register_of-settled, settled_kind_has, set_has, settled_register_has, slot_of-settled}
 use Rattle.verifier_kinds.proofs.Joins.{register_of-join, same_maybe, slot_of-join}
 use Rattle.verifier_kinds.proofs.Moves.{moved_back_is, moved_is}
@@ -259,7 +259,7 @@ displaced_names slot code width kind rule offset by result each e = cc
 
 value_names : (slot : ℕ) (code : AluCode) (width : Width) (m : ℕ) (offsets : Offsets) (by : Range) (result : Kind) → displaced_value m code width offsets by ≡ Ok result → IsOfCallBelow slot result
 value_names slot Add Bits64 m offsets by result e =
-    let move = move_is m (least_align offsets.align by.align) (pos offsets.low +ℤ signed by by.low) (pos offsets.high +ℤ signed by by.high) result e in
+    let move = move_is m (least_align offsets.align by.align) (pos offsets.low +ℤ signed_offset by by.low) (pos offsets.high +ℤ signed_offset by by.high) result e in
     subst (IsOfCallBelow slot) (sym move.is) tt
 value_names slot Sub Bits64 m offsets by result e = elim (cases_Bool (is_constant by)) [
   | inl t ↦

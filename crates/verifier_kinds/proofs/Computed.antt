@@ -14,13 +14,13 @@ use Rattle.verifier_kinds.specs.declared.kind.Align.{Align}
 use Rattle.verifier_kinds.specs.declared.kind.Align.TheVariants.{One, Two, Four, Eight}
 use Rattle.verifier_kinds.specs.declared.kind.Range.{Range}
 use Rattle.verifier_kinds.specs.Kinds.{factor, rank, least_align, raised, is_constant, IsIn, IsNormal}
-use Rattle.verifier_kinds.specs.Arithmetic.{all, normal_of, taken, unless_wrapped, swap_of, row, computed_range, range_of}
+use Rattle.verifier_kinds.specs.Arithmetic.{all, normal_of, taken, unless_wrapped, swapped_range, row, computed_range, range_of}
 use Rattle.verifier_kinds.proofs.Ranges.{in_constant}
 use Rattle.verifier_kinds.proofs.Operands.{IsTaken, all_high, in_all, in_normal_of, normal_of_is_normal, is_taken, end_is_taken, constant_number}
 use Rattle.verifier_kinds.proofs.RowLaws.{in_sum, in_difference, in_product, in_quotient, in_remainder, in_and, in_or, in_xor, in_left_shift, in_right_shift, in_move, ones_small}
 
 -- a byte swap computes a number of the width that its second operand says
-in_swap : (code : AluCode) (width : Width) (offset : ℤ) (b : Range) (x y : ℕ) → is_swap code ≡ true → (is_constant b ≡ true → b.low ≡ y) → x < 2 ^ 64 → IsIn (swap_of b) (alu code width offset x y)
+in_swap : (code : AluCode) (width : Width) (offset : ℤ) (b : Range) (x y : ℕ) → is_swap code ≡ true → (is_constant b ≡ true → b.low ≡ y) → x < 2 ^ 64 → IsIn (swapped_range b) (alu code width offset x y)
 in_swap code width offset b x y swap one xs =
     cond_both (is_constant b) _ _ (λ r. IsIn r (alu code width offset x y))
     (λ t. rw (one t) (record { low = omega arith; high = swap_at_most code width offset x y swap xs; aligned = omega arith }))
@@ -65,7 +65,7 @@ in_row_of_numbers ToLittleEndian width offset a b x y other h = cc
 in_row_of_numbers ToBigEndian width offset a b x y other h = cc
 in_row_of_numbers SwapBytes width offset a b x y other h = cc
 
-swap_row : (code : AluCode) (width : Width) (offset : ℤ) (a b : Range) → is_swap code ≡ true → row code width offset a b ≡ swap_of b
+swap_row : (code : AluCode) (width : Width) (offset : ℤ) (a b : Range) → is_swap code ≡ true → row code width offset a b ≡ swapped_range b
 unfolding row
 swap_row ToLittleEndian width offset a b swap = refl
 swap_row ToBigEndian width offset a b swap = refl
@@ -96,7 +96,7 @@ unless_wrapped_high width from to d =
     cond_both (nat_lt to (modulus width)) _ _ (λ (r : Range). r.high < 2 ^ 64)
     (λ t. width_small width to (ltb-true to (modulus width) t)) (λ _. all_high width d)
 
-swap_high : (b : Range) → (swap_of b).high < 2 ^ 64
+swap_high : (b : Range) → (swapped_range b).high < 2 ^ 64
 swap_high b =
     cond_both (is_constant b) _ _ (λ (r : Range). r.high < 2 ^ 64) (λ _. bits_small b.low) (λ _. all_high Bits64 One)
 

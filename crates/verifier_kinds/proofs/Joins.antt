@@ -17,7 +17,7 @@ use Rattle.verifier_kinds.specs.declared.description.StackSlot.{StackSlot}
 use Rattle.verifier_kinds.specs.declared.description.StackSlot.TheVariants.{Kept, Bytes}
 use Rattle.verifier_kinds.specs.declared.description.Description.{Description}
 use Rattle.verifier_kinds.specs.Kinds.{IsWithin, IsBelow, IsKind, IsNormal, AreOffsets, align_of, factor, rank, least_align, is_same, range_in, offsets_in, join_of_ranges, join_of_kinds}
-use Rattle.verifier_kinds.specs.Descriptions.{IsDescription, IsSlot, IsSlotBelow, IsDescriptionBelow, places_of, register_of, slot_of, merged, kept_or_bytes, join_of_registers, join_of_slots, join_of}
+use Rattle.verifier_kinds.specs.Descriptions.{IsDescription, IsSlot, IsSlotBelow, IsDescriptionBelow, number_bytes, register_of, slot_of, merged, kept_or_bytes, join_of_registers, join_of_slots, join_of}
 use Rattle.verifier_kinds.proofs.Moves.{true_int_le}
 use Rattle.verifier_kinds.proofs.Ranges.{divided_by_least_left, divided_by_least_right, least_align_comm}
 
@@ -168,27 +168,27 @@ no_places p = omega (arith, and_le_r p 0)
 
 kept_below : (a : Kind) (o : Option Kind) → IsBelow (Some a) o → IsSlotBelow (Kept a) (kept_or_bytes o 0)
 kept_below a (Some outer) (inner, is, within) = (inner, ap Kept (same_Some a inner is), within)
-kept_below a None h = no_places (places_of (Kept a))
+kept_below a None h = no_places (number_bytes (Kept a))
 
 pub slot_below_join_left : (a b : StackSlot) → IsSlotBelow a (join_of_slots a b)
 slot_below_join_left (Kept a) (Kept b) = kept_below a (join_of_kinds a b) (kind_below_join_left a b)
-slot_below_join_left (Kept a) (Bytes set) = and_again (places_of (Kept a)) set
-slot_below_join_left (Bytes set) (Kept b) = and_again set (places_of (Kept b))
+slot_below_join_left (Kept a) (Bytes set) = and_again (number_bytes (Kept a)) set
+slot_below_join_left (Bytes set) (Kept b) = and_again set (number_bytes (Kept b))
 slot_below_join_left (Bytes set) (Bytes more) = and_again set more
 
 pub slot_below_join_right : (a b : StackSlot) → IsSlotBelow b (join_of_slots a b)
 slot_below_join_right (Kept a) (Kept b) = kept_below b (join_of_kinds a b) (kind_below_join_right a b)
-slot_below_join_right (Kept a) (Bytes set) = and_again_right (places_of (Kept a)) set
-slot_below_join_right (Bytes set) (Kept b) = and_again_right set (places_of (Kept b))
+slot_below_join_right (Kept a) (Bytes set) = and_again_right (number_bytes (Kept a)) set
+slot_below_join_right (Bytes set) (Kept b) = and_again_right set (number_bytes (Kept b))
 slot_below_join_right (Bytes set) (Bytes more) = and_again_right set more
 
-places_fit : (slot : StackSlot) → IsSlot slot → places_of slot < 256
+places_fit : (slot : StackSlot) → IsSlot slot → number_bytes slot < 256
 places_fit (Kept (Scalar range)) h = omega arith
 places_fit (Kept pointer) h = omega arith
 places_fit (Bytes set) h = h
 
-joined_places_fit : (a b : StackSlot) → IsSlot a → bit_and (places_of a) (places_of b) < 256
-joined_places_fit a b h = omega (arith, and_le_l (places_of a) (places_of b), places_fit a h)
+joined_places_fit : (a b : StackSlot) → IsSlot a → bit_and (number_bytes a) (number_bytes b) < 256
+joined_places_fit a b h = omega (arith, and_le_l (number_bytes a) (number_bytes b), places_fit a h)
 
 kept_is_slot : (o : Option Kind) → IfSome o IsKind → IsSlot (kept_or_bytes o 0)
 kept_is_slot (Some kind) h = h

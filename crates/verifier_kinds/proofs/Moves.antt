@@ -9,7 +9,7 @@ use Rattle.host_types.specs.Rules.{wrong_kind}
 use Rattle.verifier_kinds.specs.declared.kind.Range.{Range}
 use Rattle.verifier_kinds.specs.declared.kind.Kind.{Kind}
 use Rattle.verifier_kinds.specs.Kinds.{IsOffset, is_constant}
-use Rattle.verifier_kinds.specs.Arithmetic.{moved, moved_back, within_offsets}
+use Rattle.verifier_kinds.specs.Arithmetic.{moved_forward, moved_back, within_offsets}
 
 -- a test on whole numbers says their order
 pub int_le_true : (a b : ℤ) → a ≤ℤ b → int_le a b ≡ true
@@ -40,7 +40,7 @@ far_away (negsuc n) h = elim (cases_lt n 65536) [
 ]
 
 -- a move by a constant
-pub moved_by_constant : (kind : ℤ → Kind) (rule : ℕ) (offset : ℤ) (by : Range) → is_constant by ≡ true → moved kind rule offset by ≡ within_offsets kind rule (offset +ℤ cast_signed w64 by.low)
+pub moved_by_constant : (kind : ℤ → Kind) (rule : ℕ) (offset : ℤ) (by : Range) → is_constant by ≡ true → moved_forward kind rule offset by ≡ within_offsets kind rule (offset +ℤ cast_signed w64 by.low)
 moved_by_constant kind rule offset by one = cond-true (is_constant by) _ _ one
 
 pub moved_back_by_constant : (kind : ℤ → Kind) (rule : ℕ) (offset : ℤ) (by : Range) → is_constant by ≡ true → moved_back kind rule offset by ≡ within_offsets kind rule (offset -ℤ cast_signed w64 by.low)
@@ -59,7 +59,7 @@ kept_is_offset kind rule k result e = elim (cases_Bool (int_le (negsuc 65535) k 
 ]
 
 -- a pointer moves by a constant alone, to an offset that a pointer may have
-pub moved_is : (kind : ℤ → Kind) (rule : ℕ) (offset : ℤ) (by : Range) (result : Kind) → moved kind rule offset by ≡ Ok result → (is_constant by ≡ true) × (result ≡ kind (offset +ℤ cast_signed w64 by.low)) × IsOffset (offset +ℤ cast_signed w64 by.low)
+pub moved_is : (kind : ℤ → Kind) (rule : ℕ) (offset : ℤ) (by : Range) (result : Kind) → moved_forward kind rule offset by ≡ Ok result → (is_constant by ≡ true) × (result ≡ kind (offset +ℤ cast_signed w64 by.low)) × IsOffset (offset +ℤ cast_signed w64 by.low)
 moved_is kind rule offset by result e = elim (cases_Bool (is_constant by)) [
   | inl t ↦
       let kept = kept_is_offset kind rule (offset +ℤ cast_signed w64 by.low) result (sym (moved_by_constant kind rule offset by t) ∙ e) in

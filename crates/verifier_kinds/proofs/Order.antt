@@ -10,7 +10,7 @@ use Rattle.verifier_kinds.specs.declared.description.StackSlot.{StackSlot}
 use Rattle.verifier_kinds.specs.declared.description.StackSlot.TheVariants.{Kept, Bytes}
 use Rattle.verifier_kinds.specs.declared.description.Description.{Description}
 use Rattle.verifier_kinds.specs.Kinds.{IsWithin, IsKindBelow, IsBelow, range_in}
-use Rattle.verifier_kinds.specs.Descriptions.{IsSlotBelow, IsDescriptionBelow, places_of, register_of, slot_of}
+use Rattle.verifier_kinds.specs.Descriptions.{IsSlotBelow, IsDescriptionBelow, number_bytes, register_of, slot_of}
 
 pub within_self : (range : Range) → IsWithin range range
 within_self range = record { low = omega arith; high = omega arith; aligned = omega arith }
@@ -53,22 +53,22 @@ slot_below_self (Kept kind) = (kind, refl, kind_below_self kind)
 slot_below_self (Bytes set) = and_self set
 
 -- a slot below one that keeps a kind knows the same bytes to hold numbers
-kept_places : (a b : Kind) → IsKindBelow a b → places_of (Kept a) ≡ places_of (Kept b)
-kept_places a (Scalar outer) (inner, is, within) = ap (λ k. places_of (Kept k)) is
-kept_places a (Context offset) is = ap (λ k. places_of (Kept k)) is
-kept_places a (Stack offset) is = ap (λ k. places_of (Kept k)) is
-kept_places a (MapValue m offsets) (inner, is, within) = ap (λ k. places_of (Kept k)) is
-kept_places a (MaybeValue m id) is = ap (λ k. places_of (Kept k)) is
-kept_places a (MapName m) is = ap (λ k. places_of (Kept k)) is
+kept_places : (a b : Kind) → IsKindBelow a b → number_bytes (Kept a) ≡ number_bytes (Kept b)
+kept_places a (Scalar outer) (inner, is, within) = ap (λ k. number_bytes (Kept k)) is
+kept_places a (Context offset) is = ap (λ k. number_bytes (Kept k)) is
+kept_places a (Stack offset) is = ap (λ k. number_bytes (Kept k)) is
+kept_places a (MapValue m offsets) (inner, is, within) = ap (λ k. number_bytes (Kept k)) is
+kept_places a (MaybeValue m id) is = ap (λ k. number_bytes (Kept k)) is
+kept_places a (MapName m) is = ap (λ k. number_bytes (Kept k)) is
 
 pub slot_below_trans : (a b c : StackSlot) → IsSlotBelow a b → IsSlotBelow b c → IsSlotBelow a c
 slot_below_trans a b (Kept outer) p (middle, is, within) =
     let below : IsSlotBelow a (Kept middle) = subst (IsSlotBelow a) is p in
     (below.0, below.1, kind_below_trans below.0 middle outer below.2 within)
 slot_below_trans a (Kept kind) (Bytes set) (inner, is, within) q =
-    ap (λ slot. bit_and (places_of slot) set) is ∙ ap (λ n. bit_and n set) (kept_places inner kind within) ∙ q
+    ap (λ slot. bit_and (number_bytes slot) set) is ∙ ap (λ n. bit_and n set) (kept_places inner kind within) ∙ q
 slot_below_trans a (Bytes more) (Bytes set) p q =
-    ap (bit_and (places_of a)) (sym q) ∙ sym (and_assoc set (places_of a) more) ∙ ap (λ n. bit_and n set) p ∙ q
+    ap (bit_and (number_bytes a)) (sym q) ∙ sym (and_assoc set (number_bytes a) more) ∙ ap (λ n. bit_and n set) p ∙ q
 
 pub description_below_self : (d : Description) → IsDescriptionBelow d d
 description_below_self d = record {

@@ -15,7 +15,7 @@ use Rattle.verifier_kinds.specs.declared.kind.Kind.{Kind}
 use Rattle.verifier_kinds.specs.declared.kind.Kind.TheVariants.{Scalar}
 use Rattle.verifier_kinds.specs.Kinds.{factor, rank, greatest_align, is_constant, IsIn, IsNormal, IsKind}
 use Rattle.verifier_kinds.specs.Arithmetic.{between, normal_of}
-use Rattle.verifier_kinds.specs.Refinement.{some_of, without, negated, kept_by, is_told, refined, refined_kind}
+use Rattle.verifier_kinds.specs.Refinement.{some_of, without_end, negated, kept_by, is_told, refined, refined_kind}
 use Rattle.verifier_kinds.proofs.Ranges.{first_divided, last_below}
 use Rattle.verifier_kinds.proofs.Operands.{constant_number, in_normal_of, normal_of_is_normal}
 
@@ -69,7 +69,7 @@ some_is_normal r h =
     normal_of_is_normal r first (record { low = above; high = omega arith; aligned = first_divided d r.low }) h)
     (λ _. tt)
 
-without_is_normal : (a : Range) (n : ℕ) → IsNormal a → IfSome (without a n) IsNormal
+without_is_normal : (a : Range) (n : ℕ) → IsNormal a → IfSome (without_end a n) IsNormal
 without_is_normal a n p =
     let fits = p.fits in
     some_is_normal (between (if a.low == n then a.low + 1 else a.low) (if a.high == n then a.high - 1 else a.high) a.align)
@@ -80,7 +80,7 @@ kept_is_normal Equal a b p q =
     let fits = p.fits in
     some_is_normal (between (max a.low b.low) (min a.high b.high) (greatest_align a.align b.align)) (omega arith)
 kept_is_normal NotEqual a b p q =
-    cond_both (is_constant b) (without a b.low) (Some a) (λ o. IfSome o IsNormal) (λ _. without_is_normal a b.low p) (λ _. p)
+    cond_both (is_constant b) (without_end a b.low) (Some a) (λ o. IfSome o IsNormal) (λ _. without_is_normal a b.low p) (λ _. p)
 kept_is_normal Greater a b p q = some_is_normal (between (max a.low (b.low + 1)) a.high a.align) p.fits
 kept_is_normal GreaterOrEqual a b p q = some_is_normal (between (max a.low b.low) a.high a.align) p.fits
 kept_is_normal Less a b p q =
@@ -117,7 +117,7 @@ some_leaves r n h =
     (λ _. (normal_of r, refl, within))
     (λ f. absurd (omega (arith, leb-false (normal_of r).low (normal_of r).high f)))
 
-without_leaves : (a : Range) (n x : ℕ) → IsIn a x → (x ≡ n → ⊥) → Leaves (without a n) x
+without_leaves : (a : Range) (n x : ℕ) → IsIn a x → (x ≡ n → ⊥) → Leaves (without_end a n) x
 without_leaves a n x p other =
     let low = p.low in
     let high = p.high in
@@ -141,7 +141,7 @@ common_leaves a b x p q =
 
 different_leaves : (a b : Range) (x y : ℕ) → IsIn a x → IsIn b y → (x ≡ y → ⊥) → Leaves (kept_by NotEqual a b) x
 different_leaves a b x y p q other =
-    cond_both (is_constant b) (without a b.low) (Some a) (λ o. Leaves o x)
+    cond_both (is_constant b) (without_end a b.low) (Some a) (λ o. Leaves o x)
     (λ t. without_leaves a b.low x p (λ e. other (e ∙ constant_number b y t q)))
     (λ _. (a, refl, p))
 

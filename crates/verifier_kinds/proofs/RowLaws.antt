@@ -18,7 +18,7 @@ use Rattle.verifier_kinds.specs.declared.kind.Align.{Align}
 use Rattle.verifier_kinds.specs.declared.kind.Align.TheVariants.{One, Two, Four, Eight}
 use Rattle.verifier_kinds.specs.declared.kind.Range.{Range}
 use Rattle.verifier_kinds.specs.Kinds.{factor, rank, of_rank, raised, least_align, is_constant, IsIn}
-use Rattle.verifier_kinds.specs.Arithmetic.{unless_wrapped, sum_of, difference_of, product_of, quotient_of, remainder_of, and_of, ones_from, or_of, xor_of, left_by, left_shift_of, right_by, right_shift_of}
+use Rattle.verifier_kinds.specs.Arithmetic.{unless_wrapped, sum_of, difference_of, product_of, quotient_of, remainder_of, and_of, ones_from, or_of, xor_of, shifted_left, left_shift_of, right_by, right_shift_of}
 use Rattle.verifier_kinds.proofs.Ranges.{divided_by_least_left, divided_by_least_right, sum_divided}
 use Rattle.verifier_kinds.proofs.Joins.{same_offset}
 use Rattle.verifier_kinds.proofs.Operands.{in_all, low_divided}
@@ -152,7 +152,7 @@ in_product width offset a b x y p q =
     in_unless_wrapped width (a.low * b.low) (a.high * b.high) (raised a.align (rank b.align)) (x * y)
     (mul-le a.low b.low x y p.low q.low) (mul-le x y a.high b.high p.high q.high) (product_divided a.align b.align x y p.aligned q.aligned)
 
-in_left_by : (width : Width) (bits : ℕ) (a : Range) (x : ℕ) → IsIn a x → IsIn (left_by width bits a) (low width (x * 2 ^ bits))
+in_left_by : (width : Width) (bits : ℕ) (a : Range) (x : ℕ) → IsIn a x → IsIn (shifted_left width bits a) (low width (x * 2 ^ bits))
 in_left_by width bits a x p =
     in_unless_wrapped width (a.low * 2 ^ bits) (a.high * 2 ^ bits) (raised a.align bits) (x * 2 ^ bits)
     (mul-le a.low (2 ^ bits) x (2 ^ bits) p.low (omega arith)) (mul-le x (2 ^ bits) a.high (2 ^ bits) p.high (omega arith)) (shift_divided a.align bits x p.aligned)

@@ -17,7 +17,7 @@ use Rattle.verifier_kinds.specs.declared.kind.Offsets.{Offsets}
 use Rattle.verifier_kinds.specs.declared.kind.Kind.{Kind}
 use Rattle.verifier_kinds.specs.declared.kind.Kind.TheVariants.{Scalar, Context, Stack, MapValue, MapName}
 use Rattle.verifier_kinds.specs.Kinds.{Setting, IsSetting, IsOfKind, IsByElement, IsOffset, Describes, IsIn, is_constant, least_align, normal, offsets_in, shape_at}
-use Rattle.verifier_kinds.specs.Arithmetic.{arith_by, range_of, moved, moved_back, displaced, displaced_value, signed, within_value, kind_of, kind_with_dst, moved_number, copied}
+use Rattle.verifier_kinds.specs.Arithmetic.{arith_by, range_of, moved_forward, moved_back, displaced, displaced_value, signed_offset, within_value, kind_of, kind_with_dst, moved_number, copied}
 use Rattle.verifier_kinds.proofs.Operands.{constant_number}
 use Rattle.verifier_kinds.proofs.Computed.{in_range_of}
 use Rattle.verifier_kinds.proofs.Moves.{moved_is, moved_address, moved_back_is, moved_back_address}
@@ -33,7 +33,7 @@ record IsPointer (setting : Setting) (kind : ℤ → Kind) (base : ℕ) : Type 0
   pub high : base < 2 ^ 63
 
 -- the address of a pointer that a number moves
-moved_sound : (setting : Setting) (kind : ℤ → Kind) (base rule : ℕ) → IsPointer setting kind base → (offset : ℤ) (by : Range) (result : Kind) (x y : ℕ) → moved kind rule offset by ≡ Ok result → pos x ≡ pos base +ℤ offset → IsIn by y → y < 2 ^ 64 → IsOfKind setting result ((x + y) % 2 ^ 64)
+moved_sound : (setting : Setting) (kind : ℤ → Kind) (base rule : ℕ) → IsPointer setting kind base → (offset : ℤ) (by : Range) (result : Kind) (x y : ℕ) → moved_forward kind rule offset by ≡ Ok result → pos x ≡ pos base +ℤ offset → IsIn by y → y < 2 ^ 64 → IsOfKind setting result ((x + y) % 2 ^ 64)
 moved_sound setting kind base rule pointer offset by result x y e is within ys =
     let moves = moved_is kind rule offset by result e in
     let number = constant_number by y moves.0 within in
@@ -81,7 +81,7 @@ stack_pointer setting = record { numbers = λ k n is. is; low = omega arith; hig
 value_moved : (setting : Setting) (m : ℕ) (offsets : Offsets) (by : Range) (result : Kind) (x y : ℕ) → IsSetting setting → displaced_value m Add Bits64 offsets by ≡ Ok result → IsOfKind setting (MapValue m offsets) x → IsIn by y → y < 2 ^ 64 → IsOfKind setting result ((x + y) % 2 ^ 64)
 value_moved setting m offsets by result x y given e p q ys =
     let align : Align = least_align offsets.align by.align in
-    let move = move_is m align (pos offsets.low +ℤ signed by by.low) (pos offsets.high +ℤ signed by by.high) result e in
+    let move = move_is m align (pos offsets.low +ℤ signed_offset by by.low) (pos offsets.high +ℤ signed_offset by by.high) result e in
     let made : Offsets = offsets_in (normal move.first move.last align) in
     subst (λ k. IsOfKind setting k ((x + y) % 2 ^ 64)) (sym move.is)
     (some_and_with (shape_at setting.shapes m) (λ shape. IsByElement offsets shape m x) (λ shape. IsByElement made shape m ((x + y) % 2 ^ 64))

@@ -17,7 +17,7 @@ use Rattle.verifier_kinds.specs.declared.kind.Offsets.{Offsets}
 use Rattle.verifier_kinds.specs.declared.kind.Kind.{Kind}
 use Rattle.verifier_kinds.specs.declared.kind.Kind.TheVariants.{MapValue}
 use Rattle.verifier_kinds.specs.Kinds.{Setting, IsSetting, IsElement, IsByElement, IsIn, IsNormal, AreOffsets, factor, is_constant, least_align, normal, offsets_in, range_in, shape_at}
-use Rattle.verifier_kinds.specs.Arithmetic.{signed, within_value}
+use Rattle.verifier_kinds.specs.Arithmetic.{signed_offset, within_value}
 use Rattle.verifier_kinds.proofs.Operands.{constant_number}
 use Rattle.verifier_kinds.proofs.Ranges.{divided_by_least_left, divided_by_least_right, in_normal, last_below, normal_is_normal, sum_divided}
 
@@ -154,10 +154,10 @@ added_down offsets by low high base x offset y k far whole first last small p di
     }
 
 -- the number by which a constant moves
-signed_constant : (by : Range) (n : ℕ) → is_constant by ≡ true → signed by n ≡ cast_signed w64 n
+signed_constant : (by : Range) (n : ℕ) → is_constant by ≡ true → signed_offset by n ≡ cast_signed w64 n
 signed_constant by n t = cond-true (is_constant by) (cast_signed w64 n) (pos n) t
 
-signed_open : (by : Range) (n : ℕ) → is_constant by ≡ false → signed by n ≡ pos n
+signed_open : (by : Range) (n : ℕ) → is_constant by ≡ false → signed_offset by n ≡ pos n
 signed_open by n f = cond-false (is_constant by) (cast_signed w64 n) (pos n) f
 
 -- the numbers from 2^63 on stand for those below 0
@@ -171,7 +171,7 @@ pub constant_high : (by : Range) (y : ℕ) → is_constant by ≡ true → IsIn 
 constant_high by y one within = sym (eqb-true by.low by.high one) ∙ constant_number by y one within
 
 -- a pointer that a number moves
-pub value_added : (offsets : Offsets) (by : Range) (low high base x offset y : ℕ) → IsFar base → pos offsets.low +ℤ signed by by.low ≡ pos low → pos offsets.high +ℤ signed by by.high ≡ pos high → high ≤ 131072 → IsIn (range_in offsets) offset → IsIn by y → y < 2 ^ 64 → x + 65536 ≡ base + offset → IsAtOffset low high (least_align offsets.align by.align) base ((x + y) % 2 ^ 64)
+pub value_added : (offsets : Offsets) (by : Range) (low high base x offset y : ℕ) → IsFar base → pos offsets.low +ℤ signed_offset by by.low ≡ pos low → pos offsets.high +ℤ signed_offset by by.high ≡ pos high → high ≤ 131072 → IsIn (range_in offsets) offset → IsIn by y → y < 2 ^ 64 → x + 65536 ≡ base + offset → IsAtOffset low high (least_align offsets.align by.align) base ((x + y) % 2 ^ 64)
 value_added offsets by low high base x offset y far first last small p q ys is = elim (cases_Bool (is_constant by)) [
   | inr f ↦
       let least = signed_open by by.low f in
@@ -182,8 +182,8 @@ value_added offsets by low high base x offset y far first last small p q ys is =
   | inl t ↦
       let one = constant_number by y t q in
       let end = constant_high by y t q in
-      let least : signed by by.low ≡ cast_signed w64 y = signed_constant by by.low t ∙ ap (cast_signed w64) one in
-      let most : signed by by.high ≡ cast_signed w64 y = signed_constant by by.high t ∙ ap (cast_signed w64) end in
+      let least : signed_offset by by.low ≡ cast_signed w64 y = signed_constant by by.low t ∙ ap (cast_signed w64) one in
+      let most : signed_offset by by.high ≡ cast_signed w64 y = signed_constant by by.high t ∙ ap (cast_signed w64) end in
       elim (cases_lt y (2 ^ 63)) [
         | inl less ↦
             let number : cast_signed w64 y ≡ pos y = to_z_pos w64 y less in
@@ -316,7 +316,7 @@ near_signed n h = elim (cases_lt n (2 ^ 63)) [
       subst IsNear (sym (negative n k whole (omega arith))) (record { above = omega (arith, ints); below = omega (arith, ints) })
 ]
 
-pub near_number : (by : Range) (n : ℕ) → n < 2 ^ 64 → IsNear (signed by n)
+pub near_number : (by : Range) (n : ℕ) → n < 2 ^ 64 → IsNear (signed_offset by n)
 near_number by n h =
     cond_both (is_constant by) (cast_signed w64 n) (pos n) IsNear (λ _. near_signed n h) (λ _. record { above = omega (arith, ints); below = omega (arith, ints) })
 
@@ -342,11 +342,11 @@ wide_difference low a b z p q small near =
     ∙ wide (pos low -ℤ z) (omega (arith, ints)) (omega (arith, ints))
 
 -- the ends of a range stand in order for what they stand for
-pub signed_ordered : (by : Range) → by.low ≤ by.high → signed by by.low ≤ℤ signed by by.high
+pub signed_ordered : (by : Range) → by.low ≤ by.high → signed_offset by by.low ≤ℤ signed_offset by by.high
 signed_ordered by h = elim (cases_Bool (is_constant by)) [
   | inl t ↦
       let same : by.low ≡ by.high = eqb-true by.low by.high t in
-      let ends : signed by by.low ≡ signed by by.high = ap (signed by) same in
+      let ends : signed_offset by by.low ≡ signed_offset by by.high = ap (signed_offset by) same in
       omega (arith, ints)
   | inr f ↦
       let least = signed_open by by.low f in
@@ -368,7 +368,7 @@ constant_added offsets by n y h p q e = elim (cases_lt y (2 ^ 63)) [
       both_difference offsets.align by.align offsets.low (k + 1) n (omega (arith, ints)) p (complement_divided by.align y k whole q)
 ]
 
-pub added_divided : (offsets : Offsets) (by : Range) (n : ℕ) → IsNormal (range_in offsets) → IsNormal by → pos offsets.low +ℤ signed by by.low ≡ pos n → n % factor (least_align offsets.align by.align) ≡ 0
+pub added_divided : (offsets : Offsets) (by : Range) (n : ℕ) → IsNormal (range_in offsets) → IsNormal by → pos offsets.low +ℤ signed_offset by by.low ≡ pos n → n % factor (least_align offsets.align by.align) ≡ 0
 added_divided offsets by n p q e = elim (cases_Bool (is_constant by)) [
   | inl t ↦
       let ordered = q.ordered in

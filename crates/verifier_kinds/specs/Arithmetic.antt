@@ -74,11 +74,11 @@ abbrev pub xor_of : Range → Range → Range
 xor_of a b = between 0 (ones_from (max a.high b.high)) (least_align a.align b.align)
 
 -- a shift by a number, of which the low bits count, multiplies by its power of 2
-abbrev pub left_by : Width → ℕ → Range → Range
-left_by width bits a = unless_wrapped width (a.low * 2 ^ bits) (a.high * 2 ^ bits) (raised a.align bits)
+abbrev pub shifted_left : Width → ℕ → Range → Range
+shifted_left width bits a = unless_wrapped width (a.low * 2 ^ bits) (a.high * 2 ^ bits) (raised a.align bits)
 
 abbrev pub left_shift_of : Width → Range → Range → Range
-left_shift_of width a b = if is_constant b then left_by width (count width b.low) a else all width a.align
+left_shift_of width a b = if is_constant b then shifted_left width (count width b.low) a else all width a.align
 
 -- or divides by it
 abbrev pub right_by : ℕ → Range → Range
@@ -94,8 +94,8 @@ greatest_of_bits bits =
     if bits == 32 then 4294967295 else 18446744073709551615)
 
 -- the second operand of a byte swap is its width
-abbrev pub swap_of : Range → Range
-swap_of b = if is_constant b then between 0 (greatest_of_bits b.low) One else all Bits64 One
+abbrev pub swapped_range : Range → Range
+swapped_range b = if is_constant b then between 0 (greatest_of_bits b.low) One else all Bits64 One
 
 -- What an operation makes of two ranges of its width, the ends raw; where a result may wrap, it is all
 -- numbers. The field offset of a division and of a move tells their signed forms.
@@ -113,9 +113,9 @@ row Mod width offset a b = if is offset 0 then remainder_of a b else all width O
 row Xor width offset a b = xor_of a b
 row Mov width offset a b = if is offset 0 then b else all width One
 row Arsh width offset a b = all width One
-row ToLittleEndian width offset a b = swap_of b
-row ToBigEndian width offset a b = swap_of b
-row SwapBytes width offset a b = swap_of b
+row ToLittleEndian width offset a b = swapped_range b
+row ToBigEndian width offset a b = swapped_range b
+row SwapBytes width offset a b = swapped_range b
 
 -- what an operation makes of two ranges of its width: of two numbers just theirs
 abbrev pub computed_range : AluCode → Width → ℤ → Range → Range → Range
@@ -131,8 +131,8 @@ abbrev pub within_offsets : (ℤ → Kind) → ℕ → ℤ → Result Kind ℕ
 within_offsets kind rule offset = if int_le (negsuc 65535) offset && int_le offset (pos 65536) then Ok (kind offset) else Err rule
 
 -- a pointer that a number moves: only by a constant, of which 2^63 or more stands for itself less 2^64
-abbrev pub moved : (ℤ → Kind) → ℕ → ℤ → Range → Result Kind ℕ
-moved kind rule offset by =
+abbrev pub moved_forward : (ℤ → Kind) → ℕ → ℤ → Range → Result Kind ℕ
+moved_forward kind rule offset by =
     if is_constant by then within_offsets kind rule (offset +ℤ cast_signed w64 by.low) else Err wrong_kind
 
 -- a pointer that a number moves back
@@ -142,13 +142,13 @@ moved_back kind rule offset by =
 
 -- a pointer takes part in additions and subtractions of 64 bits alone
 abbrev pub displaced : (ℤ → Kind) → ℕ → AluCode → Width → ℤ → Range → Result Kind ℕ
-displaced kind rule Add Bits64 offset by = moved kind rule offset by
+displaced kind rule Add Bits64 offset by = moved_forward kind rule offset by
 displaced kind rule Sub Bits64 offset by = moved_back kind rule offset by
 displaced kind rule code width offset by = Err wrong_kind
 
 -- a number as an offset: of a constant 2^63 or more stands for itself less 2^64
-abbrev pub signed : Range → ℕ → ℤ
-signed by n = if is_constant by then cast_signed w64 n else pos n
+abbrev pub signed_offset : Range → ℕ → ℤ
+signed_offset by n = if is_constant by then cast_signed w64 n else pos n
 
 -- a pointer to a map's value at the offsets between two ends, if a pointer may have them; each is 65536
 -- more than it is
@@ -159,7 +159,7 @@ within_value m align low high = Err outside_map
 -- a pointer to a map's value is moved by any number, and moved back by a constant
 abbrev pub displaced_value : ℕ → AluCode → Width → Offsets → Range → Result Kind ℕ
 displaced_value m Add Bits64 offsets by =
-    within_value m (least_align offsets.align by.align) (pos offsets.low +ℤ signed by by.low) (pos offsets.high +ℤ signed by by.high)
+    within_value m (least_align offsets.align by.align) (pos offsets.low +ℤ signed_offset by by.low) (pos offsets.high +ℤ signed_offset by by.high)
 displaced_value m Sub Bits64 offsets by =
     if is_constant by
     then within_value m (least_align offsets.align by.align) (pos offsets.low -ℤ cast_signed w64 by.low) (pos offsets.high -ℤ cast_signed w64 by.low)

@@ -102,15 +102,15 @@ pub record IsLawfulAt (slot : ℕ) (d : Description) : Type 0 where
   pub calls : IsOfCallsBelow slot d
 
 -- the bytes of a slot that are known to hold numbers, by the bits of a number: of a kept pointer none
-abbrev pub places_of : StackSlot → ℕ
-places_of (Kept (Scalar range)) = 255
-places_of (Kept pointer) = 0
-places_of (Bytes set) = set
+abbrev pub number_bytes : StackSlot → ℕ
+number_bytes (Kept (Scalar range)) = 255
+number_bytes (Kept pointer) = 0
+number_bytes (Bytes set) = set
 
 -- the slot says at least as much as another
 abbrev pub IsSlotBelow : StackSlot → StackSlot → Type 0
 IsSlotBelow slot (Kept outer) = (inner : Kind) × (slot ≡ Kept inner) × IsKindBelow inner outer
-IsSlotBelow slot (Bytes set) = bit_and (places_of slot) set ≡ set
+IsSlotBelow slot (Bytes set) = bit_and (number_bytes slot) set ≡ set
 
 -- the description says at least as much as another, place by place
 pub record IsDescriptionBelow (d e : Description) : Type 0 where
@@ -130,7 +130,7 @@ kept_or_bytes None set = Bytes set
 -- the least slot above two
 abbrev pub join_of_slots : StackSlot → StackSlot → StackSlot
 join_of_slots (Kept a) (Kept b) = kept_or_bytes (join_of_kinds a b) 0
-join_of_slots a b = Bytes (bit_and (places_of a) (places_of b))
+join_of_slots a b = Bytes (bit_and (number_bytes a) (number_bytes b))
 
 -- two lists, merged place by place
 abbrev pub merged : {X : Type 0} → (X → X → X) → List X → List X → List X

@@ -19,8 +19,8 @@ abbrev pub some_of : Range → Option Range
 some_of r = if nat_le (normal_of r).low (normal_of r).high then Some (normal_of r) else None
 
 -- a range without a number, where that is one of its ends
-abbrev pub without : Range → ℕ → Option Range
-without a n =
+abbrev pub without_end : Range → ℕ → Option Range
+without_end a n =
     some_of (between (if a.low == n then a.low + 1 else a.low) (if a.high == n then a.high - 1 else a.high) a.align)
 
 -- the comparison that holds where another doesn't; one that tells nothing of a range stands for itself
@@ -36,7 +36,7 @@ negated other = other
 -- the numbers of a of which a comparison with a number of b may hold; none of them may be left
 abbrev pub kept_by : Comparison → Range → Range → Option Range
 kept_by Equal a b = some_of (between (max a.low b.low) (min a.high b.high) (greatest_align a.align b.align))
-kept_by NotEqual a b = if is_constant b then without a b.low else Some a
+kept_by NotEqual a b = if is_constant b then without_end a b.low else Some a
 kept_by Greater a b = some_of (between (max a.low (b.low + 1)) a.high a.align)
 kept_by GreaterOrEqual a b = some_of (between (max a.low b.low) a.high a.align)
 kept_by Less a b = if b.high == 0 then None else some_of (between a.low (min a.high (b.high - 1)) a.align)

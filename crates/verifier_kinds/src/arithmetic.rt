@@ -4,7 +4,7 @@ ghost use Rattle.std.specs.Prelude.{◌≡◌, ◌≤ℤ◌, ◌%◌, ◌⊎◌,
 ghost use Rattle.bpf_decode.specs.declared.operation.Width.TheVariants.{Bits64};
 ghost use Rattle.bpf_decode.specs.declared.operation.AluCode.TheVariants.{Add, Sub};
 ghost use Rattle.insn_alu.specs.Arithmetic.{IsArithmetic};
-ghost use Rattle.verifier_kinds.specs.Arithmetic.{arith_of, copied, displaced, displaced_value, kind_of, moved, moved_back, moved_number, signed, within_offsets, within_value};
+ghost use Rattle.verifier_kinds.specs.Arithmetic.{arith_of, copied, displaced, displaced_value, kind_of, moved_forward, moved_back, moved_number, signed_offset, within_offsets, within_value};
 ghost use Rattle.verifier_kinds.specs.Kinds.{AreOffsets, IsKind, IsNormal, IsOffset, factor};
 
 use crate::kind::{Align, Kind, Offsets, Range};
@@ -100,19 +100,19 @@ fn displaced(code: AluCode, width: Width, offset: i32, by: Range, rule: u32) -> 
     ensures offset { IfOk result IsOffset }
 {
     match (code, width) {
-        (AluCode::Add, Width::Bits64) => moved(offset, by, rule),
+        (AluCode::Add, Width::Bits64) => moved_forward(offset, by, rule),
         (AluCode::Sub, Width::Bits64) => moved_back(offset, by, rule),
         _ => Err(WRONG_KIND),
     }
 }
 
 /// The offset of a pointer that a number moves.
-fn moved(offset: i32, by: Range, rule: u32) -> Result<i32, u32>
+fn moved_forward(offset: i32, by: Range, rule: u32) -> Result<i32, u32>
     requires offset { IsOffset offset }
     requires by { IsNormal by }
     ensures result { MatchResult result
-        (λ k. (kind : ℤ → Kind) → moved kind rule offset by ≡ Ok (kind k))
-        (λ n. (kind : ℤ → Kind) → moved kind rule offset by ≡ Err n) }
+        (λ k. (kind : ℤ → Kind) → moved_forward kind rule offset by ≡ Ok (kind k))
+        (λ n. (kind : ℤ → Kind) → moved_forward kind rule offset by ≡ Err n) }
     ensures offset { IfOk result IsOffset }
 {
     if !by.is_constant() {
@@ -178,8 +178,8 @@ fn displaced_value(
 }
 
 /// A number of a range as an offset: of a constant 2^63 or more stands for itself less 2^64.
-fn signed(by: Range, n: u64) -> i128
-    ensures { result ≡ signed by n }
+fn signed_offset(by: Range, n: u64) -> i128
+    ensures { result ≡ signed_offset by n }
 {
     if by.is_constant() {
         i128::from(n.cast_signed())
@@ -198,8 +198,8 @@ fn moved_value(map: u32, offsets: Offsets, by: Range) -> Result<Kind, u32>
     within_value(
         map,
         offsets.align.least(by.align),
-        i128::from(offsets.low) + signed(by, by.low),
-        i128::from(offsets.high) + signed(by, by.high),
+        i128::from(offsets.low) + signed_offset(by, by.low),
+        i128::from(offsets.high) + signed_offset(by, by.high),
     )
 }
 

@@ -4,7 +4,7 @@ ghost use Rattle.std.specs.Prelude.{◌≡◌, ◌+◌, ◌-◌, ◌^◌, ◌<�
 ghost use Rattle.insn_alu.specs.Comparisons.{IsBranch};
 ghost use Rattle.verifier_kinds.specs.Arithmetic.{between};
 ghost use Rattle.verifier_kinds.specs.Kinds.{IsKind, IsNormal, factor, greatest_align};
-ghost use Rattle.verifier_kinds.specs.Refinement.{is_told, kept_by, negated, refine_of, refined, some_of, without};
+ghost use Rattle.verifier_kinds.specs.Refinement.{is_told, kept_by, negated, refine_of, refined, some_of, without_end};
 
 use crate::kind::{Align, Kind, Range};
 use bpf_decode::{Comparison, Insn, Operation, Width};
@@ -96,7 +96,7 @@ fn kept_by(comparison: Comparison, a: Range, b: Range) -> Option<Range>
 {
     match comparison {
         Comparison::Equal => common(a, b),
-        Comparison::NotEqual if b.is_constant() => without(a, b.low),
+        Comparison::NotEqual if b.is_constant() => without_end(a, b.low),
         Comparison::Greater => at_least(a, b.low.checked_add(1)?),
         Comparison::GreaterOrEqual => at_least(a, b.low),
         Comparison::Less => at_most(a, b.high.checked_sub(1)?),
@@ -121,9 +121,9 @@ fn common(a: Range, b: Range) -> Option<Range>
 
 /// The range without a number, where that is one of its ends.
 #[tactic(auto, using(crate::proofs::Refinement::none_above, crate::proofs::Refinement::fits))]
-fn without(a: Range, n: u64) -> Option<Range>
+fn without_end(a: Range, n: u64) -> Option<Range>
     requires { IsNormal a }
-    ensures { result ≡ without a n }
+    ensures { result ≡ without_end a n }
 {
     let low = if a.low == n {
         a.low.checked_add(1)?

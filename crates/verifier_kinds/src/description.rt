@@ -14,11 +14,11 @@ pub enum StackSlot {
 }
 
 impl StackSlot {
-    ghost use Rattle.verifier_kinds.specs.Descriptions.{places_of};
+    ghost use Rattle.verifier_kinds.specs.Descriptions.{number_bytes};
 
     /// The bytes that are known to hold numbers, by the bits of a number: of a kept pointer none.
     fn places(self) -> u8
-        ensures { result ≡ places_of self }
+        ensures { result ≡ number_bytes self }
     {
         match self {
             StackSlot::Kept(Kind::Scalar(_)) => u8::MAX,

@@ -3,7 +3,7 @@
 ghost use Rattle.std.specs.Prelude.{◌≡◌, ◌-◌, ◌<◌, ◌≤◌};
 ghost use Rattle.insn_alu.specs.Arithmetic.{count, modulus};
 ghost use Rattle.verifier_kinds.specs.Kinds.{IsNormal};
-ghost use Rattle.verifier_kinds.specs.Arithmetic.{all, and_of, computed_range, difference_of, greatest_of_bits, left_by, left_shift_of, ones_from, or_of, product_of, quotient_of, range_of, remainder_of, right_shift_of, row, sum_of, swap_of, taken, xor_of};
+ghost use Rattle.verifier_kinds.specs.Arithmetic.{all, and_of, computed_range, difference_of, greatest_of_bits, shifted_left, left_shift_of, ones_from, or_of, product_of, quotient_of, range_of, remainder_of, right_shift_of, row, sum_of, swapped_range, taken, xor_of};
 
 use crate::kind::{Align, Range};
 use bpf_decode::{AluCode, Width};
@@ -96,7 +96,7 @@ fn row(code: AluCode, width: Width, offset: i16, a: Range, b: Range) -> Range
         AluCode::Div | AluCode::Mod | AluCode::Mov | AluCode::Neg | AluCode::Arsh => {
             all(width, Align::One)
         }
-        AluCode::ToLittleEndian | AluCode::ToBigEndian | AluCode::SwapBytes => swap_of(b),
+        AluCode::ToLittleEndian | AluCode::ToBigEndian | AluCode::SwapBytes => swapped_range(b),
     }
 }
 
@@ -231,16 +231,16 @@ fn left_shift_of(width: Width, a: Range, b: Range) -> Range
     ensures { result ≡ left_shift_of width a b }
 {
     if b.is_constant() {
-        left_by(width, count(width, b.low), a)
+        shifted_left(width, count(width, b.low), a)
     } else {
         all(width, a.align)
     }
 }
 
-fn left_by(width: Width, bits: u32, a: Range) -> Range
+fn shifted_left(width: Width, bits: u32, a: Range) -> Range
     requires few { bits < 64 }
     requires ordered { a.low ≤ a.high }
-    ensures { result ≡ left_by width bits a }
+    ensures { result ≡ shifted_left width bits a }
 {
     let power = 1 << bits;
     let align = a.align.raised(bits);
@@ -282,8 +282,8 @@ fn count(width: Width, n: u64) -> u32
 }
 
 /// All numbers of a byte swap's width, which is its second operand.
-fn swap_of(b: Range) -> Range
-    ensures { result ≡ swap_of b }
+fn swapped_range(b: Range) -> Range
+    ensures { result ≡ swapped_range b }
 {
     let bits = if b.is_constant() { b.low } else { 64 };
     Range {

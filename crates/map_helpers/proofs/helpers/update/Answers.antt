@@ -5,7 +5,7 @@ use Rattle.host_types.specs.Tenant.{TenantPart}
 use Rattle.page_table.specs.State.{part, have_of}
 use Rattle.page_table.specs.Changes.{part_written}
 use Rattle.write_break.specs.Stores.{stored_sharing, store_cost}
-use Rattle.map_helpers.specs.Answers.{answer_of}
+use Rattle.map_helpers.specs.Answers.{refusal_answer}
 use Rattle.map_helpers.specs.Updates.{update_cost, part_updated}
 use Rattle.map_helpers.proofs.Updates.{shape_in, helped, maps-refused, maps-written, cost-refused, cost-written, sharing-refused, sharing-written, value-sized}
 use Rattle.map_helpers.proofs.helpers.update.Goals as goal
@@ -25,7 +25,7 @@ module _ (c : goal.After-answer) where
 pub returns-in-Some-update_error-clause-helped : goal.returns-in-Some-update_error-clause-helped
 returns-in-Some-update_error-clause-helped c =
     let answer : update_answer c.in-Some.shape c.args.key c.args.flags ≡ c.answer.result =
-    sym c.update_error.ensures.answer ∙ ap answer_of c.in-Some-update_error.is ∙ sym c.answer.ensures in
+    sym c.update_error.ensures.answer ∙ ap refusal_answer c.in-Some-update_error.is ∙ sym c.answer.ensures in
     helped c.in-Some.shape c.args.key c.args.value.now c.args.flags (part c.args.memory.now c.args.tenant).maps c.args.map (there c)
     ∙ ap (λ (n : ℕ). Some (n, maps_updated (part c.args.memory.now c.args.tenant).maps c.args.map c.args.key c.args.value.now c.args.flags)) answer
     ∙ ap (λ (maps : FlatMaps). Some (c.answer.result, maps)) (sym (kept c))
@@ -76,7 +76,7 @@ pub returns-clause-helped : goal.returns-clause-helped
 returns-clause-helped c =
     let here = (goal.at.returns-clause-helped c).After-element_at in
     let answer : update_answer c.in-Some.shape c.args.key c.args.flags ≡ 0 =
-    sym c.update_error.ensures.answer ∙ ap answer_of c.in_default-update_error.is in
+    sym c.update_error.ensures.answer ∙ ap refusal_answer c.in_default-update_error.is in
     helped c.in-Some.shape c.args.key c.args.value.now c.args.flags (part c.args.memory.now c.args.tenant).maps c.args.map (found here)
     ∙ ap (λ (n : ℕ). Some (n, maps_updated (part c.args.memory.now c.args.tenant).maps c.args.map c.args.key c.args.value.now c.args.flags)) answer
     ∙ ap (λ (owned : TenantPart). Some (0, owned.maps)) (sym (written c))

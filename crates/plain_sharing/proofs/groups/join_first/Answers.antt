@@ -5,7 +5,7 @@ use Rattle.std.proofs.lemmas.List.{take_all, map-set, length-map}
 use Rattle.std.proofs.lemmas.List.Folds.{list_any_more, list_any_at}
 use Rattle.std.proofs.Math.ListN.{get_or-map}
 use Rattle.host_types.specs.Sharing.{joined_by}
-use Rattle.plain_sharing.specs.View.{places_of, contents_of, is_open_below}
+use Rattle.plain_sharing.specs.View.{places_of, plain_contents, is_open_below}
 use Rattle.plain_sharing.proofs.Joins.{first_joined, none_joined, set_again}
 use Rattle.plain_sharing.proofs.groups.join_first.Goals as goal
 use Rattle.plain_sharing.proofs.groups.join_first.Goals.{In_ok-join, Else-is_open, After-loop-group}
@@ -15,7 +15,7 @@ items group = group.items
 
 module _ (c : In_ok-join) where
   abbrev test : List ℕ → Bool
-  test = is_open_below c.args.limit (contents_of c.args.contents.now) (contents_of c.args.contents.now c.args.place)
+  test = is_open_below c.args.limit (plain_contents c.args.contents.now) (plain_contents c.args.contents.now c.args.place)
 
   inside : c.loop-group.group-index < length (places_of c.args.groups.now)
   inside = let long = length-map c.args.groups.now items in omega (arith, long, c.loop-group-test.true)
@@ -47,7 +47,7 @@ pub loop-group-preserved : goal.loop-group-preserved
 loop-group-preserved c =
     let again = set_again c.loop-group.groups c.loop-group.group-index c.group-item.result ∙ c.loop-group.invariant.same in
     let long = length-map c.args.groups.now items in
-    let open_here : List ℕ → Bool = is_open_below c.args.limit (contents_of c.args.contents.now) (contents_of c.args.contents.now c.args.place) in
+    let open_here : List ℕ → Bool = is_open_below c.args.limit (plain_contents c.args.contents.now) (plain_contents c.args.contents.now c.args.place) in
     let here = ap (λ (groups : List (Vec ℕ Global)). items (slice_index_or groups c.loop-group.group-index c.group-item.result)) c.loop-group.invariant.same
     ∙ sym (get_or-map items c.args.groups.now c.loop-group.group-index c.group-item.result) in
     let apart = ap open_here (sym (c.deref.ensures.value ∙ here)) ∙ sym c.is_open.ensures ∙ c.if-is_open.false in
@@ -63,7 +63,7 @@ loop-group-preserved c =
 pub returns-clause-joined : goal.returns-clause-joined
 returns-clause-joined c =
     let long = length-map c.args.groups.now items in
-    let open_here : List ℕ → Bool = is_open_below c.args.limit (contents_of c.args.contents.now) (contents_of c.args.contents.now c.args.place) in
+    let open_here : List ℕ → Bool = is_open_below c.args.limit (plain_contents c.args.contents.now) (plain_contents c.args.contents.now c.args.place) in
     let all = take_all c.loop-group.group-index (places_of c.args.groups.now) (omega (arith, long, c.loop-group-test.false)) in
     let earlier = ap (λ groups. list_any open_here (take c.loop-group.group-index (places_of groups))) (sym c.loop-group.invariant.same) ∙ c.loop-group.invariant.before in
     ap places_of c.loop-group.invariant.same ∙ sym (none_joined open_here c.args.place (places_of c.args.groups.now) (ap (list_any open_here) (sym all) ∙ earlier))

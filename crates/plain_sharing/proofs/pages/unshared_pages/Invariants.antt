@@ -1,10 +1,10 @@
 use Rattle.std.proofs.Common.{◌≡◌, ◌≤◌, take, sum_by}
 use Rattle.host_types.specs.Counters.{unshared_at}
-use Rattle.plain_sharing.specs.View.{pages_of}
+use Rattle.plain_sharing.specs.View.{page_states}
 use Rattle.plain_sharing.proofs.pages.unshared_pages.Given as goal
 
 abbrev pub invariant-loop-page : goal.invariant-loop-page
 invariant-loop-page l = record {
-  count : l.waiting ≡ sum_by unshared_at (take l.page-index (pages_of l.pages));
+  count : l.waiting ≡ sum_by unshared_at (take l.page-index (page_states l.pages));
   small : l.waiting ≤ l.page-index;
 }

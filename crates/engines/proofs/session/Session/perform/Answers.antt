@@ -2,7 +2,7 @@ use Rattle.std.proofs.Common.{subst, OnOk}
 use Rattle.std.proofs.lemmas.Result.{on_ok_weaker}
 use Rattle.host_file.specs.declared.command.Command.TheVariants as command
 use Rattle.engines.specs.Replay.{AreOf, AreVisits}
-use Rattle.engines.specs.Sessions.{AreStepsMade, IsAlone, Performs}
+use Rattle.engines.specs.Sessions.{AreStepsMade, IsOneEvent, Performs}
 use Rattle.engines.proofs.Noting.{made-up_to, performs-as}
 use Rattle.engines.proofs.session.Session.perform.Goals as goal
 
@@ -12,7 +12,7 @@ returns-in_ok-apply-in-Apply-clause-performs g c =
     let is = g.W.Write.contents c.apply.new.writer in
     let event = c.in-Apply.event in
     let reply = c.in_ok-apply-in-Apply.field-0 in
-    rw c.in-Apply.is (performs-as (IsAlone event reply) (AreOf c.args.self.now.pages_to_scan (command.Apply event))
+    rw c.in-Apply.is (performs-as (IsOneEvent event reply) (AreOf c.args.self.now.pages_to_scan (command.Apply event))
     c.args.self.now c.apply.new.self was is (λ events replies alone. (reply, alone.0, alone.1)) c.in_ok-apply-in-Apply.ensures.performs)
 
 pub returns-in-Step-clause-performs : goal.returns-in-Step-clause-performs

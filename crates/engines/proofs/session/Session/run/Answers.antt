@@ -1,6 +1,6 @@
 use Rattle.std.proofs.Common.{true≢false, sym, ◌∙◌, subst, IsSome}
 use Rattle.std.proofs.lemmas.Result.{on_ok_weaker}
-use Rattle.engines.specs.Sessions.{IsAlone, Performs}
+use Rattle.engines.specs.Sessions.{IsOneEvent, Performs}
 use Rattle.engines.proofs.Noting.{performs-run, performs-no_run}
 use Rattle.engines.proofs.session.Session.run.Goals as goal
 
@@ -24,7 +24,7 @@ returns-clause-performs g c =
     let half = g.W.Write.contents c.apply.new.writer in
     let is = g.W.Write.contents c.finish.new.writer in
     let event = c.args.event.now in
-    let begun = subst (λ reply. Performs (IsAlone event reply) c.args.self.now c.apply.new.self was half) (c.is_begun.ensures.0 c.if-not-is_begun.false) c.in_ok-reply.ensures.performs in
+    let begun = subst (λ reply. Performs (IsOneEvent event reply) c.args.self.now c.apply.new.self was half) (c.is_begun.ensures.0 c.if-not-is_begun.false) c.in_ok-reply.ensures.performs in
     on_ok_weaker c.finish.result
     (performs-run c.args.self.now.pages_to_scan c.in-Some.tenant event c.args.self.now c.apply.new.self c.finish.new.self was half is
     (sym c.tenant.ensures ∙ c.in-Some.is) begun)

@@ -1,10 +1,10 @@
 use Rattle.std.proofs.Common.{◌∙◌, List, slice_index_or, ap}
 use Rattle.page_table.specs.declared.tenant.Tenant.{Tenant}
-use Rattle.page_table.specs.State.{new_tenant, part}
+use Rattle.page_table.specs.State.{unreserved_tenant, part}
 use Rattle.page_table.specs.View.{view_of}
 use Rattle.page_table.proofs.memory.Memory.reserve.Goals as goal
 
 pub returns : goal.returns
 unfolding view_of part
 returns c =
-    rw (← c.self.view_is) (c.reserve_of.ensures ∙ ap (λ (tenants : List Tenant). (slice_index_or tenants c.args.tenant new_tenant).reserve) c.deref.ensures.value)
+    rw (← c.self.view_is) (c.reserve_of.ensures ∙ ap (λ (tenants : List Tenant). (slice_index_or tenants c.args.tenant unreserved_tenant).reserve) c.deref.ensures.value)

@@ -1,12 +1,12 @@
 use Rattle.std.proofs.Common.{◌≡◌, ◌*◌, replicate, None, rules}
-use Rattle.page_table.specs.State.{new_tenant}
+use Rattle.page_table.specs.State.{unreserved_tenant}
 use Rattle.page_table.proofs.Empty.{memory_new, view_new, pass_new}
 use Rattle.page_table.proofs.memory.Memory.without_maps.Goals as goal
 
 shapes : (c : goal.In_ok-pass) → c.in_ok-shapes.shapes.items ≡ replicate (c.args.tenants * 8) None
 shapes c = search rules
 
-tenants : (c : goal.In_ok-pass) → c.in_ok-tenants.tenants.items ≡ replicate c.args.tenants new_tenant
+tenants : (c : goal.In_ok-pass) → c.in_ok-tenants.tenants.items ≡ replicate c.args.tenants unreserved_tenant
 tenants c = search rules
 
 pub invariant_of-result : goal.invariant_of-result

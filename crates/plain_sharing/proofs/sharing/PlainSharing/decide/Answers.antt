@@ -1,22 +1,22 @@
 use Rattle.std.proofs.Common.{◌∙◌, option_map, sym, ap}
 use Rattle.host_types.specs.Visits.{decided}
-use Rattle.plain_sharing.specs.View.{page_of, contents_of}
+use Rattle.plain_sharing.specs.View.{page_of, plain_contents}
 use Rattle.host_types.proofs.Visits.{decided-already, decided-own}
 use Rattle.plain_sharing.proofs.Visits.{decided-none}
 use Rattle.plain_sharing.proofs.sharing.PlainSharing.decide.Goals as goal
 
 pub returns-in_default : goal.returns-in_default
 returns-in_default c =
-    ap (decided (contents_of c.args.contents.now) c.args.self.now c.args.place) (sym c.page.ensures ∙ ap (option_map page_of) c.in_default.is)
-    ∙ decided-none (contents_of c.args.contents.now) c.args.self.now c.args.place
+    ap (decided (plain_contents c.args.contents.now) c.args.self.now c.args.place) (sym c.page.ensures ∙ ap (option_map page_of) c.in_default.is)
+    ∙ decided-none (plain_contents c.args.contents.now) c.args.self.now c.args.place
 
 pub returns-then-is_shared : goal.returns-then-is_shared
 returns-then-is_shared c =
-    ap (decided (contents_of c.args.contents.now) c.args.self.now c.args.place) (sym c.page.ensures ∙ ap (option_map page_of) c.in-Some.is)
-    ∙ decided-already (contents_of c.args.contents.now) c.args.self.now c.args.place (page_of c.in-Some.page) (sym c.is_shared-is_shared.ensures ∙ c.if-is_shared.true)
+    ap (decided (plain_contents c.args.contents.now) c.args.self.now c.args.place) (sym c.page.ensures ∙ ap (option_map page_of) c.in-Some.is)
+    ∙ decided-already (plain_contents c.args.contents.now) c.args.self.now c.args.place (page_of c.in-Some.page) (sym c.is_shared-is_shared.ensures ∙ c.if-is_shared.true)
 
 pub returns : goal.returns
 returns c =
-    ap (decided (contents_of c.args.contents.now) c.args.self.now c.args.place) (sym c.page.ensures ∙ ap (option_map page_of) c.in-Some.is)
-    ∙ decided-own (contents_of c.args.contents.now) c.args.self.now c.args.place (page_of c.in-Some.page) (sym c.is_shared-is_shared.ensures ∙ c.if-is_shared.false)
+    ap (decided (plain_contents c.args.contents.now) c.args.self.now c.args.place) (sym c.page.ensures ∙ ap (option_map page_of) c.in-Some.is)
+    ∙ decided-own (plain_contents c.args.contents.now) c.args.self.now c.args.place (page_of c.in-Some.page) (sym c.is_shared-is_shared.ensures ∙ c.if-is_shared.false)
     ∙ c.in_ok-visited.ensures

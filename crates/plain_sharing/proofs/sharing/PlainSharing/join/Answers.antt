@@ -4,7 +4,7 @@ use Rattle.std.proofs.lemmas.List.{take_at}
 use Rattle.host_types.specs.declared.status.Status.TheVariants.{Grouped}
 use Rattle.host_types.specs.Sharing.{Sharing, PageState, with_status}
 use Rattle.host_types.specs.Visits.{has_open, joined, join_first}
-use Rattle.plain_sharing.specs.View.{pages_of, places_of, contents_of, is_open_below}
+use Rattle.plain_sharing.specs.View.{page_states, places_of, plain_contents, is_open_below}
 use Rattle.plain_sharing.specs.declared.sharing.PlainPage.{PlainPage}
 use Rattle.plain_sharing.proofs.Joins.{none_joined}
 use Rattle.plain_sharing.proofs.Visits.{state}
@@ -17,18 +17,18 @@ returns-then-is_joined-clause-told c = rw (← c.self.view_is, ← c.deref_mut.e
 pub returns-then-is_joined-clause-joined : goal.returns-then-is_joined-clause-joined
 unfolding joined
 returns-then-is_joined-clause-joined c =
-    let changed : List (Option PlainPage) → List (Option PageState) = λ pages. slice_set (pages_of pages) c.args.place (option_map (with_status Grouped) (slice_index_or (pages_of pages) c.args.place None)) in
+    let changed : List (Option PlainPage) → List (Option PageState) = λ pages. slice_set (page_states pages) c.args.place (option_map (with_status Grouped) (slice_index_or (page_states pages) c.args.place None)) in
     let grown : List (Vec ℕ Global) → List (List ℕ) =
-    λ groups. join_first (is_open_below c.self.inside.options.max_page_sharing (contents_of c.args.contents.now) (contents_of c.args.contents.now c.args.place)) c.args.place (places_of groups) in
+    λ groups. join_first (is_open_below c.self.inside.options.max_page_sharing (plain_contents c.args.contents.now) (plain_contents c.args.contents.now c.args.place)) c.args.place (places_of groups) in
     let whole_pages = take_at c.set_status.new.pages (drop (length c.set_status.new.pages) c.self.inside.pages.items) c.self.inside.pages.len (c.set_status.auto.pages ∙ c.deref_mut-then-is_joined.ensures.len) in
     let whole_groups = take_at c.join_first.new.groups (drop (length c.join_first.new.groups) c.self.inside.groups.items) c.self.inside.groups.len (c.join_first.auto.groups ∙ c.deref_mut.ensures.len) in
     let all_groups = take c.self.inside.groups.len (c.join_first.new.groups ++ drop (length c.join_first.new.groups) c.self.inside.groups.items) in
     ap (λ (pages : List (Option PageState)). state pages (places_of all_groups) c.self.inside.waiting.items c.self.inside.cursor c.self.inside.options c.self.inside.full_scans)
-    (ap pages_of whole_pages ∙ c.set_status.ensures ∙ ap changed c.deref_mut-then-is_joined.ensures.value)
+    (ap page_states whole_pages ∙ c.set_status.ensures ∙ ap changed c.deref_mut-then-is_joined.ensures.value)
     ∙ ap (λ (groups : List (List ℕ)). state (changed c.self.inside.pages.items) groups c.self.inside.waiting.items c.self.inside.cursor c.self.inside.options c.self.inside.full_scans)
     (ap places_of whole_groups ∙ c.in_ok-is_joined.ensures.joined ∙ ap grown c.deref_mut.ensures.value)
-    ∙ ap (λ (s : Sharing). joined (contents_of c.args.contents.now) s c.args.place) c.self.view_is
-    ∙ sym (ap (λ (b : Bool). if b then joined (contents_of c.args.contents.now) c.args.self.now c.args.place else c.args.self.now) c.if-is_joined.true)
+    ∙ ap (λ (s : Sharing). joined (plain_contents c.args.contents.now) s c.args.place) c.self.view_is
+    ∙ sym (ap (λ (b : Bool). if b then joined (plain_contents c.args.contents.now) c.args.self.now c.args.place else c.args.self.now) c.if-is_joined.true)
 
 pub returns-else-is_joined-clause-told : goal.returns-else-is_joined-clause-told
 unfolding has_open
@@ -38,6 +38,6 @@ pub returns-else-is_joined-clause-joined : goal.returns-else-is_joined-clause-jo
 returns-else-is_joined-clause-joined c =
     let kept = c.in_ok-is_joined.ensures.joined ∙ none_joined _ c.args.place _ (sym c.in_ok-is_joined.ensures.told ∙ c.if-is_joined.false) in
     let whole = take_at c.join_first.new.groups (drop (length c.join_first.new.groups) c.self.inside.groups.items) c.self.inside.groups.len (c.join_first.auto.groups ∙ c.deref_mut.ensures.len) in
-    ap (λ (groups : List (List ℕ)). state (pages_of c.self.inside.pages.items) groups c.self.inside.waiting.items c.self.inside.cursor c.self.inside.options c.self.inside.full_scans) (ap places_of whole ∙ kept ∙ ap places_of c.deref_mut.ensures.value)
+    ap (λ (groups : List (List ℕ)). state (page_states c.self.inside.pages.items) groups c.self.inside.waiting.items c.self.inside.cursor c.self.inside.options c.self.inside.full_scans) (ap places_of whole ∙ kept ∙ ap places_of c.deref_mut.ensures.value)
     ∙ c.self.view_is
-    ∙ sym (ap (λ (b : Bool). if b then joined (contents_of c.args.contents.now) c.args.self.now c.args.place else c.args.self.now) c.if-is_joined.false)
+    ∙ sym (ap (λ (b : Bool). if b then joined (plain_contents c.args.contents.now) c.args.self.now c.args.place else c.args.self.now) c.if-is_joined.false)

@@ -3,7 +3,7 @@ use Rattle.std.proofs.lemmas.List.{take_at}
 use Rattle.host_types.specs.declared.status.Status.TheVariants.{Waiting}
 use Rattle.host_types.specs.Sharing.{Sharing, PageState, with_status}
 use Rattle.host_types.specs.Visits.{waits}
-use Rattle.plain_sharing.specs.View.{pages_of, places_of}
+use Rattle.plain_sharing.specs.View.{page_states, places_of}
 use Rattle.plain_sharing.specs.declared.sharing.PlainPage.{PlainPage}
 use Rattle.plain_sharing.proofs.Visits.{state}
 use Rattle.plain_sharing.proofs.sharing.PlainSharing.wait.Goals as goal
@@ -11,8 +11,8 @@ use Rattle.plain_sharing.proofs.sharing.PlainSharing.wait.Goals as goal
 pub returns : goal.returns
 unfolding waits
 returns c =
-    let changed : List (Option PlainPage) → List (Option PageState) = λ pages. slice_set (pages_of pages) c.args.place (option_map (with_status Waiting) (slice_index_or (pages_of pages) c.args.place None)) in
+    let changed : List (Option PlainPage) → List (Option PageState) = λ pages. slice_set (page_states pages) c.args.place (option_map (with_status Waiting) (slice_index_or (page_states pages) c.args.place None)) in
     let whole = take_at c.set_status.new.pages (drop (length c.set_status.new.pages) c.self.inside.pages.items) c.self.inside.pages.len (c.set_status.auto.pages ∙ c.deref_mut.ensures.len) in
-    ap (λ (pages : List (Option PageState)). state pages (places_of c.self.inside.groups.items) c.insert.new.waiting.items c.self.inside.cursor c.self.inside.options c.self.inside.full_scans) (ap pages_of whole ∙ c.set_status.ensures ∙ ap changed c.deref_mut.ensures.value)
+    ap (λ (pages : List (Option PageState)). state pages (places_of c.self.inside.groups.items) c.insert.new.waiting.items c.self.inside.cursor c.self.inside.options c.self.inside.full_scans) (ap page_states whole ∙ c.set_status.ensures ∙ ap changed c.deref_mut.ensures.value)
     ∙ ap (λ (waiting : List (ℕ × ℕ)). state (changed c.self.inside.pages.items) (places_of c.self.inside.groups.items) waiting c.self.inside.cursor c.self.inside.options c.self.inside.full_scans) c.in_ok-insert.ensures
     ∙ ap (λ (s : Sharing). waits s c.args.place c.args.fingerprint) c.self.view_is

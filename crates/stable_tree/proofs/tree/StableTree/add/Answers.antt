@@ -1,5 +1,5 @@
 use Rattle.std.proofs.Common.{ap, arith, rules, length}
-use Rattle.stable_tree.specs.Groups.{Groups, groups_of}
+use Rattle.stable_tree.specs.Groups.{Groups, group_frames}
 use Rattle.stable_tree.proofs.Cuts.{length-cut, concat-cut, fewer-chains}
 use Rattle.stable_tree.specs.Cut.{cut}
 use Rattle.stable_tree.specs.Groups.{AreDups}
@@ -15,7 +15,7 @@ add-requires-clause-chain c =
 
 pub add-requires-clause-room : goal.add-requires-clause-room
 add-requires-clause-room c =
-    let seen = ap (λ (tree : Groups). length (groups_of tree)) c.self.view_is in
+    let seen = ap (λ (tree : Groups). length (group_frames tree)) c.self.view_is in
     let all = ap length (concat-cut c.self.inside.chains.items c.self.inside.frames.items c.self.invariant.0) in
     let few = c.requires.room in
     let room = ap (λ (tree : Groups). tree.room) c.self.view_is in
@@ -24,7 +24,7 @@ add-requires-clause-room c =
 
 pub add-requires-clause-chain_room : goal.add-requires-clause-chain_room
 add-requires-clause-chain_room c =
-    let seen = ap (λ (tree : Groups). length (groups_of tree)) c.self.view_is in
+    let seen = ap (λ (tree : Groups). length (group_frames tree)) c.self.view_is in
     let all = ap length (concat-cut c.self.inside.chains.items c.self.inside.frames.items c.self.invariant.0) in
     let fewer = fewer-chains c.self.inside.chains.items c.self.inside.frames.items c.self.invariant.0 in
     let few = c.requires.room in

@@ -1,5 +1,5 @@
 use Rattle.std.proofs.Common.{◌≡◌, ◌+◌, ◌<◌, ap, arith, length, slice_index_or, []}
-use Rattle.stable_tree.specs.Groups.{Groups, groups_of, AreDups}
+use Rattle.stable_tree.specs.Groups.{Groups, group_frames, AreDups}
 use Rattle.stable_tree.proofs.Cuts.{length-cut, concat-cut}
 use Rattle.stable_tree.specs.Cut.{cut}
 use Rattle.stable_tree.proofs.Counting.{IsMoved, grows, grown-fits, written}
@@ -15,7 +15,7 @@ lengthen-requires-clause-chain c =
 
 pub lengthen-requires-clause-room : goal.lengthen-requires-clause-room
 lengthen-requires-clause-room c =
-    let seen = ap (λ (tree : Groups). length (groups_of tree)) c.self.view_is in
+    let seen = ap (λ (tree : Groups). length (group_frames tree)) c.self.view_is in
     let all = ap length (concat-cut c.self.inside.chains.items c.self.inside.frames.items c.self.invariant.0) in
     let few = c.requires.room in
     let room = ap (λ (tree : Groups). tree.room) c.self.view_is in
