@@ -3,7 +3,7 @@ ghost use Rattle.host_types.specs.declared.helper.MapHelper.TheVariants.{Update}
 ghost use Rattle.host_types.specs.Helpers.{helper};
 ghost use Rattle.page_table.specs.State.{part, have_of};
 ghost use Rattle.page_table.specs.Changes.{IsKeptBut, AreMapsKeptBut, KeepsSettings};
-ghost use Rattle.map_helpers.specs.Updates.{part_updated, update_cost, updated_sharing};
+ghost use Rattle.map_helpers.specs.Updates.{part_updated, update_frames, updated_sharing};
 ghost use Rattle.host_calls.specs.Calls.{FitsValue, IsCharged, RefusesUpdate, TellsHave};
 
 use host_types::{Fault, MapNo};
@@ -38,7 +38,7 @@ pub fn host_update(
     ensures sharing { OnOk result (memory.new.sharing
         ≡ updated_sharing (part memory.old tenant) memory.old.sharing tenant map key 0) }
     ensures have { OnOk result
-        (have_of memory.new + update_cost (part memory.old tenant) memory.old.sharing tenant map key 0
+        (have_of memory.new + update_frames (part memory.old tenant) memory.old.sharing tenant map key 0
         ≡ have_of memory.old) }
     ensures settings { KeepsSettings memory.old memory.new }
     ensures refused { IfErr result (RefusesUpdate (part memory.old tenant) map key value.now) }
@@ -55,7 +55,7 @@ fn may_update(memory: &Memory, tenant: u32, map: MapNo, key: u32, value: &[u8]) 
     ensures fits { OnOk result (FitsValue (part memory.now tenant) map key value.now) }
     ensures charged { OnOk result (IsCharged (part memory.now tenant) map (have_of memory.now)) }
     ensures room { OnOk result
-        (update_cost (part memory.now tenant) memory.now.sharing tenant map key 0 ≤ have_of memory.now) }
+        (update_frames (part memory.now tenant) memory.now.sharing tenant map key 0 ≤ have_of memory.now) }
     ensures refused { IfErr result (RefusesUpdate (part memory.now tenant) map key value.now) }
     ensures told { IfErr result (TellsHave memory.now) }
 {

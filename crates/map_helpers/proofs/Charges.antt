@@ -8,7 +8,7 @@ use Rattle.host_types.specs.declared.shape.Shape.{Shape}
 use Rattle.host_types.specs.Helpers.{element_at, update_charge}
 use Rattle.host_types.specs.Shapes.{IsShape, stride_of, byte_len_of}
 use Rattle.host_types.specs.Sharing.{Sharing}
-use Rattle.write_break.specs.Stores.{touched, store_cost, place_of_byte}
+use Rattle.write_break.specs.Stores.{touched, store_frames, place_of_byte}
 use Rattle.write_break.proofs.Stores.{touched-some, touched-one, cost_from-few}
 
 -- a value has at most a stride
@@ -58,7 +58,7 @@ touched-charged shape key is = by_test (4096 % stride_of shape == 0) refl
         rw (e, some) (omega (arith, small))
 
 -- the store of a value takes what is charged for an update at most
-pub cost-charged : (sharing : Sharing) (tenant m key : ℕ) (shape : Shape) → IsShape shape → store_cost sharing tenant m (element_at shape key) shape.value_size ≤ update_charge shape
+pub cost-charged : (sharing : Sharing) (tenant m key : ℕ) (shape : Shape) → IsShape shape → store_frames sharing tenant m (element_at shape key) shape.value_size ≤ update_charge shape
 cost-charged sharing tenant m key shape is =
     let few = cost_from-few sharing (place_of_byte tenant m (element_at shape key)) (touched (element_at shape key) shape.value_size) in
     let charged = touched-charged shape key is in

@@ -9,7 +9,7 @@ use Rattle.host_types.specs.Shapes.{IsShape}
 use Rattle.host_types.specs.Sharing.{Sharing}
 use Rattle.host_types.specs.Tenant.{IsFlatMap}
 use Rattle.page_table.specs.Changes.{map_written}
-use Rattle.write_break.specs.Stores.{store_cost, stored_sharing}
+use Rattle.write_break.specs.Stores.{store_frames, stored_sharing}
 use Rattle.map_helpers.specs.Updates.{cost_in, sharing_in, IsEnough}
 use Rattle.map_helpers.proofs.Charges.{cost-charged}
 
@@ -59,7 +59,7 @@ module _ (shape : Shape) (sharing : Sharing) (tenant m key flags : ℕ) where
   cost-refused (Some flat) is refused = let same : flat.shape ≡ shape = cc in rw (same, refused) refl
 
   pub cost-written : (found : Option FlatMap) → shape_in found ≡ Some shape → (update_answer shape key flags == 0) ≡ true
-      → cost_in found sharing tenant m key flags ≡ store_cost sharing tenant m (element_at shape key) shape.value_size
+      → cost_in found sharing tenant m key flags ≡ store_frames sharing tenant m (element_at shape key) shape.value_size
   unfolding cost_in
   cost-written None is answered = absurd (cc)
   cost-written (Some flat) is answered = let same : flat.shape ≡ shape = cc in rw (same, answered) refl

@@ -5,7 +5,7 @@ use Rattle.host_types.specs.Helpers.{element_at, update_answer, maps_updated}
 use Rattle.host_types.specs.Memory.{FlatMap, FlatMemory, InMap, map_at, place_of}
 use Rattle.host_types.specs.Sharing.{Sharing}
 use Rattle.host_types.specs.Tenant.{TenantPart}
-use Rattle.write_break.specs.Stores.{stored_sharing, store_cost}
+use Rattle.write_break.specs.Stores.{stored_sharing, store_frames}
 
 -- a tenant's part after an update of its map m
 abbrev pub part_updated : TenantPart → ℕ → ℕ → List ℕ → ℕ → TenantPart
@@ -16,11 +16,11 @@ unfoldable pub cost_in : Option FlatMap → Sharing → ℕ → ℕ → ℕ → 
 cost_in None sharing tenant m key flags = 0
 cost_in (Some flat) sharing tenant m key flags =
     if update_answer flat.shape key flags == 0
-    then store_cost sharing tenant m (element_at flat.shape key) flat.shape.value_size
+    then store_frames sharing tenant m (element_at flat.shape key) flat.shape.value_size
     else 0
 
-abbrev pub update_cost : TenantPart → Sharing → ℕ → ℕ → ℕ → ℕ → ℕ
-update_cost owned sharing tenant m key flags = cost_in (map_at owned.maps m) sharing tenant m key flags
+abbrev pub update_frames : TenantPart → Sharing → ℕ → ℕ → ℕ → ℕ → ℕ
+update_frames owned sharing tenant m key flags = cost_in (map_at owned.maps m) sharing tenant m key flags
 
 -- which pages share frames after an update: the pages of its store are broken, if it makes one
 unfoldable pub sharing_in : Option FlatMap → Sharing → ℕ → ℕ → ℕ → ℕ → Sharing
@@ -38,7 +38,7 @@ updated_sharing owned sharing tenant m key flags = sharing_in (map_at owned.maps
 abbrev pub IsEnough : Shape → ℕ → Type 0
 IsEnough shape frames =
     (owned : TenantPart) (sharing : Sharing) (tenant m key flags : ℕ)
-    → IfSome (map_at owned.maps m) (λ flat. flat.shape ≡ shape) → update_cost owned sharing tenant m key flags ≤ frames
+    → IfSome (map_at owned.maps m) (λ flat. flat.shape ≡ shape) → update_frames owned sharing tenant m key flags ≤ frames
 
 -- Bytes of an element's value are found at their distance from the address: in each flat memory that has
 -- a map m of this shape, they are those of the element.

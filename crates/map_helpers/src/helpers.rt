@@ -5,7 +5,7 @@ ghost use Rattle.host_types.specs.Memory.{map_at};
 ghost use Rattle.host_types.specs.Shapes.{IsShape, byte_len_of};
 ghost use Rattle.page_table.specs.State.{part, have_of};
 ghost use Rattle.page_table.specs.Changes.{IsKeptBut, AreMapsKeptBut, KeepsSettings};
-ghost use Rattle.map_helpers.specs.Updates.{part_updated, update_cost, updated_sharing, LeadsToElement, IsEnough};
+ghost use Rattle.map_helpers.specs.Updates.{part_updated, update_frames, updated_sharing, LeadsToElement, IsEnough};
 
 use crate::answer::{HelperError, update_error};
 use host_types::{MapNo, Shape};
@@ -57,7 +57,7 @@ pub fn delete() -> u64
 /// How many frames an update would take now: those that its store needs, and none where it refuses or
 /// where there is no such map. It is at most what is reserved for an update of the map.
 pub fn update_needs(memory: &Memory, tenant: u32, map: MapNo, key: u32, flags: u64) -> u32
-    ensures needs { result ≡ update_cost (part memory.now tenant) memory.now.sharing tenant map key flags }
+    ensures needs { result ≡ update_frames (part memory.now tenant) memory.now.sharing tenant map key flags }
     ensures charged { IfSome (map_at (part memory.now tenant).maps map) (λ flat. result ≤ update_charge flat.shape) }
 {
     let Some(shape) = memory.shape(tenant, map) else {
@@ -102,7 +102,7 @@ pub fn update(
     flags: u64,
 ) -> u64
     requires value { IsSomeAnd (map_at (part memory.old tenant).maps map) (λ flat. flat.shape.value_size ≡ length value.now) }
-    requires room { update_cost (part memory.old tenant) memory.old.sharing tenant map key flags ≤ have_of memory.old }
+    requires room { update_frames (part memory.old tenant) memory.old.sharing tenant map key flags ≤ have_of memory.old }
     ensures helped { helper Update (part memory.old tenant).maps map key value.now flags
         ≡ Some (result, (part memory.new tenant).maps) }
     ensures part { part memory.new tenant ≡ part_updated (part memory.old tenant) map key value.now flags }
@@ -110,7 +110,7 @@ pub fn update(
     ensures others { IsKeptBut tenant memory.old memory.new }
     ensures sharing { memory.new.sharing
         ≡ updated_sharing (part memory.old tenant) memory.old.sharing tenant map key flags }
-    ensures have { have_of memory.new + update_cost (part memory.old tenant) memory.old.sharing tenant map key flags
+    ensures have { have_of memory.new + update_frames (part memory.old tenant) memory.old.sharing tenant map key flags
         ≡ have_of memory.old }
     ensures settings { KeepsSettings memory.old memory.new }
     ensures refused { result ≢ 0 → memory.new ≡ memory.old }

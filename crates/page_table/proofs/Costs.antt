@@ -6,7 +6,7 @@ use Rattle.host_types.specs.declared.status.Status.{Status}
 use Rattle.host_types.specs.declared.status.Status.TheVariants.{New, Volatile, Waiting, Grouped, Zero}
 use Rattle.host_types.specs.Sharing.{PageState, state_at, is_in_company, cost_of, break_cost, is_shared}
 use Rattle.page_table.specs.declared.entry.Entry.{Entry}
-use Rattle.page_table.specs.Table.{TableState, CountsState, IsTable, IsSound, IsEntry, IsGroup, LiesRight, times, one_if_zero, entry_at, is_on, state_of, states_of, groups_of, sharing_of, pages_on, cost_at}
+use Rattle.page_table.specs.Table.{TableState, CountsState, IsTable, IsSound, IsEntry, IsGroup, LiesRight, times, one_if_zero, entry_at, is_on, state_of, states_of, groups_of, sharing_of, pages_on, break_frames}
 use Rattle.page_table.proofs.Entries.{one_when, equal, some_on}
 use Rattle.page_table.proofs.Groups.{company-places}
 use Rattle.page_table.proofs.Putting.{entry_fits}
@@ -22,15 +22,15 @@ state-at table pass i = by_list table.entries i
 
 -- what the break of the page of an entry takes
 cost-entry : (table : TableState) (i : ℕ) (entry : Entry) → entry_at table.entries i ≡ Some entry
-    → cost_at table i ≡ cost_of (nat_lt 1 (pages_on entry.frame table.entries)) entry.status
-unfolding cost_at
+    → break_frames table i ≡ cost_of (nat_lt 1 (pages_on entry.frame table.entries)) entry.status
+unfolding break_frames
 cost-entry table i entry here = ap taken here
   where
     taken : Option Entry → ℕ
     taken x = unwrap_or (option_map (λ (entry : Entry). cost_of (nat_lt 1 (pages_on entry.frame table.entries)) entry.status) x) 0
 
-cost-none : (table : TableState) (i : ℕ) → entry_at table.entries i ≡ None → cost_at table i ≡ 0
-unfolding cost_at
+cost-none : (table : TableState) (i : ℕ) → entry_at table.entries i ≡ None → break_frames table i ≡ 0
+unfolding break_frames
 cost-none table i none = ap taken none
   where
     taken : Option Entry → ℕ
@@ -57,14 +57,14 @@ company table pass i entry here is = by_status entry.status is.right
     by_status Zero a = refl
 
 -- what the break of a page takes
-pub cost-is : (table : TableState) (pass : Pass) (i : ℕ) → IsTable table → break_cost (sharing_of table pass) i ≡ cost_at table i
+pub cost-is : (table : TableState) (pass : Pass) (i : ℕ) → IsTable table → break_cost (sharing_of table pass) i ≡ break_frames table i
 unfolding break_cost
 cost-is table pass i is = by_entry (entry_at table.entries i) refl
   where
     taken : Option PageState → ℕ
     taken x = unwrap_or (option_map (λ (state : PageState). cost_of (is_in_company (sharing_of table pass) i) state.status) x) 0
 
-    by_entry : (x : Option Entry) → entry_at table.entries i ≡ x → break_cost (sharing_of table pass) i ≡ cost_at table i
+    by_entry : (x : Option Entry) → entry_at table.entries i ≡ x → break_cost (sharing_of table pass) i ≡ break_frames table i
     by_entry None e = ap taken (state-at table pass i ∙ ap (option_map state_of) e) ∙ sym (cost-none table i e)
     by_entry (Some entry) e =
         ap taken (state-at table pass i ∙ ap (option_map state_of) e)
@@ -72,7 +72,7 @@ cost-is table pass i is = by_entry (entry_at table.entries i) refl
         ∙ sym (cost-entry table i entry e)
 
 -- a page with a frame of its own costs nothing
-pub cost-own : (table : TableState) (i : ℕ) (entry : Entry) → IsTable table → entry_at table.entries i ≡ Some entry → entry.protected ≡ false → cost_at table i ≡ 0
+pub cost-own : (table : TableState) (i : ℕ) (entry : Entry) → IsTable table → entry_at table.entries i ≡ Some entry → entry.protected ≡ false → break_frames table i ≡ 0
 cost-own table i entry is here own =
     let fits = entry_fits table i entry is here in
     cost-entry table i entry here ∙ by_status entry.status (sym fits.protected ∙ own)
@@ -95,7 +95,7 @@ group-frame table f is one =
 
 -- a page on a frame that more hold takes a frame
 pub cost-one : (table : TableState) (i : ℕ) (entry : Entry) → IsTable table → entry_at table.entries i ≡ Some entry → is_shared entry.status ≡ true
-    → 1 < one_if_zero entry.frame + pages_on entry.frame table.entries → cost_at table i ≡ 1
+    → 1 < one_if_zero entry.frame + pages_on entry.frame table.entries → break_frames table i ≡ 1
 cost-one table i entry is here shared more =
     let fits = entry_fits table i entry is here in
     cost-entry table i entry here ∙ by_status entry.status shared fits.right
@@ -109,7 +109,7 @@ cost-one table i entry is here shared more =
 
 -- the last page of a group takes none
 pub cost-last : (table : TableState) (i : ℕ) (entry : Entry) → IsTable table → entry_at table.entries i ≡ Some entry → is_shared entry.status ≡ true
-    → one_if_zero entry.frame + pages_on entry.frame table.entries ≤ 1 → cost_at table i ≡ 0
+    → one_if_zero entry.frame + pages_on entry.frame table.entries ≤ 1 → break_frames table i ≡ 0
 cost-last table i entry is here shared last =
     let fits = entry_fits table i entry is here in
     cost-entry table i entry here ∙ by_status entry.status shared fits.right
@@ -128,7 +128,7 @@ cost-last table i entry is here shared last =
 
 -- the same, told by the count of the page's frame
 pub cost-counted : (table : TableState) (counts : CountsState) (i : ℕ) (entry : Entry) → IsSound table counts → entry_at table.entries i ≡ Some entry → entry.protected ≡ true
-    → ((nat_lt 1 (slice_index_or counts.counts entry.frame 0) ≡ true) × (cost_at table i ≡ 1)) ⊎ ((nat_lt 1 (slice_index_or counts.counts entry.frame 0) ≡ false) × (cost_at table i ≡ 0))
+    → ((nat_lt 1 (slice_index_or counts.counts entry.frame 0) ≡ true) × (break_frames table i ≡ 1)) ⊎ ((nat_lt 1 (slice_index_or counts.counts entry.frame 0) ≡ false) × (break_frames table i ≡ 0))
 cost-counted table counts i entry sound here protected =
     let fits = entry_fits table i entry sound.fits here in
     let counted = sound.counted.counted entry.frame fits.frame in

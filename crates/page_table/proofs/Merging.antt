@@ -9,7 +9,7 @@ use Rattle.page_table.specs.declared.entry.Entry.{Entry}
 use Rattle.page_table.specs.declared.tenant.Tenant.{Tenant}
 use Rattle.page_table.specs.State.{MemoryState, part, bytes_of_map, free_of, have_of}
 use Rattle.page_table.specs.Changes.{IsPageOf, IsOwn, MayMerge, AreKept, KeepsSettings}
-use Rattle.page_table.specs.Table.{TableState, IsOwnAt, AreMaps, entry_at, state_of, states_of, contents_of, maps_of, sharing_of, used_by, cost_at}
+use Rattle.page_table.specs.Table.{TableState, IsOwnAt, AreMaps, entry_at, state_of, states_of, contents_of, maps_of, sharing_of, used_by, break_frames}
 use Rattle.page_table.specs.View.{view_of, IsMemory}
 use Rattle.page_table.proofs.Reading.{page_located, page_number, few_pages, content_is}
 use Rattle.page_table.proofs.Free.{free_is}
@@ -74,14 +74,14 @@ module _ (table new : TableState) (shapes : List (Option Shape)) (tenants : List
       omega (arith, free, old, is.room, is.sum)
 
 -- how many frames the break of a page takes, as callers see it
-module _ (table : TableState) (shapes : List (Option Shape)) (tenants : List Tenant) (pass : Pass) (costs : (pass : Pass) (i : ℕ) → break_cost (sharing_of table pass) i ≡ cost_at table i) where
-  pub cost_told : (i : ℕ) → break_cost (view_of table shapes tenants pass).sharing i ≡ cost_at table i
+module _ (table : TableState) (shapes : List (Option Shape)) (tenants : List Tenant) (pass : Pass) (costs : (pass : Pass) (i : ℕ) → break_cost (sharing_of table pass) i ≡ break_frames table i) where
+  pub cost_told : (i : ℕ) → break_cost (view_of table shapes tenants pass).sharing i ≡ break_frames table i
   unfolding view_of
   cost_told i = costs pass i
 
   -- where the frames that a break takes may be had, there is room for it
   pub cost_fits : (reserved i : ℕ) → IsMemory table shapes tenants reserved → break_cost (view_of table shapes tenants pass).sharing i ≤ have_of (view_of table shapes tenants pass)
-      → used_by table + cost_at table i ≤ length table.arena
+      → used_by table + break_frames table i ≤ length table.arena
   unfolding view_of
   cost_fits reserved i is enough =
       let told = costs pass i in
@@ -89,7 +89,7 @@ module _ (table : TableState) (shapes : List (Option Shape)) (tenants : List Ten
       omega (arith, told, enough, free, is.room, is.sum)
 
   pub cost_reserved : (reserved i : ℕ) → IsMemory table shapes tenants reserved → break_cost (view_of table shapes tenants pass).sharing i ≤ have_of (view_of table shapes tenants pass)
-      → reserved + (used_by table + cost_at table i) ≤ length table.arena
+      → reserved + (used_by table + break_frames table i) ≤ length table.arena
   unfolding view_of
   cost_reserved reserved i is enough =
       let told = costs pass i in

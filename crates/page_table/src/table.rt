@@ -9,7 +9,7 @@ ghost use Rattle.host_types.specs.Visits.{first_mergeable, is_mergeable, with_pa
 ghost use Rattle.host_types.specs.Pages.{zero_page};
 ghost use Rattle.frame_arena.specs.Pages.{IsPage, page_at};
 ghost use Rattle.page_table.specs.declared.entry.Entry.{Entry};
-ghost use Rattle.page_table.specs.Table.{TableState, CountsState, AreCounts, IsSound, IsEntry, IsPageAt, IsOwnAt, AreOwnKept, AreOthersKept, entry_at, states_of, contents_of, groups_of, sharing_of, forgets, used_by, cost_at, is_on, pages_on, one_if_zero, times, state_of, is_open_frame, joined_on, marked};
+ghost use Rattle.page_table.specs.Table.{TableState, CountsState, AreCounts, IsSound, IsEntry, IsPageAt, IsOwnAt, AreOwnKept, AreOthersKept, entry_at, states_of, contents_of, groups_of, sharing_of, forgets, used_by, break_frames, is_on, pages_on, one_if_zero, times, state_of, is_open_frame, joined_on, marked};
 ghost use Rattle.page_table.specs.Tallies.{IsTally};
 
 use crate::counts::FrameCounts;
@@ -91,7 +91,7 @@ impl Table {
     /// What the break of a page takes is told by the pages on its frame, as the sharing has it.
     pub(crate) fn costs_are_told(&self)
         ensures { (pass : Pass) (i : ℕ) →
-            break_cost (sharing_of self.now pass) i ≡ cost_at self.now i }
+            break_cost (sharing_of self.now pass) i ≡ break_frames self.now i }
     {
         // a look at a field tells the invariant
         let _entries = &self.entries;
@@ -214,7 +214,7 @@ impl Table {
     /// frame has one holder more than its pages, so that each of them takes one.
     pub(crate) fn break_cost(&self, place: usize) -> u32
         requires { IsPageAt self.now place }
-        ensures { result ≡ cost_at self.now place }
+        ensures { result ≡ break_frames self.now place }
     {
         let Some(entry) = self.entries.get(place) else {
             unreachable!()
@@ -258,13 +258,13 @@ impl Table {
     /// Takes a page out of its group or off the zero frame. A page with its own frame stays as it is.
     pub(crate) fn take_out(&mut self, place: usize)
         requires there { IsPageAt self.old place }
-        requires room { used_by self.old + cost_at self.old place ≤ length self.old.arena }
+        requires room { used_by self.old + break_frames self.old place ≤ length self.old.arena }
         ensures contents { contents_of self.new ≡ contents_of self.old }
         ensures sharing { (pass : Pass) →
             sharing_of self.new pass ≡ broken (sharing_of self.old pass) place }
         ensures own { IsOwnAt self.new place }
         ensures kept { AreOwnKept self.old self.new }
-        ensures used { used_by self.new ≡ used_by self.old + cost_at self.old place }
+        ensures used { used_by self.new ≡ used_by self.old + break_frames self.old place }
         ensures arena { length self.new.arena ≡ length self.old.arena }
     {
         let Some(entry) = self.entries.get(place) else {

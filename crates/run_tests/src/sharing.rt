@@ -8,9 +8,10 @@ use bpf_decode::decode;
 use host_types::{Fault, Options, Shape};
 use page_table::Memory;
 use scanner::visit;
-use std::alloc::{AllocError, Global};
+use std::alloc::Global;
 use std::test::Fail;
 use tenant_runs::{RunReply, run};
+use test_inputs::texts::COUNTER;
 use verifier::{Verified, verify};
 
 /// A map of one number.
@@ -19,38 +20,8 @@ const NUMBER: Shape = Shape {
     entries: 1,
 };
 
-/// Adds one to the number of key 0 in map 0 and returns it, or 0 where there is none: slot by slot, each
-/// written as its eight bytes in order.
-const COUNTER: [u64; 14] = [
-    0x620afcff_00000000,
-    0xbfa20000_00000000,
-    0x07020000_fcffffff,
-    0x18110000_00000000,
-    0x00000000_00000000,
-    0x85000000_01000000,
-    0x55000200_00000000,
-    0xb7000000_00000000,
-    0x95000000_00000000,
-    0x79010000_00000000,
-    0x07010000_01000000,
-    0x7b100000_00000000,
-    0xbf100000_00000000,
-    0x95000000_00000000,
-];
-
-fn text_of(alloc: Global, slots: &[u64]) -> Result<Vec<u8>, AllocError> {
-    let mut text = Vec::new(alloc);
-    for slot in slots {
-        text.extend_from_slice(&slot.to_be_bytes())?;
-    }
-    Ok(text)
-}
-
 fn counter(alloc: Global) -> Result<Verified, Fault> {
-    let Ok(text) = text_of(alloc, &COUNTER) else {
-        return Err(Fault::OutOfMemory);
-    };
-    let program = match decode(alloc, &text) {
+    let program = match decode(alloc, &COUNTER) {
         Ok(program) => program,
         Err(refused) => return Err(Fault::Program(refused)),
     };

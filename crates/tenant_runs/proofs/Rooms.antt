@@ -13,15 +13,15 @@ use Rattle.bpf_decode.specs.declared.operation.Size.TheVariants.{Byte, HalfWord,
 use Rattle.bpf_decode.specs.Opcodes.{byte_count}
 use Rattle.page_table.specs.State.{MemoryState}
 use Rattle.page_table.specs.Changes.{with_record, KeepsSettings}
-use Rattle.write_break.specs.Stores.{store_cost, place_of_byte, touched}
+use Rattle.write_break.specs.Stores.{store_frames, place_of_byte, touched}
 use Rattle.write_break.proofs.Stores.{cost_from-few, touched-within}
-use Rattle.map_helpers.specs.Updates.{update_cost}
+use Rattle.map_helpers.specs.Updates.{update_frames}
 use Rattle.map_helpers.proofs.Updates.{charge-enough}
 use Rattle.interp.specs.declared.need.Need.TheVariants.{Store, Update}
 use Rattle.tenant_runs.specs.Meeting.{MayMeet, answer_in, charge_in, KeepsSizes}
 
 -- a store lies in one page
-pub store_room : (sharing : Sharing) (tenant m at : ℕ) (size : Size) → at % byte_count size ≡ 0 → store_cost sharing tenant m at (byte_count size) ≤ 1
+pub store_room : (sharing : Sharing) (tenant m at : ℕ) (size : Size) → at % byte_count size ≡ 0 → store_frames sharing tenant m at (byte_count size) ≤ 1
 store_room sharing tenant m at size aligned =
     let few = cost_from-few sharing (place_of_byte tenant m at) (touched at (byte_count size)) in
     let one = touched-within at (byte_count size) (in_page size aligned) in
@@ -43,10 +43,10 @@ store_charged owned m at number size value may = by_map (map_at owned.maps m) re
 
 -- so many frames as are charged are enough for an update
 pub update_room : (owned after : TenantPart) (sharing : Sharing) (tenant m key flags : ℕ) (value : List ℕ) → AreFlatMaps owned.maps → MayMeet owned (Update m key flags) value → after.maps ≡ owned.maps
-    → update_cost after sharing tenant m key flags ≤ charge_in owned (Update m key flags)
+    → update_frames after sharing tenant m key flags ≤ charge_in owned (Update m key flags)
 update_room owned after sharing tenant m key flags value are may same = by_map (map_at owned.maps m) refl
   where
-    by_map : (there : Option FlatMap) → map_at owned.maps m ≡ there → update_cost after sharing tenant m key flags ≤ charge_in owned (Update m key flags)
+    by_map : (there : Option FlatMap) → map_at owned.maps m ≡ there → update_frames after sharing tenant m key flags ≤ charge_in owned (Update m key flags)
     by_map None e = absurd (rw e at may)
     by_map (Some flat) e =
         let is : IsFlatMap flat = rw e at (are.each m) in

@@ -5,7 +5,6 @@ ghost use Rattle.std.specs.Prelude.{◌≡◌};
 ghost use Rattle.turn.specs.Seats.{IsIdle, own_part};
 ghost use Rattle.tenant_workers.specs.Runs.{IsResting};
 
-use crate::programs::{COUNTER, text_of};
 use crate::row::{Two, length_and_first, told, two_tenants};
 use crate::runs::{Open, counted, returned};
 use host_types::Fault;
@@ -14,6 +13,7 @@ use std::sync::{Mutex, Wait};
 use std::test::Fail;
 use tenant_runs::RunReply;
 use tenant_workers::{Gate, ScanPlan, Shared};
+use test_inputs::texts::COUNTER;
 use turn::{HostSeat, Seat};
 use verifier::Verified;
 
@@ -115,10 +115,7 @@ fn with_counter<'a>(
     requires idle { IsIdle shared.now seat }
     requires rests { IsResting (own_part seat) }
 {
-    let Ok(text) = text_of(alloc, &COUNTER) else {
-        return Err(Fault::OutOfMemory);
-    };
-    let program = shared.load_program(rt, alloc, &mut seat, &text, 0)?;
+    let program = shared.load_program(rt, alloc, &mut seat, &COUNTER, 0)?;
     Ok(Other {
         shared,
         alloc,

@@ -5,7 +5,6 @@ ghost use Rattle.std.specs.Prelude.{◌≡◌};
 ghost use Rattle.turn.specs.Seats.{IsIdle, own_part};
 ghost use Rattle.tenant_workers.specs.Runs.{IsResting};
 
-use crate::programs::{COUNTER, text_of};
 use crate::row::{Two, told, two_tenants};
 use host_types::Fault;
 use std::alloc::Global;
@@ -13,6 +12,7 @@ use std::sync::Wait;
 use std::test::Fail;
 use tenant_runs::RunReply;
 use tenant_workers::{Gate, Shared};
+use test_inputs::texts::COUNTER;
 use turn::Seat;
 
 /// A gate that returns at once.
@@ -35,10 +35,7 @@ pub(crate) fn counted(
     ensures idle { IsIdle shared.now seat.new }
     ensures resting { IsResting (own_part seat.new) }
 {
-    let Ok(text) = text_of(alloc, &COUNTER) else {
-        return Err(Fault::OutOfMemory);
-    };
-    let program = shared.load_program(rt, alloc, seat, &text, 0)?;
+    let program = shared.load_program(rt, alloc, seat, &COUNTER, 0)?;
     shared.run_program(rt, alloc, seat, &program, &[], gate)
 }
 

@@ -6,7 +6,6 @@ ghost use Rattle.turn.specs.Seats.{IsIdle, own_part};
 ghost use Rattle.tenant_workers.specs.Plans.{IsFor};
 ghost use Rattle.tenant_workers.specs.Runs.{IsResting};
 
-use crate::programs::{COUNTER, text_of};
 use crate::row::{Two, length_and_first, two_tenants};
 use host_types::Fault;
 use std::alloc::Global;
@@ -17,6 +16,7 @@ use std::test::Fail;
 use std::thread::Threads;
 use tenant_runs::RunReply;
 use tenant_workers::{Gate, Plan, ScanPlan, Shared, TenantPlan, serve};
+use test_inputs::texts::COUNTER;
 use turn::Seat;
 
 /// How often a tenant looks for the other's flag.
@@ -86,10 +86,7 @@ fn counting<'a>(
     requires rests { IsResting (own_part seat) }
     ensures { IfOk result (IsFor shared.now) }
 {
-    let Ok(text) = text_of(alloc, &COUNTER) else {
-        return Err(Fault::OutOfMemory);
-    };
-    let program = shared.load_program(rt, alloc, &mut seat, &text, 0)?;
+    let program = shared.load_program(rt, alloc, &mut seat, &COUNTER, 0)?;
     let programs = only(alloc, program)?;
     let runs = only(alloc, (0, Vec::new(alloc)))?;
     Ok(TenantPlan {

@@ -22,7 +22,7 @@ use Rattle.verifier.specs.Subject.{Subject}
 use Rattle.verifier.specs.Table.{Table, described, tight_table}
 use Rattle.verifier.specs.Pass.{Kept, kinds_in}
 use Rattle.verifier.specs.Verified.{Accepted, kind_at}
-use Rattle.verifier.specs.Reserve.{store_bound, update_bound, call_bound, bound_by, bound_at, bounds_from, reserve_from}
+use Rattle.verifier.specs.Reserve.{store_cost, update_cost, call_cost, cost_by, cost_at, costs_from, reserve_from}
 use Rattle.verifier.proofs.Tight.{length-tight, tight_is_tight}
 use Rattle.verifier.proofs.Lawful.{first_instruction, described_instruction}
 
@@ -35,52 +35,52 @@ charge_small : (shape : Option Shape) → unwrap_or (option_map update_charge sh
 charge_small None = omega arith
 charge_small (Some shape) = one_or_two (4096 % stride_of shape == 0)
 
-store_small : (base : Option Kind) → store_bound base ≤ 2
+store_small : (base : Option Kind) → store_cost base ≤ 2
 store_small None = omega arith
 store_small (Some (MapValue m offsets)) = omega arith
 store_small (Some kind) = omega arith
 
-update_small : (p : Subject) (name : Option Kind) → update_bound p name ≤ 2
+update_small : (p : Subject) (name : Option Kind) → update_cost p name ≤ 2
 update_small p None = omega arith
 update_small p (Some (MapName m)) = charge_small (shape_at p.shapes m)
 update_small p (Some kind) = omega arith
 
-call_small : (p : Subject) (helper : Option MapHelper) (name : Option Kind) → call_bound p helper name ≤ 2
+call_small : (p : Subject) (helper : Option MapHelper) (name : Option Kind) → call_cost p helper name ≤ 2
 call_small p None name = omega arith
 call_small p (Some Update) name = update_small p name
 call_small p (Some helper) name = omega arith
 
-bound_by-small : (p : Subject) (table : Table) (slot : ℕ) (operation : Option Operation) → bound_by p table slot operation ≤ 2
-bound_by-small p table slot None = omega arith
-bound_by-small p table slot (Some (Store size source)) = store_small (kind_at table slot (insn_at p.text slot).dst)
-bound_by-small p table slot (Some Call) = call_small p (helper_of (sign_extended (insn_at p.text slot).imm)) (kind_at table slot 1)
-bound_by-small p table slot (Some operation) = omega arith
+cost_by-small : (p : Subject) (table : Table) (slot : ℕ) (operation : Option Operation) → cost_by p table slot operation ≤ 2
+cost_by-small p table slot None = omega arith
+cost_by-small p table slot (Some (Store size source)) = store_small (kind_at table slot (insn_at p.text slot).dst)
+cost_by-small p table slot (Some Call) = call_small p (helper_of (sign_extended (insn_at p.text slot).imm)) (kind_at table slot 1)
+cost_by-small p table slot (Some operation) = omega arith
 
 -- no instruction needs more than 2 frames
-pub cost_small : (v : Accepted) (slot : ℕ) → bound_at v slot ≤ 2
-unfolding bound_at
-cost_small v slot = bound_by-small v.subject v.table slot (operation_of (insn_at v.subject.text slot).opcode)
+pub cost_small : (v : Accepted) (slot : ℕ) → cost_at v slot ≤ 2
+unfolding cost_at
+cost_small v slot = cost_by-small v.subject v.table slot (operation_of (insn_at v.subject.text slot).opcode)
 
 -- what a store may need
-pub cost_store : (v : Accepted) (slot : ℕ) (size : Size) (source : Source) → operation_of (insn_at v.subject.text slot).opcode ≡ Some (Store size source) → bound_at v slot ≡ store_bound (kind_at v.table slot (insn_at v.subject.text slot).dst)
-unfolding bound_at
-cost_store v slot size source e = ap (bound_by v.subject v.table slot) e
+pub cost_store : (v : Accepted) (slot : ℕ) (size : Size) (source : Source) → operation_of (insn_at v.subject.text slot).opcode ≡ Some (Store size source) → cost_at v slot ≡ store_cost (kind_at v.table slot (insn_at v.subject.text slot).dst)
+unfolding cost_at
+cost_store v slot size source e = ap (cost_by v.subject v.table slot) e
 
 -- what a call may need
-pub cost_call : (v : Accepted) (slot : ℕ) → operation_of (insn_at v.subject.text slot).opcode ≡ Some Call → bound_at v slot ≡ call_bound v.subject (helper_of (sign_extended (insn_at v.subject.text slot).imm)) (kind_at v.table slot 1)
-unfolding bound_at
-cost_call v slot e = ap (bound_by v.subject v.table slot) e
+pub cost_call : (v : Accepted) (slot : ℕ) → operation_of (insn_at v.subject.text slot).opcode ≡ Some Call → cost_at v slot ≡ call_cost v.subject (helper_of (sign_extended (insn_at v.subject.text slot).imm)) (kind_at v.table slot 1)
+unfolding cost_at
+cost_call v slot e = ap (cost_by v.subject v.table slot) e
 
 -- the sums by their first slot
-costs_next : (v : Accepted) (slot n : ℕ) → bounds_from v slot (suc n) ≡ bound_at v slot + bounds_from v (suc slot) n
-unfolding bounds_from
+costs_next : (v : Accepted) (slot n : ℕ) → costs_from v slot (suc n) ≡ cost_at v slot + costs_from v (suc slot) n
+unfolding costs_from
 costs_next v slot n = refl
 
-costs_none : (v : Accepted) (slot : ℕ) → bounds_from v slot 0 ≡ 0
-unfolding bounds_from
+costs_none : (v : Accepted) (slot : ℕ) → costs_from v slot 0 ≡ 0
+unfolding costs_from
 costs_none v slot = refl
 
-costs_small : (v : Accepted) (slot n : ℕ) → bounds_from v slot n ≤ 2 * n
+costs_small : (v : Accepted) (slot n : ℕ) → costs_from v slot n ≤ 2 * n
 costs_small v slot zero = rw (costs_none v slot) (omega arith)
 costs_small v slot (suc n) = rw (costs_next v slot n) (omega (arith, cost_small v slot, costs_small v (suc slot) n))
 
@@ -91,12 +91,12 @@ none_left : (slots slot : ℕ) → slots ≤ slot → slots - slot ≡ 0
 none_left slots slot h = omega arith
 
 -- the reserve of a slot is what its instruction may need and the reserve of the next slot
-pub reserve_next : (v : Accepted) (slot : ℕ) → slot < slots_of v.subject.text → reserve_from v slot ≡ bound_at v slot + reserve_from v (slot + 1)
-reserve_next v slot h = rw add-one (ap (bounds_from v slot) (left_next (slots_of v.subject.text) slot h) ∙ costs_next v slot (slots_of v.subject.text - suc slot))
+pub reserve_next : (v : Accepted) (slot : ℕ) → slot < slots_of v.subject.text → reserve_from v slot ≡ cost_at v slot + reserve_from v (slot + 1)
+reserve_next v slot h = rw add-one (ap (costs_from v slot) (left_next (slots_of v.subject.text) slot h) ∙ costs_next v slot (slots_of v.subject.text - suc slot))
 
 -- behind the text nothing is reserved
 pub reserve_end : (v : Accepted) (slot : ℕ) → slots_of v.subject.text ≤ slot → reserve_from v slot ≡ 0
-reserve_end v slot h = ap (bounds_from v slot) (none_left (slots_of v.subject.text) slot h) ∙ costs_none v slot
+reserve_end v slot h = ap (costs_from v slot) (none_left (slots_of v.subject.text) slot h) ∙ costs_none v slot
 
 -- a slot's reserve is at most 2 for each slot from there on
 pub reserve_small : (v : Accepted) (slot : ℕ) → reserve_from v slot ≤ 2 * (slots_of v.subject.text - slot)
@@ -104,7 +104,7 @@ reserve_small v slot = costs_small v slot (slots_of v.subject.text - slot)
 
 one_later : (v : Accepted) (slot : ℕ) → reserve_from v (slot + 1) ≤ reserve_from v slot
 one_later v slot = elim (cases_lt slot (slots_of v.subject.text)) [
-  | inl within ↦ least (reserve_from v slot) (bound_at v slot) (reserve_from v (slot + 1)) (reserve_next v slot within)
+  | inl within ↦ least (reserve_from v slot) (cost_at v slot) (reserve_from v (slot + 1)) (reserve_next v slot within)
   | inr past ↦ none (reserve_from v slot) (reserve_from v (slot + 1)) (reserve_end v (slot + 1) (behind (slots_of v.subject.text) slot past))
 ]
   where
@@ -143,9 +143,9 @@ reserve_below v slot later h = subst (λ s. reserve_from v s ≤ reserve_from v 
 
 -- What the instruction at a slot may need, and the reserve of any later slot, are at most the reserve of
 -- the slot: each step of a run leads to a later slot.
-pub reserve_covers : (v : Accepted) (slot later : ℕ) → slot < later → slot < slots_of v.subject.text → bound_at v slot + reserve_from v later ≤ reserve_from v slot
+pub reserve_covers : (v : Accepted) (slot later : ℕ) → slot < later → slot < slots_of v.subject.text → cost_at v slot + reserve_from v later ≤ reserve_from v slot
 reserve_covers v slot later h within =
-    covers (reserve_from v slot) (bound_at v slot) (reserve_from v (slot + 1)) (reserve_from v later) (reserve_next v slot within)
+    covers (reserve_from v slot) (cost_at v slot) (reserve_from v (slot + 1)) (reserve_from v later) (reserve_next v slot within)
     (subst (λ s. reserve_from v s ≤ reserve_from v (slot + 1)) (further slot later h) (reserve_later v (slot + 1) (later - (slot + 1))))
   where
     covers : (all first next rest : ℕ) → all ≡ first + next → rest ≤ next → first + rest ≤ all
@@ -155,11 +155,11 @@ reserve_covers v slot later h within =
     further slot later h = omega arith
 
 -- with the cost of the slot before, a reserve is that slot's
-pub reserve_before : (v : Accepted) (slot reserve cost : ℕ) → 0 < slot → slot ≤ slots_of v.subject.text → reserve ≡ reserve_from v slot → cost ≡ bound_at v (slot - 1) → reserve + cost ≡ reserve_from v (slot - 1)
+pub reserve_before : (v : Accepted) (slot reserve cost : ℕ) → 0 < slot → slot ≤ slots_of v.subject.text → reserve ≡ reserve_from v slot → cost ≡ cost_at v (slot - 1) → reserve + cost ≡ reserve_from v (slot - 1)
 reserve_before v slot reserve cost some within is costs =
     let next = reserve_next v (slot - 1) (before slot (slots_of v.subject.text) some within) in
     let here = ap (reserve_from v) (again slot some) in
-    sums (reserve_from v (slot - 1)) (bound_at v (slot - 1)) (reserve_from v (slot - 1 + 1)) (reserve_from v slot) reserve cost next here is costs
+    sums (reserve_from v (slot - 1)) (cost_at v (slot - 1)) (reserve_from v (slot - 1 + 1)) (reserve_from v slot) reserve cost next here is costs
   where
     before : (slot slots : ℕ) → 0 < slot → slot ≤ slots → slot - 1 < slots
     before slot slots h k = omega arith
@@ -193,9 +193,9 @@ reserves_set v reserves slot sum some within is summed s h = elim (cases_lt (slo
 ]
 
 -- the sum of the rest of a text fits
-pub sum_fits : (v : Accepted) (slot reserve cost : ℕ) → IsWellFormed v.subject.text → reserve ≡ reserve_from v slot → cost ≡ bound_at v (slot - 1) → reserve + cost ≤ 8194
+pub sum_fits : (v : Accepted) (slot reserve cost : ℕ) → IsWellFormed v.subject.text → reserve ≡ reserve_from v slot → cost ≡ cost_at v (slot - 1) → reserve + cost ≤ 8194
 sum_fits v slot reserve cost w is costs =
-    fits (reserve_from v slot) (bound_at v (slot - 1)) reserve cost (slots_of v.subject.text) slot (reserve_small v slot) (cost_small v (slot - 1)) (few (length v.subject.text) w.sized.most) is costs
+    fits (reserve_from v slot) (cost_at v (slot - 1)) reserve cost (slots_of v.subject.text) slot (reserve_small v slot) (cost_small v (slot - 1)) (few (length v.subject.text) w.sized.most) is costs
   where
     few : (n : ℕ) → n ≤ 32768 → n / 8 ≤ 4096
     few n h = omega arith
@@ -222,6 +222,6 @@ kept_instruction p kept slot w is h =
     some_kinds (Some d) P h = h
 
 -- what an instruction may need, by the table of what flows
-pub tight_cost : (p : Subject) (slot cost : ℕ) → cost ≡ bound_by p (tight_table p) slot (operation_of (insn_at p.text slot).opcode) → cost ≡ bound_at (record { subject = p; table = tight_table p }) slot
-unfolding bound_at
+pub tight_cost : (p : Subject) (slot cost : ℕ) → cost ≡ cost_by p (tight_table p) slot (operation_of (insn_at p.text slot).opcode) → cost ≡ cost_at (record { subject = p; table = tight_table p }) slot
+unfolding cost_at
 tight_cost p slot cost e = e

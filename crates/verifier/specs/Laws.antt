@@ -5,7 +5,7 @@ use Rattle.verifier.specs.Subject.{Subject}
 use Rattle.bpf_decode.specs.Text.{slots_of}
 use Rattle.verifier.specs.Table.{Table, IsTightTable, IsRefusal}
 use Rattle.verifier.specs.Verified.{Accepted}
-use Rattle.verifier.specs.Reserve.{bound_at, reserve_from}
+use Rattle.verifier.specs.Reserve.{cost_at, reserve_from}
 
 -- a subject has one refusal at most
 abbrev pub HasOneRefusal : Type 0
@@ -21,7 +21,7 @@ RefusalExcludesTable = (p : Subject) (table : Table) (refused : Refused) → IsT
 
 -- what the instruction at a slot may need, and the reserve of a later slot, are reserved at the slot
 abbrev pub ReserveCoversStep : Type 0
-ReserveCoversStep = (v : Accepted) (slot later : ℕ) → slot < later → slot < slots_of v.subject.text → bound_at v slot + reserve_from v later ≤ reserve_from v slot
+ReserveCoversStep = (v : Accepted) (slot later : ℕ) → slot < later → slot < slots_of v.subject.text → cost_at v slot + reserve_from v later ≤ reserve_from v slot
 
 -- behind the text nothing is reserved
 abbrev pub ReserveEndsAtNone : Type 0

@@ -16,39 +16,39 @@ use Rattle.verifier.specs.Table.{Table}
 use Rattle.verifier.specs.Verified.{Accepted, kind_at}
 
 -- a store through a pointer to a map's value writes to one page
-abbrev pub store_bound : Option Kind → ℕ
-store_bound (Some (MapValue m offsets)) = 1
-store_bound base = 0
+abbrev pub store_cost : Option Kind → ℕ
+store_cost (Some (MapValue m offsets)) = 1
+store_cost base = 0
 
 -- an update writes a value, which lies in one page or in two
-abbrev pub update_bound : Subject → Option Kind → ℕ
-update_bound p (Some (MapName m)) = unwrap_or (option_map update_charge (shape_at p.shapes m)) 0
-update_bound p name = 0
+abbrev pub update_cost : Subject → Option Kind → ℕ
+update_cost p (Some (MapName m)) = unwrap_or (option_map update_charge (shape_at p.shapes m)) 0
+update_cost p name = 0
 
 -- of the helpers only an update writes
-abbrev pub call_bound : Subject → Option MapHelper → Option Kind → ℕ
-call_bound p (Some Update) name = update_bound p name
-call_bound p helper name = 0
+abbrev pub call_cost : Subject → Option MapHelper → Option Kind → ℕ
+call_cost p (Some Update) name = update_cost p name
+call_cost p helper name = 0
 
 -- what an operation may need at a slot of a table
-abbrev pub bound_by : Subject → Table → ℕ → Option Operation → ℕ
-bound_by p table slot (Some (Store size source)) = store_bound (kind_at table slot (insn_at p.text slot).dst)
-bound_by p table slot (Some Call) = call_bound p (helper_of (sign_extended (insn_at p.text slot).imm)) (kind_at table slot 1)
-bound_by p table slot operation = 0
+abbrev pub cost_by : Subject → Table → ℕ → Option Operation → ℕ
+cost_by p table slot (Some (Store size source)) = store_cost (kind_at table slot (insn_at p.text slot).dst)
+cost_by p table slot (Some Call) = call_cost p (helper_of (sign_extended (insn_at p.text slot).imm)) (kind_at table slot 1)
+cost_by p table slot operation = 0
 
 -- what the instruction at a slot may need; a slot that isn't reached needs nothing, as nothing is known
 -- there
-unfoldable pub bound_at : Accepted → ℕ → ℕ
-bound_at v slot = bound_by v.subject v.table slot (operation_of (insn_at v.subject.text slot).opcode)
+unfoldable pub cost_at : Accepted → ℕ → ℕ
+cost_at v slot = cost_by v.subject v.table slot (operation_of (insn_at v.subject.text slot).opcode)
 
 -- what the next n slots may need
-unfoldable pub bounds_from : Accepted → ℕ → ℕ → ℕ
-bounds_from v slot zero = 0
-bounds_from v slot (suc n) = bound_at v slot + bounds_from v (suc slot) n
+unfoldable pub costs_from : Accepted → ℕ → ℕ → ℕ
+costs_from v slot zero = 0
+costs_from v slot (suc n) = cost_at v slot + costs_from v (suc slot) n
 
 -- what the rest of a program may need from a slot on
 abbrev pub reserve_from : Accepted → ℕ → ℕ
-reserve_from v slot = bounds_from v slot (slots_of v.subject.text - slot)
+reserve_from v slot = costs_from v slot (slots_of v.subject.text - slot)
 
 -- what is kept for the slots of a program is their reserves, and behind the text 0
 abbrev pub AreReserves : Accepted → List ℕ → Type 0

@@ -8,7 +8,7 @@ ghost use Rattle.bpf_decode.specs.Text.{insn_at, slots_of, IsInstruction};
 ghost use Rattle.verifier_kinds.specs.Kinds.{shape_at};
 ghost use Rattle.verifier.specs.Table.{Table, described, tight_table};
 ghost use Rattle.verifier.specs.Pass.{kinds_in};
-ghost use Rattle.verifier.specs.Reserve.{store_bound, update_bound, call_bound, bound_by, AreReserves, HasKindsAt};
+ghost use Rattle.verifier.specs.Reserve.{store_cost, update_cost, call_cost, cost_by, AreReserves, HasKindsAt};
 
 use crate::candidate::Candidate;
 use crate::table::Registers;
@@ -21,8 +21,8 @@ use verifier_kinds::Kind;
 const PAGE_SIZE: u32 = 4096;
 
 /// A store through a pointer to a map's value writes to one page.
-fn store_bound(base: Option<Kind>) -> u32
-    ensures { result ≡ store_bound base }
+fn store_cost(base: Option<Kind>) -> u32
+    ensures { result ≡ store_cost base }
 {
     match base {
         Some(Kind::MapValue { .. }) => 1,
@@ -55,8 +55,8 @@ impl Candidate {
     }
 
     /// What an update may need whose first argument has this kind.
-    fn update_bound(&self, name: Option<Kind>) -> u32
-        ensures { result ≡ update_bound self.now name }
+    fn update_cost(&self, name: Option<Kind>) -> u32
+        ensures { result ≡ update_cost self.now name }
     {
         match name {
             Some(Kind::MapName(map)) => self.map_cost(map),
@@ -65,11 +65,11 @@ impl Candidate {
     }
 
     /// What a call may need: of the helpers only an update writes.
-    fn call_bound(&self, helper: Option<MapHelper>, name: Option<Kind>) -> u32
-        ensures { result ≡ call_bound self.now helper name }
+    fn call_cost(&self, helper: Option<MapHelper>, name: Option<Kind>) -> u32
+        ensures { result ≡ call_cost self.now helper name }
     {
         match helper {
-            Some(MapHelper::Update) => self.update_bound(name),
+            Some(MapHelper::Update) => self.update_cost(name),
             _ => 0,
         }
     }
@@ -78,12 +78,12 @@ impl Candidate {
     fn reached_cost(&self, slot: u32, kinds: &Registers) -> u32
         requires { IsInstruction self.now.text slot }
         ensures { (table : Table) → HasKindsAt table slot kinds.now
-            → result ≡ bound_by self.now table slot (operation_of (insn_at self.now.text slot).opcode) }
+            → result ≡ cost_by self.now table slot (operation_of (insn_at self.now.text slot).opcode) }
     {
         let insn = self.insn(slot);
         match insn.operation() {
-            Operation::Store { .. } => store_bound(kinds[usize::from(insn.dst)]),
-            Operation::Call => self.call_bound(MapHelper::of(insn.immediate()), kinds[1]),
+            Operation::Store { .. } => store_cost(kinds[usize::from(insn.dst)]),
+            Operation::Call => self.call_cost(MapHelper::of(insn.immediate()), kinds[1]),
             _ => 0,
         }
     }
@@ -92,7 +92,7 @@ impl Candidate {
     fn cost(&self, slot: u32, known: &Option<Registers>) -> u32
         requires { IfSome known.now (λ kinds. IsInstruction self.now.text slot) }
         ensures { (table : Table) → kinds_in (described table slot) ≡ known.now
-            → result ≡ bound_by self.now table slot (operation_of (insn_at self.now.text slot).opcode) }
+            → result ≡ cost_by self.now table slot (operation_of (insn_at self.now.text slot).opcode) }
     {
         match known {
             Some(kinds) => self.reached_cost(slot, kinds),

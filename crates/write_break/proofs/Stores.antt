@@ -9,7 +9,7 @@ use Rattle.host_types.specs.Sharing.{Sharing, PageState, state_at, cost_of, is_i
 use Rattle.host_types.specs.Tenant.{TenantPart}
 use Rattle.page_table.specs.State.{MemoryState, part, map_bytes, have_of}
 use Rattle.page_table.specs.Changes.{map_written, part_written, KeepsSettings}
-use Rattle.write_break.specs.Stores.{touched, place_of_byte, stored_sharing, store_cost, IsStored}
+use Rattle.write_break.specs.Stores.{touched, place_of_byte, stored_sharing, store_frames, IsStored}
 
 -- some bytes lie on the pages from their first one to their last one
 pub touched-some : (at n : ℕ) → 0 < n → touched at n ≡ (at + n - 1) / 4096 - at / 4096 + 1
@@ -88,7 +88,7 @@ module _ (s : Sharing) (tenant m at size : ℕ) (some : 0 < size) (in_page : at 
   unfolding broken_from
   sharing-one = ap (broken_from s (place_of_byte tenant m at)) (touched-one at size some in_page)
 
-  pub cost-one : store_cost s tenant m at size ≡ break_cost s (place_of_byte tenant m at)
+  pub cost-one : store_frames s tenant m at size ≡ break_cost s (place_of_byte tenant m at)
   unfolding cost_from
   cost-one = ap (cost_from s (place_of_byte tenant m at)) (touched-one at size some in_page) ∙ omega arith
 
@@ -110,14 +110,14 @@ module _ (s : Sharing) (tenant m at size : ℕ) (some : 0 < size) (in_page : at 
       whole
 
   pub cost-more : (rest : ℕ) → (rest ≡ 0) ⊎ (at % 4096 + size ≡ 4096)
-      → store_cost s tenant m at (size + rest) ≡ break_cost s (place_of_byte tenant m at) + store_cost (broken s (place_of_byte tenant m at)) tenant m (at + size) rest
+      → store_frames s tenant m at (size + rest) ≡ break_cost s (place_of_byte tenant m at) + store_frames (broken s (place_of_byte tenant m at)) tenant m (at + size) rest
   unfolding cost_from touched
   cost-more rest whole =
       ⊎_elim
       (λ none.
       let same : size + rest ≡ size = omega arith in
-      let nothing : store_cost (broken s (place_of_byte tenant m at)) tenant m (at + size) rest ≡ 0 = ap (store_cost (broken s (place_of_byte tenant m at)) tenant m (at + size)) none in
-      let all = ap (store_cost s tenant m at) same ∙ cost-one in
+      let nothing : store_frames (broken s (place_of_byte tenant m at)) tenant m (at + size) rest ≡ 0 = ap (store_frames (broken s (place_of_byte tenant m at)) tenant m (at + size)) none in
+      let all = ap (store_frames s tenant m at) same ∙ cost-one in
       omega (arith, all, nothing))
       (λ ends.
       ap (cost_from s (place_of_byte tenant m at)) (touched-more at size rest some ends)
@@ -214,9 +214,9 @@ stored-more old middle new tenant m at first later some in_page whole within one
     let long : length (first ++ later) ≡ length first + length later = length-append first later in
     let broken_one = one.sharing ∙ sharing-one old.sharing tenant m at (length first) some in_page in
     let cost_one = cost-one old.sharing tenant m at (length first) some in_page in
-    let cost : store_cost old.sharing tenant m at (length first + length later) ≡ break_cost old.sharing (place_of_byte tenant m at) + store_cost middle.sharing tenant m (at + length first) (length later) =
+    let cost : store_frames old.sharing tenant m at (length first + length later) ≡ break_cost old.sharing (place_of_byte tenant m at) + store_frames middle.sharing tenant m (at + length first) (length later) =
     cost-more old.sharing tenant m at (length first) some in_page (length later) whole
-    ∙ ap (λ (s : Sharing). break_cost old.sharing (place_of_byte tenant m at) + store_cost s tenant m (at + length first) (length later)) (sym broken_one) in
+    ∙ ap (λ (s : Sharing). break_cost old.sharing (place_of_byte tenant m at) + store_frames s tenant m (at + length first) (length later)) (sym broken_one) in
     record {
       written = rest.written
           ∙ ap (λ (owned : TenantPart). part_written owned m (at + length first) later) one.written

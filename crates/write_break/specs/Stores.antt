@@ -22,8 +22,8 @@ abbrev pub stored_sharing : Sharing → ℕ → ℕ → ℕ → ℕ → Sharing
 stored_sharing sharing tenant m at size = broken_from sharing (place_of_byte tenant m at) (touched at size)
 
 -- how many frames a store takes: what these breaks take, each after the breaks before it
-abbrev pub store_cost : Sharing → ℕ → ℕ → ℕ → ℕ → ℕ
-store_cost sharing tenant m at size = cost_from sharing (place_of_byte tenant m at) (touched at size)
+abbrev pub store_frames : Sharing → ℕ → ℕ → ℕ → ℕ → ℕ
+store_frames sharing tenant m at size = cost_from sharing (place_of_byte tenant m at) (touched at size)
 
 -- a tenant's part with a number written as `size` bytes of its map m
 abbrev pub part_stored : TenantPart → ℕ → ℕ → ℕ → ℕ → TenantPart
@@ -37,5 +37,5 @@ pub record IsStored (old new : MemoryState) (tenant m at : ℕ) (input : List �
   pub other_maps : AreMapsKeptBut m (part old tenant) (part new tenant)
   pub others : IsKeptBut tenant old new
   pub sharing : new.sharing ≡ stored_sharing old.sharing tenant m at (length input)
-  pub have : have_of new + store_cost old.sharing tenant m at (length input) ≡ have_of old
+  pub have : have_of new + store_frames old.sharing tenant m at (length input) ≡ have_of old
   pub settings : KeepsSettings old new

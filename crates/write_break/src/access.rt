@@ -3,7 +3,7 @@ ghost use Rattle.host_types.specs.Bytes.{number_of, bytes_of, part_of, with_part
 ghost use Rattle.frame_arena.specs.Pages.{IsAccessSize};
 ghost use Rattle.page_table.specs.State.{part, map_bytes, have_of};
 ghost use Rattle.page_table.specs.Changes.{part_written, IsKeptBut, AreMapsKeptBut, KeepsSettings};
-ghost use Rattle.write_break.specs.Stores.{touched, part_stored, stored_sharing, store_cost, IsStored};
+ghost use Rattle.write_break.specs.Stores.{touched, part_stored, stored_sharing, store_frames, IsStored};
 
 use crate::number::word;
 use frame_arena::PAGE_SIZE;
@@ -51,7 +51,7 @@ fn touched_pages(at: u32, len: u32) -> u32
 /// two for up to 4096 bytes.
 pub fn needs(memory: &Memory, tenant: u32, map: MapNo, at: u32, len: u32) -> u32
     requires within { at + len ≤ length (map_bytes (part memory.now tenant) map) }
-    ensures cost { result ≡ store_cost memory.now.sharing tenant map at len }
+    ensures cost { result ≡ store_frames memory.now.sharing tenant map at len }
     ensures few { result ≤ touched at len }
     ensures one { at % 4096 + len ≤ 4096 → result ≤ 1 }
     ensures two { len ≤ 4096 → result ≤ 2 }
@@ -69,7 +69,7 @@ pub fn store(memory: &mut Memory, tenant: u32, map: MapNo, at: u32, size: u32, v
     requires size { IsAccessSize size }
     requires within { at + size ≤ length (map_bytes (part memory.old tenant) map) }
     requires aligned { at % size ≡ 0 }
-    requires room { store_cost memory.old.sharing tenant map at size ≤ have_of memory.old }
+    requires room { store_frames memory.old.sharing tenant map at size ≤ have_of memory.old }
     ensures stored { part memory.new tenant ≡ part_stored (part memory.old tenant) map at size value }
     ensures bytes { map_bytes (part memory.new tenant) map
         ≡ with_part (map_bytes (part memory.old tenant) map) at (bytes_of size value) }
@@ -78,7 +78,7 @@ pub fn store(memory: &mut Memory, tenant: u32, map: MapNo, at: u32, size: u32, v
     ensures other_maps { AreMapsKeptBut map (part memory.old tenant) (part memory.new tenant) }
     ensures others { IsKeptBut tenant memory.old memory.new }
     ensures sharing { memory.new.sharing ≡ stored_sharing memory.old.sharing tenant map at size }
-    ensures have { have_of memory.new + store_cost memory.old.sharing tenant map at size ≡ have_of memory.old }
+    ensures have { have_of memory.new + store_frames memory.old.sharing tenant map at size ≡ have_of memory.old }
     ensures settings { KeepsSettings memory.old memory.new }
 {
     store_in_page(memory, tenant, map, at, &word(value)[..size as usize]);
@@ -88,7 +88,7 @@ pub fn store(memory: &mut Memory, tenant: u32, map: MapNo, at: u32, size: u32, v
 /// taken out before it is written. No bytes write nothing.
 pub fn store_bytes(memory: &mut Memory, tenant: u32, map: MapNo, at: u32, bytes: &[u8])
     requires within { at + length bytes.now ≤ length (map_bytes (part memory.old tenant) map) }
-    requires room { store_cost memory.old.sharing tenant map at (length bytes.now) ≤ have_of memory.old }
+    requires room { store_frames memory.old.sharing tenant map at (length bytes.now) ≤ have_of memory.old }
     ensures written { part memory.new tenant ≡ part_written (part memory.old tenant) map at bytes.now }
     ensures bytes { map_bytes (part memory.new tenant) map
         ≡ with_part (map_bytes (part memory.old tenant) map) at bytes.now }
@@ -97,7 +97,7 @@ pub fn store_bytes(memory: &mut Memory, tenant: u32, map: MapNo, at: u32, bytes:
     ensures other_maps { AreMapsKeptBut map (part memory.old tenant) (part memory.new tenant) }
     ensures others { IsKeptBut tenant memory.old memory.new }
     ensures sharing { memory.new.sharing ≡ stored_sharing memory.old.sharing tenant map at (length bytes.now) }
-    ensures have { have_of memory.new + store_cost memory.old.sharing tenant map at (length bytes.now)
+    ensures have { have_of memory.new + store_frames memory.old.sharing tenant map at (length bytes.now)
         ≡ have_of memory.old }
     ensures settings { KeepsSettings memory.old memory.new }
 {
@@ -141,7 +141,7 @@ fn store_in_page(memory: &mut Memory, tenant: u32, map: MapNo, at: u32, bytes: &
     requires some { 0 < length bytes.now }
     requires in_page { at % 4096 + length bytes.now ≤ 4096 }
     requires within { at + length bytes.now ≤ length (map_bytes (part memory.old tenant) map) }
-    requires room { store_cost memory.old.sharing tenant map at (length bytes.now) ≤ have_of memory.old }
+    requires room { store_frames memory.old.sharing tenant map at (length bytes.now) ≤ have_of memory.old }
     ensures { IsStored memory.old memory.new tenant map at bytes.now }
 {
     let page = page_of(tenant, map, at);

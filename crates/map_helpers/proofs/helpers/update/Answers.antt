@@ -4,9 +4,9 @@ use Rattle.host_types.specs.Memory.{FlatMaps, map_at}
 use Rattle.host_types.specs.Tenant.{TenantPart}
 use Rattle.page_table.specs.State.{part, have_of}
 use Rattle.page_table.specs.Changes.{part_written}
-use Rattle.write_break.specs.Stores.{stored_sharing, store_cost}
+use Rattle.write_break.specs.Stores.{stored_sharing, store_frames}
 use Rattle.map_helpers.specs.Answers.{refusal_answer}
-use Rattle.map_helpers.specs.Updates.{update_cost, part_updated}
+use Rattle.map_helpers.specs.Updates.{update_frames, part_updated}
 use Rattle.map_helpers.proofs.Updates.{shape_in, helped, maps-refused, maps-written, cost-refused, cost-written, sharing-refused, sharing-written, value-sized}
 use Rattle.map_helpers.proofs.helpers.update.Goals as goal
 use Rattle.map_helpers.proofs.helpers.update.Goals.{After-element_at}
@@ -53,12 +53,12 @@ module _ (c : After-element_at) where
   sized : c.in-Some.shape.value_size ≡ length c.args.value.now
   sized = value-sized c.in-Some.shape (length c.args.value.now) (map_at (part c.args.memory.now c.args.tenant).maps c.args.map) found c.requires.value
 
-  cost : update_cost (part c.args.memory.now c.args.tenant) c.args.memory.now.sharing c.args.tenant c.args.map c.args.key c.args.flags
-      ≡ store_cost c.args.memory.now.sharing c.args.tenant c.args.map c.element_at.result (length c.args.value.now)
+  cost : update_frames (part c.args.memory.now c.args.tenant) c.args.memory.now.sharing c.args.tenant c.args.map c.args.key c.args.flags
+      ≡ store_frames c.args.memory.now.sharing c.args.tenant c.args.map c.element_at.result (length c.args.value.now)
   cost =
       cost-written c.in-Some.shape c.args.memory.now.sharing c.args.tenant c.args.map c.args.key c.args.flags (map_at (part c.args.memory.now c.args.tenant).maps c.args.map) found answered
-      ∙ ap (store_cost c.args.memory.now.sharing c.args.tenant c.args.map (element_at c.in-Some.shape c.args.key)) sized
-      ∙ ap (λ (at : ℕ). store_cost c.args.memory.now.sharing c.args.tenant c.args.map at (length c.args.value.now)) (sym c.element_at.ensures.place)
+      ∙ ap (store_frames c.args.memory.now.sharing c.args.tenant c.args.map (element_at c.in-Some.shape c.args.key)) sized
+      ∙ ap (λ (at : ℕ). store_frames c.args.memory.now.sharing c.args.tenant c.args.map at (length c.args.value.now)) (sym c.element_at.ensures.place)
 
 pub store_bytes-requires-clause-room : goal.store_bytes-requires-clause-room
 store_bytes-requires-clause-room c = subst (λ (n : ℕ). n ≤ have_of c.args.memory.now) (cost c) c.requires.room

@@ -1,7 +1,7 @@
 use Rattle.std.proofs.Common.{◌∙◌, ℕ, sym, ap}
 use Rattle.host_types.specs.Pages.{page_place}
 use Rattle.page_table.specs.Changes.{IsPageOf}
-use Rattle.page_table.specs.Table.{cost_at}
+use Rattle.page_table.specs.Table.{break_frames}
 use Rattle.page_table.specs.View.{view_of}
 use Rattle.page_table.proofs.Reading.{is_page_at}
 use Rattle.page_table.proofs.Merging.{cost_told}
@@ -15,5 +15,5 @@ break_cost-requires c =
 pub returns : goal.returns
 returns c =
     rw (← c.self.view_is)
-    (c.break_cost.ensures ∙ ap (λ (i : ℕ). cost_at c.self.inside.table i) c.place_of.ensures
+    (c.break_cost.ensures ∙ ap (λ (i : ℕ). break_frames c.self.inside.table i) c.place_of.ensures
     ∙ sym (cost_told c.self.inside.table c.self.inside.shapes.items c.self.inside.tenants.items c.self.inside.pass c.costs_are_told.ensures (page_place c.args.page)))

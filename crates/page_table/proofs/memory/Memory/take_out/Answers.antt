@@ -3,7 +3,7 @@ use Rattle.host_types.specs.Pages.{page_place}
 use Rattle.host_types.specs.Sharing.{break_cost}
 use Rattle.page_table.specs.State.{MemoryState, have_of}
 use Rattle.page_table.specs.Changes.{IsPageOf}
-use Rattle.page_table.specs.Table.{used_by, cost_at, sharing_of}
+use Rattle.page_table.specs.Table.{used_by, break_frames, sharing_of}
 use Rattle.page_table.specs.View.{view_of}
 use Rattle.page_table.proofs.Reading.{is_page_at}
 use Rattle.page_table.proofs.Merging.{maps_kept, parts_kept, settings_kept, memory_kept, free_less, have_less, cost_told, cost_fits, cost_reserved, own_told}
@@ -26,7 +26,7 @@ before c = view_of c.self.inside.table c.self.inside.shapes.items c.self.inside.
 room : (c : goal.After-take_out) → break_cost (before c).sharing (page_place c.args.page) ≤ have_of (before c)
 room c = rw (← c.self.view_is) at c.requires.room
 
-told : (c : goal.After-take_out) → break_cost (before c).sharing (page_place c.args.page) ≡ cost_at c.self.inside.table (page_place c.args.page)
+told : (c : goal.After-take_out) → break_cost (before c).sharing (page_place c.args.page) ≡ break_frames c.self.inside.table (page_place c.args.page)
 told c = cost_told c.self.inside.table c.self.inside.shapes.items c.self.inside.tenants.items c.self.inside.pass c.costs_are_told.ensures (page_place c.args.page)
 
 used : (c : goal.After-take_out) → used_by c.take_out.new.self ≡ used_by c.self.inside.table + break_cost (before c).sharing (page_place c.args.page)

@@ -1,6 +1,6 @@
 use Rattle.std.proofs.Common.{◌≡◌, ◌∙◌, ◌+◌, ◌≤◌, ◌<◌, ℕ, not, slice_index_or, Bool, true, false, Some, refl, sym, arith}
 use Rattle.host_types.specs.Sharing.{is_shared}
-use Rattle.page_table.specs.Table.{TableState, IsEntry, IsPageAt, entry_at, pages_on, one_if_zero, cost_at}
+use Rattle.page_table.specs.Table.{TableState, IsEntry, IsPageAt, entry_at, pages_on, one_if_zero, break_frames}
 use Rattle.page_table.proofs.Costs.{cost-own, cost-one, cost-last, count-some}
 use Rattle.page_table.proofs.Ending.{sharing-unbroken}
 use Rattle.page_table.proofs.Putting.{entry_fits, page_inside, page_there}
@@ -45,7 +45,7 @@ returns-then-not-entry-clause-sharing c pass =
 pub returns-then-not-entry-clause-used : goal.returns-then-not-entry-clause-used
 returns-then-not-entry-clause-used c =
     let d = (goal.at.returns-then-not-entry-clause-used c).In-Some in
-    let none : cost_at c.args.self.now c.args.place ≡ 0 = rw (← c.self.view_is) (cost-own (table d) c.args.place c.in-Some.entry c.self.invariant.0.fits (here d) (own c.in-Some.entry.protected c.if-not-entry.true)) in
+    let none : break_frames c.args.self.now c.args.place ≡ 0 = rw (← c.self.view_is) (cost-own (table d) c.args.place c.in-Some.entry c.self.invariant.0.fits (here d) (own c.in-Some.entry.protected c.if-not-entry.true)) in
     omega (arith, none)
 
 pub count-requires : goal.count-requires
@@ -64,13 +64,13 @@ counted c n e =
     (e ∙ known.0, omega (arith, e, known.1))
 
 cost_more : (c : In-Some) (n : ℕ) → not c.in-Some.entry.protected ≡ false → n ≡ slice_index_or c.self.inside.counts.counts c.in-Some.entry.frame 0 → 1 < n
-    → cost_at c.args.self.now c.args.place ≡ 1
+    → break_frames c.args.self.now c.args.place ≡ 1
 cost_more c n h e more =
     let known = counted c n e in
     rw (← c.self.view_is) (cost-one (table c) c.args.place c.in-Some.entry c.self.invariant.0.fits (here c) (shared c h) (omega (arith, more, known.0)))
 
 cost_last : (c : In-Some) (n : ℕ) → not c.in-Some.entry.protected ≡ false → n ≡ slice_index_or c.self.inside.counts.counts c.in-Some.entry.frame 0 → n ≤ 1
-    → cost_at c.args.self.now c.args.place ≡ 0
+    → break_frames c.args.self.now c.args.place ≡ 0
 cost_last c n h e last =
     let known = counted c n e in
     rw (← c.self.view_is) (cost-last (table c) c.args.place c.in-Some.entry c.self.invariant.0.fits (here c) (shared c h) (omega (arith, last, known.0)))
