@@ -1,5 +1,7 @@
 -- What an open run does in one go, by what it asked in the end.
-use Rattle.std.proofs.Common.{◌≡◌, ℕ, suc, ◌+◌, ◌<◌, ◌≤◌, min, ◌==◌, Bool, true, false, if◌then◌else◌, List, Some, None, sym, ap, refl, ◌∙◌, subst, arith}
+use Rattle.std.proofs.Common.{◌≡◌, ℕ, suc, ◌+◌, ◌<◌, ◌≤◌, min, ◌==◌, Bool, true, false, if◌then◌else◌, List, get_or, Option, Some, None, sym, ap, refl, ◌∙◌, subst, arith}
+use Rattle.std.specs.List.{slice_get}
+use Rattle.std.proofs.lemmas.Option.{get_or_from_slice_get}
 use Rattle.host_types.specs.Helpers.{update_answer, element_at}
 use Rattle.host_types.specs.Memory.{FlatMap, map_at}
 use Rattle.host_types.specs.Sharing.{Sharing}
@@ -26,6 +28,12 @@ use Rattle.host_core.specs.Happens.{sharing_after}
 use Rattle.host_core.specs.Stretches.{IsUnderWayAt, HasAdvanced, quiet, answered, ended, part_in}
 use Rattle.host_core.proofs.Instructions.{instructions_before-within}
 
+-- the program that was taken is the one that stands at the place
+pub program_is : (programs : List (Option Accepted)) (k : ℕ) (taken : Option Accepted) (program v : Accepted) → taken ≡ get_or programs k taken → taken ≡ Some program → slice_get programs k ≡ Some (Some v) → program ≡ v
+program_is programs k taken program v read is numbered =
+    let found : taken ≡ Some v = read ∙ get_or_from_slice_get programs k (Some v) taken numbered in
+    cc
+
 -- a run that stands for a state has an instruction before it, so that its program has one
 pub some_instruction : (v : Accepted) (run : Running) (s : MachineState) → IsVerified v → StandsFor v run s → run.steps < instructions_of v.subject.text
 some_instruction v run s verified stands =
@@ -34,7 +42,7 @@ some_instruction v run s verified stands =
     omega (arith, within, few)
 
 -- steps that write to no map, after which just what is left of the run is reserved
-pub private_advanced : (programs : List Accepted) (kept : KeptRun) (v : Accepted) (s : MachineState) (t limit many : ℕ) (run : Running) (before after : MemoryState)
+pub private_advanced : (programs : List (Option Accepted)) (kept : KeptRun) (v : Accepted) (s : MachineState) (t limit many : ℕ) (run : Running) (before after : MemoryState)
     → IsUnderWayAt programs kept v s (part before t) → IsVerified v → 0 < limit → many ≡ min (instructions_of v.subject.text) limit
     → (n : ℕ) × FollowsSteps v s n Private run × (run.steps ≡ kept.run.steps + n) → run.steps ≡ kept.run.steps + many
     → part after t ≡ with_reserve (reserve_from v run.slot) (part before t) → after.sharing ≡ before.sharing
@@ -50,12 +58,12 @@ private_advanced programs kept v s t limit many run before after under verified 
     )
 
 -- no more is reserved for what is left of it than before
-pub private_lowers : (programs : List Accepted) (kept : KeptRun) (v : Accepted) (s : MachineState) (t n : ℕ) (run : Running) (before : MemoryState)
+pub private_lowers : (programs : List (Option Accepted)) (kept : KeptRun) (v : Accepted) (s : MachineState) (t n : ℕ) (run : Running) (before : MemoryState)
     → IsUnderWayAt programs kept v s (part before t) → FollowsSteps v s n Private run → reserve_from v run.slot ≤ (part before t).reserve
 private_lowers programs kept v s t n run before under (next, reached, maps, less, stands) = rw (under.reserve, stands.slot) less
 
 -- steps with the last of which the run ends
-pub ended_advanced : (programs : List Accepted) (kept : KeptRun) (v : Accepted) (s : MachineState) (t limit many number : ℕ) (run : Running) (before after : MemoryState)
+pub ended_advanced : (programs : List (Option Accepted)) (kept : KeptRun) (v : Accepted) (s : MachineState) (t limit many number : ℕ) (run : Running) (before after : MemoryState)
     → IsUnderWayAt programs kept v s (part before t) → many ≡ min (instructions_of v.subject.text) limit
     → (n : ℕ) × FollowsSteps v s n (Ended number) run × (run.steps ≡ kept.run.steps + n) → run.steps ≤ kept.run.steps + many
     → part after t ≡ with_reserve 0 (part before t) → after.sharing ≡ before.sharing
@@ -90,7 +98,7 @@ asked_at v s n (Update m key flags) run some going (made, here, last, reached, m
 asked_at v s n (Delete m key) run some going (made, here, last, reached, maps, less, asks) = record { made = made; here = here; last = last; reached = reached; maps = maps; less = less; asks = asks }
 
 -- it asks of its tenant's part
-pub asking_at : (programs : List Accepted) (kept : KeptRun) (v : Accepted) (s : MachineState) (n : ℕ) (need : Need) (run : Running) (owned : TenantPart)
+pub asking_at : (programs : List (Option Accepted)) (kept : KeptRun) (v : Accepted) (s : MachineState) (n : ℕ) (need : Need) (run : Running) (owned : TenantPart)
     → IsUnderWayAt programs kept v s owned → (asked : IsAskedAt v s n need run) → IsAsking v asked.here need run owned
 asking_at programs kept v s n need run owned under asked = record {
   asks = asked.asks;
@@ -124,7 +132,7 @@ shares_alike owned sharing t (Delete m key) flat there = refl
 shares_alike owned sharing t (Update m key flags) flat there = rw there (update_shares sharing t m key flags flat (update_answer flat.shape key flags == 0))
 
 -- steps that write to no map, and one more that asks, with its answer
-pub asked_advanced : (programs : List Accepted) (kept : KeptRun) (v : Accepted) (s : MachineState) (t limit many : ℕ) (need : Need) (run after_run : Running) (before after : MemoryState)
+pub asked_advanced : (programs : List (Option Accepted)) (kept : KeptRun) (v : Accepted) (s : MachineState) (t limit many : ℕ) (need : Need) (run after_run : Running) (before after : MemoryState)
     → IsUnderWayAt programs kept v s (part before t) → many ≡ min (instructions_of v.subject.text) limit
     → (need ≡ Private → ⊥) → ((number : ℕ) → need ≡ Ended number → ⊥)
     → (n : ℕ) × FollowsSteps v s n need run × (run.steps ≡ kept.run.steps + n) → run.steps ≤ kept.run.steps + many

@@ -1,3 +1,4 @@
+pub mod Places
 pub mod Worlds
 pub mod Memories
 pub mod Systems

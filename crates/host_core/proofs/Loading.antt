@@ -1,9 +1,11 @@
 -- What the load of a program does to a tenant and to each system that it stands in.
-use Rattle.std.proofs.Common.{◌≡◌, ℕ, zero, suc, ◌%◌, ◌<◌, ◌≤◌, nat_le, ◌==◌, ◌&&◌, Bool, true, false, List, [], ◌∷◌, ◌++◌, length, map, inl, inr, Option, Some, None, is_some, sym, ap, refl, ◌∙◌, subst, eq-eqb, arith}
-use Rattle.std.proofs.lemmas.Bool.{le-leb, lt-leb}
+use Rattle.std.proofs.Common.{◌≡◌, ℕ, zero, suc, ◌%◌, nat_le, ◌==◌, ◌&&◌, Bool, true, false, List, [], ◌∷◌, length, map, set, inl, inr, Option, Some, None, is_some, is_none, IfSome, sym, ap, refl, ◌∙◌, subst, eq-eqb, arith}
+use Rattle.std.specs.List.{position}
+use Rattle.std.specs.Option.{option_map}
+use Rattle.std.proofs.lemmas.Bool.{le-leb}
 use Rattle.std.proofs.lemmas.Bool.Decides.{nat_tests}
-use Rattle.std.proofs.lemmas.List.{length-map, map-append}
-use Rattle.std.proofs.lemmas.List.Elements.{All-push}
+use Rattle.std.proofs.lemmas.List.{length-set}
+use Rattle.std.proofs.lemmas.List.Elements.{All-set}
 use Rattle.host_types.specs.declared.fault.Fault.{Fault}
 use Rattle.host_types.specs.declared.fault.Fault.TheVariants.{Busy, TooManyPrograms, BadContext, OutOfMemory}
 use Rattle.host_types.specs.Memory.{FlatMaps}
@@ -19,9 +21,10 @@ use Rattle.host_calls.specs.Programs.{IsJudgement, shapes_of, subject_of}
 use Rattle.host_core.specs.declared.event.Event.TheVariants.{Load}
 use Rattle.host_core.specs.declared.event.Reply.TheVariants.{Program, Refused}
 use Rattle.host_core.specs.declared.tenant.OpenRun.{OpenRun as KeptRun}
-use Rattle.host_core.specs.World.{OpenRun, Tenant, System, owned_by}
+use Rattle.host_core.specs.World.{OpenRun, Tenant, System, free_place, owned_by}
 use Rattle.host_core.specs.Happens.{MayLackMemory, LoadHappens, load_refusal, is_context_size, changed_system}
 use Rattle.host_core.specs.HostView.{TenantView, StandsForAnyRun, StandsForTenant, IsServed}
+use Rattle.host_core.proofs.Places.{first_free-map, map-set}
 use Rattle.host_core.proofs.Worlds.{OfTenant-there, RefusedOr-refused, RefusedOr-else}
 use Rattle.host_core.proofs.Systems.{part_stands, changed_stands}
 use Rattle.host_core.proofs.Serving.{is_some-run, served-same}
@@ -36,9 +39,18 @@ first_shapes (Some flat ∷ maps) (suc m) less d = first_shapes maps m (omega (a
 have_shapes : (maps : FlatMaps) → HaveShapes (all_there (shapes_of maps)) maps
 have_shapes maps = have_all (shapes_of maps) maps (first_shapes maps)
 
--- as many programs
-length-programs : (kept : TenantView) (tenant : Tenant) → StandsForTenant kept tenant → length tenant.programs ≡ length kept.programs
-length-programs kept tenant stands = ap length stands.programs ∙ length-map kept.programs (λ (v : Accepted). v.subject)
+-- the first of the places where a host keeps no program
+abbrev pub first_free_of : TenantView → Option ℕ
+first_free_of kept = position (λ (place : Option Accepted). is_none place) kept.programs
+
+-- what a lent list of the places tells of them
+pub lent-free : (kept : TenantView) (lent : List (Option Accepted)) (told : Option ℕ) → lent ≡ kept.programs → told ≡ position (λ (place : Option Accepted). is_none place) lent → first_free_of kept ≡ told
+lent-free kept lent told same tells = ap (λ programs. position (λ (place : Option Accepted). is_none place) programs) (sym same) ∙ sym tells
+
+-- the same place is the first that is free
+free_place-kept : (kept : TenantView) (tenant : Tenant) → StandsForTenant kept tenant → free_place tenant ≡ first_free_of kept
+free_place-kept kept tenant stands =
+    ap (λ programs. position (λ (place : Option Subject). is_none place) programs) stands.programs ∙ first_free-map (λ (v : Accepted). v.subject) kept.programs
 
 -- a size that a context may have passes the test
 pub size-fits : (size : ℕ) → IsContextSize size → is_context_size size ≡ true
@@ -61,25 +73,19 @@ load_refusal-busy : (tenant : Tenant) (size : ℕ) → is_some tenant.run ≡ tr
 load_refusal-busy tenant size busy = rw busy refl
 
 -- a load of a ninth program
-load_refusal-full : (tenant : Tenant) (size : ℕ) → is_some tenant.run ≡ false → 8 ≤ length tenant.programs → load_refusal tenant size ≡ Some TooManyPrograms
-load_refusal-full tenant size idle full =
-    let many = le-leb 8 (length tenant.programs) full in
-    rw (idle, many) refl
+load_refusal-full : (tenant : Tenant) (size : ℕ) → is_some tenant.run ≡ false → free_place tenant ≡ None → load_refusal tenant size ≡ Some TooManyPrograms
+load_refusal-full tenant size idle full = rw (idle, full) refl
 
 -- a load for contexts of no such size
-load_refusal-size : (tenant : Tenant) (size : ℕ) → is_some tenant.run ≡ false → length tenant.programs < 8 → is_context_size size ≡ false → load_refusal tenant size ≡ Some BadContext
-load_refusal-size tenant size idle room odd =
-    let few = lt-leb 8 (length tenant.programs) room in
-    rw (idle, few, odd) refl
+load_refusal-size : (tenant : Tenant) (size k : ℕ) → is_some tenant.run ≡ false → free_place tenant ≡ Some k → is_context_size size ≡ false → load_refusal tenant size ≡ Some BadContext
+load_refusal-size tenant size k idle room odd = rw (idle, room, odd) refl
 
 -- a load that nothing forbids
-load_refusal-none : (tenant : Tenant) (size : ℕ) → is_some tenant.run ≡ false → length tenant.programs < 8 → is_context_size size ≡ true → load_refusal tenant size ≡ None
-load_refusal-none tenant size idle room fits =
-    let few = lt-leb 8 (length tenant.programs) room in
-    rw (idle, few, fits) refl
+load_refusal-none : (tenant : Tenant) (size k : ℕ) → is_some tenant.run ≡ false → free_place tenant ≡ Some k → is_context_size size ≡ true → load_refusal tenant size ≡ None
+load_refusal-none tenant size k idle room fits = rw (idle, room, fits) refl
 
 -- no open run, whatever the programs are
-run-closed : (programs more : List Accepted) (kept : Option KeptRun) (r : Option OpenRun) → is_some kept ≡ false → StandsForAnyRun programs kept r → StandsForAnyRun more kept r
+run-closed : (programs more : List (Option Accepted)) (kept : Option KeptRun) (r : Option OpenRun) → is_some kept ≡ false → StandsForAnyRun programs kept r → StandsForAnyRun more kept r
 run-closed programs more None None idle stands = tt
 run-closed programs more None (Some r) idle stands = absurd stands
 run-closed programs more (Some kept) r idle stands = absurd (cc)
@@ -100,23 +106,23 @@ module _ (t : ℕ) (old : TenantView) (memory : MemoryState) (text : List ℕ) (
     none-open tenant stands = is_some-run old.programs old.run tenant.run stands.run ∙ idle
 
     -- a load of a ninth program
-    pub load-full : 8 ≤ length old.programs → IsServed t old memory (Load t text size) (Refused TooManyPrograms) old memory
+    pub load-full : first_free_of old ≡ None → IsServed t old memory (Load t text size) (Refused TooManyPrograms) old memory
     load-full full =
         load-refused TooManyPrograms (λ tenant stands.
-        load_refusal-full tenant size (none-open tenant stands) (subst (λ n. 8 ≤ n) (sym (length-programs old tenant stands)) full))
+        load_refusal-full tenant size (none-open tenant stands) (free_place-kept old tenant stands ∙ full))
 
-    module _ (room : length old.programs < 8) where
-      room-left : (tenant : Tenant) → StandsForTenant old tenant → length tenant.programs < 8
-      room-left tenant stands = subst (λ n. n < 8) (sym (length-programs old tenant stands)) room
+    module _ (k : ℕ) (room : first_free_of old ≡ Some k) where
+      room-left : (tenant : Tenant) → StandsForTenant old tenant → free_place tenant ≡ Some k
+      room-left tenant stands = free_place-kept old tenant stands ∙ room
 
       -- a load for contexts of no such size
       pub load-size : (IsContextSize size → ⊥) → IsServed t old memory (Load t text size) (Refused BadContext) old memory
-      load-size odd = load-refused BadContext (λ tenant stands. load_refusal-size tenant size (none-open tenant stands) (room-left tenant stands) (size-odd size odd))
+      load-size odd = load-refused BadContext (λ tenant stands. load_refusal-size tenant size k (none-open tenant stands) (room-left tenant stands) (size-odd size odd))
 
       module _ (fits : IsContextSize size) where
         -- a load that nothing forbids
         allowed : (tenant : Tenant) → StandsForTenant old tenant → load_refusal tenant size ≡ None
-        allowed tenant stands = load_refusal-none tenant size (none-open tenant stands) (room-left tenant stands) (size-fits size fits)
+        allowed tenant stands = load_refusal-none tenant size k (none-open tenant stands) (room-left tenant stands) (size-fits size fits)
 
         -- a load that changes nothing, and that nothing forbids
         load-tried : (f : Fault) → ((x : System) (tenant : Tenant) → part memory t ≡ owned_by tenant
@@ -140,34 +146,35 @@ module _ (t : ℕ) (old : TenantView) (memory : MemoryState) (text : List ℕ) (
 
         -- a tenant with one more program
         loaded_stands : (v : Accepted) (tenant : Tenant) → part memory t ≡ owned_by tenant → v.subject ≡ subject_of (part memory t) text size → IsVerified v → StandsForTenant old tenant
-            → StandsForTenant (record old { programs = old.programs ++ v ∷ [] }) (record tenant { programs = tenant.programs ++ subject_of (owned_by tenant) text size ∷ [] })
+            → StandsForTenant (record old { programs = set old.programs k (Some v) }) (record tenant { programs = set tenant.programs k (Some (subject_of (owned_by tenant) text size)) })
         loaded_stands v tenant owned is verified stands =
             let p : Subject = subject_of (owned_by tenant) text size in
             let same : p ≡ v.subject = sym (is ∙ ap (λ o. subject_of o text size) owned) in
             let Fitting : Accepted → Type 0 = λ a. HaveShapes a.subject.shapes tenant.maps in
             let have : Fitting v = subst (λ (q : Subject). HaveShapes q.shapes tenant.maps) same (have_shapes tenant.maps) in
-            let listed : (map (λ (a : Accepted). a.subject) old.programs ++ p ∷ []) ≡ map (λ (a : Accepted). a.subject) (old.programs ++ v ∷ []) =
-            ap (λ q. map (λ (a : Accepted). a.subject) old.programs ++ q ∷ []) same ∙ sym (map-append (λ (a : Accepted). a.subject) old.programs (v ∷ [])) in
+            let subjects : List (Option Accepted) → List (Option Subject) = map (option_map (λ (a : Accepted). a.subject)) in
+            let listed : set (subjects old.programs) k (Some p) ≡ subjects (set old.programs k (Some v)) =
+            ap (λ q. set (subjects old.programs) k (Some q)) same ∙ sym (map-set (option_map (λ (a : Accepted). a.subject)) old.programs k (Some v)) in
             record {
-              programs = ap (λ programs. programs ++ p ∷ []) stands.programs ∙ listed;
-              verified = All-push IsVerified old.programs v stands.verified verified;
-              shapes = All-push Fitting old.programs v stands.shapes have;
-              run = run-closed old.programs (old.programs ++ v ∷ []) old.run tenant.run idle stands.run;
-              meets = record { maps = stands.meets.maps; run = stands.meets.run; same = stands.meets.same };
+              programs = ap (λ programs. set programs k (Some p)) stands.programs ∙ listed;
+              verified = All-set (λ place. IfSome place IsVerified) old.programs k (Some v) verified stands.verified;
+              shapes = All-set (λ place. IfSome place Fitting) old.programs k (Some v) have stands.shapes;
+              run = run-closed old.programs (set old.programs k (Some v)) old.run tenant.run idle stands.run;
+              meets = record { maps = stands.meets.maps; places = length-set tenant.programs k (Some p) ∙ stands.meets.places; run = stands.meets.run; same = stands.meets.same };
             }
 
         -- a text that is accepted
         pub load-accepted : (v : Accepted) → v.subject ≡ subject_of (part memory t) text size → IsWellFormed text → IsVerified v → ReadsAs memory
-            → IsServed t old memory (Load t text size) (Program (length old.programs)) (record old { programs = old.programs ++ v ∷ [] }) memory
+            → IsServed t old memory (Load t text size) (Program k) (record old { programs = set old.programs k (Some v) }) memory
         load-accepted v is well verified reads x tenant there stands holds =
             let owned : part memory t ≡ owned_by tenant = part_stands memory x t tenant holds there in
             let p : Subject = subject_of (owned_by tenant) text size in
             let same : p ≡ v.subject = sym (is ∙ ap (λ o. subject_of o text size) owned) in
-            let next : Tenant = record tenant { programs = tenant.programs ++ p ∷ [] } in
-            let reply = Program (length old.programs) in
+            let next : Tenant = record tenant { programs = set tenant.programs k (Some p) } in
+            let reply = Program k in
             let x' : System = changed_system x t next x.sharing in
             let tight : IsTightTable p v.table = subst (λ q. IsTightTable q v.table) (sym same) verified.tight in
-            let happens : LoadHappens x t tenant p reply x' = LoadHappens.loaded well v.table tight (ap Program (sym (length-programs old tenant stands)), refl) in (
+            let happens : LoadHappens x t tenant p reply x' = LoadHappens.loaded well v.table tight k (room-left tenant stands) (refl, refl) in (
               next,
               x.sharing,
               loaded_stands v tenant owned is verified stands,

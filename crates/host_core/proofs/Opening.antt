@@ -1,10 +1,8 @@
 -- What the beginning of a run does to a tenant and to each system that it stands in.
-use Rattle.std.proofs.Common.{◌≡◌, ◌≢◌, ℕ, ◌<◌, ◌≤◌, ◌==◌, ◌⊎◌, true, false, List, length, inl, inr, Option, Some, None, is_some, IsNone, sym, ap, refl, ◌∙◌, subst, eq-eqb, ne_eqb, arith}
-use Rattle.std.specs.List.{slice_get, All}
+use Rattle.std.proofs.Common.{◌≡◌, ◌≢◌, ℕ, ◌<◌, ◌≤◌, ◌==◌, ◌⊎◌, true, false, List, length, slice_index_or, inl, inr, Option, Some, None, is_some, IsNone, sym, ap, refl, ◌∙◌, subst, eq-eqb, ne_eqb, arith}
 use Rattle.std.specs.Option.{option_map}
 use Rattle.std.proofs.lemmas.Bool.Decides.{eqb_tells}
 use Rattle.std.proofs.lemmas.List.{ext_get_or}
-use Rattle.std.proofs.lemmas.Option.{get_or_from_slice_get, slice_get_within, slice_get-map}
 use Rattle.host_types.specs.declared.fault.Fault.{Fault}
 use Rattle.host_types.specs.declared.fault.Fault.TheVariants.{Program, NoFrames, TooManyMaps, BadShape, NoMap, NoElement, Busy, NoRun, NoProgram, BadContext, BadOption, OutOfMemory, BadTenant, PagesShared, TooManyPrograms}
 use Rattle.bpf_decode.specs.Text.{slots_of}
@@ -24,9 +22,10 @@ use Rattle.host_calls.specs.Calls.{TellsHave}
 use Rattle.host_calls.specs.Programs.{RefusesBegin}
 use Rattle.host_core.specs.declared.event.Event.TheVariants.{Begin}
 use Rattle.host_core.specs.declared.event.Reply.TheVariants.{Begun, Refused}
-use Rattle.host_core.specs.World.{OpenRun, Tenant, System, begun_run, accepted_of, owned_by, reserve_of, have_in}
+use Rattle.host_core.specs.World.{OpenRun, Tenant, System, program_at, begun_run, accepted_of, owned_by, reserve_of, have_in}
 use Rattle.host_core.specs.Happens.{BeginHappens, begin_refusal, changed_system}
-use Rattle.host_core.specs.HostView.{TenantView, StandsForTenant, IsKept, IsServed}
+use Rattle.host_core.specs.HostView.{TenantView, EachProgram, StandsForTenant, IsKept, IsServed}
+use Rattle.host_core.proofs.Places.{get_or-there, slice_get-there, all-at}
 use Rattle.host_core.proofs.Worlds.{OfTenant-there, RefusedOr-refused, RefusedOr-else}
 use Rattle.host_core.proofs.Systems.{part_stands, have_stands, changed_stands}
 use Rattle.host_core.proofs.Serving.{is_some-run, served-same}
@@ -41,13 +40,21 @@ accepted-tight v verified =
     let same : tight_table p ≡ v.table = ext_get_or None (tight_table p) v.table (whole ∙ sym verified.tight.whole) (λ k less. agree k (omega (arith, less, whole))) in
     ap (λ table. record { subject = p; table = table }) same
 
--- what is said of each program holds of the one with a number
-all-at : (P : Accepted → Type 0) (programs : List Accepted) (k : ℕ) (v : Accepted) → All P programs → slice_get programs k ≡ Some v → P v
-all-at P programs k v all e = subst P (get_or_from_slice_get programs k v v e) (all k v (slice_get_within programs k v e))
+-- the program that a host keeps at one of a tenant's places
+abbrev pub accepted_at : TenantView → ℕ → Option Accepted
+accepted_at kept k = slice_index_or kept.programs k None
 
--- the same programs by number
-pub slice_get-programs : (kept : TenantView) (tenant : Tenant) (k : ℕ) → StandsForTenant kept tenant → slice_get tenant.programs k ≡ option_map (λ (v : Accepted). v.subject) (slice_get kept.programs k)
-slice_get-programs kept tenant k stands = ap (λ programs. slice_get programs k) stands.programs ∙ slice_get-map (λ (v : Accepted). v.subject) kept.programs k
+-- what a lent list of the places tells of one of them
+pub lent-at : (kept : TenantView) (lent : List (Option Accepted)) (k : ℕ) {told : Option Accepted} → lent ≡ kept.programs → told ≡ slice_index_or lent k None → accepted_at kept k ≡ told
+lent-at kept lent k same tells = ap (λ programs. slice_index_or programs k None) (sym same) ∙ sym tells
+
+-- the same program is at each place
+program_at-kept : (kept : TenantView) (tenant : Tenant) (k : ℕ) → StandsForTenant kept tenant → program_at tenant k ≡ option_map (λ (v : Accepted). v.subject) (accepted_at kept k)
+program_at-kept kept tenant k stands = ap (λ programs. slice_index_or programs k None) stands.programs ∙ get_or-there (λ (v : Accepted). v.subject) kept.programs k
+
+-- what is said of each program holds of the one at a place
+each-at : (P : Accepted → Type 0) (kept : TenantView) (k : ℕ) (v : Accepted) → EachProgram P kept.programs → accepted_at kept k ≡ Some v → P v
+each-at P kept k v all found = all-at P kept.programs k v all (slice_get-there kept.programs k v found)
 
 -- for a tenant that is kept nothing is reserved where it has no open run
 reserve-idle : (r : Option OpenRun) → IsNone r → reserve_of r ≡ 0
@@ -63,17 +70,17 @@ begin_refusal-busy : (tenant : Tenant) (k : ℕ) (context : List ℕ) → is_som
 begin_refusal-busy tenant k context busy = rw busy refl
 
 -- a run of a program that isn't there
-begin_refusal-no_program : (tenant : Tenant) (k : ℕ) (context : List ℕ) → is_some tenant.run ≡ false → slice_get tenant.programs k ≡ None → begin_refusal tenant k context ≡ Some NoProgram
+begin_refusal-no_program : (tenant : Tenant) (k : ℕ) (context : List ℕ) → is_some tenant.run ≡ false → program_at tenant k ≡ None → begin_refusal tenant k context ≡ Some NoProgram
 begin_refusal-no_program tenant k context idle missing = rw (idle, missing) refl
 
 -- a run on a context of another size
-begin_refusal-context : (tenant : Tenant) (k : ℕ) (context : List ℕ) (p : Subject) → is_some tenant.run ≡ false → slice_get tenant.programs k ≡ Some p → length context ≢ p.context_size → begin_refusal tenant k context ≡ Some BadContext
+begin_refusal-context : (tenant : Tenant) (k : ℕ) (context : List ℕ) (p : Subject) → is_some tenant.run ≡ false → program_at tenant k ≡ Some p → length context ≢ p.context_size → begin_refusal tenant k context ≡ Some BadContext
 begin_refusal-context tenant k context p idle found other =
     let differs : (length context == p.context_size) ≡ false = ne_eqb (length context) p.context_size other in
     rw (idle, found, differs) refl
 
 -- a run that nothing forbids
-begin_refusal-none : (tenant : Tenant) (k : ℕ) (context : List ℕ) (p : Subject) → is_some tenant.run ≡ false → slice_get tenant.programs k ≡ Some p → length context ≡ p.context_size → begin_refusal tenant k context ≡ None
+begin_refusal-none : (tenant : Tenant) (k : ℕ) (context : List ℕ) (p : Subject) → is_some tenant.run ≡ false → program_at tenant k ≡ Some p → length context ≡ p.context_size → begin_refusal tenant k context ≡ None
 begin_refusal-none tenant k context p idle found same =
     let fits : (length context == p.context_size) ≡ true = eq-eqb (length context) p.context_size same in
     rw (idle, found, fits) refl
@@ -92,18 +99,18 @@ begin-busy t k old memory context busy =
     (λ tenant stands. begin_refusal-busy tenant k context (is_some-run old.programs old.run tenant.run stands.run ∙ busy))
 
 -- a run of a program that isn't there
-pub begin-no_program : (t k : ℕ) (old : TenantView) (memory : MemoryState) (context : List ℕ) → is_some old.run ≡ false → slice_get old.programs k ≡ None
+pub begin-no_program : (t k : ℕ) (old : TenantView) (memory : MemoryState) (context : List ℕ) → is_some old.run ≡ false → accepted_at old k ≡ None
     → IsServed t old memory (Begin t k context) (Refused NoProgram) old memory
 begin-no_program t k old memory context idle missing =
     begin-refused t k old memory context NoProgram (λ tenant stands.
     begin_refusal-no_program tenant k context
     (is_some-run old.programs old.run tenant.run stands.run ∙ idle)
-    (slice_get-programs old tenant k stands ∙ ap (option_map (λ (v : Accepted). v.subject)) missing))
+    (program_at-kept old tenant k stands ∙ ap (option_map (λ (v : Accepted). v.subject)) missing))
 
-module _ (t k : ℕ) (old : TenantView) (context : List ℕ) (v : Accepted) (idle : is_some old.run ≡ false) (found : slice_get old.programs k ≡ Some v) where
+module _ (t k : ℕ) (old : TenantView) (context : List ℕ) (v : Accepted) (idle : is_some old.run ≡ false) (found : accepted_at old k ≡ Some v) where
   -- the same program of the system's tenant
-  numbered : (tenant : Tenant) → StandsForTenant old tenant → slice_get tenant.programs k ≡ Some v.subject
-  numbered tenant stands = slice_get-programs old tenant k stands ∙ ap (option_map (λ (a : Accepted). a.subject)) found
+  numbered : (tenant : Tenant) → StandsForTenant old tenant → program_at tenant k ≡ Some v.subject
+  numbered tenant stands = program_at-kept old tenant k stands ∙ ap (option_map (λ (a : Accepted). a.subject)) found
 
   none-open : (tenant : Tenant) → StandsForTenant old tenant → is_some tenant.run ≡ false
   none-open tenant stands = is_some-run old.programs old.run tenant.run stands.run ∙ idle
@@ -137,7 +144,7 @@ module _ (t k : ℕ) (old : TenantView) (context : List ℕ) (v : Accepted) (idl
   begin-lacks_frames memory need have fits refuses tells =
       served-same t old memory (Begin t k context) (Refused (NoFrames need have)) (λ x tenant there stands holds.
       let none = begin_refusal-none tenant k context v.subject (none-open tenant stands) (numbered tenant stands) fits in
-      let tight : accepted_of v.subject ≡ v = accepted-tight v (all-at IsVerified old.programs k v stands.verified found) in
+      let tight : accepted_of v.subject ≡ v = accepted-tight v (each-at IsVerified old k v stands.verified found) in
       let charge : need ≡ reserve_from (accepted_of v.subject) 0 = refuses.0 ∙ ap (λ a. reserve_from a 0) (sym tight) in
       let had : have ≡ have_in x = tells ∙ have_stands memory x holds in
       let less : have_in x < reserve_from (accepted_of v.subject) 0 = subst (λ n. have_in x < n) charge (subst (λ n. n < need) had refuses.1) in
@@ -173,7 +180,7 @@ pub record HasAdmitted (t : ℕ) (before after : MemoryState) (v : Accepted) : T
   pub reads : ReadsAs after
 
 -- a tenant with a run that has just begun
-begun_stands : (k : ℕ) (old : TenantView) (tenant : Tenant) (context : List ℕ) (run : Running) (v : Accepted) → slice_get old.programs k ≡ Some v → IsBegun v context run → run.steps ≡ 0 → StandsForTenant old tenant
+begun_stands : (k : ℕ) (old : TenantView) (tenant : Tenant) (context : List ℕ) (run : Running) (v : Accepted) → accepted_at old k ≡ Some v → IsBegun v context run → run.steps ≡ 0 → StandsForTenant old tenant
     → StandsForTenant (record old { run = Some (record { program = k; run = run }) }) (record tenant { run = Some (begun_run v.subject context tenant.maps) })
 begun_stands k old tenant context run v found begun none_made stands = record {
   programs = stands.programs;
@@ -181,21 +188,21 @@ begun_stands k old tenant context run v found begun none_made stands = record {
   shapes = stands.shapes;
   run = record {
     accepted = v;
-    numbered = found;
+    numbered = slice_get-there old.programs k v found;
     program = refl;
-    state = begun tenant.maps stands.meets.maps (all-at (λ (a : Accepted). HaveShapes a.subject.shapes tenant.maps) old.programs k v stands.shapes found);
+    state = begun tenant.maps stands.meets.maps (each-at (λ (a : Accepted). HaveShapes a.subject.shapes tenant.maps) old k v stands.shapes found);
     steps = none_made;
   };
-  meets = record { maps = stands.meets.maps; run = record { reached = refl; steps = omega arith }; same = refl };
+  meets = record { maps = stands.meets.maps; places = stands.meets.places; run = record { reached = refl; steps = omega arith }; same = refl };
 }
 
 -- a run that begins
-pub begin-begun : (t k : ℕ) (old : TenantView) (before after : MemoryState) (context : List ℕ) (run : Running) (v : Accepted) → is_some old.run ≡ false → slice_get old.programs k ≡ Some v
+pub begin-begun : (t k : ℕ) (old : TenantView) (before after : MemoryState) (context : List ℕ) (run : Running) (v : Accepted) → is_some old.run ≡ false → accepted_at old k ≡ Some v
     → length context ≡ v.subject.context_size → IsBegun v context run → run.steps ≡ 0 → HasAdmitted t before after v
     → IsServed t old before (Begin t k context) Begun (record old { run = Some (record { program = k; run = run }) }) after
 begin-begun t k old before after context run v idle found fits begun none_made admits x tenant there stands holds =
     let next : Tenant = record tenant { run = Some (begun_run v.subject context tenant.maps) } in
-    let tight : accepted_of v.subject ≡ v = accepted-tight v (all-at IsVerified old.programs k v stands.verified found) in
+    let tight : accepted_of v.subject ≡ v = accepted-tight v (each-at IsVerified old k v stands.verified found) in
     let charge : reserve_from v 0 ≡ reserve_from (accepted_of v.subject) 0 = ap (λ a. reserve_from a 0) (sym tight) in
     let is : part after t ≡ owned_by next =
     admits.recorded ∙ ap (with_reserve (reserve_from v 0)) (part_stands before x t tenant holds there) ∙ ap (λ n. with_reserve n (owned_by tenant)) charge in

@@ -4,6 +4,7 @@ use Rattle.std.specs.List.{slice_get}
 use Rattle.std.proofs.lemmas.Bool.Decides.{eqb_tells}
 use Rattle.std.proofs.lemmas.List.{length-set}
 use Rattle.std.proofs.lemmas.List.Quantifiers.{position-Some}
+use Rattle.std.proofs.lemmas.Option.{IfSome_then}
 use Rattle.host_types.specs.declared.fault.Fault.{Fault}
 use Rattle.host_types.specs.declared.fault.Fault.TheVariants.{Program, NoFrames, TooManyMaps, BadShape, NoMap, NoElement, Busy, NoRun, NoProgram, BadContext, BadOption, OutOfMemory, BadTenant, PagesShared, TooManyPrograms}
 use Rattle.host_types.specs.declared.helper.MapHelper.TheVariants.{Update}
@@ -34,7 +35,7 @@ use Rattle.host_core.proofs.Worlds.{changed_system-same, OfTenant-there}
 use Rattle.host_core.proofs.Systems.{part_stands, have_stands, changed_stands}
 
 -- there is an open run on both sides, or on none
-pub is_some-run : (programs : List Accepted) (kept : Option KeptRun) (r : Option OpenRun) → StandsForAnyRun programs kept r → is_some r ≡ is_some kept
+pub is_some-run : (programs : List (Option Accepted)) (kept : Option KeptRun) (r : Option OpenRun) → StandsForAnyRun programs kept r → is_some r ≡ is_some kept
 is_some-run programs None None stands = refl
 is_some-run programs None (Some r) stands = absurd stands
 is_some-run programs (Some kept) None stands = absurd stands
@@ -117,9 +118,9 @@ with_maps : (old : TenantView) (tenant : Tenant) (maps : FlatMaps) → IsNone te
 with_maps old tenant maps idle stands flat have = record {
   programs = stands.programs;
   verified = stands.verified;
-  shapes = λ k d less. have (slice_index_or old.programs k d).subject.shapes (stands.shapes k d less);
+  shapes = λ k d less. IfSome_then (slice_index_or old.programs k d) (stands.shapes k d less) (λ accepted. have accepted.subject.shapes);
   run = stands.run;
-  meets = record { maps = flat; run = stands.meets.run; same = if_idle tenant.run (λ r. maps ≡ r.state.memory.maps) idle };
+  meets = record { maps = flat; places = stands.meets.places; run = stands.meets.run; same = if_idle tenant.run (λ r. maps ≡ r.state.memory.maps) idle };
 }
 
 -- what is known once a map was made

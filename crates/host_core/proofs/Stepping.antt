@@ -1,10 +1,10 @@
 -- Steps of a tenant's open run, one and many, and the Step events of a system that they are.
 use Rattle.std.proofs.Common.{◌≡◌, ℕ, zero, suc, ◌+◌, ◌<◌, ◌≤◌, nat_lt, ◌==◌, ◌&&◌, Bool, true, false, if◌then◌else◌, List, [], ◌∷◌, ◌++◌, replicate, set, sum_by, get_or, Option, Some, None, IfSome, IsSomeAnd, MatchOption, sym, ap, refl, ◌∙◌, subst, arith, add-one, add-zero, add-suc}
-use Rattle.std.specs.List.{slice_get, All}
+use Rattle.std.specs.List.{slice_get}
 use Rattle.std.specs.Option.{option_map}
 use Rattle.std.proofs.lemmas.List.{replicate_more, ext_get_or}
 use Rattle.std.proofs.lemmas.List.Sums.{sum_by-set}
-use Rattle.std.proofs.lemmas.Option.{get_or_from_slice_get, slice_get_within}
+use Rattle.std.proofs.lemmas.Option.{IfSome_then, get_or_from_slice_get, slice_get_within}
 use Rattle.host_types.specs.declared.fault.Fault.TheVariants as fault
 use Rattle.host_types.specs.declared.shape.Shape.{Shape}
 use Rattle.host_types.specs.Helpers.{update_answer, element_at, map_updated, maps_updated}
@@ -40,27 +40,27 @@ use Rattle.host_core.specs.declared.event.Reply.TheVariants.{Stepped, Ended, Ref
 use Rattle.host_core.specs.declared.tenant.OpenRun.{OpenRun as KeptRun}
 use Rattle.host_core.specs.World.{OpenRun, Tenant, System, IsTenant, IsOpenRun, IsCovered, accepted_of, reserve_of, reserved_in, owned_by}
 use Rattle.host_core.specs.Happens.{Answers, StepHappens, Happens, IsPromised, IsPromisedOf, AllHappen, StepsHappen, changed_system, sharing_after}
-use Rattle.host_core.specs.HostView.{TenantView, StandsForRun, StandsForAnyRun, StandsForTenant, StandsForMemory, IsKept, HasMadeSteps, steps_of}
+use Rattle.host_core.specs.HostView.{TenantView, EachProgram, StandsForRun, StandsForAnyRun, StandsForTenant, StandsForMemory, IsKept, HasMadeSteps, steps_of}
 use Rattle.host_core.specs.Stretches.{IsUnderWayAt, HasAdvanced, HasDone, IsQuiet, IsAnswered, IsEnded, quiet, answered, ended, part_in}
 use Rattle.host_core.proofs.Worlds.{slice_get-set, OfTenant-there, changed_system-same, changed_system-twice}
 use Rattle.host_core.proofs.Systems.{part_stands, covered, changed_stands}
 use Rattle.host_core.proofs.Joined.{AllHappen-join}
+use Rattle.host_core.proofs.Places.{all-at}
 use Rattle.host_core.proofs.Advances.{some_instruction}
 
 -- the system's open run, where one is kept
-pub run-found : (programs : List Accepted) (kept : KeptRun) (r : Option OpenRun) → StandsForAnyRun programs (Some kept) r → (found : OpenRun) × (r ≡ Some found) × StandsForRun programs kept found
+pub run-found : (programs : List (Option Accepted)) (kept : KeptRun) (r : Option OpenRun) → StandsForAnyRun programs (Some kept) r → (found : OpenRun) × (r ≡ Some found) × StandsForRun programs kept found
 run-found programs kept None h = absurd h
 run-found programs kept (Some r) h = (r, refl, h)
 
 -- no open run, where none is kept
-pub run-missing : (programs : List Accepted) (r : Option OpenRun) → StandsForAnyRun programs None r → r ≡ None
+pub run-missing : (programs : List (Option Accepted)) (r : Option OpenRun) → StandsForAnyRun programs None r → r ≡ None
 run-missing programs None h = refl
 run-missing programs (Some r) h = absurd h
 
 -- each program that is kept was verified
-pub verified-at : (programs : List Accepted) (k : ℕ) (v : Accepted) → All IsVerified programs → slice_get programs k ≡ Some v → IsVerified v
-verified-at programs k v all found =
-    subst IsVerified (get_or_from_slice_get programs k v v found) (all k v (slice_get_within programs k v found))
+pub verified-at : (programs : List (Option Accepted)) (k : ℕ) (v : Accepted) → EachProgram IsVerified programs → slice_get programs k ≡ Some (Some v) → IsVerified v
+verified-at programs k v all found = all-at IsVerified programs k v all found
 
 -- a verified program has the one table that says just what flows
 pub table_is_tight : (v : Accepted) → IsVerified v → accepted_of v.subject ≡ v
@@ -142,8 +142,8 @@ have_alike shapes maps later same have m = by (get_or shapes m None) (map_at map
     by (Some shape) (Some x) None e h = absurd cc
     by (Some shape) (Some x) (Some y) e h = let alike : y.shape ≡ x.shape = cc in alike ∙ h
 
-all_have_alike : (programs : List Accepted) (maps later : FlatMaps) → ((j : ℕ) → shape_in later j ≡ shape_in maps j) → All (λ accepted. HaveShapes accepted.subject.shapes maps) programs → All (λ accepted. HaveShapes accepted.subject.shapes later) programs
-all_have_alike programs maps later same all k v less = have_alike (get_or programs k v).subject.shapes maps later same (all k v less)
+all_have_alike : (programs : List (Option Accepted)) (maps later : FlatMaps) → ((j : ℕ) → shape_in later j ≡ shape_in maps j) → EachProgram (λ accepted. HaveShapes accepted.subject.shapes maps) programs → EachProgram (λ accepted. HaveShapes accepted.subject.shapes later) programs
+all_have_alike programs maps later same all k d less = IfSome_then (get_or programs k d) (all k d less) (λ v. have_alike v.subject.shapes maps later same)
 
 -- a system stays covered where a tenant needs no more than before
 pub covered-changed : (x : System) (t : ℕ) (tenant next : Tenant) → slice_get x.world t ≡ Some tenant → IsCovered x → reserve_of next.run ≤ reserve_of tenant.run → IsCovered (changed_system x t next x.sharing)
@@ -250,11 +250,11 @@ run_reached : (tenant : Tenant) (r : OpenRun) → IsTenant tenant → tenant.run
 run_reached tenant r meets is_open = subst (λ o. IfSome o IsOpenRun) is_open meets.run
 
 -- a kept run's program is the system's
-program-same : (programs : List Accepted) (kept : KeptRun) (r : OpenRun) → All IsVerified programs → (run : StandsForRun programs kept r) → accepted_of r.program ≡ run.accepted
+program-same : (programs : List (Option Accepted)) (kept : KeptRun) (r : OpenRun) → EachProgram IsVerified programs → (run : StandsForRun programs kept r) → accepted_of r.program ≡ run.accepted
 program-same programs kept r all run = ap accepted_of run.program ∙ table_is_tight run.accepted (verified-at programs kept.program run.accepted all run.numbered)
 
 -- the open run of a kept tenant is under way
-pub under-way : (programs : List Accepted) (kept : KeptRun) (t : ℕ) (memory : MemoryState) (x : System) (tenant : Tenant) (r : OpenRun) → slice_get x.world t ≡ Some tenant
+pub under-way : (programs : List (Option Accepted)) (kept : KeptRun) (t : ℕ) (memory : MemoryState) (x : System) (tenant : Tenant) (r : OpenRun) → slice_get x.world t ≡ Some tenant
     → StandsForTenant (record { programs = programs; run = Some kept }) tenant → StandsForMemory memory x → tenant.run ≡ Some r → (run : StandsForRun programs kept r)
     → IsUnderWayAt programs kept run.accepted r.state (part memory t)
 under-way programs kept t memory x tenant r there stood stands is_open run =
@@ -268,7 +268,7 @@ under-way programs kept t memory x tenant r there stood stands is_open run =
     }
 
 -- a kept run is under way somewhere
-pub under-way-kept : (programs : List Accepted) (kept : KeptRun) (t : ℕ) (memory : MemoryState) → IsKept t (record { programs = programs; run = Some kept }) memory
+pub under-way-kept : (programs : List (Option Accepted)) (kept : KeptRun) (t : ℕ) (memory : MemoryState) → IsKept t (record { programs = programs; run = Some kept }) memory
     → (v : Accepted) × (s : MachineState) × IsUnderWayAt programs kept v s (part memory t)
 under-way-kept programs kept t memory (x, tenant, there, stood, stands) =
     let (r, is_open, run) = run-found programs kept tenant.run stood.run in
@@ -296,7 +296,7 @@ made-no_run kept t limit memory closed some reads x tenant there s stands =
     (tenant, x.sharing, s, stands', (Step t ∷ [], refused ∷ [], (0, some, (λ e. cc), refl, refl), (x', happens, promised, covers, refl)))
 
 -- the tenant after steps that its run goes on from
-stood-on : (programs : List Accepted) (kept after : KeptRun) (tenant : Tenant) (r : OpenRun) (n : ℕ) (u : MachineState)
+stood-on : (programs : List (Option Accepted)) (kept after : KeptRun) (tenant : Tenant) (r : OpenRun) (n : ℕ) (u : MachineState)
     → StandsForTenant (record { programs = programs; run = Some kept }) tenant → (run : StandsForRun programs kept r) → after.program ≡ kept.program → StandsFor run.accepted after.run u
     → ((j : ℕ) → shape_in u.memory.maps j ≡ shape_in tenant.maps j) → after.run.steps ≡ n → Runs r.program.text r.context r.maps n (Next u)
     → StandsForTenant (record { programs = programs; run = Some after }) (tenant_at tenant r n u)
@@ -308,7 +308,7 @@ stood-on programs kept after tenant r n u stood run same_program stands shapes c
       verified = stood.verified;
       shapes = all_have_alike programs tenant.maps u.memory.maps shapes stood.shapes;
       run = record { accepted = run.accepted; numbered = ap (slice_get programs) same_program ∙ run.numbered; program = run.program; state = stands; steps = counted };
-      meets = record { maps = stands.state.maps; run = record { reached = reached; steps = below }; same = refl };
+      meets = record { maps = stands.state.maps; places = stood.meets.places; run = record { reached = reached; steps = below }; same = refl };
     }
 
 -- what belongs to it
@@ -316,7 +316,7 @@ owned-on : (tenant : Tenant) (r : OpenRun) (v : Accepted) (n : ℕ) (u : Machine
 owned-on tenant r v n u same = ap (λ p. record { maps = u.memory.maps; reserve = reserve_from p u.slot }) (sym same)
 
 -- quiet steps of a kept run
-made-quiet : (programs : List Accepted) (kept after : KeptRun) (t n : ℕ) (before later : MemoryState) (x : System) (tenant : Tenant) (r : OpenRun)
+made-quiet : (programs : List (Option Accepted)) (kept after : KeptRun) (t n : ℕ) (before later : MemoryState) (x : System) (tenant : Tenant) (r : OpenRun)
     → slice_get x.world t ≡ Some tenant → StandsForTenant (record { programs = programs; run = Some kept }) tenant → StandsForMemory before x → tenant.run ≡ Some r → (run : StandsForRun programs kept r)
     → ReadsAs before → ReadsAs later → IsKeptBut t before later → KeepsSizes before later → after.program ≡ kept.program → after.run.steps ≡ kept.run.steps + n
     → IsQuiet run.accepted r.state n t before after.run later
@@ -338,7 +338,7 @@ made-quiet programs kept after t n before later x tenant r there stood stands is
     (next, x.sharing, stood', stands', (replicate n (Step t), replicate n Stepped, (refl, refl), happen))
 
 -- quiet steps, and one more that asks something of the tenant's maps
-made-answered : (programs : List Accepted) (kept after : KeptRun) (t n : ℕ) (before later : MemoryState) (x : System) (tenant : Tenant) (r : OpenRun)
+made-answered : (programs : List (Option Accepted)) (kept after : KeptRun) (t n : ℕ) (before later : MemoryState) (x : System) (tenant : Tenant) (r : OpenRun)
     → slice_get x.world t ≡ Some tenant → StandsForTenant (record { programs = programs; run = Some kept }) tenant → StandsForMemory before x → tenant.run ≡ Some r → (run : StandsForRun programs kept r)
     → ReadsAs before → ReadsAs later → IsKeptBut t before later → KeepsSizes before later → after.program ≡ kept.program → after.run.steps ≡ kept.run.steps + n
     → IsAnswered run.accepted r.state n t before after.run later
@@ -373,7 +373,7 @@ made-answered programs kept after t n before later x tenant r there stood stands
     (next, sharing, stood', stands', (replicate n (Step t), replicate n Stepped, (refl, refl), subst (λ k. AllHappen x (replicate k (Step t)) (replicate k Stepped) (changed_system x t next sharing)) (sym last) all'))
 
 -- quiet steps, and one more with which the run ends
-made-ended : (programs : List Accepted) (kept : KeptRun) (run_after : Running) (t n number steps : ℕ) (before later : MemoryState) (x : System) (tenant : Tenant) (r : OpenRun)
+made-ended : (programs : List (Option Accepted)) (kept : KeptRun) (run_after : Running) (t n number steps : ℕ) (before later : MemoryState) (x : System) (tenant : Tenant) (r : OpenRun)
     → slice_get x.world t ≡ Some tenant → StandsForTenant (record { programs = programs; run = Some kept }) tenant → StandsForMemory before x → tenant.run ≡ Some r → (run : StandsForRun programs kept r)
     → ReadsAs before → ReadsAs later → IsKeptBut t before later → KeepsSizes before later → run_after.steps ≡ kept.run.steps + n → steps ≡ run_after.steps
     → IsEnded run.accepted r.state n t number before run_after later
@@ -401,7 +401,7 @@ made-ended programs kept run_after t n number steps before later x tenant r ther
       verified = stood.verified;
       shapes = all_have_alike programs tenant.maps final (λ j. ap (λ m. shape_in m j) (sym maps)) stood.shapes;
       run = tt;
-      meets = record { maps = subst AreFlatMaps maps stood.meets.maps; run = tt; same = tt };
+      meets = record { maps = subst AreFlatMaps maps stood.meets.maps; places = stood.meets.places; run = tt; same = tt };
     } in
     let stands' = changed_stands before later x t tenant next x.sharing stands there sizes.tenants sizes.frames reads' stood'.meets.maps.eight did.owned others (did.sharing ∙ stands.sharing) in
     let covers = subst IsCovered (sym twice) (covered later (changed_system x t next x.sharing) reads' stands') in
@@ -412,7 +412,7 @@ made-ended programs kept run_after t n number steps before later x tenant r ther
     (next, x.sharing, stood', stands', (replicate m (Step t) ++ Step t ∷ [], replicate m Stepped ++ Ended number steps ∷ [], (m, omega (arith, last), (λ e. cc), refl, refl), happened))
 
 -- steps after which a run goes on
-made-on : (programs : List Accepted) (kept after : KeptRun) (t n : ℕ) (before later : MemoryState) (x : System) (tenant : Tenant) (r : OpenRun)
+made-on : (programs : List (Option Accepted)) (kept after : KeptRun) (t n : ℕ) (before later : MemoryState) (x : System) (tenant : Tenant) (r : OpenRun)
     → slice_get x.world t ≡ Some tenant → StandsForTenant (record { programs = programs; run = Some kept }) tenant → StandsForMemory before x → tenant.run ≡ Some r → (run : StandsForRun programs kept r)
     → ReadsAs before → ReadsAs later → IsKeptBut t before later → KeepsSizes before later → after.program ≡ kept.program → after.run.steps ≡ kept.run.steps + n
     → HasDone run.accepted r.state n t before after.run later None
@@ -423,7 +423,7 @@ made-on programs kept after t n before later x tenant r there stood stands is_op
     made-answered programs kept after t n before later x tenant r there stood stands is_open run reads reads' others sizes same_program made did
 
 -- steps with the last of which it ends
-made-off : (programs : List Accepted) (kept : KeptRun) (run_after : Running) (t n number steps : ℕ) (before later : MemoryState) (x : System) (tenant : Tenant) (r : OpenRun)
+made-off : (programs : List (Option Accepted)) (kept : KeptRun) (run_after : Running) (t n number steps : ℕ) (before later : MemoryState) (x : System) (tenant : Tenant) (r : OpenRun)
     → slice_get x.world t ≡ Some tenant → StandsForTenant (record { programs = programs; run = Some kept }) tenant → StandsForMemory before x → tenant.run ≡ Some r → (run : StandsForRun programs kept r)
     → ReadsAs before → ReadsAs later → IsKeptBut t before later → KeepsSizes before later → run_after.steps ≡ kept.run.steps + n → steps ≡ run_after.steps
     → HasDone run.accepted r.state n t before run_after later (Some number)
@@ -432,7 +432,7 @@ made-off programs kept run_after t n number steps before later x tenant r there 
     made-ended programs kept run_after t n k steps before later x tenant r there stood stands is_open run reads reads' others sizes made told did
 
 -- steps that were made in one go, after which a kept run goes on
-pub made-steps : (programs : List Accepted) (kept after : KeptRun) (t limit steps : ℕ) (before later : MemoryState)
+pub made-steps : (programs : List (Option Accepted)) (kept after : KeptRun) (t limit steps : ℕ) (before later : MemoryState)
     → ReadsAs before → ReadsAs later → IsKeptBut t before later → KeepsSizes before later → after.program ≡ kept.program → kept.run.steps + steps ≡ after.run.steps
     → ((v : Accepted) (s : MachineState) → IsUnderWayAt programs kept v s (part before t) → HasAdvanced v s t limit kept.run before None after.run later)
     → HasMadeSteps t (record { programs = programs; run = Some kept }) before steps None (record { programs = programs; run = Some after }) later
@@ -444,7 +444,7 @@ made-steps programs kept after t limit steps before later reads reads' others si
     (made-on programs kept after t n before later x tenant r there stood stands is_open run reads reads' others sizes same_program made done)
 
 -- steps that were made in one go, with the last of which it ended
-pub made-last_step : (programs : List Accepted) (kept : KeptRun) (run_after : Running) (t limit number made total : ℕ) (before later : MemoryState)
+pub made-last_step : (programs : List (Option Accepted)) (kept : KeptRun) (run_after : Running) (t limit number made total : ℕ) (before later : MemoryState)
     → ReadsAs before → ReadsAs later → IsKeptBut t before later → KeepsSizes before later → kept.run.steps + made ≡ run_after.steps → total ≡ run_after.steps
     → ((v : Accepted) (s : MachineState) → IsUnderWayAt programs kept v s (part before t) → HasAdvanced v s t limit kept.run before (Some number) run_after later)
     → HasMadeSteps t (record { programs = programs; run = Some kept }) before made (Some (Ended number total)) (record { programs = programs; run = None }) later
@@ -456,7 +456,7 @@ made-last_step programs kept run_after t limit number made total before later re
     (made-off programs kept run_after t n number total before later x tenant r there stood stands is_open run reads reads' others sizes stepped told done)
 
 -- a kept run that advanced made one step at least, and no more than its limit
-pub advanced-some : (programs : List Accepted) (kept : KeptRun) (after : Running) (t limit : ℕ) (last : Option ℕ) (before later : MemoryState)
+pub advanced-some : (programs : List (Option Accepted)) (kept : KeptRun) (after : Running) (t limit : ℕ) (last : Option ℕ) (before later : MemoryState)
     → IsKept t (record { programs = programs; run = Some kept }) before
     → ((v : Accepted) (s : MachineState) → IsUnderWayAt programs kept v s (part before t) → HasAdvanced v s t limit kept.run before last after later)
     → (kept.run.steps < after.steps) × (after.steps ≤ kept.run.steps + limit)
@@ -466,16 +466,16 @@ advanced-some programs kept after t limit last before later is advanced =
     (omega (arith, some, made), omega (arith, few, made))
 
 -- a tenant as it is seen, with its open run
-pub kept-open : (kept : TenantView) (programs : List Accepted) (run : Option KeptRun) (open_run : KeptRun) (t : ℕ) (memory : MemoryState) → record { programs = programs; run = run } ≡ kept → run ≡ Some open_run
+pub kept-open : (kept : TenantView) (programs : List (Option Accepted)) (run : Option KeptRun) (open_run : KeptRun) (t : ℕ) (memory : MemoryState) → record { programs = programs; run = run } ≡ kept → run ≡ Some open_run
     → IsKept t kept memory → IsKept t (record { programs = programs; run = Some open_run }) memory
 kept-open kept programs run open_run t memory seen is_open is =
     subst (λ r. IsKept t (record { programs = programs; run = r }) memory) is_open (subst (λ old. IsKept t old memory) (sym seen) is)
 
-pub made-open : (kept new : TenantView) (programs : List Accepted) (run : Option KeptRun) (open_run : KeptRun) (t steps : ℕ) (last : Option Reply) (before later : MemoryState) → record { programs = programs; run = run } ≡ kept → run ≡ Some open_run
+pub made-open : (kept new : TenantView) (programs : List (Option Accepted)) (run : Option KeptRun) (open_run : KeptRun) (t steps : ℕ) (last : Option Reply) (before later : MemoryState) → record { programs = programs; run = run } ≡ kept → run ≡ Some open_run
     → HasMadeSteps t (record { programs = programs; run = Some open_run }) before steps last new later → HasMadeSteps t kept before steps last new later
 made-open kept new programs run open_run t steps last before later seen is_open made =
     subst (λ old. HasMadeSteps t old before steps last new later) seen (subst (λ r. HasMadeSteps t (record { programs = programs; run = r }) before steps last new later) (sym is_open) made)
 
 -- how many steps it made
-pub steps-open : (kept : TenantView) (programs : List Accepted) (run : Option KeptRun) (open_run : KeptRun) → record { programs = programs; run = run } ≡ kept → run ≡ Some open_run → steps_of kept.run ≡ open_run.run.steps
+pub steps-open : (kept : TenantView) (programs : List (Option Accepted)) (run : Option KeptRun) (open_run : KeptRun) → record { programs = programs; run = run } ≡ kept → run ≡ Some open_run → steps_of kept.run ≡ open_run.run.steps
 steps-open kept programs run open_run seen is_open = ap (λ (old : TenantView). steps_of old.run) (sym seen) ∙ ap steps_of is_open

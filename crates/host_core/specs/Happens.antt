@@ -1,5 +1,5 @@
 -- What events do (this project's own rules, docs/HOST.md).
-use Rattle.std.specs.Prelude.{◌≡◌, ◌≢◌, ℕ, ◌*◌, ◌%◌, ◌<◌, ◌≤◌, nat_le, ◌==◌, ◌&&◌, Bool, not, is_some, List, [], ◌∷◌, ◌++◌, length, replicate, slice_get, slice_set, ◌⊎◌, if◌then◌else◌, MatchOption, IfSome, IsSome, IsNone, IsSomeAnd, Option, Some, None, suc, false}
+use Rattle.std.specs.Prelude.{◌≡◌, ◌≢◌, ℕ, ◌*◌, ◌%◌, ◌<◌, ◌≤◌, nat_le, ◌==◌, ◌&&◌, Bool, not, is_some, is_none, List, [], ◌∷◌, ◌++◌, length, replicate, slice_get, slice_set, ◌⊎◌, if◌then◌else◌, MatchOption, IfSome, IsSome, IsNone, IsSomeAnd, Option, Some, None, suc, false}
 use Rattle.host_types.specs.declared.fault.Fault.{Fault}
 use Rattle.host_types.specs.declared.fault.Fault.TheVariants as fault
 use Rattle.host_types.specs.declared.fault.Refused.{Refused as Refusal}
@@ -33,7 +33,7 @@ use Rattle.host_core.specs.declared.event.Event.{Event}
 use Rattle.host_core.specs.declared.event.Event.TheVariants.{CreateMap, Load, Begin, Step, Visit, HostUpdate, HostLookup, Set, Unmerge, Counters}
 use Rattle.host_core.specs.declared.event.Reply.{Reply}
 use Rattle.host_core.specs.declared.event.Reply.TheVariants.{Map, Program, Begun, Stepped, Ended, Visited as WasVisited, Done, Value, Counters as AreCounters, Refused}
-use Rattle.host_core.specs.World.{OpenRun, Tenant, World, System, begun_run, all_maps, accepted_of, owned_by, have_in, IsCovered}
+use Rattle.host_core.specs.World.{OpenRun, Tenant, World, System, program_at, free_place, begun_run, all_maps, accepted_of, owned_by, have_in, IsCovered}
 
 -- an event was answered so, and changed nothing
 abbrev pub Answers : System → Reply → Reply → System → Type 0
@@ -91,23 +91,23 @@ is_context_size size = nat_le size 256 && size % 8 == 0
 abbrev pub load_refusal : Tenant → ℕ → Option Fault
 load_refusal tenant size = first_refusal (
     (is_some tenant.run, fault.Busy)
-    ∷ (nat_le 8 (length tenant.programs), fault.TooManyPrograms)
+    ∷ (is_none (free_place tenant), fault.TooManyPrograms)
     ∷ (not (is_context_size size), fault.BadContext) ∷ [])
 
--- A text is loaded with the next number if it is well formed and has a tight table in which no rule is
--- broken. Else the refusal is that of the text.
+-- A text is loaded to the tenant's first free place if it is well formed and has a tight table in which no
+-- rule is broken. Else the refusal is that of the text.
 pub data LoadHappens (x : System) (t : ℕ) (tenant : Tenant) (p : Subject) (reply : Reply) (x' : System) : Type 0 where
   malformed : (refusal : Refusal) → IsFirstFault p.text refusal → Answers x (Refused (fault.Program refusal)) reply x' → LoadHappens x t tenant p reply x'
   unlawful : IsWellFormed p.text → (refusal : Refusal) → IsRefusal p refusal → Answers x (Refused (fault.Program refusal)) reply x' → LoadHappens x t tenant p reply x'
-  loaded : IsWellFormed p.text → (table : Table) → IsTightTable p table
-      → Leaves x t (record tenant { programs = tenant.programs ++ p ∷ [] }) x.sharing (Program (length tenant.programs)) reply x' → LoadHappens x t tenant p reply x'
+  loaded : IsWellFormed p.text → (table : Table) → IsTightTable p table → (k : ℕ) → free_place tenant ≡ Some k
+      → Leaves x t (record tenant { programs = slice_set tenant.programs k (Some p) }) x.sharing (Program k) reply x' → LoadHappens x t tenant p reply x'
 
 -- what is refused of a run that is to begin
 abbrev pub begin_refusal : Tenant → ℕ → List ℕ → Option Fault
 begin_refusal tenant k context = first_refusal (
     (is_some tenant.run, fault.Busy)
-    ∷ (not (is_some (slice_get tenant.programs k)), fault.NoProgram)
-    ∷ (not (has_size (slice_get tenant.programs k)), fault.BadContext) ∷ [])
+    ∷ (is_none (program_at tenant k), fault.NoProgram)
+    ∷ (not (has_size (program_at tenant k)), fault.BadContext) ∷ [])
   where
     has_size : Option Subject → Bool
     has_size (Some p) = length context == p.context_size
@@ -116,7 +116,7 @@ begin_refusal tenant k context = first_refusal (
 -- a run begins on a context and the tenant's maps, where there are frames for all that it may need
 abbrev pub BeginHappens : System → ℕ → Tenant → ℕ → List ℕ → Reply → System → Type 0
 BeginHappens x t tenant k context reply x' =
-    (p : Subject) × (slice_get tenant.programs k ≡ Some p)
+    (p : Subject) × (program_at tenant k ≡ Some p)
     × MayLackFrames x (reserve_from (accepted_of p) 0) reply x' (
     Leaves x t (record tenant { run = Some (begun_run p context tenant.maps) }) x.sharing Begun reply x')
 

@@ -1,5 +1,5 @@
 -- What a host keeps, and which systems it stands for.
-use Rattle.std.specs.Prelude.{◌≡◌, ℕ, ◌+◌, List, length, map, slice_get, Option, Some, None, Result, Ok, Err}
+use Rattle.std.specs.Prelude.{◌≡◌, ℕ, ◌+◌, List, length, map, slice_get, option_map, IfSome, Option, Some, None, Result, Ok, Err}
 use Rattle.std.specs.List.{AllZip, All}
 use Rattle.host_types.specs.declared.fault.Fault.{Fault}
 use Rattle.host_types.specs.Sharing.{Sharing}
@@ -16,9 +16,9 @@ use Rattle.host_core.specs.declared.tenant.OpenRun.{OpenRun as KeptRun}
 use Rattle.host_core.specs.World.{OpenRun, Tenant, System, IsTenant, all_maps, reserve_of}
 use Rattle.host_core.specs.Happens.{Happens, IsPromised, StepsHappen, changed_system}
 
--- a tenant as a host keeps it: its accepted programs by number, and its open run, if it has one
+-- a tenant as a host keeps it: its accepted programs by place, and its open run, if it has one
 pub record TenantView : Type 0 where
-  pub programs : List Accepted
+  pub programs : List (Option Accepted)
   pub run : Option KeptRun
 
 -- the tenants by number, and the memory of their maps
@@ -26,28 +26,32 @@ pub record HostView : Type 0 where
   pub tenants : List TenantView
   pub memory : MemoryState
 
--- An open run stands for one of the system: it is a run of the same program, stands for its state, and
--- made as many steps.
-pub record StandsForRun (programs : List Accepted) (kept : KeptRun) (r : OpenRun) : Type 0 where
+-- what is said of a program holds of each that is there
+abbrev pub EachProgram : (Accepted → Type 0) → List (Option Accepted) → Type 0
+EachProgram Holds programs = All (λ slot. IfSome slot Holds) programs
+
+-- An open run stands for one of the system: it is a run of the program at its place, stands for its state,
+-- and made as many steps.
+pub record StandsForRun (programs : List (Option Accepted)) (kept : KeptRun) (r : OpenRun) : Type 0 where
   pub accepted : Accepted
-  pub numbered : slice_get programs kept.program ≡ Some accepted
+  pub numbered : slice_get programs kept.program ≡ Some (Some accepted)
   pub program : r.program ≡ accepted.subject
   pub state : StandsFor accepted kept.run r.state
   pub steps : kept.run.steps ≡ r.steps
 
 -- there is no open run on either side, or there is one that stands for the other
-abbrev pub StandsForAnyRun : List Accepted → Option KeptRun → Option OpenRun → Type 0
+abbrev pub StandsForAnyRun : List (Option Accepted) → Option KeptRun → Option OpenRun → Type 0
 StandsForAnyRun programs None None = Unit {0}
 StandsForAnyRun programs None (Some r) = ⊥
 StandsForAnyRun programs (Some kept) None = ⊥
 StandsForAnyRun programs (Some kept) (Some r) = StandsForRun programs kept r
 
--- A kept tenant stands for one of the system: their programs are the same, each of which was accepted for
--- maps that the tenant has, and so are their open runs.
+-- A kept tenant stands for one of the system: at each place their programs are the same, each of which was
+-- accepted for maps that the tenant has, and so are their open runs.
 pub record StandsForTenant (kept : TenantView) (tenant : Tenant) : Type 0 where
-  pub programs : tenant.programs ≡ map (λ accepted. accepted.subject) kept.programs
-  pub verified : All IsVerified kept.programs
-  pub shapes : All (λ accepted. HaveShapes accepted.subject.shapes tenant.maps) kept.programs
+  pub programs : tenant.programs ≡ map (option_map (λ accepted. accepted.subject)) kept.programs
+  pub verified : EachProgram IsVerified kept.programs
+  pub shapes : EachProgram (λ accepted. HaveShapes accepted.subject.shapes tenant.maps) kept.programs
   pub run : StandsForAnyRun kept.programs kept.run tenant.run
   pub meets : IsTenant tenant
 

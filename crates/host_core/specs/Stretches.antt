@@ -15,8 +15,8 @@ use Rattle.host_core.specs.Happens.{sharing_after}
 
 -- An open run of a program stands for a state whose maps are the tenant's, and just what the rest of it may
 -- need is reserved for the tenant.
-pub record IsUnderWayAt (programs : List Accepted) (kept : KeptRun) (v : Accepted) (s : MachineState) (owned : TenantPart) : Type 0 where
-  pub numbered : slice_get programs kept.program ≡ Some v
+pub record IsUnderWayAt (programs : List (Option Accepted)) (kept : KeptRun) (v : Accepted) (s : MachineState) (owned : TenantPart) : Type 0 where
+  pub numbered : slice_get programs kept.program ≡ Some (Some v)
   pub stands : StandsFor v kept.run s
   pub maps : owned.maps ≡ s.memory.maps
   pub reserve : owned.reserve ≡ reserve_from v s.slot

@@ -1,6 +1,6 @@
 -- What a host is, without any of its machinery: each tenant's private memory, programs and open run, and
 -- which pages share frames.
-use Rattle.std.specs.Prelude.{◌≡◌, ℕ, ◌-◌, ◌*◌, ◌≤◌, List, [], flat_map, replicate, slice_get, sum_by, IfSome, Option, None, Some}
+use Rattle.std.specs.Prelude.{◌≡◌, ℕ, ◌-◌, ◌*◌, ◌≤◌, List, flat_map, length, position, replicate, slice_get, slice_index_or, sum_by, is_none, IfSome, Option, None, Some}
 use Rattle.host_types.specs.declared.options.Options.{Options}
 use Rattle.host_types.specs.Memory.{FlatMaps}
 use Rattle.host_types.specs.Sharing.{Sharing, frames_free}
@@ -23,10 +23,10 @@ pub record OpenRun : Type 0 where
   pub state : MachineState
   pub steps : ℕ
 
--- a tenant: its maps, its programs by number, and its open run, if it has one
+-- a tenant: its maps and its programs by place, and its open run, if it has one
 pub record Tenant : Type 0 where
   pub maps : FlatMaps
-  pub programs : List Subject
+  pub programs : List (Option Subject)
   pub run : Option OpenRun
 
 -- the tenants by number
@@ -39,9 +39,17 @@ pub record System : Type 0 where
   pub sharing : Sharing
   pub frames : ℕ
 
--- a tenant of a new host has eight places for maps, none of them taken, no program and no run
+-- the program at one of a tenant's places, if there is one
+abbrev pub program_at : Tenant → ℕ → Option Subject
+program_at tenant k = slice_index_or tenant.programs k None
+
+-- the first of a tenant's places where no program is
+abbrev pub free_place : Tenant → Option ℕ
+free_place tenant = position (λ (slot : Option Subject). is_none slot) tenant.programs
+
+-- a tenant of a new host has eight places for maps and eight for programs, none of them taken, and no run
 abbrev pub new_tenant : Tenant
-new_tenant = record { maps = replicate 8 None; programs = []; run = None }
+new_tenant = record { maps = replicate 8 None; programs = replicate 8 None; run = None }
 
 -- a new host: no page is there
 abbrev pub new_system : ℕ → ℕ → Options → System
@@ -58,9 +66,10 @@ pub record IsOpenRun (r : OpenRun) : Type 0 where
   pub reached : Runs r.program.text r.context r.maps r.steps (Next r.state)
   pub steps : r.steps ≤ instructions_before r.program.text r.state.slot
 
--- a tenant with an open run has the maps of that run's state
+-- a tenant has eight places for programs, and with an open run it has the maps of that run's state
 pub record IsTenant (tenant : Tenant) : Type 0 where
   pub maps : AreFlatMaps tenant.maps
+  pub places : length tenant.programs ≡ 8
   pub run : IfSome tenant.run IsOpenRun
   pub same : IfSome tenant.run (λ r. tenant.maps ≡ r.state.memory.maps)
 

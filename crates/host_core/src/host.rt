@@ -51,7 +51,7 @@ impl Host {
             return Err(Fault::OutOfMemory);
         };
         for _ in 0..tenants {
-            places.push_reserved(Tenant::new(alloc));
+            places.push_reserved(Tenant::new());
         }
         Ok(Host {
             alloc,

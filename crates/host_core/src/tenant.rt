@@ -1,4 +1,5 @@
-ghost use Rattle.std.specs.Prelude.{◌≡◌, min};
+ghost use Rattle.std.specs.Prelude.{◌≡◌, ◌<◌, min, length, position, slice_index_or, option_copied, is_none, Option, None, IfSome};
+ghost use Rattle.verifier.specs.Verified.{Accepted};
 ghost use Rattle.host_core.specs.HostView.{steps_of};
 
 use crate::event::{Event, Reply};
@@ -15,13 +16,10 @@ use std::marker::Model;
 use tenant_runs::answer;
 use verifier::Verified;
 
-// The most programs of a tenant.
-const MAX_PROGRAMS: usize = 8;
-
-// A tenant: its programs by number, and its open run, if it has one. Its maps are the memory's.
+// A tenant: its eight places for programs, and its open run, if it has one. Its maps are the memory's.
 #[derive(Drop)]
 pub(crate) struct Tenant {
-    programs: Vec<Verified>,
+    programs: [Option<Verified>; 8],
     run: Option<OpenRun>,
 }
 
@@ -45,7 +43,7 @@ impl Model for Tenant {
 
     ghost Value = { TenantView };
 
-    ghost view = { λ tenant. record { programs = tenant.programs.items; run = tenant.run } };
+    ghost view = { λ tenant. record { programs = tenant.programs; run = tenant.run } };
 }
 
 impl Tenant {
@@ -54,11 +52,11 @@ impl Tenant {
     ghost use Rattle.host_core.specs.World.{new_tenant};
     ghost use Rattle.host_core.specs.HostView.{StandsForTenant, IsKept, IsServed, HasMadeSteps, HasCounted, reply_of, tenant_of};
 
-    pub(crate) fn new(alloc: Global) -> Tenant
+    pub(crate) fn new() -> Tenant
         ensures { StandsForTenant result new_tenant }
     {
         Tenant {
-            programs: Vec::new(alloc),
+            programs: [None, None, None, None, None, None, None, None],
             run: None,
         }
     }
@@ -140,7 +138,7 @@ impl Tenant {
         Ok(Reply::Map(map))
     }
 
-    // Loads a program's text.
+    // Loads a program's text to the first free place.
     fn load(
         &mut self,
         alloc: Global,
@@ -155,10 +153,9 @@ impl Tenant {
         if self.run.is_some() {
             return Err(Fault::Busy);
         }
-        let loaded = self.programs.len();
-        if loaded >= MAX_PROGRAMS {
+        let Some(place) = first_free(self.programs.as_slice()) else {
             return Err(Fault::TooManyPrograms);
-        }
+        };
         if !is_context_size(context_size) {
             return Err(Fault::BadContext);
         }
@@ -167,10 +164,8 @@ impl Tenant {
         };
         let program = judge(alloc, shapes.as_slice(), text, context_size)?;
         memory.facts();
-        let Ok(()) = self.programs.push(program) else {
-            return Err(Fault::OutOfMemory);
-        };
-        Ok(Reply::Program(loaded as u32))
+        self.programs[place] = Some(program);
+        Ok(Reply::Program(place as u32))
     }
 
     // Opens a run of a program, with the frames that it may need.
@@ -188,12 +183,11 @@ impl Tenant {
         if self.run.is_some() {
             return Err(Fault::Busy);
         }
-        let place = program as usize;
-        if place >= self.programs.len() {
+        let Some(verified) = program_of(self.programs.as_slice(), program) else {
             return Err(Fault::NoProgram);
-        }
-        let run = Run::begin(alloc, &self.programs[place], context)?;
-        host_begin(memory, number, &self.programs[place])?;
+        };
+        let run = Run::begin(alloc, verified, context)?;
+        host_begin(memory, number, verified)?;
         memory.facts();
         self.run = Some(OpenRun { program, run });
         Ok(Reply::Begun)
@@ -322,7 +316,7 @@ impl OpenRun {
     // run returned, where it ended. What is reserved afterwards is what the rest of the run may need.
     fn advance(
         &mut self,
-        programs: &[Verified],
+        programs: &[Option<Verified>],
         memory: &mut Memory,
         number: u32,
         limit: u64,
@@ -335,7 +329,9 @@ impl OpenRun {
         ensures others { IsKeptBut number memory.old memory.new }
         ensures sizes { KeepsSizes memory.old memory.new }
     {
-        let program = &programs[self.program as usize];
+        let Some(program) = &programs[self.program as usize] else {
+            unreachable!();
+        };
         program.facts();
         match self
             .run
@@ -355,6 +351,24 @@ impl OpenRun {
             }
         }
     }
+}
+
+// The program at a place, if there is one.
+fn program_of(programs: &[Option<Verified>], place: u32) -> Option<&Verified>
+    ensures { option_copied result ≡ slice_index_or programs.now place None }
+{
+    match programs.get(place as usize) {
+        Some(program) => program.as_ref(),
+        None => None,
+    }
+}
+
+// The first place where no program is.
+fn first_free(programs: &[Option<Verified>]) -> Option<usize>
+    ensures first { result ≡ position (λ (slot : Option Accepted). is_none slot) programs.now }
+    ensures inside { IfSome result (λ place. place < length programs.now) }
+{
+    programs.iter().position(|slot| slot.is_none())
 }
 
 // How many steps an open run made, and 0 without one.

@@ -13,6 +13,9 @@ use plain_verifier::{Judged, Table, judge_forward};
 use std::alloc::{AllocError, Global};
 use verifier_kinds::Kind;
 
+/// The places that a tenant has for programs.
+const PROGRAMS: usize = 8;
+
 /// The last register.
 const LAST_REGISTER: u8 = 10;
 
@@ -22,6 +25,36 @@ pub(crate) struct PlainProgram {
     pub(crate) text: Vec<u8>,
     pub(crate) context_size: usize,
     costs: Vec<u32>,
+}
+
+/// A tenant's programs by place.
+pub(crate) type Programs = Vec<Option<PlainProgram>>;
+
+/// A tenant's places for programs, none of them taken.
+pub(crate) fn no_programs(alloc: Global) -> Result<Programs, AllocError> {
+    let mut programs = Vec::new(alloc);
+    for _ in 0..PROGRAMS {
+        programs.push(None)?;
+    }
+    Ok(programs)
+}
+
+/// The program at a place, if there is one.
+pub(crate) fn program_at(programs: &[Option<PlainProgram>], place: usize) -> Option<&PlainProgram> {
+    match programs.get(place) {
+        Some(Some(program)) => Some(program),
+        _ => None,
+    }
+}
+
+/// The first place where no program is.
+pub(crate) fn free_place(programs: &[Option<PlainProgram>]) -> Option<usize> {
+    for (place, program) in programs.iter().enumerate() {
+        if program.is_none() {
+            return Some(place);
+        }
+    }
+    None
 }
 
 impl PlainProgram {

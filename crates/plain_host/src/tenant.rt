@@ -5,15 +5,12 @@ use crate::maps::{
     page_count, update_charge, value_of, zero_map,
 };
 use crate::pages::Pages;
-use crate::programs::{PlainProgram, judge};
+use crate::programs::{Programs, free_place, judge, no_programs, program_at};
 use crate::runs::{PlainRun, Written, next_written, start, step};
 use host_core::{Event, Reply};
 use host_types::{Fault, Shape};
 use plain_machine::{Machine, Made};
 use std::alloc::{AllocError, Global};
-
-/// The most programs of a tenant.
-const MAX_PROGRAMS: usize = 8;
 
 /// The most bytes of a context.
 const MAX_CONTEXT: u32 = 256;
@@ -22,7 +19,7 @@ const MAX_CONTEXT: u32 = 256;
 pub(crate) struct PlainTenant {
     number: u32,
     maps: Maps,
-    programs: Vec<PlainProgram>,
+    programs: Programs,
     run: Option<PlainRun>,
 }
 
@@ -49,7 +46,7 @@ impl PlainTenant {
         Ok(PlainTenant {
             number,
             maps: no_maps(alloc)?,
-            programs: Vec::new(alloc),
+            programs: no_programs(alloc)?,
             run: None,
         })
     }
@@ -57,7 +54,7 @@ impl PlainTenant {
     /// What the rest of the open run may need of frames.
     pub(crate) fn reserve(&self) -> u32 {
         match &self.run {
-            Some(run) => match self.programs.get(run.program) {
+            Some(run) => match program_at(&self.programs, run.program) {
                 Some(program) => program.reserve(run.machine.slot()),
                 None => 0,
             },
@@ -145,20 +142,19 @@ impl PlainTenant {
         Ok(Reply::Map(count_of(number)))
     }
 
-    /// Loads a text with the next number.
+    /// Loads a text to the first free place.
     fn load(&mut self, alloc: Global, text: &[u8], context_size: u32) -> Result<Reply, Fault> {
-        let number = self.programs.len();
-        if number >= MAX_PROGRAMS {
+        let Some(number) = free_place(&self.programs) else {
             return Err(Fault::TooManyPrograms);
-        }
+        };
         if context_size > MAX_CONTEXT || context_size % 8 != 0 {
             return Err(Fault::BadContext);
         }
         let program = judge(alloc, &self.maps, text, context_size)?;
-        match self.programs.push(program) {
-            Ok(()) => Ok(Reply::Program(count_of(number))),
-            Err(_) => Err(Fault::OutOfMemory),
+        if let Some(place) = self.programs.get_mut(number) {
+            *place = Some(program);
         }
+        Ok(Reply::Program(count_of(number)))
     }
 
     /// Opens a run of a program, where there are frames for all that it may need.
@@ -169,7 +165,7 @@ impl PlainTenant {
         context: &[u8],
         have: u32,
     ) -> Result<Reply, Fault> {
-        let need = match self.programs.get(program) {
+        let need = match program_at(&self.programs, program) {
             None => return Err(Fault::NoProgram),
             Some(program) if program.context_size != context.len() => {
                 return Err(Fault::BadContext);
@@ -202,7 +198,7 @@ impl PlainTenant {
         let Some(run) = &mut self.run else {
             return Err(Fault::NoRun);
         };
-        let Some(program) = self.programs.get(run.program) else {
+        let Some(program) = program_at(&self.programs, run.program) else {
             return Err(Fault::NoProgram);
         };
         let writes = next_written(&run.machine, &program.text);

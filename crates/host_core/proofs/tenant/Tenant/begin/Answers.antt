@@ -1,14 +1,11 @@
-use Rattle.std.proofs.Common.{◌≡◌, ◌<◌, length, Some, is_some, true, false, refl, ◌∙◌, sym, ap, subst, arith}
-use Rattle.std.proofs.lemmas.Option.{slice_get_past, slice_get_read}
+use Rattle.std.proofs.Common.{◌≡◌, option_copied, None, Some, is_some, true, false, ◌∙◌, sym, ap, subst}
 use Rattle.std.proofs.lemmas.Result.{err_from_is_err_and}
 use Rattle.host_types.specs.declared.fault.Fault.TheVariants.{NoProgram}
-use Rattle.verifier.specs.Verified.{Accepted}
-use Rattle.interp.specs.StandsFor.{IsBegun}
 use Rattle.host_core.specs.declared.event.Event.TheVariants.{Begin}
 use Rattle.host_core.specs.declared.event.Reply.TheVariants.{Begun, Refused}
 use Rattle.host_core.specs.HostView.{TenantView, IsServed}
 use Rattle.host_core.proofs.Serving.{kept-there}
-use Rattle.host_core.proofs.Opening.{begin-busy, begin-no_program, begin-failed, begin-not_admitted, begin-begun, kept-idle}
+use Rattle.host_core.proofs.Opening.{accepted_at, lent-at, begin-busy, begin-no_program, begin-failed, begin-not_admitted, begin-begun, kept-idle}
 use Rattle.host_core.proofs.tenant.Tenant.begin.Goals as goal
 
 pub returns-then-is_some : goal.returns-then-is_some
@@ -16,20 +13,20 @@ returns-then-is_some c =
     let busy : is_some c.args.self.now.run ≡ true = sym (ap (λ (kept : TenantView). is_some kept.run) c.self.view_is) ∙ sym c.is_some.ensures ∙ c.if-is_some.true in
     begin-busy c.args.number c.args.program c.args.self.now c.args.memory.now c.args.context.now busy
 
-pub returns-then-place-len : goal.returns-then-place-len
-returns-then-place-len c =
-    let kept : TenantView = record { programs = c.self.inside.programs.items; run = c.self.inside.run } in
+pub returns-in_default : goal.returns-in_default
+returns-in_default c =
+    let kept : TenantView = record { programs = c.self.inside.programs; run = c.self.inside.run } in
     let idle : is_some c.self.inside.run ≡ false = sym c.is_some.ensures ∙ c.if-is_some.false in
-    let missing = slice_get_past c.self.inside.programs.items c.args.program (omega (arith, c.self.inside.programs.ok.0)) in
+    let missing : accepted_at kept c.args.program ≡ None = lent-at kept c.as_slice.result.now c.args.program c.as_slice.ensures c.program_of.ensures ∙ ap option_copied c.in_default.is in
     subst (λ seen. IsServed c.args.number seen c.args.memory.now (Begin c.args.number c.args.program c.args.context.now) (Refused NoProgram) seen c.args.memory.now) c.self.view_is
     (begin-no_program c.args.number c.args.program kept c.args.memory.now c.args.context.now idle missing)
 
 pub returns-in_err-run : goal.returns-in_err-run
 returns-in_err-run c =
-    let kept : TenantView = record { programs = c.self.inside.programs.items; run = c.self.inside.run } in
+    let kept : TenantView = record { programs = c.self.inside.programs; run = c.self.inside.run } in
     let idle : is_some c.self.inside.run ≡ false = sym c.is_some.ensures ∙ c.if-is_some.false in
-    let found = slice_get_read c.self.inside.programs.items (length c.self.inside.programs.items) c.args.program c.index.result.now refl (omega (arith, c.self.inside.programs.ok.0)) c.index.ensures in
-    let served = begin-failed c.args.number c.args.program kept c.args.context.now c.index.result.now idle found c.args.memory.now c.in_err-run.field-0.0
+    let found : accepted_at kept c.args.program ≡ Some c.in-Some.verified.now = lent-at kept c.as_slice.result.now c.args.program c.as_slice.ensures c.program_of.ensures ∙ ap option_copied c.in-Some.is in
+    let served = begin-failed c.args.number c.args.program kept c.args.context.now c.in-Some.verified.now idle found c.args.memory.now c.in_err-run.field-0.0
     c.in_err-run.ensures.refused
     (λ bad. c.in_err-run.ensures.bad_context.0 (cc))
     (λ other. let e = c.in_err-run.ensures.bad_context.1 other in cc) in
@@ -45,24 +42,14 @@ host_begin-requires-clause-none c =
     let idle : is_some c.args.self.now.run ≡ false = sym (ap (λ (kept : TenantView). is_some kept.run) c.self.view_is) ∙ sym c.is_some.ensures ∙ c.if-is_some.false in
     kept-idle c.args.number c.args.self.now c.args.memory.now c.requires.kept idle
 
--- the call of admission was on the program that the run is of
-same : (c : goal.After-drop-run-inside) → length c.args.context.now ≡ c.index-2.result.now.subject.context_size
-same c =
-    let within : c.args.program < length c.self.inside.programs.items = omega (arith, c.self.inside.programs.ok.0) in
-    let found = slice_get_read c.self.inside.programs.items (length c.self.inside.programs.items) c.args.program c.index.result.now refl within c.index.ensures in
-    let again = slice_get_read c.self.inside.programs.items (length c.self.inside.programs.items) c.args.program c.index-2.result.now refl within c.index-2.ensures in
-    let one : c.index.result.now ≡ c.index-2.result.now = cc in
-    subst (λ (v : Accepted). length c.args.context.now ≡ v.subject.context_size) one c.in_ok-run.ensures.sized
-
 pub returns-in_err-host_begin : goal.returns-in_err-host_begin
 returns-in_err-host_begin c =
-    let kept : TenantView = record { programs = c.self.inside.programs.items; run = c.self.inside.run } in
+    let kept : TenantView = record { programs = c.self.inside.programs; run = c.self.inside.run } in
     let idle : is_some c.self.inside.run ≡ false = sym c.is_some.ensures ∙ c.if-is_some.false in
-    let within : c.args.program < length c.self.inside.programs.items = omega (arith, c.self.inside.programs.ok.0) in
-    let found = slice_get_read c.self.inside.programs.items (length c.self.inside.programs.items) c.args.program c.index-2.result.now refl within c.index-2.ensures in
     let event = Begin c.args.number c.args.program c.args.context.now in
     let call = c.in_err-host_begin.ensures in
-    let served = begin-not_admitted c.args.number c.args.program kept c.args.context.now c.index-2.result.now idle found c.args.memory.now c.in_err-host_begin.field-0.0 (same c) call.refused call.told in
+    let found : accepted_at kept c.args.program ≡ Some c.in-Some.verified.now = lent-at kept c.as_slice.result.now c.args.program c.as_slice.ensures c.program_of.ensures ∙ ap option_copied c.in-Some.is in
+    let served = begin-not_admitted c.args.number c.args.program kept c.args.context.now c.in-Some.verified.now idle found c.args.memory.now c.in_err-host_begin.field-0.0 c.in_ok-run.ensures.sized call.refused call.told in
     let unchanged = subst (λ after. IsServed c.args.number kept c.args.memory.now event (Refused c.in_err-host_begin.field-0.0) kept after) (sym call.unchanged) served in
     let told = subst (λ seen. IsServed c.args.number seen c.args.memory.now event (Refused c.in_err-host_begin.field-0.0) seen c.host_begin.new.memory) c.self.view_is unchanged in
     let p = err_from_is_err_and c.from_residual-in_err-host_begin.result c.from_residual-in_err-host_begin.ensures.1 in
@@ -70,18 +57,13 @@ returns-in_err-host_begin c =
 
 pub returns : goal.returns
 returns c =
-    let kept : TenantView = record { programs = c.self.inside.programs.items; run = c.self.inside.run } in
+    let kept : TenantView = record { programs = c.self.inside.programs; run = c.self.inside.run } in
     let idle : is_some c.self.inside.run ≡ false = sym c.is_some.ensures ∙ c.if-is_some.false in
-    let within : c.args.program < length c.self.inside.programs.items = omega (arith, c.self.inside.programs.ok.0) in
-    let first = slice_get_read c.self.inside.programs.items (length c.self.inside.programs.items) c.args.program c.index.result.now refl within c.index.ensures in
-    let found = slice_get_read c.self.inside.programs.items (length c.self.inside.programs.items) c.args.program c.index-2.result.now refl within c.index-2.ensures in
-    let one : c.index.result.now ≡ c.index-2.result.now = cc in
-    let new : TenantView = record { programs = c.self.inside.programs.items; run = Some (record { program = c.args.program; run = c.in_ok-run.run' }) } in
+    let new : TenantView = record { programs = c.self.inside.programs; run = Some (record { program = c.args.program; run = c.in_ok-run.run' }) } in
     let event = Begin c.args.number c.args.program c.args.context.now in
-    let fits : length c.args.context.now ≡ c.index-2.result.now.subject.context_size = subst (λ (v : Accepted). length c.args.context.now ≡ v.subject.context_size) one c.in_ok-run.ensures.sized in
-    let begun : IsBegun c.index-2.result.now c.args.context.now c.in_ok-run.run' = subst (λ v. IsBegun v c.args.context.now c.in_ok-run.run') one c.in_ok-run.ensures.begun in
     let call = c.in_ok-host_begin.ensures in
-    let served = begin-begun c.args.number c.args.program kept c.args.memory.now c.host_begin.new.memory c.args.context.now c.in_ok-run.run' c.index-2.result.now idle found fits begun c.in_ok-run.ensures.steps (record {
+    let found : accepted_at kept c.args.program ≡ Some c.in-Some.verified.now = lent-at kept c.as_slice.result.now c.args.program c.as_slice.ensures c.program_of.ensures ∙ ap option_copied c.in-Some.is in
+    let served = begin-begun c.args.number c.args.program kept c.args.memory.now c.host_begin.new.memory c.args.context.now c.in_ok-run.run' c.in-Some.verified.now idle found c.in_ok-run.ensures.sized c.in_ok-run.ensures.begun c.in_ok-run.ensures.steps (record {
       enough = call.enough;
       recorded = call.recorded;
       all = call.all;

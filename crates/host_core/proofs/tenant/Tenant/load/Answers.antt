@@ -1,4 +1,4 @@
-use Rattle.std.proofs.Common.{◌≡◌, ◌≤◌, ◌<◌, length, List, [], ◌∷◌, ◌++◌, is_some, true, false, ◌∙◌, sym, ap, subst, arith}
+use Rattle.std.proofs.Common.{◌≡◌, List, set, Option, Some, None, is_some, true, false, ◌∙◌, sym, ap, subst}
 use Rattle.std.proofs.lemmas.Result.{err_from_is_err_and}
 use Rattle.host_types.specs.declared.fault.Fault.TheVariants.{TooManyPrograms, BadContext, OutOfMemory}
 use Rattle.page_table.specs.State.{part}
@@ -9,7 +9,7 @@ use Rattle.host_core.specs.declared.event.Event.TheVariants.{Load}
 use Rattle.host_core.specs.declared.event.Reply.TheVariants.{Program, Refused}
 use Rattle.host_core.specs.HostView.{TenantView, IsServed}
 use Rattle.host_core.proofs.Serving.{kept-there}
-use Rattle.host_core.proofs.Loading.{load-busy, load-full, load-size, load-lacks_memory, load-judged, load-accepted}
+use Rattle.host_core.proofs.Loading.{first_free_of, lent-free, load-busy, load-full, load-size, load-lacks_memory, load-judged, load-accepted}
 use Rattle.host_core.proofs.tenant.Tenant.load.Goals as goal
 
 pub returns-then-is_some : goal.returns-then-is_some
@@ -17,74 +17,60 @@ returns-then-is_some c =
     let busy : is_some c.args.self.now.run ≡ true = sym (ap (λ (kept : TenantView). is_some kept.run) c.self.view_is) ∙ sym c.is_some.ensures ∙ c.if-is_some.true in
     load-busy c.args.number c.args.self.now c.args.memory.now c.args.text.now c.args.context_size busy
 
-pub returns-then-loaded-ge-MAX_PROGRAMS : goal.returns-then-loaded-ge-MAX_PROGRAMS
-returns-then-loaded-ge-MAX_PROGRAMS c =
-    let kept : TenantView = record { programs = c.self.inside.programs.items; run = c.self.inside.run } in
+pub returns-in_default : goal.returns-in_default
+returns-in_default c =
+    let kept : TenantView = record { programs = c.self.inside.programs; run = c.self.inside.run } in
     let idle : is_some c.self.inside.run ≡ false = sym c.is_some.ensures ∙ c.if-is_some.false in
-    let full : 8 ≤ length c.self.inside.programs.items = omega (arith, c.self.inside.programs.ok.0) in
+    let full : first_free_of kept ≡ None = lent-free kept c.as_slice.result.now c.first_free.result c.as_slice.ensures c.first_free.ensures.first ∙ c.in_default.is in
     subst (λ seen. IsServed c.args.number seen c.args.memory.now (Load c.args.number c.args.text.now c.args.context_size) (Refused TooManyPrograms) seen c.args.memory.now) c.self.view_is
     (load-full c.args.number kept c.args.memory.now c.args.text.now c.args.context_size idle full)
 
 pub returns-then-not-is_context_size : goal.returns-then-not-is_context_size
 returns-then-not-is_context_size c =
-    let kept : TenantView = record { programs = c.self.inside.programs.items; run = c.self.inside.run } in
+    let kept : TenantView = record { programs = c.self.inside.programs; run = c.self.inside.run } in
     let idle : is_some c.self.inside.run ≡ false = sym c.is_some.ensures ∙ c.if-is_some.false in
-    let room : length c.self.inside.programs.items < 8 = omega (arith, c.self.inside.programs.ok.0) in
+    let room : first_free_of kept ≡ Some c.in-Some.place = lent-free kept c.as_slice.result.now c.first_free.result c.as_slice.ensures c.first_free.ensures.first ∙ c.in-Some.is in
     let odd : IsContextSize c.args.context_size → ⊥ = λ fits. let yes = c.is_context_size.ensures.1 fits in cc in
     subst (λ seen. IsServed c.args.number seen c.args.memory.now (Load c.args.number c.args.text.now c.args.context_size) (Refused BadContext) seen c.args.memory.now) c.self.view_is
-    (load-size c.args.number kept c.args.memory.now c.args.text.now c.args.context_size idle room odd)
+    (load-size c.args.number kept c.args.memory.now c.args.text.now c.args.context_size idle c.in-Some.place room odd)
 
 pub host_shapes-requires : goal.host_shapes-requires
 host_shapes-requires c = kept-there c.args.number c.args.self.now c.args.memory.now c.requires.kept
 
-pub returns-in_default : goal.returns-in_default
-returns-in_default c =
-    let kept : TenantView = record { programs = c.self.inside.programs.items; run = c.self.inside.run } in
+pub returns-in_default-host_shapes : goal.returns-in_default-host_shapes
+returns-in_default-host_shapes c =
+    let kept : TenantView = record { programs = c.self.inside.programs; run = c.self.inside.run } in
     let idle : is_some c.self.inside.run ≡ false = sym c.is_some.ensures ∙ c.if-is_some.false in
-    let room : length c.self.inside.programs.items < 8 = omega (arith, c.self.inside.programs.ok.0) in
+    let room : first_free_of kept ≡ Some c.in-Some.place = lent-free kept c.as_slice.result.now c.first_free.result c.as_slice.ensures c.first_free.ensures.first ∙ c.in-Some.is in
     let fits : IsContextSize c.args.context_size = c.is_context_size.ensures.0 (c.if-not-is_context_size.false) in
     subst (λ seen. IsServed c.args.number seen c.args.memory.now (Load c.args.number c.args.text.now c.args.context_size) (Refused OutOfMemory) seen c.args.memory.now) c.self.view_is
-    (load-lacks_memory c.args.number kept c.args.memory.now c.args.text.now c.args.context_size idle room fits)
+    (load-lacks_memory c.args.number kept c.args.memory.now c.args.text.now c.args.context_size idle c.in-Some.place room fits)
 
 pub returns-in_err-program : goal.returns-in_err-program
 returns-in_err-program c =
-    let kept : TenantView = record { programs = c.self.inside.programs.items; run = c.self.inside.run } in
+    let kept : TenantView = record { programs = c.self.inside.programs; run = c.self.inside.run } in
     let idle : is_some c.self.inside.run ≡ false = sym c.is_some.ensures ∙ c.if-is_some.false in
-    let room : length c.self.inside.programs.items < 8 = omega (arith, c.self.inside.programs.ok.0) in
+    let room : first_free_of kept ≡ Some c.in-Some.place = lent-free kept c.as_slice.result.now c.first_free.result c.as_slice.ensures c.first_free.ensures.first ∙ c.in-Some.is in
     let fits : IsContextSize c.args.context_size = c.is_context_size.ensures.0 (c.if-not-is_context_size.false) in
-    let shapes = c.as_slice.ensures.value ∙ c.in-Ok.ensures.shapes in
+    let shapes = c.as_slice-2.ensures.value ∙ c.in-Ok.ensures.shapes in
     let judged : IsJudgement (subject_of (part c.args.memory.now c.args.number) c.args.text.now c.args.context_size) c.in_err-program.field-0.0 =
     subst (λ listed. IsJudgement (subject_for listed c.args.text.now c.args.context_size) c.in_err-program.field-0.0) shapes c.in_err-program.ensures.refused in
-    let served = load-judged c.args.number kept c.args.memory.now c.args.text.now c.args.context_size idle room fits c.in_err-program.field-0.0 judged in
+    let served = load-judged c.args.number kept c.args.memory.now c.args.text.now c.args.context_size idle c.in-Some.place room fits c.in_err-program.field-0.0 judged in
     let told = subst (λ seen. IsServed c.args.number seen c.args.memory.now (Load c.args.number c.args.text.now c.args.context_size) (Refused c.in_err-program.field-0.0) seen c.args.memory.now) c.self.view_is served in
     let p = err_from_is_err_and c.from_residual.result c.from_residual.ensures.1 in
     rw (p.1, p.2) told
 
-pub returns-in_default-push : goal.returns-in_default-push
-returns-in_default-push c =
-    let with : List Accepted → TenantView = λ programs. record { programs = programs; run = c.self.inside.run } in
-    let idle : is_some c.self.inside.run ≡ false = sym c.is_some.ensures ∙ c.if-is_some.false in
-    let room : length c.self.inside.programs.items < 8 = omega (arith, c.self.inside.programs.ok.0) in
-    let fits : IsContextSize c.args.context_size = c.is_context_size.ensures.0 (c.if-not-is_context_size.false) in
-    let event = Load c.args.number c.args.text.now c.args.context_size in
-    let lacks = load-lacks_memory c.args.number (with c.self.inside.programs.items) c.args.memory.now c.args.text.now c.args.context_size idle room fits in
-    let served = subst (λ programs. IsServed c.args.number (with c.self.inside.programs.items) c.args.memory.now event (Refused OutOfMemory) (with programs) c.args.memory.now) (sym c.in_default-push.ensures.items) lacks in
-    subst (λ seen. IsServed c.args.number seen c.args.memory.now event (Refused OutOfMemory) (with c.push.new.self.items) c.args.memory.now) c.self.view_is served
-
 pub returns : goal.returns
 returns c =
-    let with : List Accepted → TenantView = λ programs. record { programs = programs; run = c.self.inside.run } in
-    let kept : TenantView = with c.self.inside.programs.items in
+    let with : List (Option Accepted) → TenantView = λ programs. record { programs = programs; run = c.self.inside.run } in
+    let kept : TenantView = with c.self.inside.programs in
     let idle : is_some c.self.inside.run ≡ false = sym c.is_some.ensures ∙ c.if-is_some.false in
-    let room : length c.self.inside.programs.items < 8 = omega (arith, c.self.inside.programs.ok.0) in
+    let room : first_free_of kept ≡ Some c.in-Some.place = lent-free kept c.as_slice.result.now c.first_free.result c.as_slice.ensures c.first_free.ensures.first ∙ c.in-Some.is in
     let fits : IsContextSize c.args.context_size = c.is_context_size.ensures.0 (c.if-not-is_context_size.false) in
     let event = Load c.args.number c.args.text.now c.args.context_size in
-    let shapes = c.as_slice.ensures.value ∙ c.in-Ok.ensures.shapes in
+    let shapes = c.as_slice-2.ensures.value ∙ c.in-Ok.ensures.shapes in
     let v = c.in_ok-program.program in
     let is : v.subject ≡ subject_of (part c.args.memory.now c.args.number) c.args.text.now c.args.context_size =
     c.in_ok-program.ensures.subject ∙ ap (λ listed. subject_for listed c.args.text.now c.args.context_size) shapes in
-    let number : length c.self.inside.programs.items ≡ c.len-loaded.result = omega (arith, c.self.inside.programs.ok.0) in
-    let served = load-accepted c.args.number kept c.args.memory.now c.args.text.now c.args.context_size idle room fits v is c.in_ok-program.ensures.well_formed c.in_ok-program.ensures.verified c.facts.ensures in
-    let told = subst (λ n. IsServed c.args.number kept c.args.memory.now event (Program n) (with (kept.programs ++ v ∷ [])) c.args.memory.now) number served in
-    let pushed = subst (λ programs. IsServed c.args.number kept c.args.memory.now event (Program c.len-loaded.result) (with programs) c.args.memory.now) (sym c.in-Ok-push.ensures.items) told in
-    subst (λ seen. IsServed c.args.number seen c.args.memory.now event (Program c.len-loaded.result) (with c.push.new.self.items) c.args.memory.now) c.self.view_is pushed
+    let served = load-accepted c.args.number kept c.args.memory.now c.args.text.now c.args.context_size idle c.in-Some.place room fits v is c.in_ok-program.ensures.well_formed c.in_ok-program.ensures.verified c.facts.ensures in
+    subst (λ seen. IsServed c.args.number seen c.args.memory.now event (Program c.in-Some.place) (with (set kept.programs c.in-Some.place (Some v))) c.args.memory.now) c.self.view_is served

@@ -1,6 +1,19 @@
 use Rattle.std.proofs.Common.{◌≡◌, ℕ, Option, Some, sym}
 use Rattle.host_core.proofs.tenant.Tenant.serve.Goals as goal
 
+pub returns-in-CreateMap : goal.returns-in-CreateMap
+returns-in-CreateMap c =
+    let named : ◌≡◌ {A = Option ℕ} (Some c.in-CreateMap.tenant) (Some c.args.number) = rw c.in-CreateMap.is at c.requires.named in
+    let same : c.in-CreateMap.tenant ≡ c.args.number = cc in
+    rw (c.in-CreateMap.is, same) c.create_map.ensures
+
+pub returns-in-Load : goal.returns-in-Load
+returns-in-Load c =
+    let named : ◌≡◌ {A = Option ℕ} (Some c.in-Load.tenant) (Some c.args.number) = rw c.in-Load.is at c.requires.named in
+    let same : c.in-Load.tenant ≡ c.args.number = cc in
+    let bytes : c.as_slice.result.now ≡ c.in-Load.text = c.as_slice.ensures in
+    rw (c.in-Load.is, same, sym bytes) c.load.ensures
+
 pub returns-in-Begin : goal.returns-in-Begin
 returns-in-Begin c =
     let named : ◌≡◌ {A = Option ℕ} (Some c.in-Begin.tenant) (Some c.args.number) = rw c.in-Begin.is at c.requires.named in

@@ -9,21 +9,21 @@ use Rattle.host_core.proofs.tenant.Tenant.stretch.Goals as goal
 
 pub returns-in_default-clause-made : goal.returns-in_default-clause-made
 returns-in_default-clause-made c =
-    let seen : TenantView = record { programs = c.self.inside.programs.items; run = c.self.inside.run } in
+    let seen : TenantView = record { programs = c.self.inside.programs; run = c.self.inside.run } in
     let none : c.self.inside.run ≡ None = c.in_default.is in
     subst (λ old. HasMadeSteps c.args.number old c.args.memory.now 1 (Some (Refused NoRun)) seen c.args.memory.now) c.self.view_is
     (made-no_run seen c.args.number 1 c.args.memory.now none (omega arith) c.facts.ensures)
 
 pub advance-ended-requires-clause-under_way : goal.advance-ended-requires-clause-under_way
 advance-ended-requires-clause-under_way c =
-    let kept = kept-open c.args.self.now c.self.inside.programs.items c.self.inside.run c.in-Some.open c.args.number c.args.memory.now c.self.view_is c.in-Some.is c.requires.kept in
-    let (v, s, under) = under-way-kept c.self.inside.programs.items c.in-Some.open c.args.number c.args.memory.now kept in
-    (v, s, subst (λ programs. IsUnderWayAt programs c.in-Some.open v s (part c.args.memory.now c.args.number)) (sym c.as_slice.ensures.value) under)
+    let kept = kept-open c.args.self.now c.self.inside.programs c.self.inside.run c.in-Some.open c.args.number c.args.memory.now c.self.view_is c.in-Some.is c.requires.kept in
+    let (v, s, under) = under-way-kept c.self.inside.programs c.in-Some.open c.args.number c.args.memory.now kept in
+    (v, s, subst (λ programs. IsUnderWayAt programs c.in-Some.open v s (part c.args.memory.now c.args.number)) (sym c.as_slice.ensures) under)
 
 pub overflow_sub-steps : goal.overflow_sub-steps
 overflow_sub-steps c =
-    let kept = kept-open c.args.self.now c.self.inside.programs.items c.self.inside.run c.in-Some.open c.args.number c.args.memory.now c.self.view_is c.in-Some.is c.requires.kept in
-    let kept' = subst (λ programs. IsKept c.args.number (record { programs = programs; run = Some c.in-Some.open }) c.args.memory.now) (sym c.as_slice.ensures.value) kept in
+    let kept = kept-open c.args.self.now c.self.inside.programs c.self.inside.run c.in-Some.open c.args.number c.args.memory.now c.self.view_is c.in-Some.is c.requires.kept in
+    let kept' = subst (λ programs. IsKept c.args.number (record { programs = programs; run = Some c.in-Some.open }) c.args.memory.now) (sym c.as_slice.ensures) kept in
     let open_steps = ap steps_of c.in-Some.is in
     let some = advanced-some c.as_slice.result.now c.in-Some.open c.advance-ended.new.self.run c.args.number c.args.limit c.advance-ended.result c.args.memory.now c.advance-ended.new.memory kept' c.advance-ended.ensures.advanced in
     let (more, most) = some in
@@ -31,44 +31,44 @@ overflow_sub-steps c =
 
 pub returns-in-Some-ended-clause-some : goal.returns-in-Some-ended-clause-some
 returns-in-Some-ended-clause-some c =
-    let kept = kept-open c.args.self.now c.self.inside.programs.items c.self.inside.run c.in-Some.open c.args.number c.args.memory.now c.self.view_is c.in-Some.is c.requires.kept in
-    let kept' = subst (λ programs. IsKept c.args.number (record { programs = programs; run = Some c.in-Some.open }) c.args.memory.now) (sym c.as_slice.ensures.value) kept in
+    let kept = kept-open c.args.self.now c.self.inside.programs c.self.inside.run c.in-Some.open c.args.number c.args.memory.now c.self.view_is c.in-Some.is c.requires.kept in
+    let kept' = subst (λ programs. IsKept c.args.number (record { programs = programs; run = Some c.in-Some.open }) c.args.memory.now) (sym c.as_slice.ensures) kept in
     let open_steps = ap steps_of c.in-Some.is in
     let (more, most) = advanced-some c.as_slice.result.now c.in-Some.open c.advance-ended.new.self.run c.args.number c.args.limit c.advance-ended.result c.args.memory.now c.advance-ended.new.memory kept' c.advance-ended.ensures.advanced in
     omega (arith, more, c.steps-steps.ensures, c.steps_made-before.ensures, open_steps, c.from-made.ensures)
 
 pub returns-in-Some-ended-clause-few : goal.returns-in-Some-ended-clause-few
 returns-in-Some-ended-clause-few c =
-    let kept = kept-open c.args.self.now c.self.inside.programs.items c.self.inside.run c.in-Some.open c.args.number c.args.memory.now c.self.view_is c.in-Some.is c.requires.kept in
-    let kept' = subst (λ programs. IsKept c.args.number (record { programs = programs; run = Some c.in-Some.open }) c.args.memory.now) (sym c.as_slice.ensures.value) kept in
+    let kept = kept-open c.args.self.now c.self.inside.programs c.self.inside.run c.in-Some.open c.args.number c.args.memory.now c.self.view_is c.in-Some.is c.requires.kept in
+    let kept' = subst (λ programs. IsKept c.args.number (record { programs = programs; run = Some c.in-Some.open }) c.args.memory.now) (sym c.as_slice.ensures) kept in
     let open_steps = ap steps_of c.in-Some.is in
     let (more, most) = advanced-some c.as_slice.result.now c.in-Some.open c.advance-ended.new.self.run c.args.number c.args.limit c.advance-ended.result c.args.memory.now c.advance-ended.new.memory kept' c.advance-ended.ensures.advanced in
     omega (arith, more, most, c.steps-steps.ensures, c.steps_made-before.ensures, open_steps, c.from-made.ensures)
 
 pub returns-in-Some-ended-clause-made : goal.returns-in-Some-ended-clause-made
 returns-in-Some-ended-clause-made c =
-    let kept = kept-open c.args.self.now c.self.inside.programs.items c.self.inside.run c.in-Some.open c.args.number c.args.memory.now c.self.view_is c.in-Some.is c.requires.kept in
-    let kept' = subst (λ programs. IsKept c.args.number (record { programs = programs; run = Some c.in-Some.open }) c.args.memory.now) (sym c.as_slice.ensures.value) kept in
+    let kept = kept-open c.args.self.now c.self.inside.programs c.self.inside.run c.in-Some.open c.args.number c.args.memory.now c.self.view_is c.in-Some.is c.requires.kept in
+    let kept' = subst (λ programs. IsKept c.args.number (record { programs = programs; run = Some c.in-Some.open }) c.args.memory.now) (sym c.as_slice.ensures) kept in
     let open_steps = ap steps_of c.in-Some.is in
     let (more, most) = advanced-some c.as_slice.result.now c.in-Some.open c.advance-ended.new.self.run c.args.number c.args.limit c.advance-ended.result c.args.memory.now c.advance-ended.new.memory kept' c.advance-ended.ensures.advanced in
     let counted : c.in-Some.open.run.steps + c.from-made.result ≡ c.advance-ended.new.self.run.steps = omega (arith, more, c.steps-steps.ensures, c.steps_made-before.ensures, open_steps, c.from-made.ensures) in
-    (made-open c.args.self.now (record { programs = c.self.inside.programs.items; run = None }) c.self.inside.programs.items c.self.inside.run c.in-Some.open c.args.number c.from-made.result (Some (Ended c.in-Some-ended.ret c.steps-steps.result)) c.args.memory.now c.advance-ended.new.memory c.self.view_is c.in-Some.is
-    (made-last_step c.self.inside.programs.items c.in-Some.open c.advance-ended.new.self.run c.args.number c.args.limit c.in-Some-ended.ret c.from-made.result c.steps-steps.result c.args.memory.now c.advance-ended.new.memory
+    (made-open c.args.self.now (record { programs = c.self.inside.programs; run = None }) c.self.inside.programs c.self.inside.run c.in-Some.open c.args.number c.from-made.result (Some (Ended c.in-Some-ended.ret c.steps-steps.result)) c.args.memory.now c.advance-ended.new.memory c.self.view_is c.in-Some.is
+    (made-last_step c.self.inside.programs c.in-Some.open c.advance-ended.new.self.run c.args.number c.args.limit c.in-Some-ended.ret c.from-made.result c.steps-steps.result c.args.memory.now c.advance-ended.new.memory
     c.facts.ensures c.facts-2.ensures c.advance-ended.ensures.others c.advance-ended.ensures.sizes counted c.steps-steps.ensures
-    (λ v s under. c.in-Some-ended.ensures.advanced v s (subst (λ programs. IsUnderWayAt programs c.in-Some.open v s (part c.args.memory.now c.args.number)) (sym c.as_slice.ensures.value) under))))
+    (λ v s under. c.in-Some-ended.ensures.advanced v s (subst (λ programs. IsUnderWayAt programs c.in-Some.open v s (part c.args.memory.now c.args.number)) (sym c.as_slice.ensures) under))))
 
 pub returns-in-None-clause-some : goal.returns-in-None-clause-some
 returns-in-None-clause-some c =
-    let kept = kept-open c.args.self.now c.self.inside.programs.items c.self.inside.run c.in-Some.open c.args.number c.args.memory.now c.self.view_is c.in-Some.is c.requires.kept in
-    let kept' = subst (λ programs. IsKept c.args.number (record { programs = programs; run = Some c.in-Some.open }) c.args.memory.now) (sym c.as_slice.ensures.value) kept in
+    let kept = kept-open c.args.self.now c.self.inside.programs c.self.inside.run c.in-Some.open c.args.number c.args.memory.now c.self.view_is c.in-Some.is c.requires.kept in
+    let kept' = subst (λ programs. IsKept c.args.number (record { programs = programs; run = Some c.in-Some.open }) c.args.memory.now) (sym c.as_slice.ensures) kept in
     let open_steps = ap steps_of c.in-Some.is in
     let (more, most) = advanced-some c.as_slice.result.now c.in-Some.open c.advance-ended.new.self.run c.args.number c.args.limit c.advance-ended.result c.args.memory.now c.advance-ended.new.memory kept' c.advance-ended.ensures.advanced in
     omega (arith, more, c.steps-steps.ensures, c.steps_made-before.ensures, open_steps, c.from-made.ensures)
 
 pub returns-in-None-clause-few : goal.returns-in-None-clause-few
 returns-in-None-clause-few c =
-    let kept = kept-open c.args.self.now c.self.inside.programs.items c.self.inside.run c.in-Some.open c.args.number c.args.memory.now c.self.view_is c.in-Some.is c.requires.kept in
-    let kept' = subst (λ programs. IsKept c.args.number (record { programs = programs; run = Some c.in-Some.open }) c.args.memory.now) (sym c.as_slice.ensures.value) kept in
+    let kept = kept-open c.args.self.now c.self.inside.programs c.self.inside.run c.in-Some.open c.args.number c.args.memory.now c.self.view_is c.in-Some.is c.requires.kept in
+    let kept' = subst (λ programs. IsKept c.args.number (record { programs = programs; run = Some c.in-Some.open }) c.args.memory.now) (sym c.as_slice.ensures) kept in
     let open_steps = ap steps_of c.in-Some.is in
     let (more, most) = advanced-some c.as_slice.result.now c.in-Some.open c.advance-ended.new.self.run c.args.number c.args.limit c.advance-ended.result c.args.memory.now c.advance-ended.new.memory kept' c.advance-ended.ensures.advanced in
     omega (arith, more, most, c.steps-steps.ensures, c.steps_made-before.ensures, open_steps, c.from-made.ensures)
@@ -76,25 +76,25 @@ returns-in-None-clause-few c =
 -- the steps that were made are those that the run counted
 counted : (c : goal.In-None) → c.in-Some.open.run.steps + c.from-made.result ≡ c.advance-ended.new.self.run.steps
 counted c =
-    let kept = kept-open c.args.self.now c.self.inside.programs.items c.self.inside.run c.in-Some.open c.args.number c.args.memory.now c.self.view_is c.in-Some.is c.requires.kept in
-    let kept' = subst (λ programs. IsKept c.args.number (record { programs = programs; run = Some c.in-Some.open }) c.args.memory.now) (sym c.as_slice.ensures.value) kept in
+    let kept = kept-open c.args.self.now c.self.inside.programs c.self.inside.run c.in-Some.open c.args.number c.args.memory.now c.self.view_is c.in-Some.is c.requires.kept in
+    let kept' = subst (λ programs. IsKept c.args.number (record { programs = programs; run = Some c.in-Some.open }) c.args.memory.now) (sym c.as_slice.ensures) kept in
     let open_steps = ap steps_of c.in-Some.is in
     let (more, most) = advanced-some c.as_slice.result.now c.in-Some.open c.advance-ended.new.self.run c.args.number c.args.limit c.advance-ended.result c.args.memory.now c.advance-ended.new.memory kept' c.advance-ended.ensures.advanced in
     omega (arith, more, c.steps-steps.ensures, c.steps_made-before.ensures, open_steps, c.from-made.ensures)
 
 -- what they make of the tenant
-made : (c : goal.In-None) → HasMadeSteps c.args.number c.args.self.now c.args.memory.now c.from-made.result None (record { programs = c.self.inside.programs.items; run = Some c.advance-ended.new.self }) c.advance-ended.new.memory
+made : (c : goal.In-None) → HasMadeSteps c.args.number c.args.self.now c.args.memory.now c.from-made.result None (record { programs = c.self.inside.programs; run = Some c.advance-ended.new.self }) c.advance-ended.new.memory
 made c =
-    made-open c.args.self.now (record { programs = c.self.inside.programs.items; run = Some c.advance-ended.new.self }) c.self.inside.programs.items c.self.inside.run c.in-Some.open c.args.number c.from-made.result None c.args.memory.now c.advance-ended.new.memory c.self.view_is c.in-Some.is
-    (made-steps c.self.inside.programs.items c.in-Some.open c.advance-ended.new.self c.args.number c.args.limit c.from-made.result c.args.memory.now c.advance-ended.new.memory
+    made-open c.args.self.now (record { programs = c.self.inside.programs; run = Some c.advance-ended.new.self }) c.self.inside.programs c.self.inside.run c.in-Some.open c.args.number c.from-made.result None c.args.memory.now c.advance-ended.new.memory c.self.view_is c.in-Some.is
+    (made-steps c.self.inside.programs c.in-Some.open c.advance-ended.new.self c.args.number c.args.limit c.from-made.result c.args.memory.now c.advance-ended.new.memory
     c.facts.ensures c.facts-2.ensures c.advance-ended.ensures.others c.advance-ended.ensures.sizes c.advance-ended.ensures.program (counted c)
-    (λ v s under. c.in-None.ensures.advanced v s (subst (λ programs. IsUnderWayAt programs c.in-Some.open v s (part c.args.memory.now c.args.number)) (sym c.as_slice.ensures.value) under)))
+    (λ v s under. c.in-None.ensures.advanced v s (subst (λ programs. IsUnderWayAt programs c.in-Some.open v s (part c.args.memory.now c.args.number)) (sym c.as_slice.ensures) under)))
 
 pub returns-in-None-clause-made : goal.returns-in-None-clause-made
 returns-in-None-clause-made c = made c
 
 pub returns-in-None-clause-counted : goal.returns-in-None-clause-counted
 returns-in-None-clause-counted c =
-    let before = steps-open c.args.self.now c.self.inside.programs.items c.self.inside.run c.in-Some.open c.self.view_is c.in-Some.is in
+    let before = steps-open c.args.self.now c.self.inside.programs c.self.inside.run c.in-Some.open c.self.view_is c.in-Some.is in
     let more = counted c in
     omega (arith, before, more)

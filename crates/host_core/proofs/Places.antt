@@ -1,0 +1,38 @@
+-- Lists of places, at each of which something is or isn't.
+use Rattle.std.proofs.Common.{◌≡◌, ℕ, zero, suc, ◌+◌, List, [], ◌∷◌, map, set, get_or, not, Option, Some, None, is_none, IfSome, ap, refl, subst}
+use Rattle.std.specs.List.{slice_get, All, position, prefix_len}
+use Rattle.std.specs.Option.{option_map}
+use Rattle.std.proofs.lemmas.List.{length-map}
+use Rattle.std.proofs.lemmas.Option.{get_or_from_slice_get, slice_get_within}
+
+module _ {A B : Type 0} (f : A → B) where
+  -- what is made of the thing at a place
+  pub get_or-there : (xs : List (Option A)) (k : ℕ) → get_or (map (option_map f) xs) k None ≡ option_map f (get_or xs k None)
+  get_or-there [] k = refl
+  get_or-there (x ∷ xs) zero = refl
+  get_or-there (x ∷ xs) (suc k) = get_or-there xs k
+
+  same_prefix : (xs : List (Option A)) → prefix_len (λ (place : Option B). not (is_none place)) (map (option_map f) xs) ≡ prefix_len (λ (place : Option A). not (is_none place)) xs
+  same_prefix [] = refl
+  same_prefix (None ∷ xs) = refl
+  same_prefix (Some x ∷ xs) = ap (λ n. 1 + n) (same_prefix xs)
+
+  -- the same place is the first that is free
+  pub first_free-map : (xs : List (Option A)) → position (λ (place : Option B). is_none place) (map (option_map f) xs) ≡ position (λ (place : Option A). is_none place) xs
+  first_free-map xs = rw (same_prefix xs, length-map xs (option_map f)) refl
+
+-- a list that is changed at a place, and made another
+pub map-set : {A B : Type 0} (f : A → B) (xs : List A) (k : ℕ) (x : A) → map f (set xs k x) ≡ set (map f xs) k (f x)
+map-set f [] k x = refl
+map-set f (y ∷ xs) zero x = refl
+map-set f (y ∷ xs) (suc k) x = ap (λ zs. f y ∷ zs) (map-set f xs k x)
+
+-- where something is, there is a place
+pub slice_get-there : {A : Type 0} (xs : List (Option A)) (k : ℕ) (x : A) → get_or xs k None ≡ Some x → slice_get xs k ≡ Some (Some x)
+slice_get-there [] k x e = absurd (cc)
+slice_get-there (y ∷ xs) zero x e = ap Some e
+slice_get-there (y ∷ xs) (suc k) x e = slice_get-there xs k x e
+
+-- what is said of all that is there holds of what is at a place
+pub all-at : {A : Type 0} (P : A → Type 0) (xs : List (Option A)) (k : ℕ) (x : A) → All (λ place. IfSome place P) xs → slice_get xs k ≡ Some (Some x) → P x
+all-at P xs k x all e = subst (λ place. IfSome place P) (get_or_from_slice_get xs k (Some x) None e) (all k None (slice_get_within xs k (Some x) e))
