@@ -1,1 +1,2 @@
 pub mod AtRest
+pub mod Told

@@ -1,7 +1,8 @@
 //! What is written when all threads have ended.
 
-ghost use Rattle.std.specs.Prelude.{◌≡◌, IfErr};
+ghost use Rattle.std.specs.Prelude.{IfErr, IfSome, OnOk};
 ghost use Rattle.host_file.specs.Faults.{IsBad};
+ghost use Rattle.serving.specs.Told.{HasTold, Names};
 
 use crate::telling::Told;
 use host_core::{Bytes, Event, Reply};
@@ -21,6 +22,7 @@ pub(crate) fn tell_runs<W: Write, E: Write>(
     writer: &mut W,
     words: &mut E,
 ) -> Result<(), FileFault>
+    ensures told { OnOk result (HasTold commands.now told.old.has_refused told.new.has_refused (W.contents writer.old) (W.contents writer.new)) }
     ensures bad { IfErr result (λ fault. ¬ IsBad fault) }
 {
     let mut tenant = 0u32;
@@ -40,6 +42,7 @@ fn tell_tenant<W: Write, E: Write>(
     writer: &mut W,
     words: &mut E,
 ) -> Result<(), FileFault>
+    ensures told { OnOk result (HasTold commands.now told.old.has_refused told.new.has_refused (W.contents writer.old) (W.contents writer.new)) }
     ensures bad { IfErr result (λ fault. ¬ IsBad fault) }
 {
     let mut replies = replies.iter();
@@ -58,7 +61,9 @@ fn tell_tenant<W: Write, E: Write>(
 }
 
 /// The event that opens a command's run, where it is a run of this tenant.
-fn run_of(tenant: u32, command: &Command) -> Option<&Event> {
+fn run_of(tenant: u32, command: &Command) -> Option<&Event>
+    ensures { IfSome result (λ event. Names event.now command.now) }
+{
     match command {
         Command::Run(event) if event.tenant() == Some(tenant) => Some(event),
         _ => None,
@@ -86,6 +91,7 @@ pub(crate) fn tell_lookups<W: Write, E: Write>(
     writer: &mut W,
     words: &mut E,
 ) -> Result<(), FileFault>
+    ensures told { OnOk result (HasTold commands.now told.old.has_refused told.new.has_refused (W.contents writer.old) (W.contents writer.new)) }
     ensures bad { IfErr result (λ fault. ¬ IsBad fault) }
 {
     for (number, command) in commands.iter().enumerate() {

@@ -1,9 +1,15 @@
 //! A host file that is served: what it may ask for, and in which order it is done.
 
-ghost use Rattle.std.specs.Prelude.{◌≡◌, ◌≤◌, All, IfErr, IfOk};
+ghost use Rattle.std.specs.Prelude.{◌≡◌, ◌≤◌, length, All, IfErr, IfOk, IfSome, OnOk};
+ghost use Rattle.std.specs.Io.KnownBytes.{Appends};
 ghost use Rattle.host_file.specs.Faults.{IsBad};
+ghost use Rattle.host_file.specs.HostFile.{IsFileText, max_bytes};
+ghost use Rattle.host_file.specs.Served.{IsServed};
+ghost use Rattle.host_file.specs.declared.file.HostFile.{HostFile};
 ghost use Rattle.turn.specs.Seats.{IsIdle};
+ghost use Rattle.engines.specs.Lines.{line_of, refusal_text};
 ghost use Rattle.tenant_workers.specs.Plans.{IsFor};
+ghost use Rattle.serving.specs.Told.{HasTold, IsServedSo};
 
 use crate::closing::{tell_lookups, tell_runs};
 use crate::house::{House, open_house, plans_of};
@@ -41,6 +47,9 @@ pub fn serve_file<T: Threads + Wait + Sync, R: Read, W: Write, E: Write>(
     words: &mut E,
 ) -> Result<u8, FileFault>
     ensures status { IfOk result (λ status. status ≤ 1) }
+    ensures served { IfOk result (λ status. IfSome (R.remaining reader.old) (λ bytes.
+        (length bytes ≤ max_bytes) × ((file : HostFile) × IsFileText bytes file × All (IsServed file.tenants) file.commands
+        × IsServedSo file.commands status (W.contents writer.old) (W.contents writer.new)))) }
     ensures bad { IfErr result (λ fault. IsBad fault → (writer.new ≡ writer.old) × (words.new ≡ words.old)) }
 {
     let file = file_from(alloc, reader)?;
@@ -60,7 +69,7 @@ fn serve_document<T: Threads + Wait + Sync, W: Write, E: Write>(
     writer: &mut W,
     words: &mut E,
 ) -> Result<u8, FileFault>
-    ensures status { IfOk result (λ status. status ≤ 1) }
+    ensures served { IfOk result (λ status. IsServedSo file.now.commands status (W.contents writer.old) (W.contents writer.new)) }
     ensures bad { IfErr result (λ fault. ¬ IsBad fault) }
 {
     match open_house(alloc, file) {
@@ -79,6 +88,7 @@ fn refuse<W: Write, E: Write>(
     writer: &mut W,
     words: &mut E,
 ) -> Result<(), FileFault>
+    ensures line { OnOk result (Appends (W.contents writer.old) (W.contents writer.new) (line_of (refusal_text fault))) }
     ensures bad { IfErr result (λ fault. ¬ IsBad fault) }
 {
     write_refusal(writer, fault)?;
@@ -96,7 +106,7 @@ fn serve_house<T: Threads + Wait + Sync, W: Write, E: Write>(
     writer: &mut W,
     words: &mut E,
 ) -> Result<u8, FileFault>
-    ensures status { IfOk result (λ status. status ≤ 1) }
+    ensures served { IfOk result (λ status. IsServedSo file.now.commands status (W.contents writer.old) (W.contents writer.new)) }
     ensures bad { IfErr result (λ fault. ¬ IsBad fault) }
 {
     let House {
@@ -138,6 +148,7 @@ fn serve_plan<T: Threads + Wait + Sync, W: Write, E: Write>(
     requires host { IsIdle shared.now host.old }
     requires own { All (IsFor shared.now) plan.old.tenants.items }
     requires scan { plan.old.scan.shared.now ≡ shared.now }
+    ensures told { OnOk result (HasTold file.now.commands told.old.has_refused told.new.has_refused (W.contents writer.old) (W.contents writer.new)) }
     ensures bad { IfErr result (λ fault. ¬ IsBad fault) }
 {
     let commands = file.commands.as_slice();

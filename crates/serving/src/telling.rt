@@ -1,7 +1,10 @@
 //! What is written of a served file's events.
 
-ghost use Rattle.std.specs.Prelude.{IfErr};
+ghost use Rattle.std.specs.Prelude.{◌≡◌, ◌||◌, IfErr, OnOk};
+ghost use Rattle.std.specs.Io.KnownBytes.{Appends};
 ghost use Rattle.host_file.specs.Faults.{IsBad};
+ghost use Rattle.engines.specs.Lines.{reply_lines};
+ghost use Rattle.engines.specs.Replay.{is_refusal};
 
 use engines::{explain_reply, write_reply};
 use host_core::{Event, Reply};
@@ -26,6 +29,8 @@ impl Told {
         run: u64,
         reply: &Reply,
     ) -> Result<(), FileFault>
+        ensures refused { OnOk result (self.new.has_refused ≡ (self.old.has_refused || is_refusal reply.now)) }
+        ensures written { OnOk result (Appends (W.contents writer.old) (W.contents writer.new) (reply_lines event.now run reply.now)) }
         ensures bad { IfErr result (λ fault. ¬ IsBad fault) }
     {
         write_reply(writer, event, run, reply)?;
