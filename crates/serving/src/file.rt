@@ -4,7 +4,7 @@ ghost use Rattle.std.specs.Prelude.{◌≡◌, ◌≤◌, length, All, IfErr, If
 ghost use Rattle.std.specs.Io.KnownBytes.{Appends};
 ghost use Rattle.host_file.specs.Faults.{IsBad};
 ghost use Rattle.host_file.specs.HostFile.{IsFileText, max_bytes};
-ghost use Rattle.host_file.specs.Served.{IsServed};
+ghost use Rattle.host_file.specs.Served.{IsServedCommand};
 ghost use Rattle.host_file.specs.declared.file.HostFile.{HostFile};
 ghost use Rattle.turn.specs.Seats.{IsIdle};
 ghost use Rattle.engines.specs.Lines.{line_of, refusal_text};
@@ -48,7 +48,7 @@ pub fn serve_file<T: Threads + Wait + Sync, R: Read, W: Write, E: Write>(
 ) -> Result<u8, FileFault>
     ensures status { IfOk result (λ status. status ≤ 1) }
     ensures served { IfOk result (λ status. IfSome (R.remaining reader.old) (λ bytes.
-        (length bytes ≤ max_bytes) × ((file : HostFile) × IsFileText bytes file × All (IsServed file.tenants) file.commands
+        (length bytes ≤ max_bytes) × ((file : HostFile) × IsFileText bytes file × All (IsServedCommand file.tenants) file.commands
         × IsServedSo file.commands status (W.contents writer.old) (W.contents writer.new)))) }
     ensures bad { IfErr result (λ fault. IsBad fault → (writer.new ≡ writer.old) × (words.new ≡ words.old)) }
 {
