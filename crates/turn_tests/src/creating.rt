@@ -74,39 +74,51 @@ fn a_seat_makes_a_map_where_there_are_frames(rt: HostRuntime) -> Result<(), Fail
 }
 
 /// Makes maps until there is a refusal: how many, and the refusal.
-fn made_until_refused(rt: &impl Wait, shared: &Shared, seat: &mut Seat) -> (u32, Option<Fault>)
+fn made_until_refused(
+    rt: &impl Wait,
+    shared: &Shared,
+    seat: &mut Seat,
+    mergeable: bool,
+) -> (u32, Option<Fault>)
     requires { IsIdle shared.now seat.old }
     ensures { IsIdle shared.now seat.new }
 {
     for made in 0..20 {
-        if let Err(fault) = shared.create_map(rt, seat, 8, 1, false) {
+        if let Err(fault) = shared.create_map(rt, seat, 8, 1, mergeable) {
             return (made, Some(fault));
         }
     }
     (20, None)
 }
 
-/// How many maps each of two tenants makes beside its first one, and the refusals.
-fn filled(rt: &impl Wait, two: Two) -> [(u32, Option<Fault>); 2]
+/// How many maps each of two tenants makes beside its first one, the first mergeable ones and the second
+/// others, the refusals, and what is told after visits of all pages.
+fn filled(rt: &impl Wait, two: Two) -> ([(u32, Option<Fault>); 2], [u32; 4])
     requires first { IsIdle two.shared two.first }
     requires second { IsIdle two.shared two.second }
+    requires scanner { IsIdle two.shared two.scanner }
+    requires host { IsIdle two.shared two.host }
 {
     let Two {
         shared,
         mut first,
         mut second,
-        scanner: _scanner,
-        host: _host,
+        mut scanner,
+        mut host,
     } = two;
-    [
-        made_until_refused(rt, &shared, &mut first),
-        made_until_refused(rt, &shared, &mut second),
-    ]
+    let maps = [
+        made_until_refused(rt, &shared, &mut first, true),
+        made_until_refused(rt, &shared, &mut second, false),
+    ];
+    shared.scan_batch(rt, &mut scanner, 40);
+    (maps, told(shared.counters(rt, &mut host)))
 }
 
+/// The first tenant's eight pages and the second's first one have one frame, the second's other seven have
+/// their own, and one stays for the page of zeros: that leaves eight of seventeen.
 #[test]
 fn a_seat_makes_eight_maps(rt: HostRuntime) -> Result<(), Fail> {
-    let maps = filled(&rt, two_tenants(rt.alloc(), 17)?);
-    assert!(rt; maps == [(7, Some(Fault::TooManyMaps)); 2]);
+    let (maps, told) = filled(&rt, two_tenants(rt.alloc(), 17)?);
+    assert!(rt; maps == [(7, Some(Fault::TooManyMaps)); 2] && told == [1, 8, 0, 8]);
     Ok(())
 }
