@@ -22,9 +22,9 @@ Names event (Run named) = event ≡ named
 Names event _ = ⊥
 
 -- the event that a line tells of is the one with its number among a file's commands
-abbrev pub IsAsked : List Command → Telling → Type 0
-IsAsked commands (Answered number event run reply) = IsSomeAnd (slice_get commands number) (Names event)
-IsAsked commands (Unserved fault) = Unit {0}
+abbrev pub IsOfFile : List Command → Telling → Type 0
+IsOfFile commands (Answered number event run reply) = IsSomeAnd (slice_get commands number) (Names event)
+IsOfFile commands (Unserved fault) = Unit {0}
 
 -- what is written of it
 abbrev pub told_text : Telling → List ℕ
@@ -47,14 +47,14 @@ tell_refusal [] = false
 tell_refusal (telling ∷ tellings) = tells_refusal telling || tell_refusal tellings
 
 -- Lines were written of events of these commands, and it was noted whether a refusal is among them.
-pub record HasTold (commands : List Command) (before after : Bool) (old new : Option (List ℕ)) : Type 0 where
+pub record HasWritten (commands : List Command) (before after : Bool) (old new : Option (List ℕ)) : Type 0 where
   pub tellings : List Telling
-  pub asked : All (IsAsked commands) tellings
+  pub asked : All (IsOfFile commands) tellings
   pub refused : after ≡ (before || tell_refusal tellings)
   pub written : Appends old new (all_told tellings)
 
 -- Lines were written of a file's events, and the status says whether a refusal is among them.
 abbrev pub IsServedSo : List Command → ℕ → Option (List ℕ) → Option (List ℕ) → Type 0
 IsServedSo commands status old new =
-    (tellings : List Telling) × All (IsAsked commands) tellings
+    (tellings : List Telling) × All (IsOfFile commands) tellings
     × (status ≡ if tell_refusal tellings then 1 else 0) × Appends old new (all_told tellings)

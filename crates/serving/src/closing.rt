@@ -2,7 +2,7 @@
 
 ghost use Rattle.std.specs.Prelude.{IfErr, IfSome, OnOk};
 ghost use Rattle.host_file.specs.Faults.{IsBad};
-ghost use Rattle.serving.specs.Told.{HasTold, Names};
+ghost use Rattle.serving.specs.Told.{HasWritten, Names};
 
 use crate::telling::Told;
 use host_core::{Bytes, Event, Reply};
@@ -22,7 +22,7 @@ pub(crate) fn tell_runs<W: Write, E: Write>(
     writer: &mut W,
     words: &mut E,
 ) -> Result<(), FileFault>
-    ensures told { OnOk result (HasTold commands.now told.old.has_refused told.new.has_refused (W.contents writer.old) (W.contents writer.new)) }
+    ensures told { OnOk result (HasWritten commands.now told.old.has_refused told.new.has_refused (W.contents writer.old) (W.contents writer.new)) }
     ensures bad { IfErr result (λ fault. ¬ IsBad fault) }
 {
     let mut tenant = 0u32;
@@ -42,7 +42,7 @@ fn tell_tenant<W: Write, E: Write>(
     writer: &mut W,
     words: &mut E,
 ) -> Result<(), FileFault>
-    ensures told { OnOk result (HasTold commands.now told.old.has_refused told.new.has_refused (W.contents writer.old) (W.contents writer.new)) }
+    ensures told { OnOk result (HasWritten commands.now told.old.has_refused told.new.has_refused (W.contents writer.old) (W.contents writer.new)) }
     ensures bad { IfErr result (λ fault. ¬ IsBad fault) }
 {
     let mut replies = replies.iter();
@@ -91,7 +91,7 @@ pub(crate) fn tell_lookups<W: Write, E: Write>(
     writer: &mut W,
     words: &mut E,
 ) -> Result<(), FileFault>
-    ensures told { OnOk result (HasTold commands.now told.old.has_refused told.new.has_refused (W.contents writer.old) (W.contents writer.new)) }
+    ensures told { OnOk result (HasWritten commands.now told.old.has_refused told.new.has_refused (W.contents writer.old) (W.contents writer.new)) }
     ensures bad { IfErr result (λ fault. ¬ IsBad fault) }
 {
     for (number, command) in commands.iter().enumerate() {

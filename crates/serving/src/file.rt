@@ -9,7 +9,7 @@ ghost use Rattle.host_file.specs.declared.file.HostFile.{HostFile};
 ghost use Rattle.turn.specs.Seats.{IsIdle};
 ghost use Rattle.engines.specs.Lines.{line_of, refusal_text};
 ghost use Rattle.tenant_workers.specs.Plans.{IsFor};
-ghost use Rattle.serving.specs.Told.{HasTold, IsServedSo};
+ghost use Rattle.serving.specs.Told.{HasWritten, IsServedSo};
 
 use crate::closing::{tell_lookups, tell_runs};
 use crate::house::{House, open_house, plans_of};
@@ -148,7 +148,7 @@ fn serve_plan<T: Threads + Wait + Sync, W: Write, E: Write>(
     requires host { IsIdle shared.now host.old }
     requires own { All (IsFor shared.now) plan.old.tenants.items }
     requires scan { plan.old.scan.shared.now ≡ shared.now }
-    ensures told { OnOk result (HasTold file.now.commands told.old.has_refused told.new.has_refused (W.contents writer.old) (W.contents writer.new)) }
+    ensures told { OnOk result (HasWritten file.now.commands told.old.has_refused told.new.has_refused (W.contents writer.old) (W.contents writer.new)) }
     ensures bad { IfErr result (λ fault. ¬ IsBad fault) }
 {
     let commands = file.commands.as_slice();

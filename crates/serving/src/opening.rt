@@ -4,7 +4,7 @@ ghost use Rattle.std.specs.Prelude.{◌≡◌, All, IfErr, OnOk};
 ghost use Rattle.host_file.specs.Faults.{IsBad};
 ghost use Rattle.turn.specs.Seats.{IsIdle};
 ghost use Rattle.tenant_workers.specs.Plans.{IsFor};
-ghost use Rattle.serving.specs.Told.{HasTold};
+ghost use Rattle.serving.specs.Told.{HasWritten};
 
 use crate::telling::Told;
 use host_core::{Event, Reply};
@@ -33,7 +33,7 @@ pub(crate) fn open_all<W: Write, E: Write>(
     requires own { All (IsFor shared.now) plans.old }
     ensures host { IsIdle shared.now host.new }
     ensures own { All (IsFor shared.now) plans.new }
-    ensures told { OnOk result (HasTold commands.now told.old.has_refused told.new.has_refused (W.contents writer.old) (W.contents writer.new)) }
+    ensures told { OnOk result (HasWritten commands.now told.old.has_refused told.new.has_refused (W.contents writer.old) (W.contents writer.new)) }
     ensures bad { IfErr result (λ fault. ¬ IsBad fault) }
 {
     for (number, command) in commands.iter().enumerate() {

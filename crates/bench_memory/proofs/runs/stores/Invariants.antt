@@ -1,7 +1,7 @@
 use Rattle.std.proofs.Common.{◌≡◌, ◌≤◌, length}
 use Rattle.host_types.specs.Sharing.{break_cost}
 use Rattle.page_table.specs.State.{part, map_bytes}
-use Rattle.memory_bench.proofs.runs.stores.Given as goal
+use Rattle.bench_memory.proofs.runs.stores.Given as goal
 
 -- the map keeps its first page, which has its own frame
 abbrev pub invariant-loop-turn : goal.invariant-loop-turn

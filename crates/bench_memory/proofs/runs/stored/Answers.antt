@@ -1,7 +1,7 @@
 use Rattle.std.proofs.Common.{◌*◌, arith}
 use Rattle.write_break.specs.Stores.{place_of_byte}
 use Rattle.write_break.proofs.Stores.{cost-one, break_cost-few}
-use Rattle.memory_bench.proofs.runs.stored.Goals as goal
+use Rattle.bench_memory.proofs.runs.stored.Goals as goal
 
 pub store-requires-clause-room : goal.store-requires-clause-room
 store-requires-clause-room c =

@@ -2,8 +2,8 @@ use Rattle.std.proofs.Common.{◌≡◌, ◌∙◌, ◌*◌, ◌%◌, ap, arith}
 use Rattle.host_types.specs.Sharing.{broken, break_cost}
 use Rattle.write_break.specs.Stores.{place_of_byte}
 use Rattle.write_break.proofs.Stores.{sharing-one, cost-one}
-use Rattle.memory_bench.proofs.Breaks.{cost-again}
-use Rattle.memory_bench.proofs.runs.stores.Goals as goal
+use Rattle.bench_memory.proofs.Breaks.{cost-again}
+use Rattle.bench_memory.proofs.runs.stores.Goals as goal
 
 pub loop-turn-init : goal.loop-turn-init
 loop-turn-init c =
