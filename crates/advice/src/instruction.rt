@@ -9,14 +9,14 @@ use crate::Advice;
 use bpf_decode::{AluCode, Insn, Operation, Size, Source};
 use host_types::{MapHelper, Refused};
 
-// The most bytes of a text.
+/// The most bytes of a text.
 const LONGEST_TEXT: usize = 32768;
 
-// The bits of an opcode that are those of an atomic instruction: its class and its mode (RFC 9669,
-// section 5.3).
+/// The bits of an opcode that are those of an atomic instruction: its class and its mode (RFC 9669,
+/// section 5.3).
 const ATOMIC: u8 = 0xc3;
 
-// The field src of a call of a function of the program's own (RFC 9669, section 4.3).
+/// The field src of a call of a function of the program's own (RFC 9669, section 4.3).
 const LOCAL_CALL: u8 = 1;
 
 /// What is said of a refusal of this text alone.

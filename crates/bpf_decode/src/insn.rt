@@ -14,10 +14,10 @@ pub struct Insn {
     pub next_imm: u32,
 }
 
-// The opcode of the one wide instruction (RFC 9669, section 3.2).
+/// The opcode of the one wide instruction (RFC 9669, section 3.2).
 pub(crate) const WIDE: u8 = 0x18;
 
-// The last register, the frame pointer.
+/// The last register, the frame pointer.
 const LAST_REGISTER: u8 = 10;
 
 impl Insn {
@@ -100,7 +100,7 @@ impl Insn {
         if self.opcode == WIDE { 2 } else { 1 }
     }
 
-    // The smallest number of what is wrong with the instruction's fields.
+    /// The smallest number of what is wrong with the instruction's fields.
     #[tactic(auto, unfolding(crate::specs::Opcodes::insn_fault))]
     pub(crate) fn fault(&self) -> Option<u32>
         ensures { result ≡ insn_fault self.now }
@@ -117,7 +117,7 @@ impl Insn {
         None
     }
 
-    // Whether each field has a number that the operation gives a meaning to.
+    /// Whether each field has a number that the operation gives a meaning to.
     #[tactic(auto, unfolding(crate::specs::Opcodes::has_fields))]
     fn has_fields(&self, operation: Operation) -> bool
         ensures { result ≡ has_fields operation self.now }
@@ -128,7 +128,7 @@ impl Insn {
             && operation.allows_imm(self.imm)
     }
 
-    // Whether each register that is used is there.
+    /// Whether each register that is used is there.
     #[tactic(auto, unfolding(crate::specs::Opcodes::has_registers))]
     fn has_registers(&self, operation: Operation) -> bool
         ensures { result ≡ has_registers operation self.now }

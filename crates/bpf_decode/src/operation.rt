@@ -116,7 +116,7 @@ pub enum Operation {
     Exit,
 }
 
-// The class in the three low bits of an opcode (RFC 9669, section 3.1).
+/// The class in the three low bits of an opcode (RFC 9669, section 3.1).
 const LD: u8 = 0x0;
 
 const LDX: u8 = 0x1;
@@ -133,34 +133,34 @@ const JMP32: u8 = 0x6;
 
 const ALU64: u8 = 0x7;
 
-// The codes of jumps without a comparison in the five high bits of their opcodes (RFC 9669,
-// section 4.3).
+/// The codes of jumps without a comparison in the five high bits of their opcodes (RFC 9669,
+/// section 4.3).
 const JA: u8 = 0x00;
 
 const CALL: u8 = 0x10;
 
 const EXIT: u8 = 0x12;
 
-// The mode and size of the wide load in the five high bits of its opcode (RFC 9669, section 5.4).
+/// The mode and size of the wide load in the five high bits of its opcode (RFC 9669, section 5.4).
 const IMM_DW: u8 = 0x03;
 
-// The mode of plain memory in the three high bits of an opcode (RFC 9669, section 5).
+/// The mode of plain memory in the three high bits of an opcode (RFC 9669, section 5).
 const MEM: u8 = 0x3;
 
-// The mode of loads with sign extension.
+/// The mode of loads with sign extension.
 const MEMSX: u8 = 0x4;
 
-// The code of a negation in the four high bits of an arithmetic opcode (RFC 9669, section 4.1).
+/// The code of a negation in the four high bits of an arithmetic opcode (RFC 9669, section 4.1).
 const NEG: u8 = 0x8;
 
-// The code of a byte swap.
+/// The code of a byte swap.
 const END: u8 = 0xd;
 
 impl Source {
     ghost use Rattle.std.specs.Prelude.{◌≡◌};
     ghost use Rattle.bpf_decode.specs.Opcodes.{source_of};
 
-    // The source bit of an opcode (RFC 9669, section 4).
+    /// The source bit of an opcode (RFC 9669, section 4).
     fn of(opcode: u8) -> Self
         ensures { result ≡ source_of opcode }
     {
@@ -175,7 +175,7 @@ impl Size {
     ghost use Rattle.std.specs.Prelude.{◌≡◌};
     ghost use Rattle.bpf_decode.specs.Opcodes.{size_of, byte_count};
 
-    // The size in an opcode of a load or store (RFC 9669, section 5).
+    /// The size in an opcode of a load or store (RFC 9669, section 5).
     fn of(opcode: u8) -> Self
         ensures { result ≡ size_of opcode }
     {
@@ -204,8 +204,8 @@ impl AluCode {
     ghost use Rattle.std.specs.Prelude.{◌≡◌};
     ghost use Rattle.bpf_decode.specs.Opcodes.{code_of};
 
-    // What the four high bits of an opcode of arithmetic with two operands say (RFC 9669, section
-    // 4.1).
+    /// What the four high bits of an opcode of arithmetic with two operands say (RFC 9669, section
+    /// 4.1).
     #[tactic(auto, unfolding(crate::specs::Opcodes::code_of))]
     fn of(opcode: u8) -> Option<Self>
         ensures { result ≡ code_of opcode }
@@ -232,7 +232,7 @@ impl Comparison {
     ghost use Rattle.std.specs.Prelude.{◌≡◌};
     ghost use Rattle.bpf_decode.specs.Opcodes.{comparison_of};
 
-    // What the four high bits of an opcode of a conditional jump say (RFC 9669, section 4.3).
+    /// What the four high bits of an opcode of a conditional jump say (RFC 9669, section 4.3).
     #[tactic(auto, unfolding(crate::specs::Opcodes::comparison_of))]
     fn of(opcode: u8) -> Option<Self>
         ensures { result ≡ comparison_of opcode }
@@ -277,7 +277,7 @@ impl Operation {
         }
     }
 
-    // What an opcode of a class of arithmetic says.
+    /// What an opcode of a class of arithmetic says.
     #[tactic(auto, unfolding(crate::specs::Opcodes::alu_operation_of))]
     fn alu(width: Width, opcode: u8) -> Option<Self>
         ensures { result ≡ alu_operation_of width opcode }
@@ -297,7 +297,7 @@ impl Operation {
         }
     }
 
-    // A negation. It has no second operand.
+    /// A negation. It has no second operand.
     fn negation(width: Width, source: Source) -> Option<Self>
         ensures { result ≡ negation_of width source }
     {
@@ -311,7 +311,7 @@ impl Operation {
         }
     }
 
-    // A byte swap: its source bit isn't that of an operand (RFC 9669, section 4.2).
+    /// A byte swap: its source bit isn't that of an operand (RFC 9669, section 4.2).
     fn swap(width: Width, source: Source) -> Option<Self>
         ensures { result ≡ swap_of width source }
     {
@@ -328,7 +328,7 @@ impl Operation {
         })
     }
 
-    // What an opcode of the class of loads says.
+    /// What an opcode of the class of loads says.
     #[tactic(auto, unfolding(crate::specs::Opcodes::load_of))]
     fn load(opcode: u8) -> Option<Self>
         ensures { result ≡ load_of opcode }
@@ -347,7 +347,7 @@ impl Operation {
         }
     }
 
-    // What an opcode of a class of stores says.
+    /// What an opcode of a class of stores says.
     #[tactic(auto, unfolding(crate::specs::Opcodes::store_of))]
     fn store(source: Source, opcode: u8) -> Option<Self>
         ensures { result ≡ store_of source opcode }
@@ -359,7 +359,7 @@ impl Operation {
         }
     }
 
-    // What an opcode of the class of the wide load says.
+    /// What an opcode of the class of the wide load says.
     #[tactic(auto, unfolding(crate::specs::Opcodes::wide_of))]
     fn wide(opcode: u8) -> Option<Self>
         ensures { result ≡ wide_of opcode }
@@ -370,7 +370,7 @@ impl Operation {
         }
     }
 
-    // What an opcode of a class of jumps says that compares.
+    /// What an opcode of a class of jumps says that compares.
     fn branch(width: Width, opcode: u8) -> Option<Self>
         ensures { result ≡ branch_of width opcode }
     {
@@ -383,7 +383,7 @@ impl Operation {
         })
     }
 
-    // What an opcode of the class of jumps by 64 bits says.
+    /// What an opcode of the class of jumps by 64 bits says.
     #[tactic(auto, unfolding(crate::specs::Opcodes::jump_of))]
     fn jump(opcode: u8) -> Option<Self>
         ensures { result ≡ jump_of opcode }
@@ -398,7 +398,7 @@ impl Operation {
         }
     }
 
-    // What an opcode of the class of jumps by 32 bits says.
+    /// What an opcode of the class of jumps by 32 bits says.
     #[tactic(auto, unfolding(crate::specs::Opcodes::jump32_of))]
     fn jump32(opcode: u8) -> Option<Self>
         ensures { result ≡ jump32_of opcode }
@@ -411,7 +411,7 @@ impl Operation {
         }
     }
 
-    // Whether the field `dst` names a register.
+    /// Whether the field `dst` names a register.
     pub(crate) fn uses_dst(self) -> bool
         ensures { result ≡ uses_dst self }
     {
@@ -421,7 +421,7 @@ impl Operation {
         }
     }
 
-    // Whether the field `src` names a register.
+    /// Whether the field `src` names a register.
     pub(crate) fn uses_src(self) -> bool
         ensures { result ≡ uses_src self }
     {
@@ -435,14 +435,14 @@ impl Operation {
         }
     }
 
-    // The register of the second operand: 11, which is always zero, where none is named.
+    /// The register of the second operand: 11, which is always zero, where none is named.
     pub(crate) fn src(self, insn: &Insn) -> u8
         ensures { result ≡ src_by self insn.now }
     {
         if self.uses_src() { insn.src } else { 11 }
     }
 
-    // The number that is added to that register.
+    /// The number that is added to that register.
     pub(crate) fn imm(self, insn: &Insn) -> u64
         ensures { result ≡ imm_by self insn.now }
     {
@@ -453,8 +453,8 @@ impl Operation {
         }
     }
 
-    // Whether a number may stand in the field `src`, where that names no register. In the wide
-    // instruction 1 says that a map is named, and then there is no second immediate.
+    /// Whether a number may stand in the field `src`, where that names no register. In the wide
+    /// instruction 1 says that a map is named, and then there is no second immediate.
     pub(crate) fn allows_src(self, src: u8, next_imm: u32) -> bool
         ensures { result ≡ allows_src self src next_imm }
     {
@@ -464,7 +464,7 @@ impl Operation {
         }
     }
 
-    // Whether a number may stand in the field `offset`.
+    /// Whether a number may stand in the field `offset`.
     pub(crate) fn allows_offset(self, offset: i16) -> bool
         ensures { result ≡ allows_offset self offset }
     {
@@ -480,7 +480,7 @@ impl Operation {
         }
     }
 
-    // Whether a number may stand in the field `imm`.
+    /// Whether a number may stand in the field `imm`.
     pub(crate) fn allows_imm(self, imm: i32) -> bool
         ensures { result ≡ allows_imm self imm }
     {
@@ -500,8 +500,8 @@ impl AluCode {
     ghost use Rattle.std.specs.Prelude.{◌≡◌};
     ghost use Rattle.bpf_decode.specs.Opcodes.{alu_allows_offset, alu_allows_imm};
 
-    // Whether a number may stand in the field `offset` of arithmetic: 1 is the signed form of a
-    // division, 8, 16 and 32 are the bits of a move with sign extension (RFC 9669, section 4.1).
+    /// Whether a number may stand in the field `offset` of arithmetic: 1 is the signed form of a
+    /// division, 8, 16 and 32 are the bits of a move with sign extension (RFC 9669, section 4.1).
     fn allows_offset(self, width: Width, source: Source, offset: i16) -> bool
         ensures { result ≡ alu_allows_offset self width source offset }
     {
@@ -517,7 +517,7 @@ impl AluCode {
         }
     }
 
-    // Whether a number may stand in the field `imm` of arithmetic: a byte swap has its width there.
+    /// Whether a number may stand in the field `imm` of arithmetic: a byte swap has its width there.
     fn allows_imm(self, source: Source, imm: i32) -> bool
         ensures { result ≡ alu_allows_imm self source imm }
     {

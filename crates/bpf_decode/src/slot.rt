@@ -8,8 +8,8 @@ use crate::insn::WIDE;
 use byteorder::{ByteOrder, LittleEndian};
 use host_types::rule::{BAD_FIELD, CUT_WIDE};
 
-// The second immediate of the instruction at a slot: 0 in a basic instruction, and where the text
-// ends before it.
+/// The second immediate of the instruction at a slot: 0 in a basic instruction, and where the text
+/// ends before it.
 #[tactic(auto, using(crate::proofs::Numbers::number_past_end))]
 pub(crate) fn next_imm_at(text: &[u8], slot: usize) -> u32
     requires whole { length text.now % 8 ≡ 0 }
@@ -24,7 +24,7 @@ pub(crate) fn next_imm_at(text: &[u8], slot: usize) -> u32
     }
 }
 
-// What is wrong with the second slot of a wide instruction, whose first one stands at a slot.
+/// What is wrong with the second slot of a wide instruction, whose first one stands at a slot.
 #[tactic(auto, using(crate::proofs::Numbers::number_past_end), unfolding(crate::specs::Text::second_slot_fault))]
 pub(crate) fn second_slot_fault(text: &[u8], slot: usize) -> Option<u32>
     requires whole { length text.now % 8 ≡ 0 }
@@ -44,7 +44,7 @@ pub(crate) fn second_slot_fault(text: &[u8], slot: usize) -> Option<u32>
     None
 }
 
-// The little-endian number of the four bytes at a place.
+/// The little-endian number of the four bytes at a place.
 fn u32_at(text: &[u8], at: usize) -> u32
     requires { at + 4 ≤ length text.now }
     ensures { result ≡ number_of (part_of text.now at 4) }
@@ -52,7 +52,7 @@ fn u32_at(text: &[u8], at: usize) -> u32
     LittleEndian::read_u32(&text[at..at + 4])
 }
 
-// The signed little-endian number of the two bytes at a place.
+/// The signed little-endian number of the two bytes at a place.
 pub(crate) fn i16_at(text: &[u8], at: usize) -> i16
     requires { at + 2 ≤ length text.now }
     ensures { result ≡ cast_signed w16 (number_of (part_of text.now at 2)) }
@@ -60,7 +60,7 @@ pub(crate) fn i16_at(text: &[u8], at: usize) -> i16
     LittleEndian::read_i16(&text[at..at + 2])
 }
 
-// The signed little-endian number of the four bytes at a place.
+/// The signed little-endian number of the four bytes at a place.
 pub(crate) fn i32_at(text: &[u8], at: usize) -> i32
     requires { at + 4 ≤ length text.now }
     ensures { result ≡ cast_signed w32 (number_of (part_of text.now at 4)) }

@@ -6,10 +6,10 @@ use crate::slot::second_slot_fault;
 use host_types::Refused;
 use host_types::rule::BAD_LENGTH;
 
-// The most bytes of a text: 4096 slots of eight bytes.
+/// The most bytes of a text: 4096 slots of eight bytes.
 const MAX_LENGTH: usize = 32768;
 
-// What is refused of a text that isn't well formed.
+/// What is refused of a text that isn't well formed.
 pub(crate) fn first_fault(text: &[u8]) -> Option<Refused>
     ensures { MatchOption result (IsWellFormed text.now) (λ refused. IsFirstFault text.now refused) }
 {
@@ -22,14 +22,14 @@ pub(crate) fn first_fault(text: &[u8]) -> Option<Refused>
     first_bad_insn(text)
 }
 
-// Whether a text has 1 to 4096 whole slots.
+/// Whether a text has 1 to 4096 whole slots.
 fn has_length(text: &[u8]) -> bool
     ensures { IsTrue result ↔ HasLength text.now }
 {
     8 <= text.len() && text.len() <= MAX_LENGTH && text.len() % 8 == 0
 }
 
-// The first instruction that meets no row of the table.
+/// The first instruction that meets no row of the table.
 fn first_bad_insn(text: &[u8]) -> Option<Refused>
     requires { HasLength text.now }
     ensures { MatchOption result (IsWellFormed text.now) (λ refused. FailsFirst text.now refused.number refused.slot) }
@@ -48,7 +48,7 @@ fn first_bad_insn(text: &[u8]) -> Option<Refused>
     None
 }
 
-// The smallest number of what is wrong at a slot.
+/// The smallest number of what is wrong at a slot.
 #[tactic(auto, unfolding(crate::specs::Text::fault_at))]
 fn fault_at(text: &[u8], slot: usize, insn: &Insn) -> Option<u32>
     requires whole { length text.now % 8 ≡ 0 }

@@ -10,7 +10,7 @@ use std::alloc::Global;
 use std::io;
 use std::io::Input;
 
-// The most instructions that are shown.
+/// The most instructions that are shown.
 const SHOWN: u32 = 8;
 
 /// The bytes of a line, and how often they stand.

@@ -26,7 +26,7 @@ pub fn write_arithmetic<W: fmt::Write>(
     }
 }
 
-// A byte swap reads all of its register, whatever its class.
+/// A byte swap reads all of its register, whatever its class.
 fn shown_width(code: AluCode, width: Width) -> Width {
     match code {
         AluCode::ToLittleEndian | AluCode::ToBigEndian => Width::Bits64,
@@ -34,7 +34,7 @@ fn shown_width(code: AluCode, width: Width) -> Width {
     }
 }
 
-// What happens to dst. An offset of a division makes it signed.
+/// What happens to dst. An offset of a division makes it signed.
 fn operator(code: AluCode, offset: i16) -> &'static str {
     match code {
         AluCode::Add => "+=",

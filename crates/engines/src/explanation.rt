@@ -15,10 +15,10 @@ use host_types::{Fault, Opt, Options, Refused};
 use std::io;
 use std::io::Write;
 
-// The number of a refusal of the text's length. It is said at slot 0, and speaks of no instruction.
+/// The number of a refusal of the text's length. It is said at slot 0, and speaks of no instruction.
 const BAD_LENGTH: u32 = 1;
 
-// The last number of what is wrong with an instruction alone. The others speak of well-formed texts.
+/// The last number of what is wrong with an instruction alone. The others speak of well-formed texts.
 const LAST_OF_TEXT: u32 = 5;
 
 /// Writes what the refusal of a program means that was to be checked: its text is given.

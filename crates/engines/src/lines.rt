@@ -15,7 +15,7 @@ use ksm_counters::text;
 use std::fmt;
 use std::io::Write;
 
-// The last number of a program's refusal, which names a slot.
+/// The last number of a program's refusal, which names a slot.
 const LAST_OF_PROGRAM: u32 = 25;
 
 /// A refusal as it is printed.

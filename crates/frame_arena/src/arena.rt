@@ -19,7 +19,7 @@ pub const PAGE_SIZE: u32 = 4096;
 #[derive(Drop)]
 pub struct FrameArena {
     frames: u32,
-    // the pages, one after another
+    /// The pages, one after another.
     block: Vec<u8>,
 }
 
@@ -34,7 +34,7 @@ impl Model for FrameArena {
     ghost invariant = { λ arena. length arena.block.items ≡ arena.frames * 4096 };
 }
 
-// Where a frame's byte stands in the block.
+/// Where a frame's byte stands in the block.
 fn place(frame: u32, at: u32) -> usize
     requires { at ≤ PAGE_SIZE }
     ensures { result ≡ frame * 4096 + at }
@@ -158,7 +158,7 @@ impl FrameArena {
         block::clear(&mut self.block, place(frame, 0));
     }
 
-    // The bytes of a frame.
+    /// The bytes of a frame.
     fn page(&self, frame: u32) -> &[u8]
         requires { frame < length self.now }
         ensures bytes { result.now ≡ page_at self.now frame }
@@ -167,7 +167,7 @@ impl FrameArena {
         block::part(&self.block, place(frame, 0), PAGE_SIZE as usize)
     }
 
-    // Some bytes of a frame, from the byte `at` on.
+    /// Some bytes of a frame, from the byte `at` on.
     fn part(&self, frame: u32, at: u32, size: usize) -> &[u8]
         requires frame { frame < length self.now }
         requires within { at + size ≤ PAGE_SIZE }

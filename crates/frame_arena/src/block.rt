@@ -1,4 +1,4 @@
-// Bytes of a block by their place, and pages of a block by the place of their first byte.
+//! Bytes of a block by their place, and pages of a block by the place of their first byte.
 ghost use Rattle.std.specs.Prelude.{◌≡◌, ◌+◌, ◌<◌, ◌≤◌, ◌↔◌, ◌⊎◌, IsTrue, All, fold, length, replicate};
 ghost use Rattle.host_types.specs.Bytes.{bytes_of, part_of, with_part};
 ghost use Rattle.host_types.specs.Pages.{zero_page, folded, fingerprint_of};
@@ -7,12 +7,12 @@ ghost use Rattle.frame_arena.specs.Pages.{IsAccessSize};
 use crate::arena::PAGE_SIZE;
 use crate::number::write_number;
 
-// Each byte is below 256, which its type says.
+/// Each byte is below 256, which its type says.
 pub(crate) fn bytes_are_small(block: &[u8])
     ensures { All (λ byte. byte < 256) block.now }
 {}
 
-// Some bytes of a block.
+/// Some bytes of a block.
 pub(crate) fn part(block: &[u8], start: usize, size: usize) -> &[u8]
     requires { start + size ≤ length block.now }
     ensures bytes { result.now ≡ part_of block.now start size }
@@ -21,7 +21,7 @@ pub(crate) fn part(block: &[u8], start: usize, size: usize) -> &[u8]
     &block[start..start + size]
 }
 
-// Writes bytes over others.
+/// Writes bytes over others.
 pub(crate) fn put(block: &mut [u8], start: usize, bytes: &[u8])
     requires { start + length bytes.now ≤ length block.old }
     ensures { block.new ≡ with_part block.old start bytes.now }
@@ -29,7 +29,7 @@ pub(crate) fn put(block: &mut [u8], start: usize, bytes: &[u8])
     block[start..start + bytes.len()].copy_from_slice(bytes);
 }
 
-// Writes the lowest bytes of a number over others.
+/// Writes the lowest bytes of a number over others.
 pub(crate) fn put_number(block: &mut [u8], start: usize, size: usize, value: u64)
     requires size { IsAccessSize size }
     requires within { start + size ≤ length block.old }
@@ -38,7 +38,7 @@ pub(crate) fn put_number(block: &mut [u8], start: usize, size: usize, value: u64
     write_number(&mut block[start..start + size], value);
 }
 
-// Fills a page with zeros.
+/// Fills a page with zeros.
 pub(crate) fn clear(block: &mut [u8], start: usize)
     requires { start + PAGE_SIZE ≤ length block.old }
     ensures { block.new ≡ with_part block.old start zero_page }
@@ -46,7 +46,7 @@ pub(crate) fn clear(block: &mut [u8], start: usize)
     block[start..start + PAGE_SIZE as usize].fill(0);
 }
 
-// Copies a page to another place. The two don't overlap, or are one.
+/// Copies a page to another place. The two don't overlap, or are one.
 pub(crate) fn copy(block: &mut [u8], from: usize, to: usize)
     requires from { from + PAGE_SIZE ≤ length block.old }
     requires to { to + PAGE_SIZE ≤ length block.old }
@@ -63,14 +63,14 @@ pub(crate) fn copy(block: &mut [u8], from: usize, to: usize)
     }
 }
 
-// Whether all bytes of a page are zero.
+/// Whether all bytes of a page are zero.
 pub(crate) fn is_zero(page: &[u8]) -> bool
     ensures { IsTrue result ↔ (page.now ≡ zero_page) }
 {
     page == [0; PAGE_SIZE as usize].as_slice()
 }
 
-// The fingerprint of a page's bytes. Eight bytes are folded in at once.
+/// The fingerprint of a page's bytes. Eight bytes are folded in at once.
 #[tactic(auto, unfolding(host_types::specs::Pages::fingerprint_of))]
 pub(crate) fn fingerprint(page: &[u8]) -> u64
     ensures { result ≡ fingerprint_of page.now }
@@ -85,8 +85,8 @@ pub(crate) fn fingerprint(page: &[u8]) -> u64
     with_each(fingerprint, rest)
 }
 
-// A fingerprint with eight bytes folded in: each is multiplied by a power of 31, and only the first
-// product and the last sum can pass 64 bits.
+/// A fingerprint with eight bytes folded in: each is multiplied by a power of 31, and only the first
+/// product and the last sum can pass 64 bits.
 fn with_eight(fingerprint: u64, bytes: &[u8]) -> u64
     requires { length bytes.now ≡ 8 }
     ensures { result ≡ fold folded fingerprint bytes.now }
@@ -104,7 +104,7 @@ fn with_eight(fingerprint: u64, bytes: &[u8]) -> u64
         .wrapping_add(high + low)
 }
 
-// A fingerprint with bytes folded in one by one.
+/// A fingerprint with bytes folded in one by one.
 fn with_each(fingerprint: u64, bytes: &[u8]) -> u64
     ensures { result ≡ fold folded fingerprint bytes.now }
 {

@@ -4,7 +4,7 @@ ghost use Rattle.frame_arena.specs.Pages.{IsAccessSize};
 
 use byteorder::{ByteOrder, LittleEndian};
 
-// The number that all of 1, 2, 4 or 8 bytes make, the lowest byte first.
+/// The number that all of 1, 2, 4 or 8 bytes make, the lowest byte first.
 pub(crate) fn read_number(bytes: &[u8]) -> u64
     requires { IsAccessSize (length bytes.now) }
     ensures { result ≡ number_of bytes.now }
@@ -17,7 +17,7 @@ pub(crate) fn read_number(bytes: &[u8]) -> u64
     }
 }
 
-// Writes as many of a number's lowest bytes as there is room for, which is 1, 2, 4 or 8.
+/// Writes as many of a number's lowest bytes as there is room for, which is 1, 2, 4 or 8.
 pub(crate) fn write_number(bytes: &mut [u8], value: u64)
     requires { IsAccessSize (length bytes.old) }
     ensures { bytes.new ≡ bytes_of (length bytes.old) value }

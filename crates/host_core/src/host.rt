@@ -110,7 +110,7 @@ impl Host {
         self.tenants[place].make_steps(&mut self.memory, tenant, limit)
     }
 
-    // Lets an event of a tenant happen.
+    /// Lets an event of a tenant happen.
     fn apply_to(&mut self, number: u32, event: &Event) -> Reply
         requires { tenant_of event.now ≡ Some number }
         ensures { (x : System) → StandsForSystem self.old x
@@ -124,7 +124,7 @@ impl Host {
         self.tenants[place].apply(self.alloc, &mut self.memory, number, event)
     }
 
-    // Sets an option of the scanner.
+    /// Sets an option of the scanner.
     fn set(&mut self, option: Opt, value: u32) -> Result<Reply, Fault>
         ensures { (x : System) → StandsForSystem self.old x
             → (next : System) × StandsForSystem self.new next × SetHappens x option value (reply_of result) next }
@@ -133,7 +133,7 @@ impl Host {
         Ok(Reply::Done)
     }
 
-    // Gives each page that shares a frame one of its own.
+    /// Gives each page that shares a frame one of its own.
     fn unmerge(&mut self) -> Result<Reply, Fault>
         ensures { (x : System) → StandsForSystem self.old x
             → (next : System) × StandsForSystem self.new next × UnmergeHappens x (reply_of result) next }
@@ -142,7 +142,7 @@ impl Host {
         Ok(Reply::Done)
     }
 
-    // Lets an event that names no tenant happen.
+    /// Lets an event that names no tenant happen.
     fn apply_to_all(&mut self, event: &Event) -> Reply
         requires { tenant_of event.now ≡ None }
         ensures { (x : System) → StandsForSystem self.old x
@@ -164,7 +164,7 @@ impl Host {
     }
 }
 
-// A refusal is a reply too.
+/// A refusal is a reply too.
 pub(crate) fn told(served: Result<Reply, Fault>) -> Reply
     ensures { result ≡ reply_of served }
 {

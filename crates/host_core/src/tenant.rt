@@ -16,22 +16,22 @@ use std::marker::Model;
 use tenant_runs::answer;
 use verifier::Verified;
 
-// A tenant: its eight places for programs, and its open run, if it has one. Its maps are the memory's.
+/// A tenant: its eight places for programs, and its open run, if it has one. Its maps are the memory's.
 #[derive(Drop)]
 pub(crate) struct Tenant {
     programs: [Option<Verified>; 8],
     run: Option<OpenRun>,
 }
 
-// An open run, and the number of its program.
+/// An open run, and the number of its program.
 #[derive(Drop)]
 pub(crate) struct OpenRun {
     program: u32,
     run: Run,
 }
 
-// Steps that were made in one go: how many, and the reply to the last one where the run ended with it or it
-// was refused.
+/// Steps that were made in one go: how many, and the reply to the last one where the run ended with it or it
+/// was refused.
 #[derive(Drop)]
 pub(crate) struct Stretch {
     steps: u64,
@@ -61,7 +61,7 @@ impl Tenant {
         }
     }
 
-    // Serves an event that names this tenant, the one of the memory with the number.
+    /// Serves an event that names this tenant, the one of the memory with the number.
     pub(crate) fn apply(
         &mut self,
         alloc: Global,
@@ -76,7 +76,7 @@ impl Tenant {
         told(self.serve(alloc, memory, number, event))
     }
 
-    // Serves an event; a refusal is an error.
+    /// Serves an event; a refusal is an error.
     fn serve(
         &mut self,
         alloc: Global,
@@ -117,7 +117,7 @@ impl Tenant {
         }
     }
 
-    // Makes a map.
+    /// Makes a map.
     fn create_map(
         &self,
         memory: &mut Memory,
@@ -138,7 +138,7 @@ impl Tenant {
         Ok(Reply::Map(map))
     }
 
-    // Loads a program's text to the first free place.
+    /// Loads a program's text to the first free place.
     fn load(
         &mut self,
         alloc: Global,
@@ -168,7 +168,7 @@ impl Tenant {
         Ok(Reply::Program(place as u32))
     }
 
-    // Opens a run of a program, with the frames that it may need.
+    /// Opens a run of a program, with the frames that it may need.
     fn begin(
         &mut self,
         alloc: Global,
@@ -193,7 +193,7 @@ impl Tenant {
         Ok(Reply::Begun)
     }
 
-    // Writes a value to a map.
+    /// Writes a value to a map.
     fn update(
         &self,
         memory: &mut Memory,
@@ -214,7 +214,7 @@ impl Tenant {
         Ok(Reply::Done)
     }
 
-    // Reads a value of a map.
+    /// Reads a value of a map.
     fn lookup(
         &self,
         alloc: Global,
@@ -230,7 +230,7 @@ impl Tenant {
         Ok(Reply::Value(value.into()))
     }
 
-    // Makes a step of the open run.
+    /// Makes a step of the open run.
     fn step(&mut self, memory: &mut Memory, number: u32) -> Reply
         requires kept { IsKept number self.old memory.old }
         ensures { IsServed number self.old memory.old (Step number) result self.new memory.new }
@@ -241,8 +241,8 @@ impl Tenant {
         }
     }
 
-    // Makes steps of the open run, up to a limit: the reply to the last one, or `None` where each of them was
-    // made and the run goes on.
+    /// Makes steps of the open run, up to a limit: the reply to the last one, or `None` where each of them was
+    /// made and the run goes on.
     pub(crate) fn make_steps(
         &mut self,
         memory: &mut Memory,
@@ -265,8 +265,8 @@ impl Tenant {
         None
     }
 
-    // Makes steps of the open run in one go, at most up to a limit: all up to the first that asks something
-    // of the tenant's maps or with which the run ends.
+    /// Makes steps of the open run in one go, at most up to a limit: all up to the first that asks something
+    /// of the tenant's maps or with which the run ends.
     fn stretch(&mut self, memory: &mut Memory, number: u32, limit: u64) -> Stretch
         requires some { 0 < limit }
         requires kept { IsKept number self.old memory.old }
@@ -312,8 +312,8 @@ impl OpenRun {
     ghost use Rattle.tenant_runs.specs.Meeting.{KeepsSizes};
     ghost use Rattle.host_core.specs.Stretches.{IsUnderWayAt, HasAdvanced};
 
-    // Makes steps up to a limit, and none behind the first that asks something of the tenant's maps: what the
-    // run returned, where it ended. What is reserved afterwards is what the rest of the run may need.
+    /// Makes steps up to a limit, and none behind the first that asks something of the tenant's maps: what the
+    /// run returned, where it ended. What is reserved afterwards is what the rest of the run may need.
     fn advance(
         &mut self,
         programs: &[Option<Verified>],
@@ -353,7 +353,7 @@ impl OpenRun {
     }
 }
 
-// The program at a place, if there is one.
+/// The program at a place, if there is one.
 fn program_of(programs: &[Option<Verified>], place: u32) -> Option<&Verified>
     ensures { option_copied result ≡ slice_index_or programs.now place None }
 {
@@ -363,7 +363,7 @@ fn program_of(programs: &[Option<Verified>], place: u32) -> Option<&Verified>
     }
 }
 
-// The first place where no program is.
+/// The first place where no program is.
 fn first_free(programs: &[Option<Verified>]) -> Option<usize>
     ensures first { result ≡ position (λ (slot : Option Accepted). is_none slot) programs.now }
     ensures inside { IfSome result (λ place. place < length programs.now) }
@@ -371,7 +371,7 @@ fn first_free(programs: &[Option<Verified>]) -> Option<usize>
     programs.iter().position(|slot| slot.is_none())
 }
 
-// How many steps an open run made, and 0 without one.
+/// How many steps an open run made, and 0 without one.
 fn steps_made(run: &Option<OpenRun>) -> u32
     ensures { result ≡ steps_of run.now }
 {
@@ -381,7 +381,7 @@ fn steps_made(run: &Option<OpenRun>) -> u32
     }
 }
 
-// The lesser of two numbers.
+/// The lesser of two numbers.
 fn lesser(a: u32, b: u64) -> u32
     ensures { result ≡ min a b }
 {

@@ -72,7 +72,7 @@ fn wrong_with(alloc: Global, size: u64) -> Option<Cause> {
     }
 }
 
-// Up to the limit it is read, and is a file without a key.
+/// Up to the limit it is read, and is a file without a key.
 #[test]
 fn a_file_has_a_limit(rt: HostRuntime) {
     let most = wrong_with(rt.alloc(), MAX_BYTES as u64);
@@ -97,7 +97,7 @@ fn files_in(alloc: Global, text: &str) -> Result<usize, FileFault> {
     Ok(files)
 }
 
-// Whole are the first two lines with `frames`, a comment's beginning or a line with the options.
+/// Whole are the first two lines with `frames`, a comment's beginning or a line with the options.
 #[test]
 fn cut_anywhere_it_is_bad_or_a_file(rt: HostRuntime) -> Result<(), Fail> {
     assert!(rt; files_in(rt.alloc(), FILE)? > 0);

@@ -6,7 +6,7 @@ ghost use Rattle.insn_alu.specs.Comparisons.{IsBranch, compared, holds, holds_of
 
 use bpf_decode::{Comparison, Insn, Operation, Width};
 
-// How many numbers a word has.
+/// How many numbers a word has.
 const WORD: u64 = 1 << 32;
 
 /// Whether the comparison of a conditional jump holds of dst, whose number is `a`. `b` is the number
@@ -56,7 +56,7 @@ macro_rules! compared {
     };
 }
 
-// Whether a comparison holds of two numbers of 64 bits.
+/// Whether a comparison holds of two numbers of 64 bits.
 #[inline(always)]
 #[tactic(auto, using(crate::proofs::Halves::low_of_small))]
 fn compared_64(comparison: Comparison, a: u64, b: u64) -> bool
@@ -65,7 +65,7 @@ fn compared_64(comparison: Comparison, a: u64, b: u64) -> bool
     compared!(comparison, a, b)
 }
 
-// Whether a comparison holds of two numbers of 32 bits.
+/// Whether a comparison holds of two numbers of 32 bits.
 #[inline(always)]
 fn compared_32(comparison: Comparison, a: u32, b: u32) -> bool
     ensures { result ≡ compared comparison Bits32 a b }

@@ -16,7 +16,7 @@ use crate::word::computed_32;
 use bpf_decode::{AluCode, Insn, Operation, Width};
 pub use comparison::{compares, holds};
 
-// How many numbers a word has.
+/// How many numbers a word has.
 const WORD: u64 = 1 << 32;
 
 /// The number that an arithmetic instruction leaves in dst, whose number is `a`. `b` is the number

@@ -7,17 +7,17 @@ pub(crate) fn all_agree(alloc: Global, text: &[u8], row: usize) -> Result<bool, 
     Ok(cuts_agree(alloc, text) && flips_agree(alloc, text, row)?)
 }
 
-// Whether each beginning of a program is refused or goes as on the plain machine.
+/// Whether each beginning of a program is refused or goes as on the plain machine.
 fn cuts_agree(alloc: Global, text: &[u8]) -> bool {
     (0..text.len()).all(|length| is_refused_or_agrees(alloc, &text[..length], true))
 }
 
-// The bits of a byte.
+/// The bits of a byte.
 const BITS: [u8; 8] = [1, 2, 4, 8, 16, 32, 64, 128];
 
-// Whether a program is refused or goes as on the plain machine with one bit of any byte flipped: from byte
-// to byte, from slot to slot and from row to row the next bit, so that eight rows flip all bits of a place.
-// With one byte of each slot, from row to row the next one, the text is judged by the plain verifier too.
+/// Whether a program is refused or goes as on the plain machine with one bit of any byte flipped: from byte
+/// to byte, from slot to slot and from row to row the next bit, so that eight rows flip all bits of a place.
+/// With one byte of each slot, from row to row the next one, the text is judged by the plain verifier too.
 fn flips_agree(alloc: Global, text: &[u8], row: usize) -> Result<bool, AllocError> {
     let mut changed = text.to_vec(alloc)?;
     for at in 0..text.len() {
@@ -31,14 +31,14 @@ fn flips_agree(alloc: Global, text: &[u8], row: usize) -> Result<bool, AllocErro
     Ok(true)
 }
 
-// Flips a bit of a byte.
+/// Flips a bit of a byte.
 fn flip(text: &mut [u8], at: usize, bit: u8) {
     if let Some(byte) = text.get_mut(at) {
         *byte ^= bit;
     }
 }
 
-// Whether a text is refused, or goes as it does on the plain machine.
+/// Whether a text is refused, or goes as it does on the plain machine.
 fn is_refused_or_agrees(alloc: Global, text: &[u8], judged_twice: bool) -> bool {
     match on_the_host(alloc, text, judged_twice) {
         Outcome::Refused => true,

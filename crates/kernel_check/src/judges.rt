@@ -23,7 +23,7 @@ pub fn judge_alike(
         && backward(alloc, text, shapes, size).is_some_and(|judged| is_as(&judged, verified))
 }
 
-// What the pass answers that joins in order; `None` where the decoder refuses, or for want of memory.
+/// What the pass answers that joins in order; `None` where the decoder refuses, or for want of memory.
 fn forward(alloc: Global, text: &[u8], shapes: &[Shape], size: u32) -> Option<Judged>
     requires shapes { AreShapes shapes.now }
     requires context { IsContextSize size }
@@ -31,7 +31,7 @@ fn forward(alloc: Global, text: &[u8], shapes: &[Shape], size: u32) -> Option<Ju
     judge_forward(alloc, decode(alloc, text).ok()?, shapes, size).ok()
 }
 
-// What the pass answers that joins in the opposite order.
+/// What the pass answers that joins in the opposite order.
 fn backward(alloc: Global, text: &[u8], shapes: &[Shape], size: u32) -> Option<Judged>
     requires shapes { AreShapes shapes.now }
     requires context { IsContextSize size }
@@ -39,7 +39,7 @@ fn backward(alloc: Global, text: &[u8], shapes: &[Shape], size: u32) -> Option<J
     judge_backward(alloc, decode(alloc, text).ok()?, shapes, size).ok()
 }
 
-// Whether a text was judged as `verify` judged it.
+/// Whether a text was judged as `verify` judged it.
 fn is_as(judged: &Judged, verified: &Result<Verified, Refused>) -> bool {
     match (judged, verified) {
         (Judged::Accepted(table), Ok(program)) => has_kinds(table, program),
@@ -48,7 +48,7 @@ fn is_as(judged: &Judged, verified: &Result<Verified, Refused>) -> bool {
     }
 }
 
-// Whether a table knows what `verify` knows of each register at each slot.
+/// Whether a table knows what `verify` knows of each register at each slot.
 fn has_kinds(table: &Table, program: &Verified) -> bool {
     for slot in 0..program.slots() {
         for register in 0..11 {

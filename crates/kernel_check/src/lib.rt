@@ -11,16 +11,18 @@ mod changes;
 mod judges;
 mod row;
 mod runs;
+mod shapes;
 
 use changes::all_agree;
 pub use judges::judge_alike;
 use row::Row;
 use runs::{Outcome, on_the_host, on_the_plain_machine};
+pub use shapes::shapes_of;
 use std::alloc::{AllocError, Global};
 use std::io;
 use std::io::Input;
 
-// What is found of a row.
+/// What is found of a row.
 enum Finding {
     /// Its program does what the row says, and the changed texts go alike.
     Agrees,
@@ -48,7 +50,7 @@ pub fn compare_input(rt: &(impl AllocGlobal + Input + Print)) -> io::Result<()> 
     println!(rt; "{agreed} of {rows} rows agree")
 }
 
-// Compares the host with the row that a line says; which row it is says how its program is changed.
+/// Compares the host with the row that a line says; which row it is says how its program is changed.
 fn compare(alloc: Global, line: &str, number: usize) -> Result<Finding, AllocError> {
     match Row::parse(alloc, line) {
         Some(row) if agrees(alloc, &row) => {
@@ -62,14 +64,14 @@ fn compare(alloc: Global, line: &str, number: usize) -> Result<Finding, AllocErr
     }
 }
 
-// Whether a row's program does what the row says, on the host and on the plain machine alike.
+/// Whether a row's program does what the row says, on the host and on the plain machine alike.
 fn agrees(alloc: Global, row: &Row) -> bool {
     let text = row.text.as_slice();
     let outcome = on_the_host(alloc, text, true);
     outcome == on_the_plain_machine(alloc, text) && is_as(row, outcome)
 }
 
-// Whether a program went as a row says.
+/// Whether a program went as a row says.
 fn is_as(row: &Row, outcome: Outcome) -> bool {
     match outcome {
         Outcome::Returned { number, steps } => {

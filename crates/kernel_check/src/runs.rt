@@ -11,7 +11,7 @@ use plain_machine::{Ending, Machine};
 use std::alloc::Global;
 use verifier::{Verified, verify};
 
-// As many steps as a program has instructions at most.
+/// As many steps as a program has instructions at most.
 const STEPS: u32 = 4096;
 
 /// How a program went, with no context and no maps.
@@ -38,7 +38,7 @@ pub(crate) fn on_the_host(alloc: Global, text: &[u8], judged_twice: bool) -> Out
     }
 }
 
-// How a text goes that `verify` judged.
+/// How a text goes that `verify` judged.
 fn verified_on_the_host(
     alloc: Global,
     text: &[u8],
@@ -56,7 +56,7 @@ fn verified_on_the_host(
     }
 }
 
-// How a text goes that is refused.
+/// How a text goes that is refused.
 fn refusal(refused: Refused) -> Outcome {
     if refused == Refused::OUT_OF_MEMORY {
         Outcome::Unable
@@ -77,14 +77,14 @@ pub(crate) fn on_the_plain_machine(alloc: Global, text: &[u8]) -> Outcome {
     }
 }
 
-// The program as `verify` judges it, for an empty context and no maps.
+/// The program as `verify` judges it, for an empty context and no maps.
 fn judged(alloc: Global, program: Program) -> Result<Verified, Refused>
     ensures { IfOk result (λ v. v.subject.shapes ≡ all_there []) }
 {
     verify(alloc, program, &[], 0)
 }
 
-// Runs the program to its end.
+/// Runs the program to its end.
 fn run_to_end(alloc: Global, program: &Verified) -> Outcome
     requires { program.now.subject.shapes ≡ all_there [] }
 {
@@ -94,7 +94,7 @@ fn run_to_end(alloc: Global, program: &Verified) -> Outcome
     }
 }
 
-// How a run ends.
+/// How a run ends.
 fn ended(mut run: Run, program: &Verified) -> Outcome
     requires { (s : MachineState) × StandsFor program.now run s }
 {

@@ -1,13 +1,10 @@
 //! A row: what a program finds, and what it is to do.
 
-ghost use Rattle.std.specs.Prelude.{◌<◌, length, IfOk, IfSome, OnOk};
-ghost use Rattle.host_types.specs.Shapes.{IsShape};
-ghost use Rattle.verifier.specs.Verified.{AreShapes};
-
 use crate::runs::Outcome;
 use crate::setting::{Setting, Value};
-use host_types::{Refused, Shape};
-use std::alloc::{AllocError, Global};
+use host_types::Refused;
+use kernel_check::shapes_of;
+use std::alloc::Global;
 
 /// A program, what it finds, its answer, and the values that it leaves other than it found them.
 #[derive(Drop)]
@@ -91,41 +88,4 @@ fn value_of(alloc: Global, text: &str) -> Option<Value> {
     let key = parts.next()?.parse().ok()?;
     let bytes = hex::decode(alloc, parts.next()?).ok()?;
     Some(Value { map, key, bytes })
-}
-
-/// The shape that is written `VALUE_SIZE:ENTRIES`, if a map may have it.
-fn shape_of(text: &str) -> Option<Shape>
-    ensures { IfSome result IsShape }
-{
-    let (value_size, entries) = text.split_once(':')?;
-    let shape = Shape {
-        value_size: value_size.parse().ok()?,
-        entries: entries.parse().ok()?,
-    };
-    if shape.is_valid() { Some(shape) } else { None }
-}
-
-/// Puts a shape behind others.
-fn add(shapes: &mut Vec<Shape>, shape: Shape) -> Result<(), AllocError>
-    requires shapes { AreShapes shapes.old.items }
-    requires shape { IsShape shape }
-    requires few { length shapes.old.items < 8 }
-    ensures { OnOk result (AreShapes shapes.new.items) }
-{
-    shapes.push(shape)?;
-    Ok(())
-}
-
-/// The shapes between spaces, at most eight; one that no map has is passed over.
-fn shapes_of(alloc: Global, given: &str) -> Result<Vec<Shape>, AllocError>
-    ensures { IfOk result (λ shapes. AreShapes shapes.items) }
-{
-    let mut shapes = Vec::new(alloc);
-    for text in given.split(' ') {
-        match shape_of(text) {
-            Some(shape) if shapes.len() < 8 => add(&mut shapes, shape)?,
-            _ => {}
-        }
-    }
-    Ok(shapes)
 }

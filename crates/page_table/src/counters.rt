@@ -1,4 +1,4 @@
-// What is counted of a memory's pages and groups.
+//! What is counted of a memory's pages and groups.
 ghost use Rattle.std.specs.Prelude.{◌≡◌, length};
 ghost use Rattle.host_types.specs.Counters.{pages_unshared, pages_volatile, stable_node_chains, stable_node_dups};
 ghost use Rattle.host_types.specs.Unmerging.{zero_pages};

@@ -9,7 +9,7 @@ use std::marker::Model;
 #[derive(Drop)]
 pub(crate) struct FrameCounts {
     counts: Vec<u32>,
-    // a stack with room for all frames
+    /// A stack with room for all frames.
     unused: Vec<u32>,
 }
 

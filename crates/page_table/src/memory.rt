@@ -47,10 +47,10 @@ const UNMERGED: u32 = 2;
 #[derive(Drop)]
 pub struct Memory {
     pub(crate) table: Table,
-    // by the maps' places
+    /// By the maps' places.
     shapes: Vec<Option<Shape>>,
     tenants: Vec<Tenant>,
-    // the sum of the tenants' reserves
+    /// The sum of the tenants' reserves.
     reserved: u32,
     pass: Pass,
 }

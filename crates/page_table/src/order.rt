@@ -1,4 +1,4 @@
-// The groups in the order in which they came to be.
+//! The groups in the order in which they came to be.
 ghost use Rattle.std.specs.Prelude.{◌≡◌, ◌+◌, ◌*◌, ◌<◌, ◌≤◌, ◌==◌, ◌++◌, ◌∷◌, [], not, filter, length, slice_index_or, IfOk, AllPairs, All, ◌≢◌, ℕ, vec_capacity};
 ghost use Rattle.page_table.specs.Table.{GroupsState, ArePlaced, groups_in, times};
 
@@ -12,9 +12,9 @@ const ENDED: u32 = 0;
 /// other one moves then; where all slots are used up, the groups move up together.
 #[derive(Drop)]
 pub(crate) struct GroupOrder {
-    // with room for twice as many as there are frames
+    /// With room for twice as many as there are frames.
     slots: Vec<u32>,
-    // by frame the slot of its group
+    /// By frame the slot of its group.
     slot_of: Vec<u32>,
 }
 

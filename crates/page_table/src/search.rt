@@ -1,4 +1,4 @@
-// The search for the next page that may be merged: map by map, and in each map that is there its pages.
+//! The search for the next page that may be merged: map by map, and in each map that is there its pages.
 ghost use Rattle.std.specs.Prelude.{◌≡◌, ◌+◌, ◌*◌, ◌<◌, ◌≤◌, false, drop, length, slice_index_or, MatchOption, Option, None, Some, ℕ};
 ghost use Rattle.host_types.specs.Visits.{first_mergeable, is_mergeable};
 ghost use Rattle.page_table.specs.Table.{AreMaps, contents_of, states_of};

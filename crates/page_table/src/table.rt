@@ -32,9 +32,9 @@ pub(crate) struct Table {
     arena: FrameArena,
     counts: FrameCounts,
     entries: PageList,
-    // the frames of the groups in order of creation
+    /// The frames of the groups in order of creation.
     groups: GroupOrder,
-    // the same frames by the bytes of their pages, with room for all frames
+    /// The same frames by the bytes of their pages, with room for all frames.
     tree: StableTree,
 }
 

@@ -1,4 +1,4 @@
-// How many pages are as the counters tell, kept as numbers while pages change.
+//! How many pages are as the counters tell, kept as numbers while pages change.
 ghost use Rattle.std.specs.Prelude.{◌≡◌, ◌+◌, ◌-◌, ◌<◌, ◌≤◌, option_map};
 ghost use Rattle.host_types.specs.Counters.{unshared_at, volatile_at};
 ghost use Rattle.page_table.specs.Table.{state_of};

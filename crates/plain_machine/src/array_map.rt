@@ -9,25 +9,25 @@ use crate::number::{number_of_bytes, put_bytes, put_part};
 use host_types::{MapNo, Shape};
 use std::marker::Model;
 
-// How many addresses a region has.
+/// How many addresses a region has.
 const REGION: u64 = 4294967296;
 
-// The number of the region of map 0's values, which those of the other maps follow.
+/// The number of the region of map 0's values, which those of the other maps follow.
 const MAP_VALUES: u64 = 16;
 
-// The flag of an update that wants an element that isn't there.
+/// The flag of an update that wants an element that isn't there.
 const NO_EXIST: u64 = 1;
 
-// The flag of an update that wants an element that is there. No flag is above it.
+/// The flag of an update that wants an element that is there. No flag is above it.
 const EXIST: u64 = 2;
 
-// Linux's number of the error that a key is past the end.
+/// Linux's number of the error that a key is past the end.
 const E2BIG: u64 = 7;
 
-// Linux's number of the error that an element is there.
+/// Linux's number of the error that an element is there.
 const EEXIST: u64 = 17;
 
-// Linux's number of the error that something isn't done at all.
+/// Linux's number of the error that something isn't done at all.
 const EINVAL: u64 = 22;
 
 /// An array map, its elements one after another, a stride apart.
@@ -115,7 +115,7 @@ impl ArrayMap {
         failed(EINVAL)
     }
 
-    // Whether bytes lie whole in the value of one element.
+    /// Whether bytes lie whole in the value of one element.
     #[tactic(auto, using(crate::proofs::Elements::within_map))]
     pub(crate) fn has(&self, at: usize, size: usize) -> bool
         requires { size ≤ 8 }
@@ -149,7 +149,7 @@ impl ArrayMap {
     }
 }
 
-// The answer that tells an error.
+/// The answer that tells an error.
 fn failed(error: u64) -> u64
     requires some { 1 ≤ error }
     ensures { result ≡ failed error }

@@ -11,26 +11,26 @@ use crate::number::{copy_if_set, number_if_set, number_of_bytes, set_bytes};
 use host_types::MapNo;
 use std::marker::Model;
 
-// How many addresses a region has.
+/// How many addresses a region has.
 const REGION: u64 = 4294967296;
 
-// The number of the context's region.
+/// The number of the context's region.
 const CONTEXT: u64 = 1;
 
-// The number of the stack's region.
+/// The number of the stack's region.
 const STACK: u64 = 2;
 
-// The number of the region that names map 0, which those that name the other maps follow.
+/// The number of the region that names map 0, which those that name the other maps follow.
 const MAP_NAMES: u64 = 8;
 
-// The number of the region of map 0's values, which those of the other maps follow.
+/// The number of the region of map 0's values, which those of the other maps follow.
 const MAP_VALUES: u64 = 16;
 
-// How many bytes the stack has.
+/// How many bytes the stack has.
 const STACK_SIZE: usize = 512;
 
-// A flat memory: the context, the stack of which each byte is set or not, and at most eight maps by
-// number.
+/// A flat memory: the context, the stack of which each byte is set or not, and at most eight maps by
+/// number.
 #[derive(Drop)]
 pub(crate) struct Memory {
     context: Vec<u8>,
@@ -47,7 +47,7 @@ impl Model for Memory {
 }
 
 impl Memory {
-    // The memory at a run's beginning, where no byte of the stack is set.
+    /// The memory at a run's beginning, where no byte of the stack is set.
     pub(crate) fn new(context: Vec<u8>, maps: Vec<Option<ArrayMap>>) -> Self
         requires { length maps.items ≤ 8 }
         ensures { result ≡ record { context = context.items; stack = replicate stack_size None; maps = maps.items } }
@@ -59,14 +59,14 @@ impl Memory {
         }
     }
 
-    // The maps by number.
+    /// The maps by number.
     pub(crate) fn maps(&self) -> &[Option<ArrayMap>]
         ensures { result.now ≡ self.now.maps }
     {
         self.maps.as_slice()
     }
 
-    // The number of `size` bytes at an address. The access is aligned to its size.
+    /// The number of `size` bytes at an address. The access is aligned to its size.
     #[tactic(auto, unfolding(host_types::specs::Memory::fetch, host_types::specs::Memory::place_of, host_types::specs::Memory::bytes_at))]
     pub(crate) fn fetch(&self, address: u64, size: usize) -> Option<u64>
         requires some { 1 ≤ size }
@@ -86,7 +86,7 @@ impl Memory {
         }
     }
 
-    // The number of `size` bytes at a place of the context.
+    /// The number of `size` bytes at a place of the context.
     #[tactic(auto, using(crate::proofs::Parts::slice_part_of))]
     fn fetch_context(&self, at: usize, size: usize) -> Option<u64>
         requires near { at < region_size }
@@ -100,7 +100,7 @@ impl Memory {
         Some(number_of_bytes(&self.context[at..at + size]))
     }
 
-    // The number of `size` bytes at a place of the stack, if each of them is set.
+    /// The number of `size` bytes at a place of the stack, if each of them is set.
     #[tactic(auto, using(crate::proofs::Parts::slice_part_of))]
     fn fetch_stack(&self, at: usize, size: usize) -> Option<u64>
         requires near { at < region_size }
@@ -114,7 +114,7 @@ impl Memory {
         number_if_set(&self.stack[at..at + size])
     }
 
-    // The number of `size` bytes among the values of a map, if they lie whole in one value.
+    /// The number of `size` bytes among the values of a map, if they lie whole in one value.
     fn fetch_map(&self, number: usize, at: usize, size: usize) -> Option<u64>
         requires near { at < region_size }
         requires small { size ≤ 8 }
@@ -127,8 +127,8 @@ impl Memory {
         }
     }
 
-    // Writes the lowest `size` bytes of a number at an address. The access is aligned to its size.
-    // `None` is a fault, which changes nothing.
+    /// Writes the lowest `size` bytes of a number at an address. The access is aligned to its size.
+    /// `None` is a fault, which changes nothing.
     #[tactic(auto, unfolding(host_types::specs::Memory::place, host_types::specs::Memory::place_of, host_types::specs::Memory::with_bytes))]
     pub(crate) fn place(&mut self, address: u64, size: usize, number: u64) -> Option<()>
         requires some { 1 ≤ size }
@@ -149,7 +149,7 @@ impl Memory {
         }
     }
 
-    // Writes the lowest `size` bytes of a number at a place of the stack.
+    /// Writes the lowest `size` bytes of a number at a place of the stack.
     fn place_in_stack(&mut self, at: usize, size: usize, number: u64) -> Option<()>
         requires near { at < region_size }
         requires small { size ≤ 8 }
@@ -163,8 +163,8 @@ impl Memory {
         Some(())
     }
 
-    // Writes the lowest `size` bytes of a number at a place of a map, if they lie whole in the value
-    // of one element.
+    /// Writes the lowest `size` bytes of a number at a place of a map, if they lie whole in the value
+    /// of one element.
     fn place_in_map(&mut self, map_number: usize, at: usize, size: usize, number: u64) -> Option<()>
         requires near { at < region_size }
         requires small { size ≤ 8 }
@@ -179,7 +179,7 @@ impl Memory {
         Some(())
     }
 
-    // Writes the lowest `size` bytes of a number at a place of a map that has the place.
+    /// Writes the lowest `size` bytes of a number at a place of a map that has the place.
     fn put_in_map(&mut self, map_number: usize, at: usize, size: usize, number: u64)
         requires small { size ≤ 8 }
         requires within { IsSomeAnd (map_at self.old.maps map_number) (λ flat. at + size ≤ length flat.bytes) }
@@ -190,7 +190,7 @@ impl Memory {
         map.put_number(at, size, number);
     }
 
-    // The name of the map with a number, if it is there.
+    /// The name of the map with a number, if it is there.
     pub(crate) fn name(&self, number: i32) -> Option<u64>
         ensures { result ≡ name_of_map self.now.maps number }
     {
@@ -203,7 +203,7 @@ impl Memory {
         }
     }
 
-    // The map whose name a number is, if it is there.
+    /// The map whose name a number is, if it is there.
     pub(crate) fn map_named(&self, name: u64) -> Option<MapNo>
         ensures map { result ≡ map_named self.now.maps name }
         ensures there { IfSome result (λ m. (m ≤ 7) × IsSome (map_at self.now.maps m)) }
@@ -218,7 +218,7 @@ impl Memory {
         }
     }
 
-    // The key of a helper: the number of four bytes of the context or of the stack. It is aligned.
+    /// The key of a helper: the number of four bytes of the context or of the stack. It is aligned.
     #[tactic(auto, unfolding(host_types::specs::Memory::place_of, host_types::specs::Memory::bytes_at), using(crate::proofs::Places::not_own))]
     pub(crate) fn key(&self, address: u64) -> Option<u32>
         ensures { result ≡ key_at self.now address }
@@ -235,7 +235,7 @@ impl Memory {
         Some(number as u32)
     }
 
-    // What `lookup` answers of a map that is there.
+    /// What `lookup` answers of a map that is there.
     pub(crate) fn lookup(&self, number: MapNo, key: u32) -> u64
         requires few { number ≤ 7 }
         requires there { IsSome (map_at self.now.maps number) }
@@ -247,8 +247,8 @@ impl Memory {
         }
     }
 
-    // What `update` answers of a map that is there and does to it, with the value at an address of the
-    // context or of the stack. `None` is a fault, which changes nothing.
+    /// What `update` answers of a map that is there and does to it, with the value at an address of the
+    /// context or of the stack. `None` is a fault, which changes nothing.
     #[tactic(auto, unfolding(host_types::specs::Memory::place_of, host_types::specs::Memory::bytes_at), using(crate::proofs::Places::not_own))]
     pub(crate) fn update(
         &mut self,
@@ -269,7 +269,7 @@ impl Memory {
         }
     }
 
-    // How many bytes a value of a map has that is there.
+    /// How many bytes a value of a map has that is there.
     fn value_size(&self, number: MapNo) -> usize
         requires { IsSome (map_at self.now.maps number) }
         ensures size { IsSomeAnd (map_at self.now.maps number) (λ flat. result ≡ flat.shape.value_size) }
@@ -281,7 +281,7 @@ impl Memory {
         }
     }
 
-    // The same with a value in the context.
+    /// The same with a value in the context.
     #[tactic(auto, using(crate::proofs::Parts::slice_part_of, crate::proofs::Updates::by_context))]
     fn update_from_context(&mut self, number: MapNo, key: u32, at: usize, flags: u64) -> Option<u64>
         requires near { at < region_size }
@@ -296,7 +296,7 @@ impl Memory {
         Some(update_in(&mut self.maps, number, key, &self.context[at..end], flags))
     }
 
-    // The same with a value in the stack, each of whose bytes is set.
+    /// The same with a value in the stack, each of whose bytes is set.
     #[tactic(auto, using(crate::proofs::Parts::slice_part_of, crate::proofs::Updates::by_stack))]
     fn update_from_stack(&mut self, number: MapNo, key: u32, at: usize, flags: u64) -> Option<u64>
         requires near { at < region_size }
@@ -317,7 +317,7 @@ impl Memory {
     }
 }
 
-// Updates a map that is there, and tells the answer.
+/// Updates a map that is there, and tells the answer.
 #[tactic(auto, unfolding(host_types::specs::Helpers::maps_updated))]
 fn update_in(
     maps: &mut [Option<ArrayMap>],

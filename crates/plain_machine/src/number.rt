@@ -2,7 +2,7 @@ ghost use Rattle.std.specs.Prelude.{◌≡◌, ◌+◌, ◌*◌, ◌<◌, ◌≤
 ghost use Rattle.host_types.specs.Bytes.{number_of, bytes_of, with_part};
 ghost use Rattle.host_types.specs.Memory.{all_set, only_if};
 
-// The little-endian number of at most eight bytes.
+/// The little-endian number of at most eight bytes.
 #[tactic(auto, unfolding(host_types::specs::Bytes::number_of), using(crate::proofs::Powers::one_more_byte))]
 pub(crate) fn number_of_bytes(bytes: &[u8]) -> u64
     requires { length bytes.now ≤ 8 }
@@ -15,7 +15,7 @@ pub(crate) fn number_of_bytes(bytes: &[u8]) -> u64
     }
 }
 
-// A number of n bytes, n at most 7, with a byte put below them.
+/// A number of n bytes, n at most 7, with a byte put below them.
 #[tactic(auto, using(crate::proofs::Powers::one_more_byte))]
 fn with_low_byte(byte: u8, number: u64, n: usize) -> u64
     requires few { n ≤ 7 }
@@ -26,7 +26,7 @@ fn with_low_byte(byte: u8, number: u64, n: usize) -> u64
     u64::from(byte) + 256 * number
 }
 
-// The little-endian number of at most eight bytes, if each is set.
+/// The little-endian number of at most eight bytes, if each is set.
 #[tactic(auto, unfolding(host_types::specs::Bytes::number_of, host_types::specs::Memory::all_set))]
 pub(crate) fn number_if_set(bytes: &[Option<u8>]) -> Option<u64>
     requires { length bytes.now ≤ 8 }
@@ -43,7 +43,7 @@ pub(crate) fn number_if_set(bytes: &[Option<u8>]) -> Option<u64>
     }
 }
 
-// The eight bytes of a number, the lowest first.
+/// The eight bytes of a number, the lowest first.
 #[tactic(auto, using(crate::proofs::Powers::le_bytes_are))]
 pub(crate) fn low_bytes(number: u64) -> [u8; 8]
     ensures { result ≡ bytes_of 8 number }
@@ -51,7 +51,7 @@ pub(crate) fn low_bytes(number: u64) -> [u8; 8]
     number.to_le_bytes()
 }
 
-// Writes the lowest `size` bytes of a number, from a place on.
+/// Writes the lowest `size` bytes of a number, from a place on.
 #[tactic(auto, using(crate::proofs::Parts::first_bytes))]
 pub(crate) fn put_bytes(bytes: &mut [u8], at: usize, size: usize, number: u64)
     requires small { size ≤ 8 }
@@ -61,7 +61,7 @@ pub(crate) fn put_bytes(bytes: &mut [u8], at: usize, size: usize, number: u64)
     put_part(bytes, at, &low_bytes(number)[..size]);
 }
 
-// Sets the lowest `size` bytes of a number, from a place on.
+/// Sets the lowest `size` bytes of a number, from a place on.
 #[tactic(auto, using(crate::proofs::Parts::first_set_bytes))]
 pub(crate) fn set_bytes(bytes: &mut [Option<u8>], at: usize, size: usize, number: u64)
     requires small { size ≤ 8 }
@@ -71,7 +71,7 @@ pub(crate) fn set_bytes(bytes: &mut [Option<u8>], at: usize, size: usize, number
     put_part(bytes, at, &each_set(low_bytes(number))[..size]);
 }
 
-// Bytes, each set.
+/// Bytes, each set.
 fn each_set(bytes: [u8; 8]) -> [Option<u8>; 8]
     ensures { result ≡ map Some bytes }
 {
@@ -87,7 +87,7 @@ fn each_set(bytes: [u8; 8]) -> [Option<u8>; 8]
     ]
 }
 
-// Writes a part of a list, from a place on.
+/// Writes a part of a list, from a place on.
 pub(crate) fn put_part<T: Copy>(items: &mut [T], at: usize, part: &[T])
     requires { at + length part.now ≤ length items.old }
     ensures { items.new ≡ with_part items.old at part.now }
@@ -95,7 +95,7 @@ pub(crate) fn put_part<T: Copy>(items: &mut [T], at: usize, part: &[T])
     items[at..at + part.len()].copy_from_slice(part);
 }
 
-// Copies bytes, each of which has to be set.
+/// Copies bytes, each of which has to be set.
 #[tactic(auto, using(crate::proofs::Copies::all_copied, crate::proofs::Copies::not_set))]
 pub(crate) fn copy_if_set(bytes: &[Option<u8>], values: &mut [u8]) -> bool
     requires { length values.old ≡ length bytes.now }

@@ -1,10 +1,10 @@
-// The bytes of pages by place.
+//! The bytes of pages by place.
 ghost use Rattle.std.specs.Prelude.{◌≡◌, bytes_eq};
 ghost use Rattle.host_types.specs.Pages.{fingerprint_of, zero_page};
 ghost use Rattle.host_types.specs.Visits.{group_bytes};
 ghost use Rattle.plain_sharing.specs.View.{plain_contents};
 
-// The bytes of the page at a place, none past the list's end.
+/// The bytes of the page at a place, none past the list's end.
 pub(crate) fn bytes_at(contents: &[Vec<u8>], place: usize) -> &[u8]
     ensures { result.now ≡ plain_contents contents.now place }
 {
@@ -14,7 +14,7 @@ pub(crate) fn bytes_at(contents: &[Vec<u8>], place: usize) -> &[u8]
     }
 }
 
-// The bytes of a group's pages, which are those of its first one.
+/// The bytes of a group's pages, which are those of its first one.
 pub(crate) fn group_bytes<'a>(contents: &'a [Vec<u8>], group: &[usize]) -> &'a [u8]
     ensures { result.now ≡ group_bytes (plain_contents contents.now) group.now }
 {
@@ -24,7 +24,7 @@ pub(crate) fn group_bytes<'a>(contents: &'a [Vec<u8>], group: &[usize]) -> &'a [
     }
 }
 
-// The fingerprint of some bytes, folded in one after another.
+/// The fingerprint of some bytes, folded in one after another.
 #[tactic(auto, unfolding(host_types::specs::Pages::fingerprint_of))]
 pub(crate) fn fingerprint(bytes: &[u8]) -> u64
     ensures { result ≡ fingerprint_of bytes.now }
@@ -36,14 +36,14 @@ pub(crate) fn fingerprint(bytes: &[u8]) -> u64
     fingerprint
 }
 
-// Whether some bytes are a page of zeros.
+/// Whether some bytes are a page of zeros.
 pub(crate) fn is_zeros(bytes: &[u8]) -> bool
     ensures { result ≡ bytes_eq bytes.now zero_page }
 {
     are_same(bytes, [0; 4096].as_slice())
 }
 
-// Whether some bytes are the same ones as others.
+/// Whether some bytes are the same ones as others.
 pub(crate) fn are_same(one: &[u8], other: &[u8]) -> bool
     ensures { result ≡ bytes_eq one.now other.now }
 {

@@ -1,4 +1,4 @@
-// Groups of pages, each a list of places.
+//! Groups of pages, each a list of places.
 ghost use Rattle.std.specs.Prelude.{◌≡◌, ◌&&◌, ◌<◌, ◌≤◌, ◌^◌, nat_lt, bytes_eq, map, length, take, slice_index_or, [], ◌∷◌, IfOk, insert, sum_by};
 ghost use Rattle.std.specs.List.{list_any};
 ghost use Rattle.host_types.specs.Counters.{times_among, repeated_among, seconds_behind};
@@ -9,7 +9,7 @@ ghost use Rattle.plain_sharing.specs.View.{places_of, plain_contents, bytes_of_e
 use crate::contents;
 use std::alloc::{AllocError, Global};
 
-// The group of two places, in their order.
+/// The group of two places, in their order.
 #[tactic(auto, unfolding(host_types::specs::Sharing::joined_by))]
 pub(crate) fn pair(alloc: Global, first: usize, second: usize) -> Result<Vec<usize>, AllocError>
     ensures { IfOk result (λ group. group.items ≡ joined_by first (second ∷ [])) }
@@ -21,7 +21,7 @@ pub(crate) fn pair(alloc: Global, first: usize, second: usize) -> Result<Vec<usi
     }
 }
 
-// Whether a place is in a group with another one.
+/// Whether a place is in a group with another one.
 pub(crate) fn in_company(groups: &[Vec<usize>], place: usize) -> bool
     ensures { result ≡ list_any (λ group. is_among place group && nat_lt 1 (length group)) (places_of groups.now) }
 {
@@ -33,14 +33,14 @@ pub(crate) fn in_company(groups: &[Vec<usize>], place: usize) -> bool
     false
 }
 
-// Whether a place is in a group, and another one too.
+/// Whether a place is in a group, and another one too.
 fn has_company(group: &[usize], place: usize) -> bool
     ensures { result ≡ (is_among place group.now && nat_lt 1 (length group.now)) }
 {
     group.contains(&place) && group.len() > 1
 }
 
-// Takes a place out of its group. A group without places disappears.
+/// Takes a place out of its group. A group without places disappears.
 pub(crate) fn leave(groups: &mut Vec<Vec<usize>>, place: usize)
     ensures { places_of groups.new.items ≡ left_by place (places_of groups.old.items) }
 {
@@ -48,7 +48,7 @@ pub(crate) fn leave(groups: &mut Vec<Vec<usize>>, place: usize)
     groups.retain(|group| !group.is_empty());
 }
 
-// Takes a place out of each group.
+/// Takes a place out of each group.
 fn take_from_each(groups: &mut [Vec<usize>], place: usize)
     ensures { places_of groups.new ≡ map (without place) (places_of groups.old) }
 {
@@ -57,15 +57,15 @@ fn take_from_each(groups: &mut [Vec<usize>], place: usize)
     }
 }
 
-// Takes a place out of a group.
+/// Takes a place out of a group.
 fn take_out(group: &mut Vec<usize>, place: usize)
     ensures { group.new.items ≡ without place group.old.items }
 {
     group.retain(|other| *other != place);
 }
 
-// Puts a place into the first group that has its page's bytes, and fewer pages than the limit. It
-// answers whether there is one.
+/// Puts a place into the first group that has its page's bytes, and fewer pages than the limit. It
+/// answers whether there is one.
 pub(crate) fn join_first(
     groups: &mut [Vec<usize>],
     contents: &[Vec<u8>],
@@ -86,7 +86,7 @@ pub(crate) fn join_first(
     Ok(false)
 }
 
-// Whether a group has the bytes of the page at a place, and fewer pages than the limit.
+/// Whether a group has the bytes of the page at a place, and fewer pages than the limit.
 fn is_open(group: &[usize], contents: &[Vec<u8>], place: usize, limit: usize) -> bool
     ensures { result ≡ is_open_below limit (plain_contents contents.now) (plain_contents contents.now place) group.now }
 {
@@ -94,7 +94,7 @@ fn is_open(group: &[usize], contents: &[Vec<u8>], place: usize, limit: usize) ->
     contents::are_same(contents::group_bytes(contents, group), bytes) && group.len() < limit
 }
 
-// Puts a place into a group, in its order.
+/// Puts a place into a group, in its order.
 pub(crate) fn join(group: &mut Vec<usize>, place: usize) -> Result<(), AllocError>
     ensures { IfOk result (λ _. group.new.items ≡ joined_by place group.old.items) }
 {
@@ -103,7 +103,7 @@ pub(crate) fn join(group: &mut Vec<usize>, place: usize) -> Result<(), AllocErro
     Ok(())
 }
 
-// Where a place goes in a group.
+/// Where a place goes in a group.
 fn index_for(group: &[usize], place: usize) -> usize
     ensures value { insert group.now result place ≡ joined_by place group.now }
     ensures inside { result ≤ length group.now }
@@ -116,7 +116,7 @@ fn index_for(group: &[usize], place: usize) -> usize
     group.len()
 }
 
-// How many places all groups have together.
+/// How many places all groups have together.
 pub(crate) fn members(groups: &[Vec<usize>]) -> u128
     ensures sum { result ≡ sum_by (λ group. length group) (places_of groups.now) }
     ensures small { result < 2 ^ 127 }
@@ -128,7 +128,7 @@ pub(crate) fn members(groups: &[Vec<usize>]) -> u128
     members
 }
 
-// How many places a group has.
+/// How many places a group has.
 fn size(group: &[usize]) -> u128
     ensures value { result ≡ length group.now }
     ensures small { result < 2 ^ 64 }
@@ -136,14 +136,14 @@ fn size(group: &[usize]) -> u128
     group.len() as u128
 }
 
-// Whether a group has some bytes.
+/// Whether a group has some bytes.
 fn has_bytes(group: &[usize], contents: &[Vec<u8>], bytes: &[u8]) -> bool
     ensures { result ≡ bytes_eq (group_bytes (plain_contents contents.now) group.now) bytes.now }
 {
     contents::are_same(contents::group_bytes(contents, group), bytes)
 }
 
-// How many groups have some bytes.
+/// How many groups have some bytes.
 fn count_alike(groups: &[Vec<usize>], contents: &[Vec<u8>], bytes: &[u8]) -> usize
     ensures { result ≡ times_among bytes.now (bytes_of_each (plain_contents contents.now) groups.now) }
 {
@@ -154,7 +154,7 @@ fn count_alike(groups: &[Vec<usize>], contents: &[Vec<u8>], bytes: &[u8]) -> usi
     count
 }
 
-// How many of the groups before one have its bytes.
+/// How many of the groups before one have its bytes.
 fn count_before(groups: &[Vec<usize>], contents: &[Vec<u8>], index: usize) -> usize
     requires { index < length groups.now }
     ensures { result ≡ times_among (slice_index_or (bytes_of_each (plain_contents contents.now) groups.now) index [])
@@ -164,7 +164,7 @@ fn count_before(groups: &[Vec<usize>], contents: &[Vec<u8>], index: usize) -> us
     count_alike(&groups[..index], contents, bytes)
 }
 
-// How many groups are the second one of their bytes.
+/// How many groups are the second one of their bytes.
 pub(crate) fn count_seconds(groups: &[Vec<usize>], contents: &[Vec<u8>]) -> usize
     ensures { result ≡ seconds_behind [] (bytes_of_each (plain_contents contents.now) groups.now) }
 {
@@ -175,7 +175,7 @@ pub(crate) fn count_seconds(groups: &[Vec<usize>], contents: &[Vec<u8>]) -> usiz
     count
 }
 
-// Whether a group's bytes are those of another group too.
+/// Whether a group's bytes are those of another group too.
 fn is_repeated(groups: &[Vec<usize>], contents: &[Vec<u8>], group: &[usize]) -> bool
     ensures { result ≡ nat_lt 1 (times_among (group_bytes (plain_contents contents.now) group.now)
         (bytes_of_each (plain_contents contents.now) groups.now)) }
@@ -183,7 +183,7 @@ fn is_repeated(groups: &[Vec<usize>], contents: &[Vec<u8>], group: &[usize]) -> 
     count_alike(groups, contents, contents::group_bytes(contents, group)) > 1
 }
 
-// How many groups have bytes that another group has too.
+/// How many groups have bytes that another group has too.
 pub(crate) fn count_repeated(groups: &[Vec<usize>], contents: &[Vec<u8>]) -> usize
     ensures { result ≡ repeated_among (bytes_of_each (plain_contents contents.now) groups.now)
         (bytes_of_each (plain_contents contents.now) groups.now) }

@@ -1,4 +1,4 @@
-// Pages by place.
+//! Pages by place.
 ghost use Rattle.std.specs.Prelude.{◌≡◌, ◌+◌, ◌<◌, ◌≤◌, length, slice_index_or, slice_set, sum_by, option_map, None, drop};
 ghost use Rattle.host_types.specs.Counters.{unshared_at, volatile_at};
 ghost use Rattle.host_types.specs.Unmerging.{zeros_at};
@@ -10,7 +10,7 @@ ghost use Rattle.plain_sharing.specs.View.{page_of, page_states};
 use crate::sharing::PlainPage;
 use host_types::Status;
 
-// The page at a place, if there is one.
+/// The page at a place, if there is one.
 pub(crate) fn at(pages: &[Option<PlainPage>], place: usize) -> Option<PlainPage>
     ensures { result ≡ slice_index_or pages.now place None }
 {
@@ -20,7 +20,7 @@ pub(crate) fn at(pages: &[Option<PlainPage>], place: usize) -> Option<PlainPage>
     }
 }
 
-// Puts a page at a place, if the place is there.
+/// Puts a page at a place, if the place is there.
 pub(crate) fn put(pages: &mut [Option<PlainPage>], place: usize, page: Option<PlainPage>)
     ensures { page_states pages.new ≡ slice_set (page_states pages.old) place (option_map page_of page) }
 {
@@ -29,7 +29,7 @@ pub(crate) fn put(pages: &mut [Option<PlainPage>], place: usize, page: Option<Pl
     }
 }
 
-// Gives the page at a place, if there is one, another status.
+/// Gives the page at a place, if there is one, another status.
 pub(crate) fn set_status(pages: &mut [Option<PlainPage>], place: usize, status: Status)
     ensures { page_states pages.new ≡ slice_set (page_states pages.old) place (option_map (with_status status) (slice_index_or (page_states pages.old) place None)) }
 {
@@ -40,7 +40,7 @@ pub(crate) fn set_status(pages: &mut [Option<PlainPage>], place: usize, status: 
     put(pages, place, page);
 }
 
-// How many pages have a frame of their own.
+/// How many pages have a frame of their own.
 pub(crate) fn own_frames(pages: &[Option<PlainPage>]) -> usize
     ensures { result ≡ sum_by own_frame (page_states pages.now) }
 {
@@ -51,7 +51,7 @@ pub(crate) fn own_frames(pages: &[Option<PlainPage>]) -> usize
     own
 }
 
-// One for a page with a frame of its own.
+/// One for a page with a frame of its own.
 fn own_frame(page: Option<PlainPage>) -> usize
     ensures value { result ≡ own_frame (option_map page_of page) }
     ensures small { result ≤ 1 }
@@ -62,7 +62,7 @@ fn own_frame(page: Option<PlainPage>) -> usize
     }
 }
 
-// How many pages lie on the frame of zeros.
+/// How many pages lie on the frame of zeros.
 pub(crate) fn zero_pages(pages: &[Option<PlainPage>]) -> usize
     ensures count { result ≡ sum_by zeros_at (page_states pages.now) }
     ensures few { result ≤ length pages.now }
@@ -74,7 +74,7 @@ pub(crate) fn zero_pages(pages: &[Option<PlainPage>]) -> usize
     zeros
 }
 
-// One for a page on the frame of zeros.
+/// One for a page on the frame of zeros.
 fn zeros_at(page: Option<PlainPage>) -> usize
     ensures value { result ≡ zeros_at (option_map page_of page) }
     ensures small { result ≤ 1 }
@@ -85,7 +85,7 @@ fn zeros_at(page: Option<PlainPage>) -> usize
     }
 }
 
-// How many pages wait for another one of their bytes.
+/// How many pages wait for another one of their bytes.
 pub(crate) fn unshared_pages(pages: &[Option<PlainPage>]) -> usize
     ensures count { result ≡ sum_by unshared_at (page_states pages.now) }
     ensures few { result ≤ length pages.now }
@@ -97,7 +97,7 @@ pub(crate) fn unshared_pages(pages: &[Option<PlainPage>]) -> usize
     waiting
 }
 
-// One for a page that waits.
+/// One for a page that waits.
 fn unshared_at(page: Option<PlainPage>) -> usize
     ensures value { result ≡ unshared_at (option_map page_of page) }
     ensures small { result ≤ 1 }
@@ -108,7 +108,7 @@ fn unshared_at(page: Option<PlainPage>) -> usize
     }
 }
 
-// How many pages changed since they were visited last.
+/// How many pages changed since they were visited last.
 pub(crate) fn volatile_pages(pages: &[Option<PlainPage>]) -> usize
     ensures count { result ≡ sum_by volatile_at (page_states pages.now) }
     ensures few { result ≤ length pages.now }
@@ -120,7 +120,7 @@ pub(crate) fn volatile_pages(pages: &[Option<PlainPage>]) -> usize
     changed
 }
 
-// One for a page that changed.
+/// One for a page that changed.
 fn volatile_at(page: Option<PlainPage>) -> usize
     ensures value { result ≡ volatile_at (option_map page_of page) }
     ensures small { result ≤ 1 }
@@ -131,7 +131,7 @@ fn volatile_at(page: Option<PlainPage>) -> usize
     }
 }
 
-// The place of the first page from a place on that may be merged.
+/// The place of the first page from a place on that may be merged.
 pub(crate) fn next_from(pages: &[Option<PlainPage>], from: usize) -> Option<usize>
     ensures { result ≡ first_mergeable from (drop from (page_states pages.now)) }
 {
@@ -143,7 +143,7 @@ pub(crate) fn next_from(pages: &[Option<PlainPage>], from: usize) -> Option<usiz
     None
 }
 
-// The place of the first page behind a place that may be merged.
+/// The place of the first page behind a place that may be merged.
 pub(crate) fn next_behind(pages: &[Option<PlainPage>], place: usize) -> Option<usize>
     ensures { result ≡ first_mergeable (place + 1) (drop (place + 1) (page_states pages.now)) }
 {
@@ -154,7 +154,7 @@ pub(crate) fn next_behind(pages: &[Option<PlainPage>], place: usize) -> Option<u
     }
 }
 
-// Whether a page is there and may be merged.
+/// Whether a page is there and may be merged.
 fn is_mergeable(page: Option<PlainPage>) -> bool
     ensures { result ≡ is_mergeable (option_map page_of page) }
 {

@@ -36,12 +36,12 @@ pub struct PlainPage {
 pub struct PlainSharing {
     pages: Vec<Option<PlainPage>>,
     groups: Vec<Vec<usize>>,
-    // places and recorded fingerprints, in order of insertion
+    /// Places and recorded fingerprints, in order of insertion.
     waiting: Vec<(usize, u64)>,
-    // the place of the page visited last in this pass
+    /// The place of the page visited last in this pass.
     cursor: Option<usize>,
     options: Options,
-    // how many passes ended
+    /// How many passes ended.
     full_scans: u64,
 }
 
@@ -97,7 +97,7 @@ impl PlainSharing {
         pages::put(&mut self.pages, place, Some(page));
     }
 
-    // Whether the page at a place is in a group with another one.
+    /// Whether the page at a place is in a group with another one.
     fn is_in_company(&self, place: usize) -> bool
         ensures { result ≡ is_in_company self.now place }
     {
@@ -240,7 +240,7 @@ impl PlainSharing {
         Ok(visited)
     }
 
-    // The place of the page that is visited next.
+    /// The place of the page that is visited next.
     fn page_to_visit(&self) -> Option<usize>
         ensures { result ≡ page_to_visit self.now }
     {
@@ -250,8 +250,8 @@ impl PlainSharing {
         }
     }
 
-    // What a visit of the page at a place begins with: a new pass begins without waiting pages, and
-    // behind the last page that may be merged the pass ends.
+    /// What a visit of the page at a place begins with: a new pass begins without waiting pages, and
+    /// behind the last page that may be merged the pass ends.
     #[tactic(auto, unfolding(host_types::specs::Visits::begun, host_types::specs::Visits::moved_on))]
     fn begin(&mut self, place: usize)
         ensures { self.new ≡ begun self.old place }
@@ -267,7 +267,7 @@ impl PlainSharing {
         }
     }
 
-    // What becomes of the visited page.
+    /// What becomes of the visited page.
     fn decide(
         &mut self,
         alloc: Global,
@@ -288,7 +288,7 @@ impl PlainSharing {
         Ok(visited)
     }
 
-    // What becomes of a page with a frame of its own: the first case that holds decides.
+    /// What becomes of a page with a frame of its own: the first case that holds decides.
     fn look_at(
         &mut self,
         alloc: Global,
@@ -317,14 +317,14 @@ impl PlainSharing {
         Ok(visited)
     }
 
-    // Whether a page of some bytes goes to the frame of zeros.
+    /// Whether a page of some bytes goes to the frame of zeros.
     fn goes_to_zeros(&self, bytes: &[u8]) -> bool
         ensures { result ≡ (self.now.options.use_zero_pages == 1 && bytes_eq bytes.now zero_page) }
     {
         self.options.use_zero_pages == USE_ZERO_PAGES && contents::is_zeros(bytes)
     }
 
-    // Puts a page into the earliest open group of its bytes. It answers whether there is one.
+    /// Puts a page into the earliest open group of its bytes. It answers whether there is one.
     fn join(&mut self, contents: &[Vec<u8>], place: usize) -> Result<bool, AllocError>
         ensures told { IfOk result (λ is_joined. is_joined ≡ has_open (plain_contents contents.now) self.old place) }
         ensures joined { IfOk result (λ is_joined. self.new ≡
@@ -338,7 +338,7 @@ impl PlainSharing {
         Ok(is_joined)
     }
 
-    // Keeps a page's fingerprint, which is another one than at its last visit.
+    /// Keeps a page's fingerprint, which is another one than at its last visit.
     #[tactic(auto, unfolding(host_types::specs::Visits::changed))]
     fn change(&mut self, place: usize, fingerprint: u64)
         ensures { self.new ≡ changed self.old place fingerprint }
@@ -354,7 +354,7 @@ impl PlainSharing {
         pages::put(&mut self.pages, place, page);
     }
 
-    // Makes a page and the one that waits longest for its bytes a new group, or lets it wait.
+    /// Makes a page and the one that waits longest for its bytes a new group, or lets it wait.
     fn meet(
         &mut self,
         alloc: Global,
@@ -377,7 +377,7 @@ impl PlainSharing {
         }
     }
 
-    // The place of the page that waits longest for a page's bytes.
+    /// The place of the page that waits longest for a page's bytes.
     fn partner(&self, contents: &[Vec<u8>], place: usize, fingerprint: u64) -> Option<usize>
         ensures { result ≡ option_map (λ (entry : ℕ × ℕ). entry.0)
             (find_partner (plain_contents contents.now) self.now place fingerprint) }
@@ -389,7 +389,7 @@ impl PlainSharing {
         }
     }
 
-    // Lets a page wait for another one of its bytes.
+    /// Lets a page wait for another one of its bytes.
     #[tactic(auto, unfolding(host_types::specs::Visits::waits))]
     fn wait(&mut self, place: usize, fingerprint: u64) -> Result<(), AllocError>
         ensures { IfOk result (λ _. self.new ≡ waits self.old place fingerprint) }
@@ -421,7 +421,7 @@ impl PlainSharing {
         self.stop();
     }
 
-    // Breaks all pages, one after another from the first place on.
+    /// Breaks all pages, one after another from the first place on.
     fn break_all(&mut self)
         ensures { self.new ≡ broken_from self.old 0 (length self.old.pages) }
     {
@@ -430,14 +430,14 @@ impl PlainSharing {
         }
     }
 
-    // Stops the scanner.
+    /// Stops the scanner.
     fn stop(&mut self)
         ensures { self.new ≡ record self.old { options = record self.old.options { run = 2 } } }
     {
         self.options.run = UNMERGED;
     }
 
-    // How many places there are.
+    /// How many places there are.
     fn places(&self) -> usize
         ensures { result ≡ length self.now.pages }
     {
@@ -469,7 +469,7 @@ impl PlainSharing {
         Ok(())
     }
 
-    // Whether an option may be set now.
+    /// Whether an option may be set now.
     fn may_set(&self, option: Opt) -> bool
         ensures { IsTrue result ↔ MaySet self.now option }
     {
@@ -537,7 +537,7 @@ impl PlainSharing {
     }
 }
 
-// Whether a page had a fingerprint at its last visit.
+/// Whether a page had a fingerprint at its last visit.
 fn had(last: Option<u64>, fingerprint: u64) -> bool
     ensures { result ≡ had last fingerprint }
 {

@@ -1,4 +1,4 @@
-// The pages that wait, each by its place and its recorded fingerprint.
+//! The pages that wait, each by its place and its recorded fingerprint.
 ghost use Rattle.std.specs.Prelude.{◌≡◌, ◌++◌, ◌∷◌, [], find, IfOk};
 ghost use Rattle.host_types.specs.Sharing.{waiting_without};
 ghost use Rattle.host_types.specs.Visits.{is_partner};
@@ -7,7 +7,7 @@ ghost use Rattle.plain_sharing.specs.View.{plain_contents};
 use crate::contents;
 use std::alloc::AllocError;
 
-// Puts a page behind all others.
+/// Puts a page behind all others.
 pub(crate) fn insert(
     waiting: &mut Vec<(usize, u64)>,
     place: usize,
@@ -19,14 +19,14 @@ pub(crate) fn insert(
     Ok(())
 }
 
-// Takes a page off the list, if it waits.
+/// Takes a page off the list, if it waits.
 pub(crate) fn forget(waiting: &mut Vec<(usize, u64)>, place: usize)
     ensures { waiting.new.items ≡ waiting_without place waiting.old.items }
 {
     waiting.retain(|entry| entry.0 != place);
 }
 
-// The page that waits longest of those that had a fingerprint, and have some bytes now.
+/// The page that waits longest of those that had a fingerprint, and have some bytes now.
 pub(crate) fn find_partner(
     waiting: &[(usize, u64)],
     contents: &[Vec<u8>],
@@ -43,7 +43,7 @@ pub(crate) fn find_partner(
     None
 }
 
-// Whether a waiting page had a fingerprint, and has some bytes now.
+/// Whether a waiting page had a fingerprint, and has some bytes now.
 fn is_partner(entry: (usize, u64), contents: &[Vec<u8>], fingerprint: u64, bytes: &[u8]) -> bool
     ensures { result ≡ is_partner (plain_contents contents.now) fingerprint bytes.now entry }
 {

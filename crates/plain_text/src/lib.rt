@@ -7,7 +7,7 @@ ghost use Rattle.plain_text.specs.Plain.{IsBetween, IsPlain, IsPlainText};
 
 use std::alloc::{AllocError, Global};
 
-// The first and the last of the characters that steer a terminal.
+/// The first and the last of the characters that steer a terminal.
 const STEERING: [(u32, u32); 10] = [
     (0, 0x1f),
     (0x7f, 0x9f),
@@ -21,7 +21,7 @@ const STEERING: [(u32, u32); 10] = [
     (0xe0000, 0xe007f),
 ];
 
-// The most characters that are told of a text.
+/// The most characters that are told of a text.
 const MOST: usize = 40;
 
 /// A text from outside as it is told: no more than 40 characters of it, and two dots where there are more.

@@ -122,7 +122,7 @@ fn agree_on_the_longest_program(rt: HostRuntime) -> Result<(), Fail> {
     Ok(())
 }
 
-// What is refused, and by which rule.
+/// What is refused, and by which rule.
 const REFUSED: [(&[u64], u32); 6] = [
     // No text, and one whose end is reached.
     (&[], 1),

@@ -22,7 +22,7 @@ fn computed(opcode: u8, offset: i16, a: u64, b: u64) -> Option<u64> {
     }
 }
 
-// Opcode, offset, both numbers, and the result (RFC 9669, sections 4.1 to 4.3).
+/// Opcode, offset, both numbers, and the result (RFC 9669, sections 4.1 to 4.3).
 const ROWS: [(u8, i16, u64, u64, Option<u64>); 10] = [
     // A sum of 64 bits wraps, and one of 32 bits takes the low halves.
     (0x0f, 0, u64::MAX, 2, Some(1)),

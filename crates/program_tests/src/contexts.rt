@@ -11,8 +11,8 @@ fn refuses_a_context_of_another_size(rt: HostRuntime) {
     assert_eq!(rt; refused, Err(Fault::BadContext));
 }
 
-// R0 = the first bytes of the context, by the size and the extension of the opcode (RFC 9669,
-// sections 5.1 and 5.2).
+/// R0 = the first bytes of the context, by the size and the extension of the opcode (RFC 9669,
+/// sections 5.1 and 5.2).
 #[test]
 fn loads_of_each_size(rt: HostRuntime) {
     let context = context_of([0x8000_0000_ffff_ff80, 0]);
@@ -32,7 +32,7 @@ fn loads_of_each_size(rt: HostRuntime) {
     }
 }
 
-// R0 = 0; R1 = [R1]; if R1 == 0 then pass over R0 = 1
+/// R0 = 0; R1 = [R1]; if R1 == 0 then pass over R0 = 1
 #[test]
 fn jumps_by_the_context(rt: HostRuntime) {
     let text = [

@@ -6,7 +6,7 @@ use plain_machine::{ArrayMap, Ending, Machine};
 use std::alloc::{AllocError, Global};
 use std::test::Fail;
 
-// R1 += R1. Four of these lead from the context's address to the values of map 0.
+/// R1 += R1. Four of these lead from the context's address to the values of map 0.
 const DOUBLE: u64 = 0x0f110000_00000000;
 
 /// How at most ten steps of a program go; a text that isn't whole slots is cut.
@@ -29,7 +29,7 @@ pub(crate) fn run_on(
     run(alloc, &mut machine, slots)
 }
 
-// Programs of two slots, and the steps after which they fault.
+/// Programs of two slots, and the steps after which they fault.
 const FAULTS: [([u64; 2], u32); 12] = [
     // R0 isn't set: an exit, a move of it, a load through it.
     ([EXIT, EXIT], 0),

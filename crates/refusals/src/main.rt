@@ -10,14 +10,14 @@ use advice::advice_on;
 use host_types::{Fault, Refused};
 use std::io;
 
-// What stands above the rows.
+/// What stands above the rows.
 const HEAD: &str = "# Refusals\n\n\
     What is wrong where the host or `check` refuses something, and how to mend it. docs/HOST.md says when\n\
     they do.\n\n\
     | number | name | what is wrong | how to mend it |\n\
     |---|---|---|---|";
 
-// The largest number of a refusal.
+/// The largest number of a refusal.
 const LAST: u32 = 45;
 
 /// The refusal by a number that can be answered.

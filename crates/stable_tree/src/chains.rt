@@ -1,4 +1,4 @@
-// Chains of groups: how many groups each has, and all their frames, chain after chain.
+//! Chains of groups: how many groups each has, and all their frames, chain after chain.
 ghost use Rattle.std.specs.Prelude.{◌≡◌, ◌≢◌, ◌+◌, ◌++◌, ◌∷◌, ◌<◌, ◌≤◌, [], nat_lt, find, insert, remove, length, slice_index_or, slice_set, All, MatchOption, vec_len, vec_capacity};
 ghost use Rattle.stable_tree.specs.Cut.{AreCut, cut, offset};
 

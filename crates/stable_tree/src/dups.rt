@@ -1,4 +1,4 @@
-// How many contents have more than one group, kept as numbers while groups come and go.
+//! How many contents have more than one group, kept as numbers while groups come and go.
 ghost use Rattle.std.specs.Prelude.{◌≡◌, ◌+◌, ◌-◌, ◌<◌, ◌≤◌};
 ghost use Rattle.stable_tree.specs.Groups.{many_in, dups_in};
 

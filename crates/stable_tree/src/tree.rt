@@ -21,11 +21,11 @@ pub struct Spot {
 /// frames of the groups with that content in order of creation.
 #[derive(Drop)]
 pub struct StableTree {
-    // sorted by content
+    /// Sorted by content.
     chains: Vec<Chain>,
-    // chain after chain
+    /// Chain after chain.
     frames: Vec<u32>,
-    // for how many groups `reserve` was called
+    /// For how many groups `reserve` was called.
     room: usize,
     dups: Dups,
 }
@@ -165,7 +165,7 @@ impl StableTree {
         self.shorten(chain, place);
     }
 
-    // Takes a frame out of a chain of two or more.
+    /// Takes a frame out of a chain of two or more.
     fn shorten(&mut self, chain: usize, place: usize)
         requires chain { chain < length self.old.chains }
         requires place { place < length (slice_index_or self.old.chains chain []) }
@@ -179,7 +179,7 @@ impl StableTree {
         self.dups = self.dups.moved(groups, groups - 1);
     }
 
-    // Takes out a chain of one group, if the group has the frame.
+    /// Takes out a chain of one group, if the group has the frame.
     fn take_out_only(&mut self, chain: usize, frame: u32)
         requires chain { chain < length self.old.chains }
         requires one { length (slice_index_or self.old.chains chain []) ≡ 1 }
@@ -191,7 +191,7 @@ impl StableTree {
         }
     }
 
-    // Takes out a chain of one frame.
+    /// Takes out a chain of one frame.
     fn take_out(&mut self, chain: usize)
         requires chain { chain < length self.old.chains }
         requires one { length (slice_index_or self.old.chains chain []) ≡ 1 }
@@ -200,7 +200,7 @@ impl StableTree {
         take_out(&mut self.chains, &mut self.frames, chain);
     }
 
-    // Puts a frame at the end of a chain.
+    /// Puts a frame at the end of a chain.
     fn lengthen(&mut self, chain: usize, frame: u32)
         requires chain { chain < length self.old.chains }
         requires room { length (group_frames self.old) < self.old.room }
@@ -213,7 +213,7 @@ impl StableTree {
         self.dups = self.dups.moved(groups, groups + 1);
     }
 
-    // Makes a chain of one frame.
+    /// Makes a chain of one frame.
     fn add(&mut self, chain: usize, frame: u32)
         requires chain { chain ≤ length self.old.chains }
         requires room { length (group_frames self.old) < self.old.room }
@@ -222,14 +222,14 @@ impl StableTree {
         add(&mut self.chains, &mut self.frames, chain, frame);
     }
 
-    // How many chains there are.
+    /// How many chains there are.
     fn count(&self) -> usize
         ensures { result ≡ length self.now.chains }
     {
         self.chains.len()
     }
 
-    // The frames of a chain.
+    /// The frames of a chain.
     fn chain(&self, chain: usize) -> &[u32]
         requires { chain < length self.now.chains }
         ensures { result.now ≡ slice_index_or self.now.chains chain [] }
@@ -237,7 +237,7 @@ impl StableTree {
         frames_of(&self.chains, &self.frames, chain)
     }
 
-    // How many groups a chain has.
+    /// How many groups a chain has.
     fn size(&self, chain: usize) -> usize
         requires { chain < length self.now.chains }
         ensures { result ≡ length (slice_index_or self.now.chains chain []) }
@@ -245,7 +245,7 @@ impl StableTree {
         size_of(&self.chains, &self.frames, chain)
     }
 
-    // The frame of a chain's earliest group.
+    /// The frame of a chain's earliest group.
     fn first(&self, chain: usize) -> u32
         requires { chain < length self.now.chains }
         ensures { result ≡ slice_index_or (slice_index_or self.now.chains chain []) 0 0 }
@@ -253,7 +253,7 @@ impl StableTree {
         first_of(&self.chains, &self.frames, chain)
     }
 
-    // Whether there is a chain of this number, and its content is a frame's.
+    /// Whether there is a chain of this number, and its content is a frame's.
     fn is_there(&self, arena: &FrameArena, frame: u32, chain: usize) -> bool
         requires frame { frame < length arena.now }
         requires sorted { IsSorted arena.now self.now.chains }
@@ -262,7 +262,7 @@ impl StableTree {
         chain < self.count() && same_page(arena, self.first(chain), frame)
     }
 
-    // Whether the content of a chain comes before a frame's.
+    /// Whether the content of a chain comes before a frame's.
     fn is_before(&self, arena: &FrameArena, frame: u32, chain: usize) -> bool
         requires frame { frame < length arena.now }
         requires chain { chain < length self.now.chains }
@@ -272,7 +272,7 @@ impl StableTree {
         comes_before(arena, self.first(chain), frame)
     }
 
-    // The first chain whose content doesn't come before a frame's.
+    /// The first chain whose content doesn't come before a frame's.
     fn lower_bound(&self, arena: &FrameArena, frame: u32) -> usize
         requires frame { frame < length arena.now }
         requires sorted { IsSorted arena.now self.now.chains }

@@ -16,7 +16,7 @@ pub struct Waiter {
 }
 
 impl Waiter {
-    // Whether it has this recorded fingerprint and the bytes of a frame.
+    /// Whether it has this recorded fingerprint and the bytes of a frame.
     fn is_match(&self, arena: &FrameArena, fingerprint: u64, frame: u32) -> bool
         requires waiting { self.now.frame < length arena.now }
         requires frame { frame < length arena.now }
@@ -30,7 +30,7 @@ impl Waiter {
 #[derive(Drop)]
 pub struct UnstableTree {
     waiters: Vec<Waiter>,
-    // for how many pages `reserve` was called
+    /// For how many pages `reserve` was called.
     room: usize,
 }
 

@@ -6,17 +6,14 @@
 //! name (`rules.rt`). The file `stdout` of this crate says what is wanted.
 #![tactic(auto)]
 
-ghost use Rattle.std.specs.Prelude.{◌<◌, length, IfOk, IfSome, OnOk};
-ghost use Rattle.host_types.specs.Shapes.{IsShape};
 ghost use Rattle.verifier.specs.Subject.{IsContextSize};
-ghost use Rattle.verifier.specs.Verified.{AreShapes};
 
 mod kinds;
 mod rules;
 
 use bpf_decode::decode;
-use host_types::{Refused, Shape};
-use kernel_check::judge_alike;
+use host_types::Refused;
+use kernel_check::{judge_alike, shapes_of};
 use kinds::print_kind;
 use rules::{print_insn, print_join};
 use std::alloc::{AllocError, Global};
@@ -50,43 +47,6 @@ fn size_of(given: &str) -> u32
         Ok(size) if size <= 256 && size % 8 == 0 => size,
         _ => 0,
     }
-}
-
-/// The shape that is written `value_size:entries`, if a map may have it.
-fn shape_of(text: &str) -> Option<Shape>
-    ensures { IfSome result IsShape }
-{
-    let (value_size, entries) = text.split_once(':')?;
-    let shape = Shape {
-        value_size: value_size.parse().ok()?,
-        entries: entries.parse().ok()?,
-    };
-    if shape.is_valid() { Some(shape) } else { None }
-}
-
-/// Puts a shape behind others.
-fn add(shapes: &mut Vec<Shape>, shape: Shape) -> Result<(), AllocError>
-    requires shapes { AreShapes shapes.old.items }
-    requires shape { IsShape shape }
-    requires few { length shapes.old.items < 8 }
-    ensures { OnOk result (AreShapes shapes.new.items) }
-{
-    shapes.push(shape)?;
-    Ok(())
-}
-
-/// The shapes of a row's maps, at most eight; one that no map has is passed over.
-fn shapes_of(alloc: Global, given: &str) -> Result<Vec<Shape>, AllocError>
-    ensures { IfOk result (λ shapes. AreShapes shapes.items) }
-{
-    let mut shapes = Vec::new(alloc);
-    for text in given.split(' ') {
-        match shape_of(text) {
-            Some(shape) if shapes.len() < 8 => add(&mut shapes, shape)?,
-            _ => {}
-        }
-    }
-    Ok(shapes)
 }
 
 /// The answer to a text of a row. A text that isn't hex is empty.
