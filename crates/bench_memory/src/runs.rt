@@ -1,6 +1,6 @@
 //! Loads, stores and visits, one after another.
 
-ghost use Rattle.std.specs.Prelude.{◌≡◌, ◌<◌, length};
+ghost use Rattle.std.specs.Prelude.{◌≡◌, ◌+◌, ◌*◌, ◌%◌, ◌<◌, ◌≤◌, length, IfSome};
 ghost use Rattle.page_table.specs.State.{part, map_bytes};
 
 use frame_arena::PAGE_SIZE;
@@ -35,43 +35,60 @@ fn byte_len(memory: &Memory, tenant: u32) -> u32
 /// How many numbers of eight bytes a page has.
 const NUMBERS: u32 = 512;
 
-/// The page behind a page, and behind the last one the first.
-fn next_page(page: u32, pages: u32) -> u32
-    requires { page < pages }
-    ensures { result < pages }
-{
-    let next = page + 1;
-    if next < pages { next } else { 0 }
+/// Numbers of the first tenant's map 0: of one page after another, and then of the first page again.
+#[derive(Drop)]
+struct Places {
+    pages: u32,
+    page: u32,
+    ghost inside: { page < pages },
+    ghost few: { pages * 4096 < 4294967296 },
+}
+
+impl Places {
+    /// `None` where the map has no page.
+    fn of(memory: &Memory) -> Option<Places>
+        ensures { IfSome result (λ places. places.pages * 4096 ≤ length (map_bytes (part memory.now 0) 0)) }
+    {
+        let pages = byte_len(memory, 0) / PAGE_SIZE;
+        if pages == 0 {
+            return None;
+        }
+        Some(Places { pages, page: 0 })
+    }
+
+    /// Where the number of a turn lies, on the next page.
+    fn next(&mut self, turn: u32) -> u32
+        ensures pages { self.new.pages ≡ self.old.pages }
+        ensures inside { result + 8 ≤ self.old.pages * 4096 }
+        ensures aligned { result % 8 ≡ 0 }
+    {
+        let at = self.page * PAGE_SIZE + turn % NUMBERS * 8;
+        let behind = self.page + 1;
+        self.page = if behind < self.pages { behind } else { 0 };
+        at
+    }
 }
 
 /// Loads from one page after another, again and again; their sum.
 pub(crate) fn loads(memory: &Memory, count: u32) -> u64 {
+    let Some(mut places) = Places::of(memory) else {
+        return 0;
+    };
     let mut sum: u64 = 0;
-    let pages = byte_len(memory, 0) / PAGE_SIZE;
-    if pages == 0 {
-        return sum;
-    }
-    let mut page = 0;
     for turn in 0..count {
-        let at = page * PAGE_SIZE + turn % NUMBERS * 8;
-        sum = sum.wrapping_add(load(memory, 0, 0, at, 8));
-        page = next_page(page, pages);
+        sum = sum.wrapping_add(load(memory, 0, 0, places.next(turn), 8));
     }
     sum
 }
 
 /// What stores to one page after another would take, again and again; their sum.
 pub(crate) fn costs(memory: &Memory, count: u32) -> u64 {
+    let Some(mut places) = Places::of(memory) else {
+        return 0;
+    };
     let mut sum: u64 = 0;
-    let pages = byte_len(memory, 0) / PAGE_SIZE;
-    if pages == 0 {
-        return sum;
-    }
-    let mut page = 0;
     for turn in 0..count {
-        let at = page * PAGE_SIZE + turn % NUMBERS * 8;
-        sum = sum.wrapping_add(u64::from(needs(memory, 0, 0, at, 8)));
-        page = next_page(page, pages);
+        sum = sum.wrapping_add(u64::from(needs(memory, 0, 0, places.next(turn), 8)));
     }
     sum
 }

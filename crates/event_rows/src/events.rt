@@ -15,6 +15,9 @@ const STEPS: u32 = 14;
 /// One more than the most visits that are drawn together.
 const VISITS: u32 = 24;
 
+/// One more than the most loads that follow one: a tenant has room for eight programs.
+const LOADS: u32 = 12;
+
 /// The shape with a number: four that most maps of a list may have, and then a large one and a wrong one.
 fn shape_of(number: u32) -> Shape {
     let (value_size, entries) = match number {
@@ -65,8 +68,8 @@ fn turn(text: &mut [u8], at: u32, bit: u32)
     }
 }
 
-/// Draws the events of a list: how many maps and programs were drawn first, and how many steps of a tenant and
-/// visits are left of those that are drawn together.
+/// Draws the events of a list: how many maps and programs were drawn first, and how many steps of a tenant, visits
+/// and loads of a tenant are left of those that are drawn together.
 #[derive(Drop)]
 pub(crate) struct Events {
     draws: Draws,
@@ -76,6 +79,8 @@ pub(crate) struct Events {
     stepped: u32,
     steps: u32,
     visits: u32,
+    loading: u32,
+    loads: u32,
 }
 
 impl Events {
@@ -89,6 +94,8 @@ impl Events {
             stepped: 0,
             steps: 0,
             visits: 0,
+            loading: 0,
+            loads: 0,
         }
     }
 
@@ -119,6 +126,10 @@ impl Events {
         }
         if self.steps > 0 {
             return Ok(self.between_steps());
+        }
+        if self.loads > 0 {
+            self.loads -= 1;
+            return self.load(alloc, self.loading);
         }
         let tenant = self.opened / 2;
         if tenant < self.tenants {
@@ -154,7 +165,7 @@ impl Events {
         let tenant = self.tenant();
         match self.draws.below(64) {
             0..=2 => Ok(self.create_map(tenant)),
-            3..=4 => self.load(alloc, tenant),
+            3..=4 => self.loads(alloc, tenant),
             5..=15 => self.begin(alloc, tenant),
             16..=18 => Ok(self.steps()),
             19..=36 => self.update(alloc, tenant),
@@ -183,6 +194,13 @@ impl Events {
             entries: shape.entries,
             mergeable: self.draws.below(8) > 0,
         }
+    }
+
+    /// The first of some loads.
+    fn loads(&mut self, alloc: Global, tenant: u32) -> Result<Event, AllocError> {
+        self.loading = tenant;
+        self.loads = self.draws.below(LOADS);
+        self.load(alloc, tenant)
     }
 
     /// A text for its context, rarely for another one or with a bit turned.

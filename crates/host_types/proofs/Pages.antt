@@ -1,7 +1,7 @@
 -- The content of a page, and parts of it.
 use Rattle.std.specs.Prelude.{◌≡◌, ℕ, ◌+◌, ◌*◌, ◌≤◌, List, ◌++◌, take, drop, length, replicate, ◌-◌}
-use Rattle.std.proofs.Common.{arith, sym, ap, ◌∙◌}
-use Rattle.std.proofs.lemmas.List.{length-append, length-drop, drop-append-le, take-append-le, drop-take, take-take, drop-drop}
+use Rattle.std.proofs.Common.{arith, ap, ◌∙◌}
+use Rattle.std.proofs.lemmas.List.{length-drop, drop-append-le, take-append-le, drop-take, take-take, drop-drop}
 use Rattle.host_types.specs.Bytes.{part_of}
 use Rattle.host_types.specs.Pages.{page_bytes}
 

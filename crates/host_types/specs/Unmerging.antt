@@ -1,5 +1,5 @@
 -- What is done to all pages at once, and to the options.
-use Rattle.std.specs.Prelude.{◌≡◌, ℕ, ◌+◌, ◌-◌, ◌<◌, Bool, false, List, [], length, sum_by, Option, None, Some, ⊤}
+use Rattle.std.specs.Prelude.{◌≡◌, ℕ, ◌+◌, ◌-◌, ◌<◌, false, List, [], length, sum_by, Option, None, Some, ⊤}
 use Rattle.host_types.specs.declared.fault.Fault.{Fault}
 use Rattle.host_types.specs.declared.fault.Fault.TheVariants.{NoFrames, BadOption, PagesShared}
 use Rattle.host_types.specs.declared.options.Opt.{Opt}

@@ -1,6 +1,6 @@
 -- A visit of the scanner (this project's own rules, in the manner of Linux's KSM): a function of which
 -- pages share frames and of the pages' bytes.
-use Rattle.std.specs.Prelude.{ℕ, ◌+◌, ◌*◌, ◌/◌, ◌%◌, ◌==◌, ◌&&◌, nat_lt, not, Bool, true, false, if◌then◌else◌, List, [], ◌∷◌, ◌++◌, length, drop, find, slice_index_or, slice_set, Option, Some, None, option_map, unwrap_or, is_some, bytes_eq}
+use Rattle.std.specs.Prelude.{ℕ, ◌+◌, ◌/◌, ◌%◌, ◌==◌, ◌&&◌, nat_lt, not, Bool, false, if◌then◌else◌, List, [], ◌∷◌, ◌++◌, length, drop, find, slice_set, Option, Some, None, option_map, unwrap_or, is_some, bytes_eq}
 use Rattle.std.specs.List.{list_any}
 use Rattle.host_types.specs.declared.status.Status.TheVariants.{Volatile, Waiting, Grouped}
 use Rattle.host_types.specs.declared.visited.Visited.{Visited}

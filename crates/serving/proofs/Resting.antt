@@ -1,14 +1,12 @@
 -- The seats of a memory without maps are at rest.
-use Rattle.std.proofs.Common.{◌≡◌, ◌+◌, ◌∙◌, ℕ, suc, ap, sym, List, [], ◌∷◌, Option, Some, None}
+use Rattle.std.proofs.Common.{◌≡◌, ◌+◌, ◌∙◌, ℕ, suc, ap, List, [], ◌∷◌, Option, Some, None}
 use Rattle.std.specs.Prelude.{All, IfSome, slice_get}
 use Rattle.std.proofs.lemmas.List.Elements.{All-nil, All-cons}
 use Rattle.atomic_table.specs.Seated.{TableId}
 use Rattle.host_types.specs.declared.options.Options.{Options}
-use Rattle.verifier_kinds.proofs.Descriptions.{get_or-one}
-use Rattle.page_table.specs.declared.tenant.Tenant.{Tenant}
-use Rattle.page_table.specs.State.{MemoryState, new_memory, unreserved_tenant, part}
-use Rattle.turn.specs.declared.view.View.{View}
-use Rattle.turn.specs.Seats.{SeatState, IsIdle, IsNewSeat}
+use Rattle.page_table.specs.State.{MemoryState, new_memory, part}
+use Rattle.turn.specs.Seats.{SeatState, IsNewSeat}
+use Rattle.tenant_workers.proofs.Resting.{nothing_reserved, new_idle, new_resting}
 use Rattle.serving.specs.AtRest.{IsAtRest}
 
 -- what holds of the element of each number holds of all
@@ -20,20 +18,11 @@ weaker : {X : Type 0} (P Q : X → Type 0) → ((x : X) → P x → Q x) → (o 
 weaker P Q f None h = tt
 weaker P Q f (Some x) h = f x h
 
-nothing_reserved : (frames tenants : ℕ) (options : Options) (t : ℕ) → (part (new_memory frames tenants options) t).reserve ≡ 0
-unfolding part new_memory
-nothing_reserved frames tenants options t = ap (λ (tenant : Tenant). tenant.reserve) (get_or-one tenants t unreserved_tenant)
-
--- a new seat of a turn that is lent holds nothing
-pub new_idle : (turn lent : TableId) (first end : ℕ) (memory : MemoryState) (seat : SeatState) → lent ≡ turn → IsNewSeat turn first end memory seat → IsIdle lent seat
-new_idle turn lent first end memory seat same new = (new.0 ∙ sym same, ap (λ (v : View). v.holds) new.1)
-
 at_rest : (frames tenants : ℕ) (options : Options) (memory : MemoryState) → memory ≡ new_memory frames tenants options
     → (turn lent : TableId) → lent ≡ turn → (t : ℕ) (seat : SeatState) → IsNewSeat turn t (t + 1) memory seat → IsAtRest lent seat
 at_rest frames tenants options memory as_new turn lent same t seat new = record {
   idle = new_idle turn lent t (t + 1) memory seat same new;
-  resting =
-      ap (λ (v : View). (part v.seen v.first).reserve) new.1 ∙ (ap (λ m. (part m t).reserve) as_new ∙ nothing_reserved frames tenants options t);
+  resting = new_resting turn t memory seat (ap (λ m. (part m t).reserve) as_new ∙ nothing_reserved frames tenants options t) new;
 }
 
 pub all_at_rest : (frames tenants : ℕ) (options : Options) (memory : MemoryState) → memory ≡ new_memory frames tenants options

@@ -1,5 +1,4 @@
 -- Seats between calls.
-use Rattle.std.specs.Prelude.{◌≡◌}
 use Rattle.atomic_table.specs.Seated.{TableId}
 use Rattle.turn.specs.Seats.{SeatState, IsIdle, own_part}
 use Rattle.tenant_workers.specs.Runs.{IsResting}

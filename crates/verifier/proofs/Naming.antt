@@ -1,5 +1,5 @@
 -- Which calls the descriptions of a tight table name: calls before the slot alone.
-use Rattle.std.proofs.Common.{◌≡◌, ℕ, zero, suc, ◌<◌, ◌≤◌, ◌/◌, ◌==◌, nat_lt, ℤ, pos, negsuc, ◌+ℤ◌, Bool, true, false, if◌then◌else◌, List, [], ◌∷◌, ◌++◌, All, IfSome, Option, Some, None, option_map, is_some, Result, Ok, Err, refl, sym, ap, subst, ◌∙◌, inl, inr, arith}
+use Rattle.std.proofs.Common.{◌≡◌, ℕ, zero, suc, ◌<◌, ◌≤◌, ◌/◌, ◌==◌, ℤ, pos, negsuc, ◌+ℤ◌, Bool, true, false, if◌then◌else◌, List, [], ◌∷◌, ◌++◌, All, IfSome, Option, Some, None, option_map, is_some, Result, Ok, Err, refl, sym, subst, inl, inr, arith}
 use Rattle.std.proofs.lemmas.List.Elements.{All-nil, All-cons, All-head, All-tail, All-append, All-weaker}
 use Rattle.host_types.specs.declared.helper.MapHelper.{MapHelper}
 use Rattle.host_types.specs.declared.helper.MapHelper.TheVariants.{Lookup, Update, Delete}
@@ -17,7 +17,7 @@ use Rattle.bpf_decode.specs.declared.operation.AluCode.{AluCode}
 use Rattle.bpf_decode.specs.declared.operation.Operation.{Operation}
 use Rattle.bpf_decode.specs.declared.operation.Operation.TheVariants.{Alu, Load, Store, LoadImmediate, Jump, Branch, Call, Exit}
 use Rattle.bpf_decode.specs.Opcodes.{byte_count, distance_of, sign_extended, wide_immediate}
-use Rattle.bpf_decode.specs.Text.{insn_at, slots_of}
+use Rattle.bpf_decode.specs.Text.{insn_at}
 use Rattle.insn_alu.specs.Arithmetic.{low}
 use Rattle.verifier_kinds.specs.declared.kind.Range.{Range}
 use Rattle.verifier_kinds.specs.declared.kind.Kind.{Kind}
@@ -26,14 +26,14 @@ use Rattle.verifier_kinds.specs.declared.description.StackSlot.{StackSlot}
 use Rattle.verifier_kinds.specs.declared.description.StackSlot.TheVariants.{Kept, Bytes}
 use Rattle.verifier_kinds.specs.declared.description.Description.{Description}
 use Rattle.verifier_kinds.specs.Kinds.{IsOfCallBelow, constant, shape_at}
-use Rattle.verifier_kinds.specs.Descriptions.{IsDescription, IsOfCallsBelow, IsSlotOfCallBelow, register_of, settled, slot_of, start_description, with_kind, with_slot, with_unset, join_of}
+use Rattle.verifier_kinds.specs.Descriptions.{IsDescription, IsOfCallsBelow, IsSlotOfCallBelow, register_of, slot_of, start_description, with_kind, with_slot, with_unset}
 use Rattle.verifier_kinds.specs.Refinement.{refined}
 use Rattle.verifier_kinds.specs.Arithmetic.{arith_by}
-use Rattle.verifier_kinds.proofs.Calls.{arithmetic_names, join_names_of_left, kind_names_later, names_later, settled_names, start_names_none, with_kind_names, with_slot_names, with_unset_names}
+use Rattle.verifier_kinds.proofs.Calls.{arithmetic_names, join_names_of_left, names_later, settled_names, start_names_none, with_kind_names, with_slot_names, with_unset_names}
 use Rattle.verifier.specs.declared.jumps.Compared.{Compared}
 use Rattle.verifier.specs.declared.jumps.Compared.TheVariants.{Numbers, Answer}
 use Rattle.verifier.specs.Subject.{Subject}
-use Rattle.verifier.specs.Flow.{◌>>=◌, both, known_or, holds_or, read_kind, writable, write_kind, operand_kind, dst_is_known, computed_kind, after_alu, loaded_range, slot_kind, context_place, stack_place, value_size_of, value_access, load_kind, loaded_kind, after_load, name_kind, wide_kind, after_load_immediate, is_number, written_slot, after_stack_store, stored, after_store, comparands, checked_kind, holds_of_null, on_way, falls_to, jumps_to, target, called_map, answer_kind, without_arguments, after_call, after, falls_on, flow_of_branch, flow_of_jump, flow_of_exit, flow_by, flow}
+use Rattle.verifier.specs.Flow.{◌>>=◌, both, known_or, holds_or, read_kind, writable, write_kind, operand_kind, dst_is_known, computed_kind, after_alu, loaded_range, slot_kind, context_place, stack_place, value_size_of, value_access, load_kind, loaded_kind, after_load, name_kind, wide_kind, after_load_immediate, is_number, written_slot, stored, after_store, comparands, checked_kind, holds_of_null, on_way, falls_to, jumps_to, target, called_map, answer_kind, without_arguments, after_call, after, falls_on, flow_of_branch, flow_by, flow}
 use Rattle.verifier.specs.Table.{Table, described, flows_by, flows_from, targets_of, known_with, arrived, incoming}
 use Rattle.verifier.specs.Pass.{AreDescribed, FlowDescribed}
 use Rattle.verifier.proofs.Flows.{both_ok, then_ok, known_ok, flow_ok}

@@ -2,7 +2,7 @@
 -- the numbers are those of the refusals).
 use Rattle.std.specs.Prelude.{ℕ, zero, suc, ◌+◌, ◌-◌, ◌*◌, ◌/◌, ◌%◌, ◌^◌, bit_and, bit_or, nat_lt, nat_le, ◌==◌, ℤ, pos, negsuc, ◌+ℤ◌, int_le, Bool, true, false, not, ◌&&◌, if◌then◌else◌, List, [], ◌∷◌, ◌++◌, Option, Some, None, option_map, unwrap_or, is_some, Result, Ok, Err}
 use Rattle.host_types.specs.declared.helper.MapHelper.{MapHelper}
-use Rattle.host_types.specs.declared.helper.MapHelper.TheVariants.{Lookup, Update, Delete}
+use Rattle.host_types.specs.declared.helper.MapHelper.TheVariants.{Lookup, Update}
 use Rattle.host_types.specs.declared.shape.Shape.{Shape}
 use Rattle.host_types.specs.Rules.{unknown_opcode, back_jump, jump_out, falls_off, unset_register, wrong_kind, outside_context, outside_stack, unset_stack, outside_map, misaligned, null_not_checked, frame_written, unknown_helper, unknown_map, pointer_leaks}
 use Rattle.host_types.specs.Layout.{stack_size}

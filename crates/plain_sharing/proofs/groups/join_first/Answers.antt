@@ -8,7 +8,7 @@ use Rattle.host_types.specs.Sharing.{joined_by}
 use Rattle.plain_sharing.specs.View.{places_of, plain_contents, is_open_below}
 use Rattle.plain_sharing.proofs.Joins.{first_joined, none_joined, set_again}
 use Rattle.plain_sharing.proofs.groups.join_first.Goals as goal
-use Rattle.plain_sharing.proofs.groups.join_first.Goals.{In_ok-join, Else-is_open, After-loop-group}
+use Rattle.plain_sharing.proofs.groups.join_first.Goals.{In_ok-join}
 
 abbrev items : Vec ℕ Global → List ℕ
 items group = group.items

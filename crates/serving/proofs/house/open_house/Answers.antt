@@ -1,4 +1,5 @@
-use Rattle.serving.proofs.Resting.{all_at_rest, new_idle}
+use Rattle.tenant_workers.proofs.Resting.{new_idle}
+use Rattle.serving.proofs.Resting.{all_at_rest}
 use Rattle.serving.proofs.house.open_house.Goals as goal
 
 pub invariant_of-result : goal.invariant_of-result

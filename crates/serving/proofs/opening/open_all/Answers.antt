@@ -1,4 +1,4 @@
-use Rattle.std.proofs.Common.{refl, ap}
+use Rattle.std.proofs.Common.{refl}
 use Rattle.host_core.specs.declared.event.Reply.TheVariants.{Refused}
 use Rattle.serving.proofs.Tellings.{told-none, told-if-ok}
 use Rattle.serving.proofs.opening.open_all.Goals as goal
