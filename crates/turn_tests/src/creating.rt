@@ -4,7 +4,7 @@
 ghost use Rattle.std.specs.Prelude.{◌≡◌};
 ghost use Rattle.turn.specs.Seats.{IsIdle};
 
-use crate::tenants::{Two, told, two_tenants};
+use crate::row::{Two, told, two_tenants};
 use host_types::{Fault, MapNo};
 use std::alloc::Global;
 use std::sync::Wait;
@@ -43,7 +43,10 @@ fn length_and_sum(value: Result<Vec<u8>, Fault>) -> Option<(usize, u32)> {
     Some((bytes.len(), sum))
 }
 
-fn made(rt: &impl Wait, alloc: Global, two: Two) -> Row {
+fn made(rt: &impl Wait, alloc: Global, two: Two) -> Row
+    requires first { IsIdle two.shared two.first }
+    requires host { IsIdle two.shared two.host }
+{
     let Two {
         shared,
         mut first,
@@ -85,7 +88,12 @@ fn made_until_refused(rt: &impl Wait, shared: &Shared, seat: &mut Seat) -> (u32,
 
 /// How many maps each of two tenants makes beside its first one, the refusals, and what is told after visits
 /// of all pages.
-fn filled(rt: &impl Wait, two: Two) -> ([(u32, Option<Fault>); 2], [u32; 4]) {
+fn filled(rt: &impl Wait, two: Two) -> ([(u32, Option<Fault>); 2], [u32; 4])
+    requires first { IsIdle two.shared two.first }
+    requires second { IsIdle two.shared two.second }
+    requires scanner { IsIdle two.shared two.scanner }
+    requires host { IsIdle two.shared two.host }
+{
     let Two {
         shared,
         mut first,

@@ -22,6 +22,4 @@ mod serving;
 #[cfg(test)]
 mod settings;
 #[cfg(test)]
-mod tenants;
-#[cfg(test)]
 mod turns;
