@@ -4,7 +4,7 @@
 ghost use Rattle.std.specs.Prelude.{◌≡◌};
 ghost use Rattle.turn.specs.Seats.{IsIdle};
 
-use crate::row::{Two, told, two_tenants};
+use crate::tenants::{Two, told, two_tenants};
 use host_types::{Fault, MapNo};
 use std::alloc::Global;
 use std::sync::Wait;
@@ -43,10 +43,7 @@ fn length_and_sum(value: Result<Vec<u8>, Fault>) -> Option<(usize, u32)> {
     Some((bytes.len(), sum))
 }
 
-fn made(rt: &impl Wait, alloc: Global, two: Two) -> Row
-    requires first { IsIdle two.shared two.first }
-    requires host { IsIdle two.shared two.host }
-{
+fn made(rt: &impl Wait, alloc: Global, two: Two) -> Row {
     let Two {
         shared,
         mut first,
@@ -88,12 +85,7 @@ fn made_until_refused(rt: &impl Wait, shared: &Shared, seat: &mut Seat) -> (u32,
 
 /// How many maps each of two tenants makes beside its first one, the refusals, and what is told after visits
 /// of all pages.
-fn filled(rt: &impl Wait, two: Two) -> ([(u32, Option<Fault>); 2], [u32; 4])
-    requires first { IsIdle two.shared two.first }
-    requires second { IsIdle two.shared two.second }
-    requires scanner { IsIdle two.shared two.scanner }
-    requires host { IsIdle two.shared two.host }
-{
+fn filled(rt: &impl Wait, two: Two) -> ([(u32, Option<Fault>); 2], [u32; 4]) {
     let Two {
         shared,
         mut first,

@@ -5,8 +5,8 @@ ghost use Rattle.std.specs.Prelude.{◌≡◌};
 ghost use Rattle.turn.specs.Seats.{IsIdle, own_part};
 ghost use Rattle.tenant_workers.specs.Runs.{IsResting};
 
-use crate::row::{Two, length_and_first, told, two_tenants};
 use crate::runs::{Open, counted, returned};
+use crate::tenants::{Two, length_and_first, told, two_tenants};
 use host_types::Fault;
 use std::alloc::Global;
 use std::sync::{Mutex, Wait};
@@ -33,13 +33,7 @@ impl<'a> Gate for Scanned<'a> {
 type Runs = ([Result<RunReply, Fault>; 2], [Option<(usize, u8)>; 2]);
 
 /// One tenant's run after the other's, with two visits before each instruction.
-fn runs_scanned(rt: &impl Wait, alloc: Global, two: Two) -> Runs
-    requires first { IsIdle two.shared two.first }
-    requires second { IsIdle two.shared two.second }
-    requires scanner { IsIdle two.shared two.scanner }
-    requires first_rests { IsResting (own_part two.first) }
-    requires second_rests { IsResting (own_part two.second) }
-{
+fn runs_scanned(rt: &impl Wait, alloc: Global, two: Two) -> Runs {
     let Two {
         shared,
         mut first,
@@ -130,12 +124,7 @@ fn run_overtaken(
     rt: &impl Wait,
     alloc: Global,
     two: Two,
-) -> Result<[Result<RunReply, Fault>; 2], Fault>
-    requires first { IsIdle two.shared two.first }
-    requires second { IsIdle two.shared two.second }
-    requires first_rests { IsResting (own_part two.first) }
-    requires second_rests { IsResting (own_part two.second) }
-{
+) -> Result<[Result<RunReply, Fault>; 2], Fault> {
     let Two {
         shared,
         mut first,
@@ -201,12 +190,11 @@ impl<'a> Gate for Watched<'a> {
 }
 
 /// What is told before and after the store of a run on merged pages, and what the run answers.
-fn run_watched(rt: &impl Wait, alloc: Global, two: Two) -> ([[u32; 4]; 2], Result<RunReply, Fault>)
-    requires first { IsIdle two.shared two.first }
-    requires scanner { IsIdle two.shared two.scanner }
-    requires host { IsIdle two.shared two.host }
-    requires first_rests { IsResting (own_part two.first) }
-{
+fn run_watched(
+    rt: &impl Wait,
+    alloc: Global,
+    two: Two,
+) -> ([[u32; 4]; 2], Result<RunReply, Fault>) {
     let Two {
         shared,
         mut first,

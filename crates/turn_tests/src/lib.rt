@@ -22,4 +22,6 @@ mod serving;
 #[cfg(test)]
 mod settings;
 #[cfg(test)]
+mod tenants;
+#[cfg(test)]
 mod turns;

@@ -13,7 +13,7 @@ use turn::{Kind, Place, Seat, Turn};
 use write_break::{load, needs, store};
 
 /// A memory in which each tenant has a map of one number, which is 0, and no run.
-#[tactic(auto, using(crate::proofs::Resting::nothing_reserved))]
+#[tactic(auto, using(tenant_workers::proofs::Resting::nothing_reserved))]
 pub(crate) fn with_numbers(
     alloc: Global,
     frames: u32,

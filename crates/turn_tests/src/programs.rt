@@ -4,7 +4,7 @@
 ghost use Rattle.std.specs.Prelude.{◌≡◌};
 ghost use Rattle.turn.specs.Seats.{IsIdle};
 
-use crate::row::{Two, two_tenants};
+use crate::tenants::{Two, two_tenants};
 use host_types::{Fault, Refused};
 use std::alloc::Global;
 use std::sync::Wait;
@@ -33,9 +33,7 @@ fn loaded(
 }
 
 /// What is answered to texts of one of two tenants, and to the last of them again when it has a second map.
-fn answers(rt: &impl Wait, alloc: Global, two: Two) -> [Result<[u32; 3], Fault>; 6]
-    requires first { IsIdle two.shared two.first }
-{
+fn answers(rt: &impl Wait, alloc: Global, two: Two) -> [Result<[u32; 3], Fault>; 6] {
     let Two {
         shared,
         mut first,

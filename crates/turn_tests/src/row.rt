@@ -1,27 +1,11 @@
 //! Two tenants whose numbers share a frame and part again, by the calls of their seats. That these calls
 //! succeed, and what the counters tell, no contract of a turn says.
 
-ghost use Rattle.std.specs.Prelude.{◌≡◌, IfOk};
-ghost use Rattle.turn.specs.Seats.{IsIdle, own_part};
-ghost use Rattle.tenant_workers.specs.Runs.{IsResting};
-
-use crate::numbers::with_numbers;
-use host_types::{Fault, Options};
-use ksm_counters::Counters;
+use crate::tenants::{Two, length_and_first, told, two_tenants};
+use host_types::Fault;
 use std::alloc::Global;
 use std::sync::Wait;
 use std::test::Fail;
-use tenant_workers::Shared;
-use turn::{HostSeat, ScanSeat, Seat, Turn};
-
-/// Two tenants of the same number, shared.
-pub(crate) struct Two {
-    pub(crate) shared: Shared,
-    pub(crate) first: Seat,
-    pub(crate) second: Seat,
-    pub(crate) scanner: ScanSeat,
-    pub(crate) host: HostSeat,
-}
 
 /// What the calls answer.
 #[derive(Clone, Copy, PartialEq, Eq)]
@@ -50,50 +34,7 @@ const ROW: Row = Row {
 
 const FIVE: [u8; 8] = [5, 0, 0, 0, 0, 0, 0, 0];
 
-/// Two tenants on so many frames, two of which their numbers have.
-pub(crate) fn two_tenants(alloc: Global, frames: u32) -> Result<Two, Fault>
-    ensures first { IfOk result (λ two. IsIdle two.shared two.first) }
-    ensures second { IfOk result (λ two. IsIdle two.shared two.second) }
-    ensures scanner { IfOk result (λ two. IsIdle two.shared two.scanner) }
-    ensures host { IfOk result (λ two. IsIdle two.shared two.host) }
-    ensures first_rests { IfOk result (λ two. IsResting (own_part two.first)) }
-    ensures second_rests { IfOk result (λ two. IsResting (own_part two.second)) }
-{
-    let memory = with_numbers(alloc, frames, 2, Options::standard())?;
-    let (turn, mut seats, scanner, host) = Turn::new(alloc, memory, 2)?;
-    let second = seats.remove(1);
-    let first = seats.remove(0);
-    Ok(Two {
-        shared: Shared::new(turn),
-        first,
-        second,
-        scanner,
-        host,
-    })
-}
-
-/// Shared, sharing and volatile pages, and free frames.
-pub(crate) fn told(counters: Counters) -> [u32; 4] {
-    [
-        counters.pages_shared,
-        counters.pages_sharing,
-        counters.pages_volatile,
-        counters.frames_free,
-    ]
-}
-
-pub(crate) fn length_and_first(value: Result<Vec<u8>, Fault>) -> Option<(usize, u8)> {
-    let bytes = value.ok()?;
-    let first = *bytes.first()?;
-    Some((bytes.len(), first))
-}
-
-fn answered(rt: &impl Wait, alloc: Global, two: Two) -> Row
-    requires first { IsIdle two.shared two.first }
-    requires second { IsIdle two.shared two.second }
-    requires scanner { IsIdle two.shared two.scanner }
-    requires host { IsIdle two.shared two.host }
-{
+fn answered(rt: &impl Wait, alloc: Global, two: Two) -> Row {
     let Two {
         shared,
         mut first,
@@ -122,9 +63,7 @@ fn answered(rt: &impl Wait, alloc: Global, two: Two) -> Row
 }
 
 /// What an update answers where no frame is free.
-fn crowded(rt: &impl Wait, two: Two) -> Result<(), Fault>
-    requires first { IsIdle two.shared two.first }
-{
+fn crowded(rt: &impl Wait, two: Two) -> Result<(), Fault> {
     let Two {
         shared,
         mut first,

@@ -5,7 +5,7 @@ ghost use Rattle.std.specs.Prelude.{◌≡◌};
 ghost use Rattle.turn.specs.Seats.{IsIdle, own_part};
 ghost use Rattle.tenant_workers.specs.Runs.{IsResting};
 
-use crate::row::{Two, told, two_tenants};
+use crate::tenants::{Two, told, two_tenants};
 use host_types::Fault;
 use std::alloc::Global;
 use std::sync::Wait;
@@ -51,14 +51,7 @@ pub(crate) const fn returned(ret: u64) -> Result<RunReply, Fault> {
     Ok(RunReply { ret, steps: 11 })
 }
 
-fn ran(rt: &impl Wait, alloc: Global, two: Two) -> Row
-    requires first { IsIdle two.shared two.first }
-    requires second { IsIdle two.shared two.second }
-    requires scanner { IsIdle two.shared two.scanner }
-    requires host { IsIdle two.shared two.host }
-    requires first_rests { IsResting (own_part two.first) }
-    requires second_rests { IsResting (own_part two.second) }
-{
+fn ran(rt: &impl Wait, alloc: Global, two: Two) -> Row {
     let Two {
         shared,
         mut first,
@@ -92,10 +85,7 @@ fn seats_run_programs_on_their_own_maps(rt: HostRuntime) -> Result<(), Fail> {
 }
 
 /// What a run answers where no frame is free.
-fn crowded(rt: &impl Wait, alloc: Global, two: Two) -> Result<RunReply, Fault>
-    requires first { IsIdle two.shared two.first }
-    requires rests { IsResting (own_part two.first) }
-{
+fn crowded(rt: &impl Wait, alloc: Global, two: Two) -> Result<RunReply, Fault> {
     let Two {
         shared,
         mut first,

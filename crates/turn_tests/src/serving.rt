@@ -6,7 +6,7 @@ ghost use Rattle.turn.specs.Seats.{IsIdle, own_part};
 ghost use Rattle.tenant_workers.specs.Plans.{IsFor};
 ghost use Rattle.tenant_workers.specs.Runs.{IsResting};
 
-use crate::row::{Two, length_and_first, two_tenants};
+use crate::tenants::{Two, length_and_first, two_tenants};
 use host_types::Fault;
 use std::alloc::Global;
 use std::hint::spin_loop;
@@ -165,13 +165,7 @@ fn served<R: Threads + Wait + Sync, G: Gate + Sync>(
     alloc: Global,
     two: Two,
     gate: &G,
-) -> Result<bool, Fault>
-    requires first { IsIdle two.shared two.first }
-    requires second { IsIdle two.shared two.second }
-    requires scanner { IsIdle two.shared two.scanner }
-    requires first_rests { IsResting (own_part two.first) }
-    requires second_rests { IsResting (own_part two.second) }
-{
+) -> Result<bool, Fault> {
     let Two {
         shared,
         first,

@@ -1,10 +1,7 @@
 //! Options that the host sets by its seat, and pages that it parts. That these calls succeed where they
 //! may, no contract says.
 
-ghost use Rattle.std.specs.Prelude.{◌≡◌};
-ghost use Rattle.turn.specs.Seats.{IsIdle};
-
-use crate::row::{Two, told, two_tenants};
+use crate::tenants::{Two, told, two_tenants};
 use host_types::{Fault, MapNo, Opt};
 use std::sync::Wait;
 use std::test::Fail;
@@ -33,10 +30,7 @@ const ROW: Row = Row {
     counters: [[1, 1, 0, 2], [0, 0, 2, 1], [0, 0, 2, 1], [1, 1, 0, 2]],
 };
 
-fn answered(rt: &impl Wait, two: Two) -> Row
-    requires scanner { IsIdle two.shared two.scanner }
-    requires host { IsIdle two.shared two.host }
-{
+fn answered(rt: &impl Wait, two: Two) -> Row {
     let Two {
         shared,
         first: _first,
@@ -77,11 +71,7 @@ fn the_host_parts_pages_and_sets_options(rt: HostRuntime) -> Result<(), Fail> {
 }
 
 /// The answers to a new map that takes the frame which merging freed, and to an unmerging then.
-fn crowded(rt: &impl Wait, two: Two) -> (Result<MapNo, Fault>, Result<(), Fault>)
-    requires first { IsIdle two.shared two.first }
-    requires scanner { IsIdle two.shared two.scanner }
-    requires host { IsIdle two.shared two.host }
-{
+fn crowded(rt: &impl Wait, two: Two) -> (Result<MapNo, Fault>, Result<(), Fault>) {
     let Two {
         shared,
         mut first,
