@@ -13,7 +13,7 @@ use anyhow::Result;
 use bench::Bench;
 use std::env;
 use std::rt::Clock;
-use steps::{COUNT, STEPS};
+use steps::{COUNT, steps};
 
 /// The nanoseconds of each step of a round.
 type Column = [f64; COUNT];
@@ -27,7 +27,7 @@ fn column(rt: &(impl Clock + Print + AllocGlobal), pages: u32, rounds: u32) -> R
     let mut least = [f64::INFINITY; COUNT];
     for _ in 0..rounds {
         for number in 0..COUNT {
-            let spent = bench.time(rt, STEPS[number])?;
+            let spent = bench.time(rt, steps()[number])?;
             least[number] = least[number].min(spent);
         }
     }
@@ -40,7 +40,7 @@ fn print_rows(rt: &impl Print, small: &Column, middle: &Column, large: &Column) 
     println!(rt; "| ns | 100 pages | 1,000 pages | 4,000 pages |")?;
     println!(rt; "|---|---|---|---|")?;
     for number in 0..COUNT {
-        let (name, _, _) = STEPS[number];
+        let (name, _, _) = steps()[number];
         if !name.is_empty() {
             println!(rt;
                 "| {name} | {:.1} | {:.1} | {:.1} |",

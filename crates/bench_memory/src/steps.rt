@@ -56,7 +56,12 @@ pub(crate) type Step = (&'static str, Part, Work);
 pub(crate) const COUNT: usize = 38;
 
 /// The steps of a round. Those without a name are no row.
-pub(crate) const STEPS: [Step; COUNT] = [
+pub(crate) fn steps() -> &'static [Step; COUNT] {
+    &STEPS
+}
+
+/// The steps, behind a call: else each proof that takes one of them reads them all.
+const STEPS: [Step; COUNT] = [
     ("load of eight bytes", Part::All, Work::Load),
     ("`needs` of a store", Part::All, Work::Ask),
     ("store to an own page", Part::All, Work::StoreOwn),
