@@ -4,16 +4,7 @@ use crate::maps::{Maps, PageRange, element_at, map_at};
 use crate::programs::insn_at;
 use bpf_decode::{Insn, Operation, Size};
 use host_types::MapHelper;
-use plain_machine::{ArrayMap, Machine, Made};
-
-/// The number of the region of map 0's values, which those of the other maps follow.
-const MAP_VALUES: u64 = 16;
-
-/// The number of the region of map 0's name, which those of the other maps follow.
-const MAP_NAMES: u64 = 8;
-
-/// How many addresses a region has.
-const REGION: u64 = 4294967296;
+use plain_machine::{ArrayMap, MAP_NAMES, MAP_VALUES, Machine, Made, REGION};
 
 /// The flag of an update that writes an element that is there or not.
 const ANY: u64 = 0;

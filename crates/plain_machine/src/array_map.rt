@@ -6,14 +6,9 @@ ghost use Rattle.host_types.specs.Shapes.{IsShape, byte_len_of};
 ghost use Rattle.plain_machine.specs.Regions.{map_with_number};
 
 use crate::number::{number_of_bytes, put_bytes, put_part};
+use crate::regions::{MAP_VALUES, REGION};
 use host_types::{MapNo, Shape};
 use std::marker::Model;
-
-/// How many addresses a region has.
-const REGION: u64 = 4294967296;
-
-/// The number of the region of map 0's values, which those of the other maps follow.
-const MAP_VALUES: u64 = 16;
 
 /// The flag of an update that wants an element that isn't there.
 const NO_EXIST: u64 = 1;

@@ -8,26 +8,9 @@ ghost use Rattle.plain_machine.specs.Regions.{number_in_context, number_in_stack
 
 use crate::array_map::ArrayMap;
 use crate::number::{copy_if_set, number_if_set, number_of_bytes, set_bytes};
+use crate::regions::{CONTEXT, MAP_NAMES, MAP_VALUES, REGION, STACK, STACK_SIZE};
 use host_types::MapNo;
 use std::marker::Model;
-
-/// How many addresses a region has.
-const REGION: u64 = 4294967296;
-
-/// The number of the context's region.
-const CONTEXT: u64 = 1;
-
-/// The number of the stack's region.
-const STACK: u64 = 2;
-
-/// The number of the region that names map 0, which those that name the other maps follow.
-const MAP_NAMES: u64 = 8;
-
-/// The number of the region of map 0's values, which those of the other maps follow.
-const MAP_VALUES: u64 = 16;
-
-/// How many bytes the stack has.
-const STACK_SIZE: usize = 512;
 
 /// A flat memory: the context, the stack of which each byte is set or not, and at most eight maps by
 /// number.

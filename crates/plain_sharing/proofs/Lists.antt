@@ -5,8 +5,7 @@ use Rattle.std.proofs.lemmas.List.{take_min, drop_min, take_all, take-replicate,
 use Rattle.std.proofs.Math.ListN.{get_or-map}
 use Rattle.std.proofs.lemmas.List.Sums.{sum_by_more}
 use Rattle.host_types.specs.Pages.{page_bytes, zero_page}
-use Rattle.host_types.specs.Sharing.{PageState, own_frame}
-use Rattle.host_types.specs.Unmerging.{zeros_at}
+use Rattle.host_types.specs.Sharing.{PageState}
 use Rattle.host_types.specs.Visits.{Contents, group_bytes}
 use Rattle.plain_sharing.specs.View.{page_of, page_states}
 use Rattle.plain_sharing.specs.declared.sharing.PlainPage.{PlainPage}
@@ -44,15 +43,6 @@ changed_more f (z ∷ xs) (y ∷ ys) (suc i) x d e h same =
     rw head (ap (λ l. f y ∷ l) (changed_more f xs ys i x d tail (omega (arith, h)) same))
 
 -- one more page is counted
-pub own_more : (pages : List (Option PlainPage)) (i own : ℕ) → i < length pages → own ≡ sum_by own_frame (take i (page_states pages))
-    → own + own_frame (option_map page_of (slice_index_or pages i None)) ≡ sum_by own_frame (take (i + 1) (page_states pages))
-own_more pages i own h e =
-    let long = length-map pages (option_map page_of) in
-    sym (sum_by_more own_frame (page_states pages) i None (omega (arith, h, long))
-    ∙ ap (λ (n : ℕ). n + own_frame (slice_index_or (page_states pages) i None)) (sym e)
-    ∙ ap (λ page. own + own_frame page) (get_or-map (option_map page_of) pages i None))
-
--- one more page is counted by its status
 pub counted_more : (f : Option PageState → ℕ) (pages : List (Option PlainPage)) (i count : ℕ) → i < length pages → count ≡ sum_by f (take i (page_states pages))
     → count + f (option_map page_of (slice_index_or pages i None)) ≡ sum_by f (take (i + 1) (page_states pages))
 counted_more f pages i count h e =
@@ -60,15 +50,6 @@ counted_more f pages i count h e =
     let more = sum_by_more f (page_states pages) i None (omega (arith, h, long)) in
     let here = ap f (get_or-map (option_map page_of) pages i None) in
     omega (arith, e, more, here)
-
--- one more page of zeros is counted
-pub zeros_more : (pages : List (Option PlainPage)) (i zeros : ℕ) → i < length pages → zeros ≡ sum_by zeros_at (take i (page_states pages))
-    → zeros + zeros_at (option_map page_of (slice_index_or pages i None)) ≡ sum_by zeros_at (take (i + 1) (page_states pages))
-zeros_more pages i zeros h e =
-    let long = length-map pages (option_map page_of) in
-    sym (sum_by_more zeros_at (page_states pages) i None (omega (arith, h, long))
-    ∙ ap (λ (n : ℕ). n + zeros_at (slice_index_or (page_states pages) i None)) (sym e)
-    ∙ ap (λ page. zeros + zeros_at page) (get_or-map (option_map page_of) pages i None))
 
 -- the bytes of a group are those of its first page
 pub first_bytes : (contents : Contents) (places : List ℕ) (i : ℕ) → slice_get places 0 ≡ Some i → group_bytes contents places ≡ contents i

@@ -2,8 +2,12 @@
 use Rattle.std.specs.Prelude.{ℕ, Bool, ◌&&◌, nat_lt, bytes_eq, List, [], length, map, slice_index_or, Option, None, option_map, Vec}
 use Rattle.std.specs.declared.alloc.Global.{Global}
 use Rattle.host_types.specs.declared.options.Options.{Options}
-use Rattle.host_types.specs.Sharing.{Sharing, PageState}
+use Rattle.host_types.specs.Sharing.{Sharing, PageState, own_frame}
+use Rattle.host_types.specs.Counters.{unshared_at, volatile_at}
+use Rattle.host_types.specs.Unmerging.{zeros_at}
 use Rattle.host_types.specs.Visits.{Contents, group_bytes}
+use Rattle.plain_sharing.specs.declared.pages.Sort.{Sort}
+use Rattle.plain_sharing.specs.declared.pages.Sort.TheVariants.{Own, Zeros, Waiting, Volatile}
 use Rattle.plain_sharing.specs.declared.sharing.PlainPage.{PlainPage}
 
 -- a page
@@ -13,6 +17,13 @@ page_of page = record { mergeable = page.mergeable; status = page.status; last =
 -- the pages by place
 abbrev pub page_states : List (Option PlainPage) → List (Option PageState)
 page_states pages = map (option_map page_of) pages
+
+-- one for a page of a sort
+abbrev pub one_of : Sort → Option PageState → ℕ
+one_of Own = own_frame
+one_of Zeros = zeros_at
+one_of Waiting = unshared_at
+one_of Volatile = volatile_at
 
 -- the groups as lists of places
 abbrev pub places_of : List (Vec ℕ Global) → List (List ℕ)

@@ -1,11 +1,9 @@
 //! Pages by place.
 ghost use Rattle.std.specs.Prelude.{◌≡◌, ◌+◌, ◌<◌, ◌≤◌, length, slice_index_or, slice_set, sum_by, option_map, None, drop};
-ghost use Rattle.host_types.specs.Counters.{unshared_at, volatile_at};
-ghost use Rattle.host_types.specs.Unmerging.{zeros_at};
 ghost use Rattle.host_types.specs.Visits.{first_mergeable, is_mergeable};
-ghost use Rattle.host_types.specs.Sharing.{own_frame, with_status};
+ghost use Rattle.host_types.specs.Sharing.{with_status};
 ghost use Rattle.host_types.specs.Pages.{page_bytes};
-ghost use Rattle.plain_sharing.specs.View.{page_of, page_states};
+ghost use Rattle.plain_sharing.specs.View.{page_of, page_states, one_of};
 
 use crate::sharing::PlainPage;
 use host_types::Status;
@@ -40,94 +38,47 @@ pub(crate) fn set_status(pages: &mut [Option<PlainPage>], place: usize, status: 
     put(pages, place, page);
 }
 
-/// How many pages have a frame of their own.
-pub(crate) fn own_frames(pages: &[Option<PlainPage>]) -> usize
-    ensures { result ≡ sum_by own_frame (page_states pages.now) }
-{
-    let mut own = 0;
-    for page in pages {
-        own += own_frame(*page);
-    }
-    own
+/// Which pages are counted.
+#[derive(Clone, Copy)]
+pub(crate) enum Sort {
+    /// Those with a frame of their own.
+    Own,
+    /// Those on the frame of zeros.
+    Zeros,
+    /// Those that wait for another one of their bytes.
+    Waiting,
+    /// Those that changed since they were visited last.
+    Volatile,
 }
 
-/// One for a page with a frame of its own.
-fn own_frame(page: Option<PlainPage>) -> usize
-    ensures value { result ≡ own_frame (option_map page_of page) }
-    ensures small { result ≤ 1 }
-{
-    match page {
-        Some(page) if !page.status.is_shared() => 1,
-        _ => 0,
-    }
-}
-
-/// How many pages lie on the frame of zeros.
-pub(crate) fn zero_pages(pages: &[Option<PlainPage>]) -> usize
-    ensures count { result ≡ sum_by zeros_at (page_states pages.now) }
+/// How many pages are of a sort.
+pub(crate) fn count(pages: &[Option<PlainPage>], sort: Sort) -> usize
+    ensures count { result ≡ sum_by (one_of sort) (page_states pages.now) }
     ensures few { result ≤ length pages.now }
 {
-    let mut zeros = 0;
+    let mut count = 0;
     for page in pages {
-        zeros += zeros_at(*page);
+        count += sort.one(*page);
     }
-    zeros
+    count
 }
 
-/// One for a page on the frame of zeros.
-fn zeros_at(page: Option<PlainPage>) -> usize
-    ensures value { result ≡ zeros_at (option_map page_of page) }
-    ensures small { result ≤ 1 }
-{
-    match page {
-        Some(page) if page.status == Status::Zero => 1,
-        _ => 0,
-    }
-}
-
-/// How many pages wait for another one of their bytes.
-pub(crate) fn unshared_pages(pages: &[Option<PlainPage>]) -> usize
-    ensures count { result ≡ sum_by unshared_at (page_states pages.now) }
-    ensures few { result ≤ length pages.now }
-{
-    let mut waiting = 0;
-    for page in pages {
-        waiting += unshared_at(*page);
-    }
-    waiting
-}
-
-/// One for a page that waits.
-fn unshared_at(page: Option<PlainPage>) -> usize
-    ensures value { result ≡ unshared_at (option_map page_of page) }
-    ensures small { result ≤ 1 }
-{
-    match page {
-        Some(page) if page.status == Status::Waiting => 1,
-        _ => 0,
-    }
-}
-
-/// How many pages changed since they were visited last.
-pub(crate) fn volatile_pages(pages: &[Option<PlainPage>]) -> usize
-    ensures count { result ≡ sum_by volatile_at (page_states pages.now) }
-    ensures few { result ≤ length pages.now }
-{
-    let mut changed = 0;
-    for page in pages {
-        changed += volatile_at(*page);
-    }
-    changed
-}
-
-/// One for a page that changed.
-fn volatile_at(page: Option<PlainPage>) -> usize
-    ensures value { result ≡ volatile_at (option_map page_of page) }
-    ensures small { result ≤ 1 }
-{
-    match page {
-        Some(page) if page.status == Status::Volatile => 1,
-        _ => 0,
+impl Sort {
+    /// One for a page of this sort.
+    fn one(self, page: Option<PlainPage>) -> usize
+        ensures value { result ≡ one_of self (option_map page_of page) }
+        ensures small { result ≤ 1 }
+    {
+        let Some(page) = page else {
+            return 0;
+        };
+        let is_counted = match self {
+            Sort::Own => !page.status.is_shared(),
+            Sort::Zeros => page.status == Status::Zero,
+            Sort::Waiting => page.status == Status::Waiting,
+            Sort::Volatile => page.status == Status::Volatile,
+        };
+        usize::from(is_counted)
     }
 }
 

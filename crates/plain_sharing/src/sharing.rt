@@ -7,6 +7,7 @@ ghost use Rattle.host_types.specs.Unmerging.{zero_pages, unmerged, unmerge_need,
 ghost use Rattle.host_types.specs.Visits.{visit, page_to_visit, begun, decided, looked_at, had, met, find_partner, changed, waits, joined, has_open};
 ghost use Rattle.plain_sharing.specs.View.{page_of, places_of, plain_contents, sharing_at_rest};
 
+use crate::pages::Sort;
 use crate::{contents, groups, pages, waiting};
 use host_types::{Fault, Opt, Options, Status, Visited};
 use std::alloc::{AllocError, Global};
@@ -190,7 +191,7 @@ impl PlainSharing {
         frames
             .saturating_sub(1)
             .saturating_sub(self.groups.len())
-            .saturating_sub(pages::own_frames(&self.pages))
+            .saturating_sub(pages::count(&self.pages, Sort::Own))
     }
 }
 
@@ -408,7 +409,7 @@ impl PlainSharing {
         ensures { result ≡ unmerge_need self.now }
     {
         groups::members(&self.groups).saturating_sub(self.groups.len() as u128)
-            + pages::zero_pages(&self.pages) as u128
+            + pages::count(&self.pages, Sort::Zeros) as u128
     }
 
     /// Breaks all pages, one after another from the first place on, and stops the scanner: `run` is 2
@@ -501,7 +502,7 @@ impl PlainSharing {
     pub fn pages_unshared(&self) -> usize
         ensures { result ≡ pages_unshared self.now }
     {
-        pages::unshared_pages(&self.pages)
+        pages::count(&self.pages, Sort::Waiting)
     }
 
     /// How many pages changed since they were visited last.
@@ -509,7 +510,7 @@ impl PlainSharing {
     pub fn pages_volatile(&self) -> usize
         ensures { result ≡ pages_volatile self.now }
     {
-        pages::volatile_pages(&self.pages)
+        pages::count(&self.pages, Sort::Volatile)
     }
 
     /// How many pages lie on the frame of zeros.
@@ -517,7 +518,7 @@ impl PlainSharing {
     pub fn zero_pages(&self) -> usize
         ensures { result ≡ zero_pages self.now }
     {
-        pages::zero_pages(&self.pages)
+        pages::count(&self.pages, Sort::Zeros)
     }
 
     /// How many contents have two groups or more. The contents are the bytes of the page at each place.
