@@ -7,10 +7,8 @@ ghost use Rattle.advice.specs.Answered.{is_answered};
 
 use crate::Advice;
 use bpf_decode::{AluCode, Insn, Operation, Size, Source};
+use host_types::limits::MAX_TEXT;
 use host_types::{MapHelper, Refused};
-
-/// The most bytes of a text.
-const LONGEST_TEXT: usize = 32768;
 
 /// The bits of an opcode that are those of an atomic instruction: its class and its mode (RFC 9669,
 /// section 5.3).
@@ -48,7 +46,7 @@ fn on_length(text: &[u8]) -> Advice {
             wrong: "the text is empty",
             mend: "give 1 to 4096 slots of eight bytes",
         }
-    } else if text.len() > LONGEST_TEXT {
+    } else if text.len() > MAX_TEXT {
         Advice {
             wrong: "the text is longer than 4096 slots",
             mend: "make the program shorter, or two of it",

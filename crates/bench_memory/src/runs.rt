@@ -3,7 +3,7 @@
 ghost use Rattle.std.specs.Prelude.{◌≡◌, ◌+◌, ◌*◌, ◌%◌, ◌<◌, ◌≤◌, length, IfSome};
 ghost use Rattle.page_table.specs.State.{part, map_bytes};
 
-use frame_arena::PAGE_SIZE;
+use host_types::limits::PAGE_SIZE;
 use host_types::{Page, Shape, Visited};
 use map_helpers::{lookup, update, update_needs};
 use page_table::Memory;

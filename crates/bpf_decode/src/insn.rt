@@ -17,8 +17,8 @@ pub struct Insn {
 /// The opcode of the one wide instruction (RFC 9669, section 3.2).
 pub(crate) const WIDE: u8 = 0x18;
 
-/// The last register, the frame pointer.
-const LAST_REGISTER: u8 = 10;
+/// R10, the frame pointer: the last register, and read-only (RFC 9669, section 2.1).
+pub const FRAME_POINTER: u8 = 10;
 
 impl Insn {
     ghost use Rattle.std.specs.Prelude.{◌≡◌, ◌<◌, ◌%◌, ◌==◌, if◌then◌else◌, length, IsSome, Some};
@@ -133,7 +133,7 @@ impl Insn {
     fn has_registers(&self, operation: Operation) -> bool
         ensures { result ≡ has_registers operation self.now }
     {
-        (!operation.uses_dst() || self.dst <= LAST_REGISTER)
-            && (!operation.uses_src() || self.src <= LAST_REGISTER)
+        (!operation.uses_dst() || self.dst <= FRAME_POINTER)
+            && (!operation.uses_src() || self.src <= FRAME_POINTER)
     }
 }

@@ -12,7 +12,7 @@ mod text;
 mod typed;
 
 pub use code::Code;
-pub use insn::Insn;
+pub use insn::{FRAME_POINTER, Insn};
 pub use operation::{AluCode, Comparison, Distance, Extension, Operation, Size, Source, Width};
 pub use program::{Program, decode};
 pub use text::judgement_is_one;

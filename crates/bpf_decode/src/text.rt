@@ -4,10 +4,8 @@ ghost use Rattle.bpf_decode.specs.Text.{slots_of, insn_at, fault_at, HasLength, 
 use crate::insn::Insn;
 use crate::slot::second_slot_fault;
 use host_types::Refused;
+use host_types::limits::MAX_TEXT;
 use host_types::rule::BAD_LENGTH;
-
-/// The most bytes of a text: 4096 slots of eight bytes.
-const MAX_LENGTH: usize = 32768;
 
 /// What is refused of a text that isn't well formed.
 pub(crate) fn first_fault(text: &[u8]) -> Option<Refused>
@@ -26,7 +24,7 @@ pub(crate) fn first_fault(text: &[u8]) -> Option<Refused>
 fn has_length(text: &[u8]) -> bool
     ensures { IsTrue result ↔ HasLength text.now }
 {
-    8 <= text.len() && text.len() <= MAX_LENGTH && text.len() % 8 == 0
+    8 <= text.len() && text.len() <= MAX_TEXT && text.len() % 8 == 0
 }
 
 /// The first instruction that meets no row of the table.

@@ -16,13 +16,11 @@ use acceptance::Acceptance;
 use host_calls::{is_context_size, judge};
 use host_file::FileFault;
 use host_types::Fault;
+use host_types::limits::MAX_MAPS;
 use question::{Question, question_of};
 use std::alloc::Global;
 use std::io::Write;
 use verifier::Verified;
-
-/// The most maps of a program.
-const MAX_MAPS: usize = 8;
 
 /// Judges the program that the words of a command line ask for: hex text, the shapes of its maps,
 /// and the size of its context. The output gets one line: that it is accepted, with its slots, its

@@ -7,12 +7,10 @@ ghost use Rattle.frame_arena.specs.Pages.{IsPage, IsAccessSize, page_at};
 
 use crate::block;
 use crate::number::read_number;
+use host_types::limits::PAGE_SIZE;
 use std::alloc::{AllocError, Global};
 use std::cmp::Ordering;
 use std::marker::Model;
-
-/// How many bytes a page has.
-pub const PAGE_SIZE: u32 = 4096;
 
 /// Pages of 4096 bytes, each in a frame of its own. Contracts see the list of the pages, in which
 /// a page stands at its frame's number.

@@ -4,8 +4,8 @@ ghost use Rattle.host_types.specs.Bytes.{bytes_of, part_of, with_part};
 ghost use Rattle.host_types.specs.Pages.{zero_page, folded, fingerprint_of};
 ghost use Rattle.frame_arena.specs.Pages.{IsAccessSize};
 
-use crate::arena::PAGE_SIZE;
 use crate::number::write_number;
+use host_types::limits::PAGE_SIZE;
 
 /// Each byte is below 256, which its type says.
 pub(crate) fn bytes_are_small(block: &[u8])

@@ -6,4 +6,4 @@ mod arena;
 mod block;
 mod number;
 
-pub use arena::{FrameArena, PAGE_SIZE};
+pub use arena::FrameArena;

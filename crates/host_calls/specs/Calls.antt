@@ -33,24 +33,25 @@ abbrev pub IsValue : TenantPart → ℕ → ℕ → List ℕ → Type 0
 IsValue owned m key bytes =
     IsSomeAnd (map_at owned.maps m) (λ flat. (key < flat.shape.entries) × (bytes ≡ part_of flat.bytes (element_at flat.shape key) flat.shape.value_size))
 
--- when a value isn't written: the first refusal, in this order, whose condition holds
+-- when an element isn't found: the first refusal, in this order, whose condition holds
+abbrev pub RefusesElement : TenantPart → ℕ → ℕ → Fault → Type 0
+RefusesElement owned m key BadTenant = ¬ (IsThere owned)
+RefusesElement owned m key NoMap = IsThere owned × IsNone (map_at owned.maps m)
+RefusesElement owned m key NoElement = IsSomeAnd (map_at owned.maps m) (λ flat. flat.shape.entries ≤ key)
+RefusesElement owned m key _ = ⊥
+
+-- when a value isn't written: the element isn't found, or else the first refusal, in this order, whose condition holds
 abbrev pub RefusesUpdate : TenantPart → ℕ → ℕ → List ℕ → Fault → Type 0
-RefusesUpdate owned m key value BadTenant = ¬ (IsThere owned)
-RefusesUpdate owned m key value NoMap = IsThere owned × IsNone (map_at owned.maps m)
-RefusesUpdate owned m key value NoElement = IsSomeAnd (map_at owned.maps m) (λ flat. flat.shape.entries ≤ key)
 RefusesUpdate owned m key value BadShape =
     IsSomeAnd (map_at owned.maps m) (λ flat. (key < flat.shape.entries) × (length value ≢ flat.shape.value_size))
 RefusesUpdate owned m key value (NoFrames need have) =
     FitsValue owned m key value × IsSomeAnd (map_at owned.maps m) (λ flat. need ≡ update_charge flat.shape) × (have < need)
-RefusesUpdate owned m key value _ = ⊥
+RefusesUpdate owned m key value fault = RefusesElement owned m key fault
 
--- when a value isn't read: the first refusal, in this order, whose condition holds
+-- when a value isn't read: the element isn't found, or memory ran out
 abbrev pub RefusesLookup : TenantPart → ℕ → ℕ → Fault → Type 0
-RefusesLookup owned m key BadTenant = ¬ (IsThere owned)
-RefusesLookup owned m key NoMap = IsThere owned × IsNone (map_at owned.maps m)
-RefusesLookup owned m key NoElement = IsSomeAnd (map_at owned.maps m) (λ flat. flat.shape.entries ≤ key)
 RefusesLookup owned m key OutOfMemory = HasElement owned m key
-RefusesLookup owned m key _ = ⊥
+RefusesLookup owned m key fault = RefusesElement owned m key fault
 
 -- the tenant has a number for a new map, and the shape is within the limits
 pub record FitsNewMap (owned : TenantPart) (shape : Shape) : Type 0 where

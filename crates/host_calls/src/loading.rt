@@ -8,16 +8,11 @@ ghost use Rattle.host_calls.specs.Calls.{IsThere};
 ghost use Rattle.host_calls.specs.Programs.{IsJudgement, shapes_of, subject_for};
 
 use bpf_decode::decode;
+use host_types::limits::{MAX_CONTEXT, MAX_MAPS};
 use host_types::{Fault, MapNo, Refused, Shape};
 use page_table::Memory;
 use std::alloc::{AllocError, Global};
 use verifier::{Verified, verify};
-
-/// The most bytes of a context.
-const MAX_CONTEXT: u32 = 256;
-
-/// How many map numbers a tenant has.
-const MAX_MAPS: MapNo = 8;
 
 /// Whether a context may have so many bytes.
 pub fn is_context_size(size: u32) -> bool
@@ -33,8 +28,8 @@ pub fn host_shapes(alloc: Global, memory: &Memory, tenant: u32) -> Result<Vec<Sh
     ensures shapes { IfOk result (λ shapes. shapes.items ≡ shapes_of (part memory.now tenant).maps) }
     ensures valid { IfOk result (λ shapes. AreShapes shapes.items) }
 {
-    let mut shapes = Vec::with_capacity(alloc, MAX_MAPS as usize)?;
-    for map in 0..MAX_MAPS {
+    let mut shapes = Vec::with_capacity(alloc, MAX_MAPS)?;
+    for map in 0..MAX_MAPS as MapNo {
         let Some(shape) = memory.shape(tenant, map) else {
             return Ok(shapes);
         };

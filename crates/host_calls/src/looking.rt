@@ -1,9 +1,9 @@
-ghost use Rattle.std.specs.Prelude.{◌≡◌, ◌+◌, ◌<◌, ◌≤◌, [], ◌∷◌, length, IfOk, IfErr};
+ghost use Rattle.std.specs.Prelude.{◌≡◌, ◌+◌, ◌<◌, ◌≤◌, [], ◌∷◌, length, Some, option_map, IfOk, IfErr, IfSome};
 ghost use Rattle.host_types.specs.Bytes.{part_of};
-ghost use Rattle.host_types.specs.Helpers.{element_at};
-ghost use Rattle.host_types.specs.Shapes.{IsShape, byte_len_of};
+ghost use Rattle.host_types.specs.Memory.{FlatMap, map_at};
+ghost use Rattle.host_types.specs.Tenant.{IsFlatMap};
 ghost use Rattle.page_table.specs.State.{part, map_bytes};
-ghost use Rattle.host_calls.specs.Calls.{IsValue, RefusesLookup};
+ghost use Rattle.host_calls.specs.Calls.{IsValue, RefusesElement, RefusesLookup};
 
 use host_types::{Fault, MapNo, Shape};
 use page_table::Memory;
@@ -24,6 +24,30 @@ pub fn host_lookup(
     ensures value { IfOk result (λ bytes. IsValue (part memory.now tenant) map key bytes.items) }
     ensures refused { IfErr result (RefusesLookup (part memory.now tenant) map key) }
 {
+    let shape = shape_with_element(memory, tenant, map, key)?;
+    let at = shape.element_at(key);
+    let Ok(bytes) = bytes_at(alloc, memory, tenant, map, at, shape.value_size) else {
+        return Err(Fault::OutOfMemory);
+    };
+    Ok(bytes)
+}
+
+/// The shape of a tenant's map that has an element.
+///
+/// Refusals in their order: 42 where there is no such tenant, 34 where it has no such map, 35 where the map
+/// has no such element.
+pub(crate) fn shape_with_element(
+    memory: &Memory,
+    tenant: u32,
+    map: MapNo,
+    key: u32,
+) -> Result<Shape, Fault>
+    ensures shape { IfOk result (λ shape.
+        option_map (λ (flat : FlatMap). flat.shape) (map_at (part memory.now tenant).maps map) ≡ Some shape) }
+    ensures valid { IfSome (map_at (part memory.now tenant).maps map) IsFlatMap }
+    ensures element { IfOk result (λ shape. key < shape.entries) }
+    ensures refused { IfErr result (RefusesElement (part memory.now tenant) map key) }
+{
     memory.facts();
     if tenant >= memory.tenants() {
         return Err(Fault::BadTenant);
@@ -34,22 +58,7 @@ pub fn host_lookup(
     if key >= shape.entries {
         return Err(Fault::NoElement);
     }
-    let at = element_at(shape, key);
-    let Ok(bytes) = bytes_at(alloc, memory, tenant, map, at, shape.value_size) else {
-        return Err(Fault::OutOfMemory);
-    };
-    Ok(bytes)
-}
-
-/// Where an element begins in its map.
-#[tactic(auto, using(map_helpers::proofs::Charges::charges))]
-fn element_at(shape: Shape, key: u32) -> u32
-    requires shape { IsShape shape }
-    requires there { key < shape.entries }
-    ensures place { result ≡ element_at shape key }
-    ensures within { result + shape.value_size ≤ byte_len_of shape }
-{
-    shape.stride() * key
+    Ok(shape)
 }
 
 /// Bytes of a tenant's map, from a place on.

@@ -6,6 +6,7 @@ ghost use Rattle.page_table.specs.Changes.{IsKeptBut, AreMapsKeptBut, KeepsSetti
 ghost use Rattle.map_helpers.specs.Updates.{part_updated, update_frames, updated_sharing};
 ghost use Rattle.host_calls.specs.Calls.{FitsValue, IsCharged, RefusesUpdate, TellsHave};
 
+use crate::looking::shape_with_element;
 use host_types::{Fault, MapNo};
 use map_helpers::{update, update_charge};
 use page_table::Memory;
@@ -59,16 +60,7 @@ fn may_update(memory: &Memory, tenant: u32, map: MapNo, key: u32, value: &[u8]) 
     ensures refused { IfErr result (RefusesUpdate (part memory.now tenant) map key value.now) }
     ensures told { IfErr result (TellsHave memory.now) }
 {
-    memory.facts();
-    if tenant >= memory.tenants() {
-        return Err(Fault::BadTenant);
-    }
-    let Some(shape) = memory.shape(tenant, map) else {
-        return Err(Fault::NoMap);
-    };
-    if key >= shape.entries {
-        return Err(Fault::NoElement);
-    }
+    let shape = shape_with_element(memory, tenant, map, key)?;
     if value.len() != shape.value_size as usize {
         return Err(Fault::BadShape);
     }

@@ -8,6 +8,7 @@ use admission::{lower, release};
 use host_calls::{
     host_begin, host_create_map, host_lookup, host_shapes, host_update, is_context_size, judge,
 };
+use host_types::limits::MAX_PROGRAMS;
 use host_types::{Fault, MapNo};
 use interp::{Need, Run};
 use page_table::Memory;
@@ -19,7 +20,7 @@ use verifier::Verified;
 /// A tenant: its eight places for programs, and its open run, if it has one. Its maps are the memory's.
 #[derive(Drop)]
 pub(crate) struct Tenant {
-    programs: [Option<Verified>; 8],
+    programs: [Option<Verified>; MAX_PROGRAMS],
     run: Option<OpenRun>,
 }
 

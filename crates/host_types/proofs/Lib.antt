@@ -5,3 +5,4 @@ pub mod Unmerging
 pub mod Without
 pub mod Next
 pub mod Visits
+pub mod Elements

@@ -5,6 +5,8 @@
 
 mod fault;
 mod helper;
+pub mod layout;
+pub mod limits;
 mod options;
 pub mod rule;
 mod shape;

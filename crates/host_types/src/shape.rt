@@ -1,14 +1,7 @@
+use crate::limits::{MAX_ENTRIES, MAX_MAP_BYTES, MAX_VALUE_SIZE, PAGE_SIZE};
+
 /// The number of one of a tenant's maps, 0 to 7.
 pub type MapNo = u32;
-
-/// The largest value of a map, in bytes.
-pub const MAX_VALUE_SIZE: u32 = 4096;
-
-/// The most elements that a map has.
-pub const MAX_ENTRIES: u32 = 65536;
-
-/// The most bytes that a map has: 256 pages of 4096 bytes.
-pub const MAX_MAP_BYTES: u32 = 1048576;
 
 /// The shape of an array map: the bytes of a value, and how many elements there are.
 #[derive(Clone, Copy, Debug, PartialEq, Eq)]
@@ -26,7 +19,8 @@ pub struct Page {
 }
 
 impl Shape {
-    ghost use Rattle.std.specs.Prelude.{◌≡◌, ◌↔◌, IsTrue};
+    ghost use Rattle.std.specs.Prelude.{◌≡◌, ◌↔◌, ◌+◌, ◌<◌, ◌≤◌, IsTrue};
+    ghost use Rattle.host_types.specs.Helpers.{element_at, update_charge};
     ghost use Rattle.host_types.specs.Shapes.{IsShape, stride_of, byte_len_of};
 
     /// Whether a map may have this shape: values of 1 to 4096 bytes, 1 to 65536 elements, and at
@@ -53,5 +47,25 @@ impl Shape {
         ensures { result ≡ byte_len_of self.now }
     {
         self.stride() * self.entries
+    }
+
+    /// Where an element begins in its map.
+    #[tactic(auto, using(crate::proofs::Elements::elements))]
+    pub fn element_at(&self, key: u32) -> u32
+        requires shape { IsShape self.now }
+        requires there { key < self.now.entries }
+        ensures place { result ≡ element_at self.now key }
+        ensures within { result + self.now.value_size ≤ byte_len_of self.now }
+    {
+        self.stride() * key
+    }
+
+    /// How many frames are reserved for an update of a map of this shape: 1 where no value crosses the end of
+    /// a page, since the stride divides a page; else 2.
+    pub fn update_charge(&self) -> u32
+        requires { IsShape self.now }
+        ensures { result ≡ update_charge self.now }
+    {
+        if PAGE_SIZE % self.stride() == 0 { 1 } else { 2 }
     }
 }

@@ -4,10 +4,8 @@ ghost use Rattle.std.specs.Prelude.{◌≡◌};
 ghost use Rattle.bpf_decode.specs.declared.operation.Width.TheVariants.{Bits32, Bits64};
 ghost use Rattle.insn_alu.specs.Comparisons.{IsBranch, compared, holds, holds_of};
 
+use crate::WORD;
 use bpf_decode::{Comparison, Insn, Operation, Width};
-
-/// How many numbers a word has.
-const WORD: u64 = 1 << 32;
 
 /// Whether the comparison of a conditional jump holds of dst, whose number is `a`. `b` is the number
 /// of src, or imm sign-extended. With 32 bits only the low halves count.

@@ -6,21 +6,11 @@ use Rattle.std.proofs.Math.Arith.{mod-mul}
 use Rattle.std.proofs.Math.Nat.{mod-lt, div-mul_cancel, mul-mod_right, mul-le-mul_right}
 use Rattle.host_types.specs.declared.shape.Shape.{Shape}
 use Rattle.host_types.specs.Helpers.{element_at, update_charge}
-use Rattle.host_types.specs.Shapes.{IsShape, stride_of, byte_len_of}
+use Rattle.host_types.specs.Shapes.{IsShape, stride_of}
 use Rattle.host_types.specs.Sharing.{Sharing}
+use Rattle.host_types.proofs.Elements.{value-in-stride}
 use Rattle.write_break.specs.Stores.{touched, store_frames, place_of_byte}
 use Rattle.write_break.proofs.Stores.{touched-some, touched-one, cost_from-few}
-
--- a value has at most a stride
-pub value-in-stride : (shape : Shape) → shape.value_size ≤ stride_of shape
-value-in-stride shape = omega arith
-
--- an element that is there lies in its map
-pub element-in-map : (shape : Shape) (key : ℕ) → key < shape.entries → element_at shape key + shape.value_size ≤ byte_len_of shape
-element-in-map shape key there =
-    let whole : suc key * stride_of shape ≤ shape.entries * stride_of shape = mul-le-mul_right (stride_of shape) there in
-    let value = value-in-stride shape in
-    omega (arith, whole, value)
 
 -- where the stride divides a page, a value lies in one
 value-in-page : (stride size key : ℕ) → 1 ≤ size → size ≤ stride → 4096 % stride ≡ 0 → stride * key % 4096 + size ≤ 4096
@@ -63,5 +53,3 @@ cost-charged sharing tenant m key shape is =
     let few = cost_from-few sharing (place_of_byte tenant m (element_at shape key)) (touched (element_at shape key) shape.value_size) in
     let charged = touched-charged shape key is in
     omega (arith, few, charged)
-
-pub ruleset charges = (element-in-map)

@@ -6,7 +6,7 @@ use Rattle.host_types.specs.declared.shape.Shape.{Shape}
 use Rattle.host_types.specs.Helpers.{element_at, lookup_answer}
 use Rattle.host_types.specs.Memory.{FlatMap, FlatMaps, FlatMemory, InMap, map_at, place_in_map, place_of}
 use Rattle.host_types.specs.Shapes.{IsShape, stride_of}
-use Rattle.map_helpers.proofs.Charges.{value-in-stride, element-in-map}
+use Rattle.host_types.proofs.Elements.{value-in-stride, element-in-map}
 
 -- bytes of an element's value lie among the values of the map
 in_value : (maps : FlatMaps) (m : ℕ) (shape : Shape) (key at size : ℕ) → IsSomeAnd (map_at maps m) (λ flat. flat.shape ≡ shape)

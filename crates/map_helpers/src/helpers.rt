@@ -1,36 +1,17 @@
 ghost use Rattle.std.specs.Prelude.{◌≡◌, ◌≢◌, ◌+◌, ◌<◌, ◌≤◌, length, Some, IfSome, IsSomeAnd};
 ghost use Rattle.host_types.specs.declared.helper.MapHelper.TheVariants.{Update};
-ghost use Rattle.host_types.specs.Helpers.{helper, element_at, lookup_answer, delete_answer, update_charge};
+ghost use Rattle.host_types.specs.Helpers.{helper, lookup_answer, delete_answer, update_charge};
 ghost use Rattle.host_types.specs.Memory.{map_at};
-ghost use Rattle.host_types.specs.Shapes.{IsShape, byte_len_of};
+ghost use Rattle.host_types.specs.Shapes.{IsShape};
 ghost use Rattle.page_table.specs.State.{part, have_of};
 ghost use Rattle.page_table.specs.Changes.{IsKeptBut, AreMapsKeptBut, KeepsSettings};
 ghost use Rattle.map_helpers.specs.Updates.{part_updated, update_frames, updated_sharing, LeadsToElement, IsEnough};
 
 use crate::answer::{HelperError, update_error};
+use host_types::layout::{MAP_VALUES, REGION};
 use host_types::{MapNo, Shape};
 use page_table::Memory;
 use write_break::{needs, store_bytes};
-
-/// How many addresses a region of a program's memory has.
-const REGION: u64 = 1 << 32;
-
-/// The region of the values of a tenant's map 0.
-const FIRST_VALUES: u64 = 16;
-
-/// The bytes of a page.
-const PAGE_SIZE: u32 = 4096;
-
-/// Where an element begins in its map.
-#[tactic(auto, using(crate::proofs::Charges::charges))]
-fn element_at(shape: Shape, key: u32) -> u32
-    requires shape { IsShape shape }
-    requires there { key < shape.entries }
-    ensures place { result ≡ element_at shape key }
-    ensures within { result + shape.value_size ≤ byte_len_of shape }
-{
-    shape.stride() * key
-}
 
 /// What the helper `lookup` answers for a map of this shape: the address of the key's element, at which
 /// a program finds just the bytes of its value; or 0 past the end.
@@ -44,7 +25,7 @@ pub fn lookup(shape: Shape, map: MapNo, key: u32) -> u64
     if key >= shape.entries {
         return 0;
     }
-    (FIRST_VALUES + u64::from(map)) * REGION + u64::from(element_at(shape, key))
+    (MAP_VALUES + u64::from(map)) * REGION + u64::from(shape.element_at(key))
 }
 
 /// What the helper `delete` answers: -22, as 64 bits. No element of an array map is ever deleted.
@@ -65,13 +46,7 @@ pub fn update_needs(memory: &Memory, tenant: u32, map: MapNo, key: u32, flags: u
     };
     match update_error(shape, key, flags) {
         Some(_) => 0,
-        None => needs(
-            memory,
-            tenant,
-            map,
-            element_at(shape, key),
-            shape.value_size,
-        ),
+        None => needs(memory, tenant, map, shape.element_at(key), shape.value_size),
     }
 }
 
@@ -82,11 +57,7 @@ pub fn update_charge(shape: Shape) -> u32
     ensures charge { result ≡ update_charge shape }
     ensures enough { IsEnough shape result }
 {
-    if PAGE_SIZE % shape.stride() == 0 {
-        1
-    } else {
-        2
-    }
+    shape.update_charge()
 }
 
 /// What the helper `update` answers, and what it does: -22 where there is no such flag, else -7 past the
@@ -121,6 +92,6 @@ pub fn update(
     if let Some(error) = update_error(shape, key, flags) {
         return error.answer();
     }
-    store_bytes(memory, tenant, map, element_at(shape, key), value);
+    store_bytes(memory, tenant, map, shape.element_at(key), value);
     0
 }

@@ -4,6 +4,7 @@ ghost use Rattle.std.specs.Prelude.{◌≡◌, ◌+◌, ◌<◌, ◌≤◌, IsTr
 ghost use Rattle.page_table.specs.Changes.{IsPageOf};
 ghost use Rattle.page_table.specs.State.{part, map_bytes};
 
+use host_types::limits::{self, MAX_MAPS, MAX_PAGES};
 use host_types::{Fault, MapNo, Opt, Options, Page, Status, Visited};
 use ksm_counters::counters;
 use page_table::{Entry, Memory};
@@ -16,16 +17,13 @@ use write_break::{needs, store, store_bytes};
 pub(crate) const TENANTS: u32 = 2;
 
 /// How many map numbers a tenant has.
-pub(crate) const MAPS: u32 = 8;
-
-/// How many places a map's pages have.
-const MAP_PLACES: usize = 256;
+pub(crate) const MAPS: u32 = MAX_MAPS as u32;
 
 /// How many places there are.
 const PLACES: usize = 4096;
 
 /// The bytes of a page.
-const PAGE_SIZE: usize = 4096;
+const PAGE_SIZE: usize = limits::PAGE_SIZE as usize;
 
 /// A memory, the plain program's view of it, and the bytes of the page at each place.
 #[derive(Drop)]
@@ -40,11 +38,11 @@ pub(crate) struct Both {
 fn page_at(place: usize) -> Page
     requires { place < 4096 }
 {
-    let map = place / MAP_PLACES;
+    let map = place / MAX_PAGES;
     Page {
         tenant: (map / 8) as u32,
         map: (map % 8) as u32,
-        number: (place % MAP_PLACES) as u32,
+        number: (place % MAX_PAGES) as u32,
     }
 }
 
@@ -54,7 +52,7 @@ fn first_place(tenant: u32, map: MapNo) -> usize
     requires map { map < 4294967296 }
     ensures { result ≤ 17592186044416 }
 {
-    (tenant as usize * 8 + map as usize) * MAP_PLACES
+    (tenant as usize * MAX_MAPS + map as usize) * MAX_PAGES
 }
 
 /// The bytes of a tenant's map; none where there is no such map.

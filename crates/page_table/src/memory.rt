@@ -21,23 +21,12 @@ use crate::pass::Pass;
 use crate::search::next_mergeable;
 use crate::table::Table;
 use crate::tenant::Tenant;
-use frame_arena::{FrameArena, PAGE_SIZE};
+use frame_arena::FrameArena;
+use host_types::limits::{MAX_FRAMES, MAX_MAPS, MAX_PAGES, MAX_TENANTS, PAGE_SIZE};
 use host_types::{Fault, MapNo, Opt, Options, Page, Shape, Status};
 use std::alloc::{AllocError, Global};
 use std::marker::Model;
 use unstable_tree::Waiter;
-
-/// The most frames of a memory.
-const MAX_FRAMES: u32 = 4096;
-
-/// The most tenants of a memory.
-const MAX_TENANTS: u32 = 16;
-
-/// How many map numbers a tenant has.
-const MAX_MAPS: usize = 8;
-
-/// How many page numbers a map has.
-pub(crate) const MAX_PAGES: usize = 256;
 
 /// The value of the option `run` after everything was unmerged.
 const UNMERGED: u32 = 2;

@@ -3,9 +3,10 @@ ghost use Rattle.std.specs.Prelude.{◌≡◌, ◌+◌, ◌*◌, ◌<◌, ◌≤
 ghost use Rattle.host_types.specs.Visits.{first_mergeable, is_mergeable};
 ghost use Rattle.page_table.specs.Table.{AreMaps, contents_of, states_of};
 
-use crate::memory::{MAX_PAGES, pages};
+use crate::memory::pages;
 use crate::table::Table;
 use host_types::Shape;
+use host_types::limits::MAX_PAGES;
 
 /// The first page from a place on that may be merged. No place is looked at where there is no map, or
 /// behind a map's pages.

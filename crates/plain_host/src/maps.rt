@@ -4,17 +4,9 @@ ghost use Rattle.std.specs.Prelude.{length, IfOk};
 ghost use Rattle.host_types.specs.Shapes.{IsShape};
 
 use host_types::Shape;
+use host_types::limits::{MAX_MAPS, PAGE_SIZE};
 use plain_machine::ArrayMap;
 use std::alloc::{AllocError, Global};
-
-/// How many map numbers a tenant has.
-pub(crate) const MAPS: usize = 8;
-
-/// The most pages of a map.
-pub(crate) const MAX_PAGES: usize = 256;
-
-/// The bytes of a page.
-pub(crate) const PAGE_SIZE: usize = 4096;
 
 /// A tenant's maps by number.
 pub(crate) type Maps = Vec<Option<ArrayMap>>;
@@ -29,8 +21,8 @@ pub(crate) struct PageRange {
 impl PageRange {
     /// The pages of `size` bytes from a place on; the last is that of the last byte.
     pub(crate) fn of(at: usize, size: usize) -> Self {
-        let first = at / PAGE_SIZE;
-        let last = at.saturating_add(size).saturating_sub(1) / PAGE_SIZE;
+        let first = at / PAGE_SIZE as usize;
+        let last = at.saturating_add(size).saturating_sub(1) / PAGE_SIZE as usize;
         PageRange {
             first,
             count: count_of(last.saturating_sub(first).saturating_add(1)),
@@ -47,14 +39,7 @@ pub(crate) fn count_of(number: usize) -> u32 {
 pub(crate) fn page_count(shape: Shape) -> u32
     requires { IsShape shape }
 {
-    shape.byte_len().div_ceil(4096)
-}
-
-/// How many frames an update of a map is charged: a value lies in one page where the stride divides a page.
-pub(crate) fn update_charge(shape: Shape) -> u32
-    requires { IsShape shape }
-{
-    if 4096 % shape.stride() == 0 { 1 } else { 2 }
+    shape.byte_len().div_ceil(PAGE_SIZE)
 }
 
 /// A map of zeros.
@@ -92,7 +77,7 @@ pub(crate) fn map_at(maps: &[Option<ArrayMap>], number: usize) -> Option<&ArrayM
 /// A copy of all maps by number.
 pub(crate) fn copies_of(alloc: Global, maps: &[Option<ArrayMap>]) -> Result<Maps, AllocError> {
     let mut copies = Vec::new(alloc);
-    for number in 0..MAPS {
+    for number in 0..MAX_MAPS {
         let copy = copy_of(alloc, map_at(maps, number))?;
         copies.push(copy)?;
     }

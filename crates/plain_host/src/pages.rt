@@ -2,8 +2,9 @@
 
 ghost use Rattle.std.specs.Prelude.{◌<◌};
 
-use crate::maps::{MAPS, MAX_PAGES, PAGE_SIZE, PageRange, count_of};
+use crate::maps::{PageRange, count_of};
 use host_core::{Event, Reply};
+use host_types::limits::{MAX_MAPS, MAX_PAGES, PAGE_SIZE};
 use host_types::{Fault, MapNo, Options};
 use ksm_counters::Counters;
 use plain_sharing::{PlainSharing, page_content};
@@ -21,7 +22,9 @@ pub(crate) struct Pages {
 
 /// The place of the first page of a tenant's map, where each map has as many places.
 fn place_of(tenant: u32, map: usize, most_pages: u32) -> usize {
-    let maps = (tenant as usize).saturating_mul(MAPS).saturating_add(map);
+    let maps = (tenant as usize)
+        .saturating_mul(MAX_MAPS)
+        .saturating_add(map);
     maps.saturating_mul(most_pages as usize)
 }
 
@@ -31,7 +34,7 @@ fn refresh(contents: &mut [Vec<u8>], place: usize, bytes: &[u8], number: usize) 
         return;
     }
     if let Some(page) = contents.get_mut(place) {
-        if page.len() == PAGE_SIZE {
+        if page.len() == PAGE_SIZE as usize {
             page_content(bytes, number, page);
         }
     }
@@ -83,7 +86,7 @@ impl Pages {
         }
         for number in 0..count {
             let place = first.saturating_add(number as usize);
-            let page = vec![in self.alloc; 0; PAGE_SIZE]?;
+            let page = vec![in self.alloc; 0; PAGE_SIZE as usize]?;
             if let Some(content) = self.contents.get_mut(place) {
                 *content = page;
             }

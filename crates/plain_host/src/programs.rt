@@ -5,19 +5,13 @@ ghost use Rattle.host_types.specs.Shapes.{IsShape};
 ghost use Rattle.verifier.specs.Verified.{AreShapes};
 ghost use Rattle.verifier.specs.Subject.{IsContextSize};
 
-use crate::maps::update_charge;
-use bpf_decode::{Insn, Operation, decode};
+use bpf_decode::{FRAME_POINTER, Insn, Operation, decode};
+use host_types::limits::MAX_PROGRAMS;
 use host_types::{Fault, MapHelper, Refused, Shape};
 use plain_machine::ArrayMap;
 use plain_verifier::{Judged, Table, judge_forward};
 use std::alloc::{AllocError, Global};
 use verifier_kinds::Kind;
-
-/// The places that a tenant has for programs.
-const PROGRAMS: usize = 8;
-
-/// The last register.
-const LAST_REGISTER: u8 = 10;
 
 /// An accepted program: its text, the size of its context, and what the instruction at each slot may need.
 #[derive(Drop)]
@@ -33,7 +27,7 @@ pub(crate) type Programs = Vec<Option<PlainProgram>>;
 /// A tenant's places for programs, none of them taken.
 pub(crate) fn no_programs(alloc: Global) -> Result<Programs, AllocError> {
     let mut programs = Vec::new(alloc);
-    for _ in 0..PROGRAMS {
+    for _ in 0..MAX_PROGRAMS {
         programs.push(None)?;
     }
     Ok(programs)
@@ -106,7 +100,7 @@ pub(crate) fn insn_at(text: &[u8], slot: usize) -> Option<Insn> {
 
 /// The kind of a register before a slot, if the slot is reached and something is known of it.
 fn kind_at(table: &Table, slot: usize, register: u8) -> Option<Kind> {
-    if register > LAST_REGISTER {
+    if register > FRAME_POINTER {
         return None;
     }
     table.kind(u32::try_from(slot).unwrap_or(u32::MAX), register)
@@ -117,7 +111,7 @@ fn cost_of_update(shapes: &[Shape], map: u32) -> u32
     requires { AreShapes shapes.now }
 {
     match shapes.get(map as usize) {
-        Some(shape) if shape.is_valid() => update_charge(*shape),
+        Some(shape) if shape.is_valid() => shape.update_charge(),
         _ => 0,
     }
 }

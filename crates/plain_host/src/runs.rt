@@ -4,7 +4,8 @@ use crate::maps::{Maps, PageRange, element_at, map_at};
 use crate::programs::insn_at;
 use bpf_decode::{Insn, Operation, Size};
 use host_types::MapHelper;
-use plain_machine::{ArrayMap, MAP_NAMES, MAP_VALUES, Machine, Made, REGION};
+use host_types::layout::{MAP_NAMES, MAP_VALUES, REGION};
+use plain_machine::{ArrayMap, Machine, Made};
 
 /// The flag of an update that writes an element that is there or not.
 const ANY: u64 = 0;

@@ -1,19 +1,17 @@
 //! A tenant's private maps, its programs and its open run, and the events that name it.
 
 use crate::maps::{
-    MAPS, Maps, PageRange, copies_of, copy_of, count_of, element_at, free_number, map_at,
-    page_count, update_charge, value_of, zero_map,
+    Maps, PageRange, copies_of, copy_of, count_of, element_at, free_number, map_at, page_count,
+    value_of, zero_map,
 };
 use crate::pages::Pages;
 use crate::programs::{Programs, free_place, judge, no_programs, program_at};
 use crate::runs::{PlainRun, Written, next_written, start, step};
 use host_core::{Event, Reply};
+use host_types::limits::{MAX_CONTEXT, MAX_MAPS};
 use host_types::{Fault, Shape};
 use plain_machine::{Machine, Made};
 use std::alloc::{AllocError, Global};
-
-/// The most bytes of a context.
-const MAX_CONTEXT: u32 = 256;
 
 #[derive(Drop)]
 pub(crate) struct PlainTenant {
@@ -26,7 +24,7 @@ pub(crate) struct PlainTenant {
 /// A tenant's places for maps, none of them taken.
 fn no_maps(alloc: Global) -> Result<Maps, AllocError> {
     let mut maps = Vec::new(alloc);
-    for _ in 0..MAPS {
+    for _ in 0..MAX_MAPS {
         maps.push(None)?;
     }
     Ok(maps)
@@ -261,7 +259,7 @@ impl PlainTenant {
         if !shape.is_valid() {
             return Err(Fault::BadShape);
         }
-        let need = update_charge(shape);
+        let need = shape.update_charge();
         if have < need {
             return Err(Fault::NoFrames { need, have });
         }

@@ -6,7 +6,7 @@ ghost use Rattle.host_types.specs.Shapes.{IsShape, byte_len_of};
 ghost use Rattle.plain_machine.specs.Regions.{map_with_number};
 
 use crate::number::{number_of_bytes, put_bytes, put_part};
-use crate::regions::{MAP_VALUES, REGION};
+use host_types::layout::{MAP_VALUES, REGION};
 use host_types::{MapNo, Shape};
 use std::marker::Model;
 

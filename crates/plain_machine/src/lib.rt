@@ -7,8 +7,6 @@ mod array_map;
 mod machine;
 mod memory;
 mod number;
-mod regions;
 
 pub use array_map::ArrayMap;
 pub use machine::{Ending, Machine, Made};
-pub use regions::{MAP_NAMES, MAP_VALUES, REGION};

@@ -8,8 +8,8 @@ ghost use Rattle.plain_machine.specs.Regions.{number_in_context, number_in_stack
 
 use crate::array_map::ArrayMap;
 use crate::number::{copy_if_set, number_if_set, number_of_bytes, set_bytes};
-use crate::regions::{CONTEXT, MAP_NAMES, MAP_VALUES, REGION, STACK, STACK_SIZE};
 use host_types::MapNo;
+use host_types::layout::{CONTEXT, MAP_NAMES, MAP_VALUES, REGION, STACK, STACK_SIZE};
 use std::marker::Model;
 
 /// A flat memory: the context, the stack of which each byte is set or not, and at most eight maps by

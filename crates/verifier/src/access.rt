@@ -10,14 +10,12 @@ ghost use Rattle.verifier.specs.Way.{done};
 use crate::candidate::Candidate;
 use crate::rules::{both, operand_kind, read_kind, write_kind};
 use bpf_decode::{Extension, Insn, Size, Source, Width};
+use host_types::layout::STACK_SIZE;
 use host_types::rule::{
     MISALIGNED, NULL_NOT_CHECKED, OUTSIDE_CONTEXT, OUTSIDE_MAP, OUTSIDE_STACK, POINTER_LEAKS,
     UNKNOWN_MAP, UNSET_STACK, WRONG_KIND,
 };
 use verifier_kinds::{Align, Description, Kind, Offsets, Range, StackSlot};
-
-/// The bytes of the stack.
-pub(crate) const STACK_SIZE: u64 = 512;
 
 /// The bytes of a slot of the stack.
 pub(crate) const SLOT_SIZE: u64 = 8;
@@ -66,7 +64,12 @@ fn stack_place(offset: i64, size: u64) -> Result<u64, u32>
     ensures within { IfOk result (λ at. at < 512) }
     ensures aligned { IfOk result (λ at. at % size ≡ 0) }
 {
-    let at = lies_below(offset + STACK_SIZE as i64, size, STACK_SIZE, OUTSIDE_STACK)?;
+    let at = lies_below(
+        offset + STACK_SIZE as i64,
+        size,
+        STACK_SIZE as u64,
+        OUTSIDE_STACK,
+    )?;
     aligned(at, size)
 }
 

@@ -6,11 +6,12 @@ ghost use Rattle.verifier_kinds.specs.Descriptions.{IsDescription};
 ghost use Rattle.verifier.specs.Flow.{after_call, answer_kind, argument, byte_in_slot, bytes_known, called_map, flags_argument, flags_in, key_argument, name_in, named_map, points, update_arguments, value_argument, without_arguments};
 ghost use Rattle.verifier.specs.Way.{done};
 
-use crate::access::{SLOT_SIZE, STACK_SIZE, aligned, lies_below};
+use crate::access::{SLOT_SIZE, aligned, lies_below};
 use crate::candidate::Candidate;
 use crate::rules::{both, first_of, read_kind};
 use bpf_decode::Insn;
 use host_types::MapHelper;
+use host_types::layout::STACK_SIZE;
 use host_types::rule::{
     NULL_NOT_CHECKED, OUTSIDE_CONTEXT, OUTSIDE_STACK, POINTER_LEAKS, UNKNOWN_HELPER, UNSET_STACK,
     WRONG_KIND,
@@ -75,7 +76,7 @@ fn argument(
         }
         Kind::Stack(k) => {
             let offset = i64::from(k) + STACK_SIZE as i64;
-            let at = lies_below(offset, size, STACK_SIZE, OUTSIDE_STACK)?;
+            let at = lies_below(offset, size, STACK_SIZE as u64, OUTSIDE_STACK)?;
             both(aligned(at, align), bytes_known(d, at, size))?;
             Ok(())
         }

@@ -2,7 +2,6 @@
 
 ghost use Rattle.std.specs.Prelude.{◌≡◌, ◌+◌, ◌≤◌, map, slice_index_or, None, IfOk, IfSome, option_map, unwrap_or};
 ghost use Rattle.host_types.specs.Helpers.{update_charge};
-ghost use Rattle.host_types.specs.Shapes.{IsShape};
 ghost use Rattle.bpf_decode.specs.Opcodes.{operation_of};
 ghost use Rattle.bpf_decode.specs.Text.{insn_at, slots_of, IsInstruction};
 ghost use Rattle.verifier_kinds.specs.Kinds.{shape_at};
@@ -13,12 +12,9 @@ ghost use Rattle.verifier.specs.Reserve.{store_cost, update_cost, call_cost, cos
 use crate::candidate::Candidate;
 use crate::table::Registers;
 use bpf_decode::Operation;
-use host_types::{MapHelper, Shape};
+use host_types::MapHelper;
 use std::alloc::{AllocError, Global};
 use verifier_kinds::Kind;
-
-/// The bytes of a page.
-const PAGE_SIZE: u32 = 4096;
 
 /// A store through a pointer to a map's value writes to one page.
 fn store_cost(base: Option<Kind>) -> u32
@@ -30,26 +26,13 @@ fn store_cost(base: Option<Kind>) -> u32
     }
 }
 
-/// An update of a map of this shape writes to one page where no value crosses the end of a page, since
-/// the stride divides a page; else to two at most.
-fn update_charge(shape: Shape) -> u32
-    requires { IsShape shape }
-    ensures { result ≡ update_charge shape }
-{
-    if PAGE_SIZE % shape.stride() == 0 {
-        1
-    } else {
-        2
-    }
-}
-
 impl Candidate {
     /// What an update of a map may need; a map that isn't there needs nothing.
     fn map_cost(&self, map: u32) -> u32
         ensures { result ≡ unwrap_or (option_map update_charge (shape_at self.now.shapes map)) 0 }
     {
         match self.shapes().get(map as usize) {
-            Some(shape) => update_charge(*shape),
+            Some(shape) => shape.update_charge(),
             None => 0,
         }
     }

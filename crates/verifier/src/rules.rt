@@ -6,12 +6,9 @@ ghost use Rattle.verifier_kinds.specs.Descriptions.{IsDescription};
 ghost use Rattle.verifier.specs.Flow.{both, first_of, read_kind, writable, write_kind, immediate_kind, operand_kind};
 ghost use Rattle.verifier.specs.Way.{done};
 
-use bpf_decode::{Insn, Source, Width};
+use bpf_decode::{FRAME_POINTER, Insn, Source, Width};
 use host_types::rule::{FRAME_WRITTEN, UNSET_REGISTER};
 use verifier_kinds::{Description, Kind, Range};
-
-/// The register that holds the frame pointer.
-const FRAME_POINTER: u8 = 10;
 
 /// How many numbers 32 bits have.
 const WORD: u64 = 1 << 32;

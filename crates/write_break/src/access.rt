@@ -6,7 +6,7 @@ ghost use Rattle.page_table.specs.Changes.{part_written, IsKeptBut, AreMapsKeptB
 ghost use Rattle.write_break.specs.Stores.{touched, part_stored, stored_sharing, store_frames, IsStored};
 
 use crate::number::word;
-use frame_arena::PAGE_SIZE;
+use host_types::limits::PAGE_SIZE;
 use host_types::{MapNo, Page};
 use page_table::Memory;
 

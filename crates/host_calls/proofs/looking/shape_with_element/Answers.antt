@@ -2,7 +2,7 @@ use Rattle.std.proofs.Common.{◌∙◌, sym, arith}
 use Rattle.host_types.specs.Memory.{map_at}
 use Rattle.page_table.specs.State.{part}
 use Rattle.host_calls.proofs.Elements.{tenant-missing, tenant-there, no-map}
-use Rattle.host_calls.proofs.updating.may_update.Goals as goal
+use Rattle.host_calls.proofs.looking.shape_with_element.Goals as goal
 
 pub returns-then-tenant-tenants-clause-refused : goal.returns-then-tenant-tenants-clause-refused
 returns-then-tenant-tenants-clause-refused c =
