@@ -1,13 +1,15 @@
 //! The refusals whose words depend on the text. Each function has the cases of one number, and answers
 //! `None` where the general words say it.
 
-ghost use Rattle.std.specs.Prelude.{◌≡◌, ◌<◌, ◌%◌, length, IfSome, IsTrue};
-ghost use Rattle.bpf_decode.specs.Text.{slots_of};
+ghost use Rattle.std.specs.Prelude.{IfSome, IsTrue};
 ghost use Rattle.advice.specs.Answered.{is_answered};
 
 use crate::Advice;
 use bpf_decode::{AluCode, Insn, Operation, Size, Source};
 use host_types::limits::MAX_TEXT;
+use host_types::rule::{
+    BAD_FIELD, BAD_LENGTH, JUMP_OUT, POINTER_LEAKS, UNKNOWN_OPCODE, WRONG_KIND,
+};
 use host_types::{MapHelper, Refused};
 
 /// The bits of an opcode that are those of an atomic instruction: its class and its mode (RFC 9669,
@@ -21,20 +23,16 @@ const LOCAL_CALL: u8 = 1;
 pub fn on_refused(refused: Refused, text: &[u8]) -> Option<Advice>
     ensures { IfSome result (λ _. IsTrue (is_answered refused.number)) }
 {
-    if refused.number == 1 {
+    if refused.number == BAD_LENGTH {
         return Some(on_length(text));
     }
-    let slot = refused.slot as usize;
-    if text.len() % 8 != 0 || slot >= text.len() / 8 {
-        return None;
-    }
-    let insn = Insn::read(text, slot);
+    let insn = Insn::at(text, refused.slot as usize)?;
     match refused.number {
-        2 => on_opcode(insn.opcode),
-        3 => on_field(&insn),
-        12 => on_target(&insn, text, refused.slot),
-        15 => on_kind(&insn),
-        25 => on_leak(&insn),
+        UNKNOWN_OPCODE => on_opcode(insn.opcode),
+        BAD_FIELD => on_field(&insn),
+        JUMP_OUT => on_target(&insn, text, refused.slot),
+        WRONG_KIND => on_kind(&insn),
+        POINTER_LEAKS => on_leak(&insn),
         _ => None,
     }
 }

@@ -10,8 +10,8 @@ use anyhow::{Result, anyhow};
 use host_types::Refused;
 use programs::{WORKS, Work, program_of};
 use rounds::{Pages, least};
-use std::env;
 use std::rt::Clock;
+use test_inputs::rounds_of;
 use verifier::Verified;
 
 /// Prints the nanoseconds of each step of a program's runs, the least of so many rounds.
@@ -41,10 +41,7 @@ fn measure(rt: &(impl Clock + Print + AllocGlobal), work: Work, rounds: u32) -> 
 }
 
 fn main(rt: HostRuntime) -> Result<()> {
-    let Some(word) = env::args(&rt)?.nth(1) else {
-        return Ok(());
-    };
-    let Ok(rounds) = word.as_str().parse::<u32>() else {
+    let Some(rounds) = rounds_of(&rt)? else {
         return Ok(());
     };
     println!(rt; "| ns a step | instructions | own page | merged page | zero frame |")?;

@@ -1,9 +1,10 @@
 -- What the break of a page takes: one frame at most, and none where it was broken before.
-use Rattle.std.proofs.Common.{◌≡◌, ◌∙◌, ℕ, zero, suc, ◌<◌, Bool, true, false, if◌then◌else◌, List, [], ◌∷◌, length, slice_index_or, slice_set, Option, Some, None, option_map, unwrap_or, refl, sym, ap, arith}
+use Rattle.std.proofs.Common.{◌≡◌, ◌∙◌, ℕ, Bool, true, false, if◌then◌else◌, slice_index_or, slice_set, Option, Some, None, option_map, unwrap_or, refl, sym, ap}
 use Rattle.std.proofs.lemmas.List.{get_or-set_same}
 use Rattle.host_types.specs.declared.status.Status.{Status}
 use Rattle.host_types.specs.declared.status.Status.TheVariants.{New, Volatile, Waiting, Grouped, Zero}
 use Rattle.host_types.specs.Sharing.{Sharing, PageState, state_at, is_shared, is_shared_page, is_in_company, left_by, broken, broken_page, break_cost, cost_of}
+use Rattle.host_types.proofs.Unmerging.{state_inside}
 
 -- what the break of a page takes, told by its state
 abbrev cost_in : Bool → Option PageState → ℕ
@@ -21,12 +22,6 @@ own-cost company (Some state) own = by_status state.status own
     by_status Grouped e = absurd (cc)
     by_status Zero e = absurd (cc)
 
--- a page that is there has a place
-inside : (xs : List (Option PageState)) (i : ℕ) (state : PageState) → slice_index_or xs i None ≡ Some state → i < length xs
-inside [] i state e = absurd (cc)
-inside (x ∷ xs) zero state e = omega arith
-inside (x ∷ xs) (suc i) state e = let rest = inside xs i state e in omega arith
-
 -- a broken page has its own frame
 pub own-broken : (s : Sharing) (i : ℕ) → is_shared_page (state_at (broken s i) i) ≡ false
 unfolding broken
@@ -40,7 +35,7 @@ own-broken s i = by_shared (is_shared_page (state_at s i)) refl
         by_page : (x : Option PageState) → state_at s i ≡ x → is_shared_page (state_at s i) ≡ true → is_shared_page (slice_index_or (slice_set s.pages i (option_map broken_page (state_at s i))) i None) ≡ false
         by_page None here e = absurd (let no = sym (ap is_shared_page here) ∙ e in cc)
         by_page (Some state) here e =
-            ap is_shared_page (get_or-set_same s.pages i (option_map broken_page (state_at s i)) None (inside s.pages i state here)) ∙ ap (λ (x : Option PageState). is_shared_page (option_map broken_page x)) here
+            ap is_shared_page (get_or-set_same s.pages i (option_map broken_page (state_at s i)) None (state_inside s.pages i state here)) ∙ ap (λ (x : Option PageState). is_shared_page (option_map broken_page x)) here
 
 pub cost-again : (s : Sharing) (i : ℕ) → break_cost (broken s i) i ≡ 0
 unfolding break_cost

@@ -11,9 +11,9 @@ mod steps;
 
 use anyhow::Result;
 use bench::Bench;
-use std::env;
 use std::rt::Clock;
 use steps::{COUNT, steps};
+use test_inputs::rounds_of;
 
 /// The nanoseconds of each step of a round.
 type Column = [f64; COUNT];
@@ -52,10 +52,7 @@ fn print_rows(rt: &impl Print, small: &Column, middle: &Column, large: &Column) 
 }
 
 fn main(rt: HostRuntime) -> Result<()> {
-    let Some(word) = env::args(&rt)?.nth(1) else {
-        return Ok(());
-    };
-    let Ok(rounds) = word.as_str().parse::<u32>() else {
+    let Some(rounds) = rounds_of(&rt)? else {
         return Ok(());
     };
     let small = column(&rt, 100, rounds)?;

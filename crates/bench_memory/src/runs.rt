@@ -22,16 +22,6 @@ const SIX_PAGES: Shape = Shape {
     entries: 6 * VALUES,
 };
 
-/// The bytes of a tenant's map 0; none where there is no such map.
-fn byte_len(memory: &Memory, tenant: u32) -> u32
-    ensures { result ≡ length (map_bytes (part memory.now tenant) 0) }
-{
-    match memory.shape(tenant, 0) {
-        Some(shape) => shape.byte_len(),
-        None => 0,
-    }
-}
-
 /// How many numbers of eight bytes a page has.
 const NUMBERS: u32 = 512;
 
@@ -49,7 +39,7 @@ impl Places {
     fn of(memory: &Memory) -> Option<Places>
         ensures { IfSome result (λ places. places.pages * 4096 ≤ length (map_bytes (part memory.now 0) 0)) }
     {
-        let pages = byte_len(memory, 0) / PAGE_SIZE;
+        let pages = memory.byte_len(0, 0) / PAGE_SIZE;
         if pages == 0 {
             return None;
         }
@@ -95,7 +85,7 @@ pub(crate) fn costs(memory: &Memory, count: u32) -> u64 {
 
 /// Stores zeros to the first page, again and again. The page has its own frame from the first store on.
 pub(crate) fn stores(memory: &mut Memory, count: u32) {
-    if byte_len(memory, 0) < PAGE_SIZE || needs(memory, 0, 0, 0, 8) > memory.have() {
+    if memory.byte_len(0, 0) < PAGE_SIZE || needs(memory, 0, 0, 0, 8) > memory.have() {
         return;
     }
     store(memory, 0, 0, 0, 8, 0);
@@ -115,7 +105,7 @@ pub(crate) fn lookups(count: u32) -> u64 {
 
 /// Stores a number at the start of a page, while a frame is there for that; whether it was stored.
 pub(crate) fn stored(memory: &mut Memory, page: Page, number: u64) -> bool {
-    let pages = byte_len(memory, page.tenant) / PAGE_SIZE;
+    let pages = memory.byte_len(page.tenant, 0) / PAGE_SIZE;
     if page.number >= pages || memory.have() == 0 {
         return false;
     }

@@ -10,9 +10,9 @@ use host_core::{Event, Host, Reply};
 use host_types::{Fault, Options};
 use lists::{List, TENANTS, begin, loads, map_of};
 use std::alloc::{AllocError, Global};
-use std::env;
-use std::rt::{Clock, Env};
+use std::rt::Clock;
 use std::time::Instant;
+use test_inputs::rounds_of;
 
 /// How many frames there are.
 const FRAMES: u32 = 4096;
@@ -189,14 +189,6 @@ fn measure_new(rt: &(impl Clock + Print), alloc: Global, rounds: u32) -> Result<
     match Host::new(alloc, FRAMES, TENANTS, Options::standard()) {
         Ok(host) => Bench { alloc, host }.measure(rt, rounds),
         Err(fault) => Err(refusal(fault)),
-    }
-}
-
-/// The number of rounds that is asked for, if it is one.
-fn rounds_of(rt: &(impl AllocGlobal + Env)) -> Result<Option<u32>> {
-    match env::args(rt)?.nth(1) {
-        Some(word) => Ok(word.as_str().parse().ok()),
-        None => Ok(None),
     }
 }
 

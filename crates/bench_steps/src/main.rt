@@ -10,8 +10,8 @@ mod times;
 use anyhow::Result;
 use mixes::{Mix, SLOTS, text};
 use runs::accepted;
-use std::env;
 use std::rt::Clock;
+use test_inputs::rounds_of;
 use times::{kept_bytes, measure_host, measure_interpreter, measure_verify, refusal};
 
 /// Measures one program: a row of the table.
@@ -34,10 +34,7 @@ fn measure(rt: &(impl Clock + Print + AllocGlobal), mix: Mix, tries: u32) -> Res
 }
 
 fn main(rt: HostRuntime) -> Result<()> {
-    let Some(word) = env::args(&rt)?.nth(1) else {
-        return Ok(());
-    };
-    let Ok(tries) = word.as_str().parse::<u32>() else {
+    let Some(tries) = rounds_of(&rt)? else {
         return Ok(());
     };
     println!(&rt; "programs of {SLOTS} slots, a step in ns, decoding and verifying in us:")?;

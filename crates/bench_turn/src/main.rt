@@ -14,7 +14,8 @@ use std::rt::Clock;
 use std::sync::{Mutex, Wait};
 use std::thread::Threads;
 use std::time::{Duration, Instant};
-use std::{env, io, thread};
+use std::{io, thread};
+use test_inputs::rounds_of;
 
 /// How many rounds there are of each row. Its time is the one in the middle.
 const ROUNDS: usize = 11;
@@ -117,10 +118,7 @@ fn measure<R: Print + Clock + Threads + Wait + Sync>(
 }
 
 fn main(rt: HostRuntime) -> io::Result<()> {
-    let Some(word) = env::args(&rt)?.nth(1) else {
-        return Ok(());
-    };
-    let Ok(count) = word.as_str().parse::<u32>() else {
+    let Some(count) = rounds_of(&rt)? else {
         return Ok(());
     };
     let Ok(four) = Four::new(rt.alloc()) else {

@@ -21,9 +21,20 @@ pub(crate) const WIDE: u8 = 0x18;
 pub const FRAME_POINTER: u8 = 10;
 
 impl Insn {
-    ghost use Rattle.std.specs.Prelude.{◌≡◌, ◌<◌, ◌%◌, ◌==◌, if◌then◌else◌, length, IsSome, Some};
+    ghost use Rattle.std.specs.Prelude.{◌≡◌, ◌<◌, ◌≤◌, ◌⊎◌, ◌≢◌, ◌%◌, ◌==◌, if◌then◌else◌, length, MatchOption, IsSome, Some};
     ghost use Rattle.bpf_decode.specs.Opcodes.{wide_opcode, operation_of, has_fields, has_registers, insn_fault, sign_extended, wide_immediate, loaded_immediate, distance_of};
     ghost use Rattle.bpf_decode.specs.Text.{slots_of, insn_at};
+
+    /// The instruction at a slot of any text, if the text has whole slots and this one among them.
+    pub fn at(text: &[u8], slot: usize) -> Option<Self>
+        ensures { MatchOption result ((length text.now % 8 ≢ 0) ⊎ (slots_of text.now ≤ slot))
+            (λ insn. (length text.now % 8 ≡ 0) × (slot < slots_of text.now) × (insn ≡ insn_at text.now slot)) }
+    {
+        if text.len() % 8 != 0 || slot >= text.len() / 8 {
+            return None;
+        }
+        Some(Insn::read(text, slot))
+    }
 
     /// The instruction at a slot of a text of whole slots. The second immediate of a wide
     /// instruction that the text's end cuts is 0.

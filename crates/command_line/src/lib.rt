@@ -5,6 +5,9 @@ use clap::{Arg, ArgAction, ArgMatches, Command};
 use plain_text::quoted;
 use std::alloc::{AllocError, Global};
 
+/// The program's name.
+const NAME: &str = "bpf_host";
+
 /// What the words of the command line ask for.
 #[derive(Debug, Drop)]
 pub enum Request<'a> {
@@ -57,10 +60,12 @@ fn path_of<'a>(matches: &ArgMatches<'a>, name: &str) -> Option<&'a str> {
     matches.subcommand_matches(name)?.get_str("FILE")
 }
 
-/// What is said of words that make no request. They are cut as words from outside are, and make none either.
+/// What is said of words that make no request. They are cut as words from outside are, and make none either;
+/// the first of them is the program's own path, of which just the name is told.
 fn said_of(alloc: Global, words: &[String]) -> Result<String, AllocError> {
     let mut told = Vec::new(alloc);
-    for word in words {
+    told.push(String::from_str(alloc, NAME)?)?;
+    for word in words.iter().skip(1) {
         told.push(quoted(alloc, word.as_str())?)?;
     }
     match command(alloc)?.try_get_matches_from(told.as_slice()) {
@@ -91,7 +96,7 @@ fn check_of<'a>(alloc: Global, check: &ArgMatches<'a>) -> Result<Request<'a>, Wr
 }
 
 fn command<'a>(alloc: Global) -> Result<Command<'a>, AllocError> {
-    Command::new(alloc, "bpf_host")
+    Command::new(alloc, NAME)
         .about("runs eBPF programs of several tenants")
         .subcommand_required(true)
         .subcommand(of_file(

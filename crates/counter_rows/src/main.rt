@@ -12,9 +12,6 @@
 //! The file `stdout` says what is wanted.
 #![tactic(auto)]
 
-ghost use Rattle.std.specs.Prelude.{◌≡◌, length};
-ghost use Rattle.page_table.specs.State.{part, map_bytes};
-
 use host_types::{Fault, Opt, Options};
 use ksm_counters::{counters, text};
 use page_table::Memory;
@@ -37,19 +34,9 @@ fn number(word: Option<&str>) -> u32 {
     word.unwrap_or("").parse().unwrap_or(0)
 }
 
-/// The bytes of a tenant's first map; none where there is no such map.
-fn byte_len(memory: &Memory, tenant: u32) -> u32
-    ensures { result ≡ length (map_bytes (part memory.now tenant) 0) }
-{
-    match memory.shape(tenant, 0) {
-        Some(shape) => shape.byte_len(),
-        None => 0,
-    }
-}
-
 /// Stores a value into the first eight bytes of a tenant's first map, where they and the frames are there.
 fn store_first(memory: &mut Memory, tenant: u32, value: u32) {
-    if byte_len(memory, tenant) < 8 {
+    if memory.byte_len(tenant, 0) < 8 {
         return;
     }
     if needs(memory, tenant, 0, 0, 8) > memory.have() {
@@ -87,20 +74,9 @@ fn tell<W: Write>(writer: &mut W, outcome: Result<(), Fault>) -> io::Result<()> 
     }
 }
 
-/// The option with a name.
-fn option_of(name: &str) -> Option<Opt> {
-    match name {
-        "pages_to_scan" => Some(Opt::PagesToScan),
-        "run" => Some(Opt::Run),
-        "use_zero_pages" => Some(Opt::UseZeroPages),
-        "max_page_sharing" => Some(Opt::MaxPageSharing),
-        _ => None,
-    }
-}
-
 /// Sets the option with a name; another name sets none.
 fn set_named(memory: &mut Memory, name: &str, value: u32) -> Result<(), Fault> {
-    match option_of(name) {
+    match Opt::named(name) {
         Some(option) => set(memory, option, value),
         None => Ok(()),
     }

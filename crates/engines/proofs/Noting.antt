@@ -18,7 +18,8 @@ use Rattle.std.proofs.lemmas.List.{take_all, length-replicate, replicate-append-
 use Rattle.std.proofs.Math.Nat.{suc-ne-zero}
 use Rattle.host_core.proofs.Joined.{AllHappen-join}
 use Rattle.engines.specs.declared.session.Session.{Session}
-use Rattle.engines.specs.Lines.{line_of, refusal_text, reply_lines}
+use Rattle.host_types.specs.Refusals.{refusal_text}
+use Rattle.engines.specs.Lines.{line_of, reply_lines}
 use Rattle.engines.specs.Replay.{AreOf, AreOfAll, AreIfBegun, AreStepsUpTo, AreStepsToEnd, AreVisits, IsReplayed, refused, happened, latest_run, begun_after, pages_after, pages_by, lines_from, is_refusal, has_refusal}
 use Rattle.engines.specs.Sessions.{AreStepsMade, HasTold, HasNoted, IsOneEvent, Performs, begun_by}
 
@@ -34,11 +35,11 @@ Appends-join (Some known) None is xs ys first second = absurd first
 Appends-join (Some known) (Some more) None xs ys first second = absurd second
 Appends-join (Some known) (Some more) (Some all) xs ys first second = second ∙ ap (λ zs. zs ++ ys) first ∙ append_assoc known xs ys
 
-or-assoc : (a b c : Bool) → ((a || b) || c) ≡ (a || (b || c))
+pub or-assoc : (a b c : Bool) → ((a || b) || c) ≡ (a || (b || c))
 or-assoc true b c = refl
 or-assoc false b c = refl
 
-or-false : (a : Bool) → (a || false) ≡ a
+pub or-false : (a : Bool) → (a || false) ≡ a
 or-false true = refl
 or-false false = refl
 

@@ -15,7 +15,8 @@ use Rattle.verifier.specs.Reserve.{reserve_from}
 use Rattle.verifier.specs.Verified.{Accepted, AreShapes, IsVerified}
 use Rattle.host_calls.specs.Programs.{IsJudgement, subject_for}
 use Rattle.engines.specs.declared.check.question.Question.{Question}
-use Rattle.engines.specs.Lines.{line_of, refusal_text}
+use Rattle.host_types.specs.Refusals.{refusal_text}
+use Rattle.engines.specs.Lines.{line_of}
 
 -- a word is a decimal number up to 4294967295: digits alone
 abbrev pub IsDecimal : List ℕ → ℕ → Type 0

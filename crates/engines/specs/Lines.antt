@@ -1,8 +1,6 @@
 -- The lines that the program prints (docs/HOST.md).
-use Rattle.std.specs.Prelude.{ℕ, nat_le, if◌then◌else◌, List, [], ◌∷◌, ◌++◌, codes, decimal, Option, Some, None}
-use Rattle.host_types.specs.declared.fault.Fault.{Fault}
-use Rattle.host_types.specs.declared.fault.Fault.TheVariants.{Program, NoFrames}
-use Rattle.host_types.specs.Refusals.{fault_number, fault_name}
+use Rattle.std.specs.Prelude.{ℕ, List, [], ◌∷◌, ◌++◌, codes, decimal, Option, Some, None}
+use Rattle.host_types.specs.Refusals.{refusal_text}
 use Rattle.hex.specs.Hex.{encode_lower}
 use Rattle.ksm_counters.specs.Counters.{counters_text}
 use Rattle.host_core.specs.declared.event.Event.{Event}
@@ -14,16 +12,6 @@ use Rattle.host_core.specs.HostView.{tenant_of}
 -- a text and its newline
 abbrev pub line_of : List ℕ → List ℕ
 line_of text = text ++ 10 ∷ []
-
--- the slot of a program's refusal, or the frames that were needed and there
-abbrev pub detail_text : Fault → List ℕ
-detail_text (Program refused) = if nat_le refused.number 25 then codes " at " ++ decimal refused.slot else []
-detail_text (NoFrames need have) = codes " need " ++ decimal need ++ codes " have " ++ decimal have
-detail_text fault = []
-
--- a refusal: its number, its name and its detail
-abbrev pub refusal_text : Fault → List ℕ
-refusal_text fault = codes "refused " ++ decimal (fault_number fault) ++ codes " " ++ fault_name fault ++ detail_text fault
 
 -- the front of a line that speaks of a tenant, where one is named
 abbrev pub tenant_front : Option ℕ → List ℕ

@@ -15,7 +15,8 @@ use Rattle.host_file.specs.declared.command.Command.{Command}
 use Rattle.host_file.specs.declared.command.Command.TheVariants.{Apply, Step, Finish, Run}
 use Rattle.host_file.specs.declared.command.Command.TheVariants as command
 use Rattle.host_file.specs.declared.file.HostFile.{HostFile}
-use Rattle.engines.specs.Lines.{line_of, refusal_text, reply_lines}
+use Rattle.host_types.specs.Refusals.{refusal_text}
+use Rattle.engines.specs.Lines.{line_of, reply_lines}
 
 -- steps of a tenant up to a count, and none after one with which the run ends or that is refused
 abbrev pub AreStepsUpTo : ℕ → ℕ → List Event → List Reply → Type 0

@@ -2,9 +2,10 @@
 
 ghost use Rattle.std.specs.Prelude.{◌≡◌, ◌≤◌, IfErr, IfOk, OnErr, OnOk};
 ghost use Rattle.std.specs.Io.KnownBytes.{Appends};
+ghost use Rattle.host_types.specs.Refusals.{refusal_text};
 ghost use Rattle.host_file.specs.Faults.{IsBad, IsOfWords, IsUsage};
 ghost use Rattle.engines.specs.Check.{AnswersWords, AskNothing, IsAccepted, IsCheckRefusal, acceptance_of, subject_asked};
-ghost use Rattle.engines.specs.Lines.{line_of, refusal_text};
+ghost use Rattle.engines.specs.Lines.{line_of};
 
 mod acceptance;
 mod question;
@@ -13,14 +14,14 @@ use crate::explanation::explain_check;
 use crate::fault::written;
 use crate::lines::write_refusal;
 use acceptance::Acceptance;
-use host_calls::{is_context_size, judge};
+use host_calls::judge;
 use host_file::FileFault;
 use host_types::Fault;
 use host_types::limits::MAX_MAPS;
 use question::{Question, question_of};
 use std::alloc::Global;
 use std::io::Write;
-use verifier::Verified;
+use verifier::{Verified, is_context_size};
 
 /// Judges the program that the words of a command line ask for: hex text, the shapes of its maps,
 /// and the size of its context. The output gets one line: that it is accepted, with its slots, its

@@ -11,15 +11,10 @@ use advice::{
 use bpf_decode::Insn;
 use disassembly::Assembly;
 use host_core::Event;
+use host_types::rule::{BAD_LENGTH, CUT_WIDE};
 use host_types::{Fault, Opt, Options, Refused};
 use std::io;
 use std::io::Write;
-
-/// The number of a refusal of the text's length. It is said at slot 0, and speaks of no instruction.
-const BAD_LENGTH: u32 = 1;
-
-/// The last number of what is wrong with an instruction alone. The others speak of well-formed texts.
-const LAST_OF_TEXT: u32 = 5;
 
 /// Writes what the refusal of a program means that was to be checked: its text is given.
 pub fn explain_check<W: Write>(words: &mut W, text: &[u8], fault: Fault) -> io::Result<()> {
@@ -61,7 +56,11 @@ fn advice_on_event(event: &Event, fault: Fault) -> Option<Advice> {
 }
 
 /// Writes what the refusal of a host with these options means.
-pub fn explain_host<W: Write>(words: &mut W, options: &Options, fault: Fault) -> io::Result<()> {
+pub(crate) fn explain_host<W: Write>(
+    words: &mut W,
+    options: &Options,
+    fault: Fault,
+) -> io::Result<()> {
     match (fault, wrong_option(options)) {
         (Fault::BadShape, _) => write_advice(words, fault, Some(on_host_size())),
         (Fault::BadOption, Some(option)) => write_advice(words, fault, Some(on_option(option))),
@@ -104,14 +103,19 @@ fn write_advice<W: Write>(words: &mut W, fault: Fault, advice: Option<Advice>) -
 /// Writes what stands at a refused slot: its instruction, or its bytes where they make none.
 fn write_what_stands<W: Write>(words: &mut W, text: &[u8], refused: Refused) -> io::Result<()> {
     let slot = refused.slot as usize;
-    if refused.number == BAD_LENGTH || text.len() % 8 != 0 || slot >= text.len() / 8 {
+    let Some(insn) = Insn::at(text, slot) else {
         return Ok(());
+    };
+    match refused.number {
+        // It is said at slot 0, and speaks of no instruction.
+        BAD_LENGTH => Ok(()),
+        // The rules behind it speak of well-formed texts.
+        number if number <= CUT_WIDE => write_bytes(words, text, slot),
+        _ => {
+            let insn = Assembly(insn);
+            write!(words, "{insn}: ")
+        }
     }
-    if refused.number <= LAST_OF_TEXT {
-        return write_bytes(words, text, slot);
-    }
-    let insn = Assembly(Insn::read(text, slot));
-    write!(words, "{insn}: ")
 }
 
 /// Writes the eight bytes of a slot.

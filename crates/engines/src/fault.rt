@@ -18,10 +18,10 @@ pub fn status_of(outcome: &Result<u8, FileFault>) -> u8
     }
 }
 
-/// Writes the words of a fault, in which no character steers a terminal.
+/// Writes the words of a fault as whole lines, in which no character steers a terminal.
 pub fn write_fault<W: Write>(alloc: Global, words: &mut W, fault: &FileFault) -> io::Result<()> {
     match fault.to_string(alloc) {
-        Ok(said) => write_plain(words, said.as_str())?,
+        Ok(said) => write_plain(words, said.as_str().trim_end())?,
         Err(AllocError) => write!(words, "out of memory")?,
     }
     writeln!(words)

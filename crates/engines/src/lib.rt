@@ -9,8 +9,7 @@ mod lines;
 pub mod replay;
 mod session;
 
-pub use explanation::explain_host;
 pub use fault::{status_of, write_fault, written};
-pub use lines::{write_refusal, write_reply};
-pub use replay::file_from;
+pub use lines::write_reply;
+pub use replay::{file_from, refuse};
 pub use session::explain_reply;

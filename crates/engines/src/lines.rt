@@ -2,9 +2,10 @@
 
 ghost use Rattle.std.specs.Prelude.{[], ◌∷◌, Some, IfErr, OnOk};
 ghost use Rattle.std.specs.Io.KnownBytes.{Appends};
+ghost use Rattle.host_types.specs.Refusals.{refusal_text};
 ghost use Rattle.hex.specs.Hex.{encode_lower};
 ghost use Rattle.host_file.specs.Faults.{IsBad, IsOfWords};
-ghost use Rattle.engines.specs.Lines.{detail_text, line_of, place_text, refusal_text, reply_lines, tenant_front, value_line};
+ghost use Rattle.engines.specs.Lines.{line_of, place_text, reply_lines, tenant_front, value_line};
 
 use crate::fault::written;
 use hex::encode_to_slice;
@@ -15,45 +16,9 @@ use ksm_counters::text;
 use std::fmt;
 use std::io::Write;
 
-/// The last number of a program's refusal, which names a slot.
-const LAST_OF_PROGRAM: u32 = 25;
-
-/// A refusal as it is printed.
-#[derive(Clone, Copy, Debug)]
-struct Refusal(Fault);
-
-/// What follows a refusal's name.
-#[derive(Clone, Copy, Debug)]
-struct Detail(Fault);
-
 /// The front of a line that speaks of a tenant, where one is named.
 #[derive(Clone, Copy, Debug)]
 struct Front(Option<u32>);
-
-impl fmt::Display for Refusal {
-    ghost output = { λ refusal. Some (refusal_text refusal.0) };
-
-    fn fmt<W: fmt::Write>(&self, f: &mut fmt::Formatter<W>) -> fmt::Result {
-        let number = self.0.number();
-        let name = self.0.name();
-        let detail = Detail(self.0);
-        write!(f, "refused {number} {name}{detail}")
-    }
-}
-
-impl fmt::Display for Detail {
-    ghost output = { λ detail. Some (detail_text detail.0) };
-
-    fn fmt<W: fmt::Write>(&self, f: &mut fmt::Formatter<W>) -> fmt::Result {
-        match self.0 {
-            Fault::Program(refused) if refused.number <= LAST_OF_PROGRAM => {
-                write!(f, " at {}", refused.slot)
-            }
-            Fault::NoFrames { need, have } => write!(f, " need {need} have {have}"),
-            _ => Ok(()),
-        }
-    }
-}
 
 impl fmt::Display for Front {
     ghost output = { λ front. Some (tenant_front front.0) };
@@ -67,13 +32,12 @@ impl fmt::Display for Front {
 }
 
 /// Writes the line of a refusal of the host itself.
-pub fn write_refusal<W: Write>(writer: &mut W, fault: Fault) -> Result<(), FileFault>
+pub(crate) fn write_refusal<W: Write>(writer: &mut W, fault: Fault) -> Result<(), FileFault>
     ensures line { OnOk result (Appends (W.contents writer.old) (W.contents writer.new) (line_of (refusal_text fault))) }
     ensures bad { IfErr result (λ fault. ¬ IsBad fault) }
     ensures words { IfErr result (λ fault. ¬ IsOfWords fault) }
 {
-    let refusal = Refusal(fault);
-    written(writeln!(writer, "{refusal}"))
+    written(writeln!(writer, "{fault}"))
 }
 
 /// Writes the lines of a reply to an event, where it has any. `run` is the number of the latest run of
@@ -93,8 +57,8 @@ pub fn write_reply<W: Write>(
             written(writeln!(writer, "{front}run {run} ret {ret} steps {steps}"))
         }
         Reply::Refused(fault) => {
-            let refusal = Refusal(*fault);
-            written(writeln!(writer, "{front}{refusal}"))
+            let fault = *fault;
+            written(writeln!(writer, "{front}{fault}"))
         }
         Reply::Value(value) => write_value(writer, event, value.as_slice()),
         Reply::Counters(counters) => written(text(counters, writer)),

@@ -1,11 +1,14 @@
 //! The engine of `replay`: a host file's events in their order, on one thread.
 
-ghost use Rattle.std.specs.Prelude.{◌≡◌, ◌≤◌, length, IfErr, IfOk, IfSome};
+ghost use Rattle.std.specs.Prelude.{◌≡◌, ◌≤◌, length, IfErr, IfOk, IfSome, OnOk};
+ghost use Rattle.std.specs.Io.KnownBytes.{Appends};
+ghost use Rattle.host_types.specs.Refusals.{refusal_text};
 ghost use Rattle.host_core.specs.World.{new_system};
 ghost use Rattle.host_core.specs.HostView.{StandsForSystem};
 ghost use Rattle.host_file.specs.Faults.{IsBad};
 ghost use Rattle.host_file.specs.HostFile.{IsFileText, max_bytes};
 ghost use Rattle.host_file.specs.declared.file.HostFile.{HostFile};
+ghost use Rattle.engines.specs.Lines.{line_of};
 ghost use Rattle.engines.specs.Replay.{IsReplayed};
 
 use crate::explanation::explain_host;
@@ -14,6 +17,7 @@ use crate::lines::write_refusal;
 use crate::session::Session;
 use host_core::Host;
 use host_file::{BadFile, Cause, FileFault, HostFile, MAX_BYTES, Place, read_file};
+use host_types::Fault;
 use std::alloc::{AllocError, Global};
 use std::io;
 use std::io::{Read, Write};
@@ -96,12 +100,26 @@ fn replay_file<W: Write, E: Write>(
     match Host::new(alloc, file.frames, file.tenants, file.options) {
         Ok(host) => replay_commands(alloc, host, file, writer, words),
         Err(fault) => {
-            write_refusal(writer, fault)?;
-            // The line is written: what it means may be lost.
-            let _ = explain_host(words, &file.options, fault);
+            refuse(file, fault, writer, words)?;
             Ok(1)
         }
     }
+}
+
+/// Writes why there is no host of a file.
+pub fn refuse<W: Write, E: Write>(
+    file: &HostFile,
+    fault: Fault,
+    writer: &mut W,
+    words: &mut E,
+) -> Result<(), FileFault>
+    ensures line { OnOk result (Appends (W.contents writer.old) (W.contents writer.new) (line_of (refusal_text fault))) }
+    ensures bad { IfErr result (λ fault. ¬ IsBad fault) }
+{
+    write_refusal(writer, fault)?;
+    // The line is written: what it means may be lost.
+    let _ = explain_host(words, &file.options, fault);
+    Ok(())
 }
 
 /// Performs the commands of a host file on its new host.

@@ -1,13 +1,11 @@
 //! Events as the generator draws them. Tenants have maps of mostly one shape, and write few values, so that
 //! pages of several tenants are often alike.
 
-ghost use Rattle.std.specs.Prelude.{◌<◌};
-
 use host_core::Event;
 use host_types::{Opt, Options, Shape};
 use std::alloc::{AllocError, Global};
-use test_inputs::Draws;
 use test_inputs::texts::{COUNTER, GUARDED, MASKED, RETURN, UPDATE};
+use test_inputs::{BITS, Draws, flip};
 
 /// One more than the most steps that are drawn together.
 const STEPS: u32 = 14;
@@ -57,15 +55,6 @@ fn context_of(number: u32) -> u32 {
 fn bytes_of(alloc: Global, len: u32, byte: u8) -> Result<Vec<u8>, AllocError> {
     let bytes = vec![in alloc; byte; len as usize]?;
     Ok(bytes)
-}
-
-/// Turns one bit of a text, if it has the byte.
-fn turn(text: &mut [u8], at: u32, bit: u32)
-    requires { bit < 8 }
-{
-    if let Some(byte) = text.get_mut(at as usize) {
-        *byte ^= 1u8 << bit;
-    }
 }
 
 /// Draws the events of a list: how many maps and programs were drawn first, and how many steps of a tenant, visits
@@ -203,13 +192,14 @@ impl Events {
         self.load(alloc, tenant)
     }
 
-    /// A text for its context, rarely for another one or with a bit turned.
+    /// A text for its context, rarely for another one or with a bit flipped.
     fn load(&mut self, alloc: Global, tenant: u32) -> Result<Event, AllocError> {
         let number = self.draws.below(12);
         let mut text = text_of(number).to_vec(alloc)?;
         if self.draws.below(8) == 0 {
             let at = self.draws.below(112);
-            turn(&mut text, at, self.draws.below(8));
+            let bit = self.draws.below(8);
+            flip(&mut text, at as usize, BITS[bit as usize]);
         }
         let context_size = if self.draws.below(16) == 0 {
             self.draws.below(300)
@@ -292,16 +282,9 @@ impl Events {
         }
     }
 
-    /// An option and a value, mostly so that the scanner runs.
+    /// An option that is set, mostly so that the scanner runs.
     fn set(&mut self) -> Event {
-        let value = self.draws.below(5);
-        let (option, value) = match self.draws.below(8) {
-            0 => (Opt::PagesToScan, value),
-            1 => (Opt::Run, value),
-            2 => (Opt::UseZeroPages, value),
-            3 => (Opt::MaxPageSharing, value),
-            _ => (Opt::Run, 1),
-        };
+        let (option, value) = self.draws.option();
         Event::Set { option, value }
     }
 }

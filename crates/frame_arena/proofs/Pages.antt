@@ -70,11 +70,6 @@ written-page frames frame start block bytes part pages view whole lent place the
     written-part frames frame 0 start block bytes part pages view whole lent place there (omega (arith, wide))
     ∙ ap (slice_set pages frame) (with_part-whole (page_at pages frame) part (wide ∙ sym (length-page frames frame block pages view whole there)))
 
--- as many zeros as a page has bytes
-pub replicate-zero_page : (n : ℕ) → n ≡ 4096 → replicate n 0 ≡ zero_page
-unfolding zero_page
-replicate-zero_page n e = ap (λ (m : ℕ). replicate m 0) e
-
 pub length-zero_page : length zero_page ≡ 4096
 unfolding zero_page
 length-zero_page = refl

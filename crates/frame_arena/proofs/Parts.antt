@@ -14,14 +14,14 @@ length-parts_of size zero xs = refl
 length-parts_of size (suc count) xs = ap suc (length-parts_of size count (drop size xs))
 
 -- a place in a list that begins size elements later
-part_of-drop : {X : Type 0} (xs : List X) (size i width : ℕ) → part_of (drop size xs) (i * size) width ≡ part_of xs (suc i * size) width
+pub part_of-drop : {X : Type 0} (xs : List X) (size i width : ℕ) → part_of (drop size xs) (i * size) width ≡ part_of xs (suc i * size) width
 unfolding part_of
 part_of-drop xs size i width =
     let same : size + i * size ≡ suc i * size = omega arith in
     ap (take width) (drop-drop (i * size) size xs ∙ ap (λ (n : ℕ). drop n xs) same)
 
 -- the first elements of a list
-part_of-first : {X : Type 0} (xs : List X) (size : ℕ) → part_of xs (0 * size) size ≡ take size xs
+pub part_of-first : {X : Type 0} (xs : List X) (size : ℕ) → part_of xs (0 * size) size ≡ take size xs
 unfolding part_of
 part_of-first xs size =
     let none : 0 * size ≡ 0 = omega arith in
@@ -47,7 +47,7 @@ part_of-part_of xs from width at size h =
     ∙ ap (take size) (drop-drop at from xs)
 
 -- elements written into the first of two lists
-with_part-append : {X : Type 0} (xs ys part : List X) (at : ℕ) → at + length part ≤ length xs → with_part (xs ++ ys) at part ≡ with_part xs at part ++ ys
+pub with_part-append : {X : Type 0} (xs ys part : List X) (at : ℕ) → at + length part ≤ length xs → with_part (xs ++ ys) at part ≡ with_part xs at part ++ ys
 unfolding with_part
 with_part-append xs ys part at h =
     rw (take-append-le at xs ys (omega arith), drop-append-le (at + length part) xs ys h, append_assoc (take at xs ++ part) (drop (at + length part) xs) ys) refl
@@ -66,7 +66,7 @@ drop-with_part xs part size at h =
     ∙ ap (λ l. take at (drop size xs) ++ part ++ l) (sym (drop-drop (at + length part) size xs ∙ ap (λ (n : ℕ). drop n xs) place))
 
 -- elements written into the first part
-take-with_part : {X : Type 0} (xs part : List X) (size at : ℕ) → size ≤ length xs → at + length part ≤ size → take size (with_part xs at part) ≡ with_part (take size xs) at part
+pub take-with_part : {X : Type 0} (xs part : List X) (size at : ℕ) → size ≤ length xs → at + length part ≤ size → take size (with_part xs at part) ≡ with_part (take size xs) at part
 take-with_part xs part size at long fits =
     let first = length-take-le size xs long in
     let split : with_part xs at part ≡ with_part (take size xs) at part ++ drop size xs =
@@ -75,7 +75,7 @@ take-with_part xs part size at long fits =
     ap (take size) split ∙ take_at (with_part (take size xs) at part) (drop size xs) size kept
 
 -- the parts behind the one that elements are written into
-drop-with_part_before : {X : Type 0} (xs part : List X) (size at : ℕ) → size ≤ length xs → at + length part ≤ size → drop size (with_part xs at part) ≡ drop size xs
+pub drop-with_part_before : {X : Type 0} (xs part : List X) (size at : ℕ) → size ≤ length xs → at + length part ≤ size → drop size (with_part xs at part) ≡ drop size xs
 drop-with_part_before xs part size at long fits =
     let first = length-take-le size xs long in
     let split : with_part xs at part ≡ with_part (take size xs) at part ++ drop size xs =

@@ -2,4 +2,3 @@ pub mod Elements
 pub mod NewMaps
 pub mod Answers
 pub mod Begins
-pub mod Found

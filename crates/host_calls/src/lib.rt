@@ -12,7 +12,7 @@ mod updating;
 
 pub use beginning::host_begin;
 pub use creating::host_create_map;
-pub use loading::{host_shapes, is_context_size, judge};
+pub use loading::{host_shapes, judge};
 pub use looking::host_lookup;
 pub use sharing::{host_set, host_unmerge};
 pub use updating::host_update;

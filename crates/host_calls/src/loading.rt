@@ -1,5 +1,4 @@
-ghost use Rattle.std.specs.Prelude.{◌≡◌, ◌≤◌, ◌↔◌, ◌==◌, if◌then◌else◌, length, IfOk, IfErr, IsTrue};
-ghost use Rattle.host_types.specs.declared.fault.Fault.TheVariants.{OutOfMemory, Program};
+ghost use Rattle.std.specs.Prelude.{◌≡◌, length, IfOk, IfErr};
 ghost use Rattle.page_table.specs.State.{part};
 ghost use Rattle.bpf_decode.specs.Text.{IsWellFormed};
 ghost use Rattle.verifier.specs.Subject.{IsContextSize};
@@ -8,18 +7,11 @@ ghost use Rattle.host_calls.specs.Calls.{IsThere};
 ghost use Rattle.host_calls.specs.Programs.{IsJudgement, shapes_of, subject_for};
 
 use bpf_decode::decode;
-use host_types::limits::{MAX_CONTEXT, MAX_MAPS};
-use host_types::{Fault, MapNo, Refused, Shape};
+use host_types::limits::MAX_MAPS;
+use host_types::{Fault, MapNo, Shape};
 use page_table::Memory;
 use std::alloc::{AllocError, Global};
 use verifier::{Verified, verify};
-
-/// Whether a context may have so many bytes.
-pub fn is_context_size(size: u32) -> bool
-    ensures { IsTrue result ↔ IsContextSize size }
-{
-    size <= MAX_CONTEXT && size % 8 == 0
-}
 
 /// The shapes of a tenant's maps by number, up to the first number that no map has. It fails where memory
 /// ran out.
@@ -53,21 +45,10 @@ pub fn judge(alloc: Global, shapes: &[Shape], text: &[u8], ctx_size: u32) -> Res
 {
     let program = match decode(alloc, text) {
         Ok(program) => program,
-        Err(refused) => return Err(fault_of(refused)),
+        Err(refused) => return Err(refused.fault()),
     };
     match verify(alloc, program, shapes, ctx_size) {
         Ok(program) => Ok(program),
-        Err(refused) => Err(fault_of(refused)),
-    }
-}
-
-/// A program's refusal as a host answers it.
-fn fault_of(refused: Refused) -> Fault
-    ensures { result ≡ (if refused.number == 41 then OutOfMemory else Program refused) }
-{
-    if refused.number == Refused::OUT_OF_MEMORY.number {
-        Fault::OutOfMemory
-    } else {
-        Fault::Program(refused)
+        Err(refused) => Err(refused.fault()),
     }
 }

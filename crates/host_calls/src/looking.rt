@@ -1,4 +1,4 @@
-ghost use Rattle.std.specs.Prelude.{◌≡◌, ◌+◌, ◌<◌, ◌≤◌, [], ◌∷◌, length, Some, option_map, IfOk, IfErr, IfSome};
+ghost use Rattle.std.specs.Prelude.{◌≡◌, ◌+◌, ◌<◌, ◌≤◌, [], ◌∷◌, length, Some, option_map, IfOk, IfErr, IfSome, OnOk};
 ghost use Rattle.host_types.specs.Bytes.{part_of};
 ghost use Rattle.host_types.specs.Memory.{FlatMap, map_at};
 ghost use Rattle.host_types.specs.Tenant.{IsFlatMap};
@@ -44,7 +44,7 @@ pub(crate) fn shape_with_element(
 ) -> Result<Shape, Fault>
     ensures shape { IfOk result (λ shape.
         option_map (λ (flat : FlatMap). flat.shape) (map_at (part memory.now tenant).maps map) ≡ Some shape) }
-    ensures valid { IfSome (map_at (part memory.now tenant).maps map) IsFlatMap }
+    ensures valid { OnOk result (IfSome (map_at (part memory.now tenant).maps map) IsFlatMap) }
     ensures element { IfOk result (λ shape. key < shape.entries) }
     ensures refused { IfErr result (RefusesElement (part memory.now tenant) map key) }
 {

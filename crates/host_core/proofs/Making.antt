@@ -10,7 +10,7 @@ use Rattle.host_core.specs.World.{Tenant, System}
 use Rattle.host_core.specs.Happens.{Happens, IsPromised, AllHappen, AreSteps, changed_system}
 use Rattle.host_core.specs.HostView.{TenantView, StandsForTenant, StandsForMemory, StandsForAnyRun, IsKept, IsServed, HasMadeSteps, HasCounted, steps_of}
 use Rattle.host_core.proofs.Joined.{AllHappen-join}
-use Rattle.interp.proofs.Counting.{instructions_fit}
+use Rattle.bpf_decode.proofs.Placing.{instructions_fit}
 use Rattle.host_core.specs.declared.tenant.OpenRun.{OpenRun as KeptRun}
 use Rattle.host_core.proofs.Stepping.{run-found, verified-at}
 use Rattle.host_core.proofs.Worlds.{changed_system-same, changed_system-twice, slice_get-set}

@@ -2,7 +2,7 @@
 use Rattle.std.proofs.Common.{◌≡◌, ℕ, zero, suc, ◌+◌, ◌<◌, ◌≤◌, nat_lt, ◌==◌, ◌&&◌, Bool, true, false, if◌then◌else◌, List, [], ◌∷◌, ◌++◌, replicate, set, sum_by, get_or, Option, Some, None, IfSome, IsSomeAnd, MatchOption, sym, ap, refl, ◌∙◌, subst, arith, add-one, add-zero, add-suc}
 use Rattle.std.specs.List.{slice_get}
 use Rattle.std.specs.Option.{option_map}
-use Rattle.std.proofs.lemmas.List.{replicate_more, ext_get_or}
+use Rattle.std.proofs.lemmas.List.{replicate_more}
 use Rattle.std.proofs.lemmas.List.Sums.{sum_by-set}
 use Rattle.std.proofs.lemmas.Option.{IfSome_then, get_or_from_slice_get, slice_get_within}
 use Rattle.host_types.specs.declared.fault.Fault.TheVariants as fault
@@ -20,10 +20,7 @@ use Rattle.page_table.specs.Changes.{IsKeptBut}
 use Rattle.page_table.specs.Reads.{ReadsAs}
 use Rattle.page_table.specs.State.{MemoryState, part}
 use Rattle.verifier.specs.Reserve.{reserve_from}
-use Rattle.verifier.specs.Table.{tight_table}
 use Rattle.verifier.specs.Verified.{Accepted, IsVerified}
-use Rattle.verifier.proofs.Tables.{tables_agree}
-use Rattle.verifier.proofs.Tight.{length-tight, tight_is_tight}
 use Rattle.interp.specs.declared.need.Need.{Need}
 use Rattle.interp.specs.declared.need.Need.TheVariants.{Private, Ended as NeedEnded, Load as AskLoad, Store as AskStore, Lookup as AskLookup, Update as AskUpdate, Delete as AskDelete}
 use Rattle.interp.specs.Fits.{HaveShapes}
@@ -47,6 +44,7 @@ use Rattle.host_core.proofs.Systems.{part_stands, covered, changed_stands}
 use Rattle.host_core.proofs.Joined.{AllHappen-join}
 use Rattle.host_core.proofs.Places.{all-at}
 use Rattle.host_core.proofs.Advances.{some_instruction}
+use Rattle.host_core.proofs.Opening.{accepted-tight}
 
 -- the system's open run, where one is kept
 pub run-found : (programs : List (Option Accepted)) (kept : KeptRun) (r : Option OpenRun) → StandsForAnyRun programs (Some kept) r → (found : OpenRun) × (r ≡ Some found) × StandsForRun programs kept found
@@ -61,14 +59,6 @@ run-missing programs (Some r) h = absurd h
 -- each program that is kept was verified
 pub verified-at : (programs : List (Option Accepted)) (k : ℕ) (v : Accepted) → EachProgram IsVerified programs → slice_get programs k ≡ Some (Some v) → IsVerified v
 verified-at programs k v all found = all-at IsVerified programs k v all found
-
--- a verified program has the one table that says just what flows
-pub table_is_tight : (v : Accepted) → IsVerified v → accepted_of v.subject ≡ v
-table_is_tight v verified =
-    let n = slots_of v.subject.text in
-    let same : tight_table v.subject ≡ v.table = ext_get_or None (tight_table v.subject) v.table (length-tight v.subject n ∙ sym verified.tight.whole)
-    (λ k h. let many = length-tight v.subject n in tables_agree v.subject (tight_table v.subject) v.table n (tight_is_tight v.subject n) verified.tight.tight k (omega (arith, h, many))) in
-    ap (λ table. record { subject = v.subject; table = table }) same
 
 -- an exit writes to no map
 exit_writes : (text : List ℕ) (s : MachineState) (number : ℕ) (maps : FlatMaps) → step text s ≡ Some (Exits number maps) → written text s ≡ None
@@ -251,7 +241,7 @@ run_reached tenant r meets is_open = subst (λ o. IfSome o IsOpenRun) is_open me
 
 -- a kept run's program is the system's
 program-same : (programs : List (Option Accepted)) (kept : KeptRun) (r : OpenRun) → EachProgram IsVerified programs → (run : StandsForRun programs kept r) → accepted_of r.program ≡ run.accepted
-program-same programs kept r all run = ap accepted_of run.program ∙ table_is_tight run.accepted (verified-at programs kept.program run.accepted all run.numbered)
+program-same programs kept r all run = ap accepted_of run.program ∙ accepted-tight run.accepted (verified-at programs kept.program run.accepted all run.numbered)
 
 -- the open run of a kept tenant is under way
 pub under-way : (programs : List (Option Accepted)) (kept : KeptRun) (t : ℕ) (memory : MemoryState) (x : System) (tenant : Tenant) (r : OpenRun) → slice_get x.world t ≡ Some tenant

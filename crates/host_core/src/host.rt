@@ -165,7 +165,7 @@ impl Host {
 }
 
 /// A refusal is a reply too.
-pub(crate) fn told(served: Result<Reply, Fault>) -> Reply
+pub fn told(served: Result<Reply, Fault>) -> Reply
     ensures { result ≡ reply_of served }
 {
     match served {

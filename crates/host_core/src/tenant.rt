@@ -5,9 +5,7 @@ ghost use Rattle.host_core.specs.HostView.{steps_of};
 use crate::event::{Event, Reply};
 use crate::host::told;
 use admission::{lower, release};
-use host_calls::{
-    host_begin, host_create_map, host_lookup, host_shapes, host_update, is_context_size, judge,
-};
+use host_calls::{host_begin, host_create_map, host_lookup, host_shapes, host_update, judge};
 use host_types::limits::MAX_PROGRAMS;
 use host_types::{Fault, MapNo};
 use interp::{Need, Run};
@@ -15,7 +13,7 @@ use page_table::Memory;
 use std::alloc::Global;
 use std::marker::Model;
 use tenant_runs::answer;
-use verifier::Verified;
+use verifier::{Verified, is_context_size};
 
 /// A tenant: its eight places for programs, and its open run, if it has one. Its maps are the memory's.
 #[derive(Drop)]

@@ -1,9 +1,8 @@
 -- Host files (this project's own format, docs/HOST.md): what a TOML document says.
 use Rattle.std.specs.Prelude.{◌≡◌, ℕ, ◌≤◌, pos, List, [], ◌∷◌, codes, Any, MatchOption, Option, Some, None, Ok, Bool, true}
 use Rattle.host_types.specs.declared.options.Opt.{Opt}
-use Rattle.host_types.specs.declared.options.Opt.TheVariants as option
 use Rattle.host_types.specs.declared.options.Options.{Options}
-use Rattle.host_types.specs.OptionTable.{default_options}
+use Rattle.host_types.specs.OptionTable.{default_options, option_name}
 use Rattle.hex.specs.Hex.{decode_of}
 use Rattle.host_core.specs.declared.event.Event.{Event}
 use Rattle.host_core.specs.declared.event.Event.TheVariants.{CreateMap, Load, Begin, HostUpdate, HostLookup, Set, Unmerge, Counters}
@@ -76,13 +75,6 @@ HasString ms key text = value_at ms key ≡ Some (string text)
 -- a table has bytes at a key, as hex text
 abbrev pub HasHex : Members → Key → List ℕ → Type 0
 HasHex ms key bytes = (text : List ℕ) × HasString ms key text × (decode_of text ≡ Ok bytes)
-
--- the options as they are written
-abbrev pub option_name : Opt → List ℕ
-option_name option.PagesToScan = codes "pages_to_scan"
-option_name option.Run = codes "run"
-option_name option.UseZeroPages = codes "use_zero_pages"
-option_name option.MaxPageSharing = codes "max_page_sharing"
 
 -- a table names an option
 abbrev pub HasOption : Members → Opt → Type 0

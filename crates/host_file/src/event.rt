@@ -166,12 +166,10 @@ fn set(alloc: Global, event: &Section<'_>) -> Result<Command, FileFault>
 fn option(alloc: Global, event: &Section<'_>) -> Result<Opt, FileFault>
     ensures { IfOk result (HasOption (members_of event.now)) }
 {
-    match event.text(Key::Option)? {
-        "pages_to_scan" => Ok(Opt::PagesToScan),
-        "run" => Ok(Opt::Run),
-        "use_zero_pages" => Ok(Opt::UseZeroPages),
-        "max_page_sharing" => Ok(Opt::MaxPageSharing),
-        other => Err(event.bad(Cause::UnknownOption(quoted(alloc, other)?))),
+    let name = event.text(Key::Option)?;
+    match Opt::named(name) {
+        Some(option) => Ok(option),
+        None => Err(event.bad(Cause::UnknownOption(quoted(alloc, name)?))),
     }
 }
 

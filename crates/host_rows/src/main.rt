@@ -3,7 +3,8 @@
 //! HEX, the size of the context, and any V:E. A host file stands in the lines below its `$ replay` or `$ serve`.
 //! Below each request stands what goes to the standard output, then, after `! `, what goes to standard error,
 //! and last the exit status, or the words of a fault; it ends with the status of the last. The file `stdout` of
-//! this crate says what is wanted; rows are cheaper there than in tests, whose texts are proved.
+//! this crate says what is wanted; rows are cheaper there than in tests, whose texts are proved. The output of a
+//! `$ full serve` takes nothing, and that of a `$ stuck serve` fails when it is asked to pass on what it took.
 #![tactic(auto)]
 
 use engines::check::check;
@@ -13,7 +14,7 @@ use host_file::FileFault;
 use serving::serve_file;
 use std::alloc::Global;
 use std::io;
-use std::io::Input;
+use std::io::{Input, Write};
 use std::process::ExitCode;
 use std::sync::Wait;
 use std::thread::Threads;
@@ -23,6 +24,37 @@ const CHECK: &str = "$ check\t";
 
 /// What a host file stands below that is to be served.
 const SERVE: &str = "$ serve";
+
+/// What a host file stands below that is to be served into an output that takes nothing.
+const FULL: &str = "$ full serve";
+
+/// What a host file stands below that is to be served into an output that fails at its end.
+const STUCK: &str = "$ stuck serve";
+
+/// An output that fails.
+#[derive(Drop)]
+enum Broken {
+    /// It takes nothing.
+    Full,
+    /// It fails when it is asked to pass on what it took.
+    Stuck,
+}
+
+impl Write for Broken {
+    fn write(&mut self, buf: &[u8]) -> io::Result<usize> {
+        match self {
+            Broken::Full => Err(io::Error::from(io::ErrorKind::StorageFull)),
+            Broken::Stuck => Ok(buf.len()),
+        }
+    }
+
+    fn flush(&mut self) -> io::Result<()> {
+        match self {
+            Broken::Full => Ok(()),
+            Broken::Stuck => Err(io::Error::from(io::ErrorKind::StorageFull)),
+        }
+    }
+}
 
 /// What goes to the standard output and to standard error.
 #[derive(Drop)]
@@ -62,6 +94,12 @@ impl Told {
         let mut file = below.as_bytes();
         if head.starts_with(SERVE) {
             return serve_file(rt, alloc, &mut file, &mut self.output, &mut self.words);
+        }
+        if head.starts_with(FULL) {
+            return serve_file(rt, alloc, &mut file, &mut Broken::Full, &mut self.words);
+        }
+        if head.starts_with(STUCK) {
+            return serve_file(rt, alloc, &mut file, &mut Broken::Stuck, &mut self.words);
         }
         replay(alloc, &mut file, &mut self.output, &mut self.words)
     }

@@ -52,3 +52,20 @@ bytes_low_first-shifted i (suc n) x =
 -- the lowest n bytes of a number, as std names them
 pub bytes_low_first-bytes_of : (n x : ℕ) → bytes_low_first 0 n x ≡ bytes_of n x
 bytes_low_first-bytes_of n x = bytes_low_first-shifted 0 n x ∙ ap (bytes_of n) (div-one x)
+
+-- the lowest two and four bytes of a number don't depend on what is above them
+pub bytes_of-two : (x : ℕ) → bytes_of 2 (x % 65536) ≡ bytes_of 2 x
+unfolding bytes_of
+bytes_of-two x =
+    let a : x % 65536 % 256 ≡ x % 256 = omega arith in
+    let b : x % 65536 / 256 % 256 ≡ x / 256 % 256 = omega arith in
+    rw (a, b) refl
+
+pub bytes_of-four : (x : ℕ) → bytes_of 4 (x % 4294967296) ≡ bytes_of 4 x
+unfolding bytes_of
+bytes_of-four x =
+    let a : x % 4294967296 % 256 ≡ x % 256 = omega arith in
+    let b : x % 4294967296 / 256 % 256 ≡ x / 256 % 256 = omega arith in
+    let c : x % 4294967296 / 256 / 256 % 256 ≡ x / 256 / 256 % 256 = omega arith in
+    let d : x % 4294967296 / 256 / 256 / 256 % 256 ≡ x / 256 / 256 / 256 % 256 = omega arith in
+    rw (a, b, c, d) refl

@@ -1,5 +1,5 @@
 -- Parts of lists, and lists of which each element is there or not.
-use Rattle.std.specs.Prelude.{◌≡◌, ℕ, zero, suc, ◌+◌, ◌≤◌, List, [], ◌∷◌, ◌++◌, take, drop, length, map, slice_index_or, All, IfSome, Option, Some, None, refl}
+use Rattle.std.specs.Prelude.{◌≡◌, ℕ, zero, suc, ◌+◌, ◌≤◌, List, [], ◌∷◌, ◌++◌, take, drop, length, map, slice_index_or, All, IfSome, Option, Some, None, refl, replicate}
 use Rattle.std.proofs.Common.{arith, sym, ap, ◌∙◌}
 use Rattle.std.proofs.lemmas.List.{append_assoc, length-append, length-take, length-drop, length-take-le, drop_at, take_at, drop-append-le, take-append-le, drop-take, take-take, drop-drop}
 use Rattle.std.proofs.lemmas.List.Elements.{All-cons, All-nil, All-head, All-tail}
@@ -103,3 +103,8 @@ map_Some-from_all_set (Some x ∷ xs) ys e = by_rest (map_Some-from_all_set xs) 
     by_rest : ((zs : List _) → all_set xs ≡ Some zs → xs ≡ map Some zs) → (o : Option (List _)) → all_set xs ≡ o → (o >>= λ rest. Some (x ∷ rest)) ≡ Some ys → Some x ∷ xs ≡ map Some ys
     by_rest known None q e = cc
     by_rest known (Some rest) q e = let same : x ∷ rest ≡ ys = cc in rw (← same) (ap (λ l. Some x ∷ l) (known rest q))
+
+-- the same element again and again, mapped
+pub map-replicate : {X Y : Type 0} (f : X → Y) (n : ℕ) (x : X) → map f (replicate n x) ≡ replicate n (f x)
+map-replicate f zero x = refl
+map-replicate f (suc n) x = ap (λ l. f x ∷ l) (map-replicate f n x)

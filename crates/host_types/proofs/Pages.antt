@@ -3,7 +3,7 @@ use Rattle.std.specs.Prelude.{◌≡◌, ℕ, ◌+◌, ◌*◌, ◌≤◌, List,
 use Rattle.std.proofs.Common.{arith, ap, ◌∙◌}
 use Rattle.std.proofs.lemmas.List.{length-drop, drop-append-le, take-append-le, drop-take, take-take, drop-drop}
 use Rattle.host_types.specs.Bytes.{part_of}
-use Rattle.host_types.specs.Pages.{page_bytes}
+use Rattle.host_types.specs.Pages.{page_bytes, zero_page}
 
 -- some elements of a part, where they lie in it
 part_of-take : {X : Type 0} (xs : List X) (at size width : ℕ) → at + size ≤ width → take size (drop at (take width xs)) ≡ take size (drop at xs)
@@ -26,3 +26,8 @@ part_of-page_bytes bytes number at size in_page in_map =
     ∙ ap (take size) (drop-append-le at (drop (number * 4096) bytes) zeros (omega (arith, rest, in_map)))
     ∙ take-append-le size (drop at (drop (number * 4096) bytes)) zeros (omega (arith, rest, further, in_map))
     ∙ ap (take size) (drop-drop at (number * 4096) bytes)
+
+-- as many zeros as a page has bytes
+pub replicate-zero_page : (n : ℕ) → n ≡ 4096 → replicate n 0 ≡ zero_page
+unfolding zero_page
+replicate-zero_page n e = ap (λ (m : ℕ). replicate m 0) e

@@ -207,10 +207,11 @@ unfolding break_cost
 cost-none s i here =
     ap (λ (x : Option PageState). unwrap_or (option_map (λ (state : PageState). cost_of (is_in_company s i) state.status) x) 0) here
 
-there : (xs : List (Option PageState)) (i : ℕ) (state : PageState) → slice_index_or xs i None ≡ Some state → i < length xs
-there [] i state e = absurd (cc)
-there (x ∷ xs) zero state e = omega arith
-there (x ∷ xs) (suc i) state e = let rest = there xs i state e in omega arith
+-- a page that is there has a place
+pub state_inside : (xs : List (Option PageState)) (i : ℕ) (state : PageState) → slice_index_or xs i None ≡ Some state → i < length xs
+state_inside [] i state e = absurd (cc)
+state_inside (x ∷ xs) zero state e = omega arith
+state_inside (x ∷ xs) (suc i) state e = let rest = state_inside xs i state e in omega arith
 
 -- what the break of a page keeps, and what it takes of the need
 pub record Breaks (s : Sharing) (i : ℕ) : Type 0 where
@@ -223,7 +224,7 @@ breaks-own s i are own none =
 
 module _ (s : Sharing) (i : ℕ) (state : PageState) (are : AreListed s) (here : state_at s i ≡ Some state) where
   at_here : slice_index_or (slice_set s.pages i (option_map broken_page (state_at s i))) i None ≡ Some (broken_page state)
-  at_here = get_or-set_same s.pages i (option_map broken_page (state_at s i)) None (there s.pages i state here) ∙ ap (option_map broken_page) here
+  at_here = get_or-set_same s.pages i (option_map broken_page (state_at s i)) None (state_inside s.pages i state here) ∙ ap (option_map broken_page) here
 
   at_other : (j : ℕ) → j ≢ i → slice_index_or (slice_set s.pages i (option_map broken_page (state_at s i))) j None ≡ state_at s j
   at_other j ne = get_or-set_other s.pages i j (option_map broken_page (state_at s i)) None ne
@@ -240,7 +241,7 @@ module _ (s : Sharing) (i : ℕ) (state : PageState) (are : AreListed s) (here :
   zeros-taken : zero_pages (taken s i) + zeros_at (Some state) ≡ zero_pages s
   unfolding zero_pages
   zeros-taken =
-      let set = sum_by-set zeros_at s.pages i (option_map broken_page (state_at s i)) None (there s.pages i state here) in
+      let set = sum_by-set zeros_at s.pages i (option_map broken_page (state_at s i)) None (state_inside s.pages i state here) in
       let old = ap zeros_at here in
       let new : zeros_at (option_map broken_page (state_at s i)) ≡ 0 = ap (λ (x : Option PageState). zeros_at (option_map broken_page x)) here in
       omega (arith, set, old, new)
@@ -324,7 +325,7 @@ unshared-here s i = by_state (state_at s i) refl
     by_status : (state : PageState) → state_at s i ≡ Some state → (b : Bool) → is_shared state.status ≡ b → IsUnshared (broken s i) i
     by_status state e true shared =
         subst (λ (t : Sharing). IsUnshared t i) (sym (broken-shared s i (ap is_shared_page e ∙ shared)))
-        (ap is_shared_page (get_or-set_same s.pages i (option_map broken_page (state_at s i)) None (there s.pages i state e) ∙ ap (option_map broken_page) e))
+        (ap is_shared_page (get_or-set_same s.pages i (option_map broken_page (state_at s i)) None (state_inside s.pages i state e) ∙ ap (option_map broken_page) e))
     by_status state e false own =
         let unshared = ap is_shared_page e ∙ own in subst (λ (t : Sharing). IsUnshared t i) (sym (broken-own s i unshared)) unshared
 

@@ -1,9 +1,16 @@
 -- What each option may be set to, and what it is where nobody sets it (the KSM manual's names; the
 -- limits are this project's own where the manual is silent).
-use Rattle.std.specs.Prelude.{ℕ, ◌≤◌}
+use Rattle.std.specs.Prelude.{ℕ, ◌≤◌, List, codes}
 use Rattle.host_types.specs.declared.options.Opt.{Opt}
 use Rattle.host_types.specs.declared.options.Opt.TheVariants.{PagesToScan, Run, UseZeroPages, MaxPageSharing}
 use Rattle.host_types.specs.declared.options.Options.{Options}
+
+-- an option's name, that of its file in Linux's KSM
+abbrev pub option_name : Opt → List ℕ
+option_name PagesToScan = codes "pages_to_scan"
+option_name Run = codes "run"
+option_name UseZeroPages = codes "use_zero_pages"
+option_name MaxPageSharing = codes "max_page_sharing"
 
 -- the option may be set to the value
 abbrev pub MayBe : Opt → ℕ → Type 0

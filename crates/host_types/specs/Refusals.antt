@@ -1,5 +1,5 @@
 -- The numbers and names of the refusals, as docs/HOST.md lists them.
-use Rattle.std.specs.Prelude.{ℕ, List, if◌then◌else◌, ◌==◌, codes}
+use Rattle.std.specs.Prelude.{ℕ, nat_le, List, [], ◌++◌, if◌then◌else◌, ◌==◌, codes, decimal}
 use Rattle.host_types.specs.Rules.{bad_length, unknown_opcode, bad_field, bad_register, cut_wide, back_jump, jump_out, falls_off, unset_register, wrong_kind, outside_context, outside_stack, unset_stack, outside_map, misaligned, null_not_checked, frame_written, unknown_helper, unknown_map, pointer_leaks}
 use Rattle.host_types.specs.declared.fault.Fault.{Fault}
 use Rattle.host_types.specs.declared.fault.Fault.TheVariants.{Program, NoFrames, TooManyMaps, BadShape, NoMap, NoElement, Busy, NoRun, NoProgram, BadContext, BadOption, OutOfMemory, BadTenant, PagesShared, TooManyPrograms}
@@ -61,3 +61,13 @@ fault_name OutOfMemory = codes "OutOfMemory"
 fault_name BadTenant = codes "BadTenant"
 fault_name PagesShared = codes "PagesShared"
 fault_name TooManyPrograms = codes "TooManyPrograms"
+
+-- the slot of a program's refusal, or the frames that were needed and there
+abbrev pub detail_text : Fault → List ℕ
+detail_text (Program refused) = if nat_le refused.number pointer_leaks then codes " at " ++ decimal refused.slot else []
+detail_text (NoFrames need have) = codes " need " ++ decimal need ++ codes " have " ++ decimal have
+detail_text fault = []
+
+-- a refusal as it is printed: its number, its name and its detail
+abbrev pub refusal_text : Fault → List ℕ
+refusal_text fault = codes "refused " ++ decimal (fault_number fault) ++ codes " " ++ fault_name fault ++ detail_text fault

@@ -49,7 +49,8 @@ pub enum Fault {
 }
 
 impl Refused {
-    ghost use Rattle.std.specs.Prelude.{◌≡◌};
+    ghost use Rattle.std.specs.Prelude.{◌≡◌, ◌==◌, if◌then◌else◌};
+    ghost use Rattle.host_types.specs.declared.fault.Fault.TheVariants.{OutOfMemory, Program};
     ghost use Rattle.host_types.specs.Refusals.{rule_name};
 
     /// The refusal for want of memory.
@@ -84,6 +85,17 @@ impl Refused {
             UNKNOWN_MAP => "UnknownMap",
             POINTER_LEAKS => "PointerLeaks",
             _ => "OutOfMemory",
+        }
+    }
+
+    /// The refusal as a host answers it: a program's, or want of memory.
+    pub fn fault(self) -> Fault
+        ensures { result ≡ (if self.number == 41 then OutOfMemory else Program self) }
+    {
+        if self.number == Refused::OUT_OF_MEMORY.number {
+            Fault::OutOfMemory
+        } else {
+            Fault::Program(self)
         }
     }
 }
@@ -139,48 +151,39 @@ impl Fault {
     }
 }
 
-/// The refusal as the program prints it: its number and name, then the slot of a program's
-/// refusal, or the frames that were needed and there.
-impl fmt::Display for Fault {
+/// What follows a refusal's name.
+#[derive(Clone, Copy, Debug)]
+struct Detail(Fault);
+
+impl fmt::Display for Detail {
+    ghost use Rattle.std.specs.Prelude.{Some};
+    ghost use Rattle.host_types.specs.Refusals.{detail_text};
+
+    ghost output = { λ detail. Some (detail_text detail.0) };
+
     fn fmt<W: fmt::Write>(&self, f: &mut fmt::Formatter<W>) -> fmt::Result {
-        let number = self.number();
-        let name = self.name();
-        write!(f, "refused {number} {name}")?;
-        match self {
-            Fault::Program(refused) if refused.number <= 25 => write!(f, " at {}", refused.slot),
+        match self.0 {
+            Fault::Program(refused) if refused.number <= POINTER_LEAKS => {
+                write!(f, " at {}", refused.slot)
+            }
             Fault::NoFrames { need, have } => write!(f, " need {need} have {have}"),
             _ => Ok(()),
         }
     }
 }
 
-#[cfg(test)]
-mod tests {
-    use super::*;
-    use std::test::Fail;
+/// The refusal as the program prints it: its number and name, then the slot of a program's
+/// refusal, or the frames that were needed and there.
+impl fmt::Display for Fault {
+    ghost use Rattle.std.specs.Prelude.{Some};
+    ghost use Rattle.host_types.specs.Refusals.{refusal_text};
 
-    #[test]
-    fn prints_refusals(rt: HostRuntime) -> Result<(), Fail> {
-        let outside = Refused {
-            number: OUTSIDE_CONTEXT,
-            slot: 3,
-        };
-        let rows = [
-            (Fault::Program(outside), "refused 16 OutsideContext at 3"),
-            (
-                Fault::Program(Refused::OUT_OF_MEMORY),
-                "refused 41 OutOfMemory",
-            ),
-            (
-                Fault::NoFrames { need: 2, have: 1 },
-                "refused 31 NoFrames need 2 have 1",
-            ),
-            (Fault::TooManyPrograms, "refused 45 TooManyPrograms"),
-        ];
-        for (fault, want) in rows {
-            let printed = format!(in rt.alloc(); "{fault}")?;
-            assert_eq!(rt; printed.as_str(), want);
-        }
-        Ok(())
+    ghost output = { λ fault. Some (refusal_text fault) };
+
+    fn fmt<W: fmt::Write>(&self, f: &mut fmt::Formatter<W>) -> fmt::Result {
+        let number = self.number();
+        let name = self.name();
+        let detail = Detail(*self);
+        write!(f, "refused {number} {name}{detail}")
     }
 }

@@ -21,8 +21,22 @@ pub enum Opt {
 }
 
 impl Opt {
-    ghost use Rattle.std.specs.Prelude.{◌↔◌, IsTrue};
-    ghost use Rattle.host_types.specs.OptionTable.{MayBe};
+    ghost use Rattle.std.specs.Prelude.{◌≡◌, ◌≢◌, ◌↔◌, IsTrue, IsNone, IfSome};
+    ghost use Rattle.host_types.specs.OptionTable.{MayBe, option_name};
+
+    /// The option with a name, if there is one.
+    pub fn named(name: &str) -> Option<Opt>
+        ensures named { IfSome result (λ option. name.now ≡ option_name option) }
+        ensures unnamed { IsNone result → (option : Opt) → name.now ≢ option_name option }
+    {
+        match name {
+            "pages_to_scan" => Some(Opt::PagesToScan),
+            "run" => Some(Opt::Run),
+            "use_zero_pages" => Some(Opt::UseZeroPages),
+            "max_page_sharing" => Some(Opt::MaxPageSharing),
+            _ => None,
+        }
+    }
 
     /// Whether the option may be set to the value.
     pub fn allows(self, value: u32) -> bool

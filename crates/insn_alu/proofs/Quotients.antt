@@ -7,26 +7,26 @@ use Rattle.std.specs.Int.Signed.{quot_z}
 use Rattle.std.proofs.lemmas.Int.{of_z-to_z}
 
 -- how large a signed number is
-abbrev size_of : ℤ → ℕ
+abbrev pub size_of : ℤ → ℕ
 size_of (pos n) = n
 size_of (negsuc n) = suc n
 
-negated_size : (q a : ℕ) → q ≤ a → size_of (neg_ℤ (pos q)) ≤ a
+pub negated_size : (q a : ℕ) → q ≤ a → size_of (neg_ℤ (pos q)) ≤ a
 negated_size zero a h = h
 negated_size (suc q) a h = h
 
 -- a quotient isn't larger than what is divided
-quotient_size : (x y : ℤ) → size_of (quot_z x y) ≤ size_of x
+pub quotient_size : (x y : ℤ) → size_of (quot_z x y) ≤ size_of x
 quotient_size (pos a) (pos b) = div-le_self a b
 quotient_size (pos a) (negsuc b) = negated_size (a / suc b) a (div-le_self a (suc b))
 quotient_size (negsuc a) (pos b) = negated_size (suc a / b) (suc a) (div-le_self (suc a) b)
 quotient_size (negsuc a) (negsuc b) = div-le_self (suc a) (suc b)
 
-size_64 : (z : ℤ) → FitsSigned w64 z → size_of z ≤ 9223372036854775808
+pub size_64 : (z : ℤ) → FitsSigned w64 z → size_of z ≤ 9223372036854775808
 size_64 (pos n) h = omega arith
 size_64 (negsuc n) h = omega arith
 
-size_32 : (z : ℤ) → FitsSigned w32 z → size_of z ≤ 2147483648
+pub size_32 : (z : ℤ) → FitsSigned w32 z → size_of z ≤ 2147483648
 size_32 (pos n) h = omega arith
 size_32 (negsuc n) h = omega arith
 

@@ -1,5 +1,5 @@
 -- How large the results of arithmetic are, and that with 32 bits the low half of the second operand counts.
-use Rattle.std.proofs.Common.{Bool, inl, inr, ◌≡◌, ◌∙◌, ℕ, zero, suc, ◌+◌, ◌-◌, ◌*◌, ◌/◌, ◌%◌, ◌^◌, ◌<◌, ◌≤◌, ◌==◌, ℤ, pos, negsuc, neg_ℤ, true, false, FitsSigned, if◌then◌else◌, refl, sym, ap, arith}
+use Rattle.std.proofs.Common.{Bool, inl, inr, ◌≡◌, ◌∙◌, ℕ, zero, suc, ◌+◌, ◌-◌, ◌*◌, ◌%◌, ◌^◌, ◌<◌, ◌≤◌, ◌==◌, ℤ, pos, negsuc, true, false, if◌then◌else◌, refl, sym, ap, arith}
 use Rattle.std.proofs.Math.Nat.{div-le_self, le_trans}
 use Rattle.std.proofs.Math.Facts.{sfits_to_z}
 use Rattle.std.proofs.lemmas.Nat.{and_le_l, or_lt, xor_lt, shr_le}
@@ -14,16 +14,12 @@ use Rattle.bpf_decode.specs.declared.operation.AluCode.TheVariants.{Add, Sub, Mu
 use Rattle.bpf_decode.specs.Opcodes.{is}
 use Rattle.insn_alu.specs.Arithmetic.{alu, low, modulus, signed, unsigned, count, quotient, remainder, moved, cut_to, swapped, is_swap}
 use Rattle.insn_alu.proofs.Halves.{of_lows}
+use Rattle.insn_alu.proofs.Quotients.{size_of, negated_size, quotient_size, size_64, size_32}
 
 -- the low bits of a number are a number of the width
 pub low_fits : (width : Width) (n : ℕ) → low width n < modulus width
 low_fits Bits32 n = omega arith
 low_fits Bits64 n = omega arith
-
--- how large a signed number is
-abbrev size_of : ℤ → ℕ
-size_of (pos n) = n
-size_of (negsuc n) = suc n
 
 -- half of the numbers of a width
 abbrev half : Width → ℕ
@@ -36,27 +32,9 @@ unsigned_fits Bits32 (negsuc n) h = omega arith
 unsigned_fits Bits64 (pos n) h = omega arith
 unsigned_fits Bits64 (negsuc n) h = omega arith
 
-size_32 : (z : ℤ) → FitsSigned w32 z → size_of z ≤ 2147483648
-size_32 (pos n) h = omega arith
-size_32 (negsuc n) h = omega arith
-
-size_64 : (z : ℤ) → FitsSigned w64 z → size_of z ≤ 9223372036854775808
-size_64 (pos n) h = omega arith
-size_64 (negsuc n) h = omega arith
-
 signed_size : (width : Width) (n : ℕ) → n < modulus width → size_of (signed width n) ≤ half width
 signed_size Bits32 n h = size_32 (cast_signed w32 n) (sfits_to_z (record { fits = h }))
 signed_size Bits64 n h = size_64 (cast_signed w64 n) (sfits_to_z (record { fits = h }))
-
-negated_size : (q a : ℕ) → q ≤ a → size_of (neg_ℤ (pos q)) ≤ a
-negated_size zero a h = h
-negated_size (suc q) a h = h
-
-quotient_size : (x y : ℤ) → size_of (quot_z x y) ≤ size_of x
-quotient_size (pos a) (pos b) = div-le_self a b
-quotient_size (pos a) (negsuc b) = negated_size (a / suc b) a (div-le_self a (suc b))
-quotient_size (negsuc a) (pos b) = negated_size (suc a / b) (suc a) (div-le_self (suc a) b)
-quotient_size (negsuc a) (negsuc b) = div-le_self (suc a) (suc b)
 
 rest_size : (a b : ℕ) → a % b ≤ a
 rest_size a zero = omega arith

@@ -1,6 +1,5 @@
 pub mod Words
 pub mod Agreeing
-pub mod Counting
 pub mod Addresses
 pub mod KnownLess
 pub mod Bits

@@ -1,5 +1,5 @@
 -- What is known of questions that broke no rule.
-use Rattle.std.specs.Prelude.{◌≡◌, ℕ, ◌+◌, ◌%◌, ◌≤◌, nat_le, ◌==◌, ℤ, pos, negsuc, ◌+ℤ◌, ◌⊎◌, Bool, true, false, not, if◌then◌else◌, is_some, Option, Some, None, Result, Ok, Err, refl}
+use Rattle.std.specs.Prelude.{◌≡◌, ℕ, ◌+◌, ◌%◌, ◌≤◌, nat_le, ◌==◌, ℤ, pos, negsuc, ◌+ℤ◌, ◌⊎◌, Bool, true, false, not, if◌then◌else◌, is_some, Result, Ok, Err, refl}
 use Rattle.std.proofs.Common.{arith, inl, inr}
 use Rattle.std.proofs.lemmas.Bool.Decides.{nat_tests}
 use Rattle.bpf_decode.specs.declared.insn.Insn.{Insn}
@@ -9,30 +9,14 @@ use Rattle.verifier_kinds.specs.declared.kind.Kind.TheVariants.{Scalar, MapName}
 use Rattle.verifier_kinds.specs.declared.description.Description.{Description}
 use Rattle.verifier_kinds.specs.Kinds.{constant, shape_at}
 use Rattle.verifier_kinds.specs.Descriptions.{with_kind}
-use Rattle.verifier.specs.Flow.{◌>>=◌, both, holds_or, known_or, writable, write_kind, lies_below, aligned, context_place, stack_place, name_kind, wide_kind}
+use Rattle.verifier.specs.Flow.{both, holds_or, writable, write_kind, lies_below, aligned, context_place, stack_place, name_kind, wide_kind}
 use Rattle.verifier.specs.Subject.{Subject}
-
--- both questions passed, with the parts of the answer
-pub both_passed : {A B : Type 0} (a : Result A ℕ) (b : Result B ℕ) (x : A × B) → both a b ≡ Ok x → (a ≡ Ok x.0) × (b ≡ Ok x.1)
-both_passed (Ok u) (Ok v) x e = let same : (u, v) ≡ x = cc in (cc, cc)
-both_passed (Ok u) (Err n) x e = cc
-both_passed (Err m) (Ok v) x e = cc
-both_passed (Err m) (Err n) x e = cc
-
--- the first question passed, and the second that was asked of its answer
-pub then_passed : {A B : Type 0} (a : Result A ℕ) (f : A → Result B ℕ) (y : B) → (a >>= f) ≡ Ok y → (x : A) × (a ≡ Ok x) × (f x ≡ Ok y)
-then_passed (Ok x) f y e = (x, refl, e)
-then_passed (Err n) f y e = cc
+use Rattle.verifier.proofs.Flows.{both_ok, then_ok}
 
 -- the test holds
 pub held : (test : Bool) (rule : ℕ) (x : Unit {0}) → holds_or test rule ≡ Ok x → test ≡ true
 held true rule x e = refl
 held false rule x e = cc
-
--- it is known
-pub was_known : {A : Type 0} (o : Option A) (rule : ℕ) (x : A) → known_or o rule ≡ Ok x → o ≡ Some x
-was_known (Some y) rule x e = cc
-was_known None rule x e = cc
 
 -- the place is the offset, and all the bytes lie below the end
 pub lay_below : (offset : ℤ) (size end rule at : ℕ) → lies_below offset size end rule ≡ Ok at → (offset ≡ pos at) × (at + size ≤ end)
@@ -54,7 +38,7 @@ was_aligned from size at e = by_test (from % size == 0) refl e
 -- the place in the context of an access that is let through
 pub context_passed : (context_size : ℕ) (offset : ℤ) (size at : ℕ) → context_place context_size offset size ≡ Ok at → (offset ≡ pos at) × (at + size ≤ context_size) × (at % size ≡ 0)
 context_passed context_size offset size at e =
-    let (from, below, after) = then_passed (lies_below offset size context_size 16) (λ from. aligned from size) at e in
+    let (from, below, after) = then_ok (lies_below offset size context_size 16) (λ from. aligned from size) at e in
     let (is, within) = lay_below offset size context_size 16 from below in
     let (same, whole) = was_aligned from size at after in
     (rw (← same) is, rw (← same) within, whole)
@@ -62,7 +46,7 @@ context_passed context_size offset size at e =
 -- the place in the stack of an access that is let through
 pub stack_passed : (offset : ℤ) (size at : ℕ) → stack_place offset size ≡ Ok at → (offset +ℤ pos 512 ≡ pos at) × (at + size ≤ 512) × (at % size ≡ 0)
 stack_passed offset size at e =
-    let (from, below, after) = then_passed (lies_below (offset +ℤ pos 512) size 512 17) (λ from. aligned from size) at e in
+    let (from, below, after) = then_ok (lies_below (offset +ℤ pos 512) size 512 17) (λ from. aligned from size) at e in
     let (is, within) = lay_below (offset +ℤ pos 512) size 512 17 from below in
     let (same, whole) = was_aligned from size at after in
     (rw (← same) is, rw (← same) within, whole)
@@ -71,8 +55,8 @@ stack_passed offset size at e =
 pub write_passed : (d : Description) (i : ℕ) (given : Result Kind ℕ) (e : Description) → write_kind d i given ≡ Ok e
     → (kind : Kind) × (given ≡ Ok kind) × (not (i == 10) ≡ true) × (with_kind d i kind ≡ e)
 write_passed d i given e h =
-    let (x, passed, is) = then_passed (both given (writable i)) (λ x. Ok (with_kind d i x.0)) e h in
-    let (known, may) = both_passed given (writable i) x passed in
+    let (x, passed, is) = then_ok (both given (writable i)) (λ x. Ok (with_kind d i x.0)) e h in
+    let (known, may) = both_ok given (writable i) x passed in
     (x.0, known, held (not (i == 10)) 22 x.1 may, cc)
 
 -- the wide instruction names a map that is there
@@ -90,7 +74,7 @@ wide_passed p insn kind e = by_test (insn.src == 0) refl e
   where
     named : (number : ℤ) → insn.imm ≡ number → (insn.src == 0) ≡ false → name_kind p number ≡ Ok kind → Names p insn kind
     named (pos m) is other e =
-        let there = then_passed (holds_or (is_some (shape_at p.shapes m)) 24) (λ there. Ok (MapName m)) kind e in
+        let there = then_ok (holds_or (is_some (shape_at p.shapes m)) 24) (λ there. Ok (MapName m)) kind e in
         record { other = other; m = m; number = is; there = held (is_some (shape_at p.shapes m)) 24 there.0 there.1; is = cc }
     named (negsuc n) is other e = cc
 

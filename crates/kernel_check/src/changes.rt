@@ -1,5 +1,6 @@
 use crate::runs::{Outcome, on_the_host, on_the_plain_machine};
 use std::alloc::{AllocError, Global};
+use test_inputs::{BITS, flip};
 
 /// Whether the texts that a row's program becomes by a change are refused or go as they do on the plain
 /// machine: cut at any byte, or with one bit of any byte flipped.
@@ -11,9 +12,6 @@ pub(crate) fn all_agree(alloc: Global, text: &[u8], row: usize) -> Result<bool, 
 fn cuts_agree(alloc: Global, text: &[u8]) -> bool {
     (0..text.len()).all(|length| is_refused_or_agrees(alloc, &text[..length], true))
 }
-
-/// The bits of a byte.
-const BITS: [u8; 8] = [1, 2, 4, 8, 16, 32, 64, 128];
 
 /// Whether a program is refused or goes as on the plain machine with one bit of any byte flipped: from byte
 /// to byte, from slot to slot and from row to row the next bit, so that eight rows flip all bits of a place.
@@ -29,13 +27,6 @@ fn flips_agree(alloc: Global, text: &[u8], row: usize) -> Result<bool, AllocErro
         flip(changed.as_mut_slice(), at, bit);
     }
     Ok(true)
-}
-
-/// Flips a bit of a byte.
-fn flip(text: &mut [u8], at: usize, bit: u8) {
-    if let Some(byte) = text.get_mut(at) {
-        *byte ^= bit;
-    }
 }
 
 /// Whether a text is refused, or goes as it does on the plain machine.

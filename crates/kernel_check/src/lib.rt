@@ -10,58 +10,43 @@
 mod changes;
 mod judges;
 mod row;
+mod rows;
 mod runs;
 mod shapes;
 
 use changes::all_agree;
 pub use judges::judge_alike;
 use row::Row;
+pub use rows::{Finding, Rows, compare_rows};
 use runs::{Outcome, on_the_host, on_the_plain_machine};
 pub use shapes::shapes_of;
 use std::alloc::{AllocError, Global};
 use std::io;
 use std::io::Input;
 
-/// What is found of a row.
-enum Finding {
-    /// Its program does what the row says, and the changed texts go alike.
-    Agrees,
-    /// It is no row, or its program does something else.
-    Differs,
-    /// Of the texts that its program becomes by a change one doesn't go alike.
-    DiffersChanged,
-}
+/// The rows of results that the kernel or a worked example gives.
+#[derive(Drop)]
+struct Results;
 
-/// Compares the host with each row of the standard input, behind its line of names. Each row that differs
-/// is a line of the output, and the last line counts the rows that agree.
-pub fn compare_input(rt: &(impl AllocGlobal + Input + Print)) -> io::Result<()> {
-    let alloc = rt.alloc();
-    let mut rows: usize = 0;
-    let mut agreed: usize = 0;
-    for line in rt.lines(alloc).skip(1) {
-        let line = line?;
-        rows = rows.saturating_add(1);
-        match compare(alloc, line.as_str(), rows)? {
-            Finding::Agrees => agreed = agreed.saturating_add(1),
-            Finding::Differs => println!(rt; "differs: {line}")?,
-            Finding::DiffersChanged => println!(rt; "differs when it is changed: {line}")?,
-        }
-    }
-    println!(rt; "{agreed} of {rows} rows agree")
-}
-
-/// Compares the host with the row that a line says; which row it is says how its program is changed.
-fn compare(alloc: Global, line: &str, number: usize) -> Result<Finding, AllocError> {
-    match Row::parse(alloc, line) {
-        Some(row) if agrees(alloc, &row) => {
-            if all_agree(alloc, row.text.as_slice(), number)? {
-                Ok(Finding::Agrees)
-            } else {
-                Ok(Finding::DiffersChanged)
+impl Rows for Results {
+    /// Compares the host with the row that a line says; which row it is says how its program is changed.
+    fn compare(&mut self, alloc: Global, line: &str, number: usize) -> Result<Finding, AllocError> {
+        match Row::parse(alloc, line) {
+            Some(row) if agrees(alloc, &row) => {
+                if all_agree(alloc, row.text.as_slice(), number)? {
+                    Ok(Finding::Agrees)
+                } else {
+                    Ok(Finding::DiffersChanged)
+                }
             }
+            _ => Ok(Finding::Differs),
         }
-        _ => Ok(Finding::Differs),
     }
+}
+
+/// Compares the host with each row of the standard input.
+pub fn compare_input(rt: &(impl AllocGlobal + Input + Print)) -> io::Result<()> {
+    compare_rows(rt, &mut Results)
 }
 
 /// Whether a row's program does what the row says, on the host and on the plain machine alike.

@@ -1,10 +1,11 @@
 //! The shapes of maps as rows write them.
 
-ghost use Rattle.std.specs.Prelude.{◌<◌, length, IfOk, IfSome, OnOk};
+ghost use Rattle.std.specs.Prelude.{IfOk, IfSome};
 ghost use Rattle.host_types.specs.Shapes.{IsShape};
 ghost use Rattle.verifier.specs.Verified.{AreShapes};
 
 use host_types::Shape;
+use plain_verifier::push_shape;
 use std::alloc::{AllocError, Global};
 
 /// The shape that is written `VALUE_SIZE:ENTRIES`, if a map may have it.
@@ -19,17 +20,6 @@ fn shape_of(text: &str) -> Option<Shape>
     if shape.is_valid() { Some(shape) } else { None }
 }
 
-/// Puts a shape behind others.
-fn add(shapes: &mut Vec<Shape>, shape: Shape) -> Result<(), AllocError>
-    requires shapes { AreShapes shapes.old.items }
-    requires shape { IsShape shape }
-    requires few { length shapes.old.items < 8 }
-    ensures { OnOk result (AreShapes shapes.new.items) }
-{
-    shapes.push(shape)?;
-    Ok(())
-}
-
 /// The shapes that are written `VALUE_SIZE:ENTRIES` between spaces, at most eight; what is no shape that a map may
 /// have is passed over.
 pub fn shapes_of(alloc: Global, given: &str) -> Result<Vec<Shape>, AllocError>
@@ -38,7 +28,7 @@ pub fn shapes_of(alloc: Global, given: &str) -> Result<Vec<Shape>, AllocError>
     let mut shapes = Vec::new(alloc);
     for text in given.split(' ') {
         match shape_of(text) {
-            Some(shape) if shapes.len() < 8 => add(&mut shapes, shape)?,
+            Some(shape) if shapes.len() < 8 => push_shape(&mut shapes, shape)?,
             _ => {}
         }
     }

@@ -3,9 +3,7 @@
 use crate::runs::is_refused_or_agrees;
 use crate::setting::Setting;
 use std::alloc::{AllocError, Global};
-
-/// The bits of a byte.
-const BITS: [u8; 8] = [1, 2, 4, 8, 16, 32, 64, 128];
+use test_inputs::{BITS, flip};
 
 /// The most bytes of maps whose programs are changed.
 const SMALL: usize = 65536;
@@ -51,11 +49,4 @@ fn flips_agree(alloc: Global, setting: &Setting, text: &[u8]) -> Result<bool, Al
         }
     }
     Ok(true)
-}
-
-/// Flips a bit of a byte.
-fn flip(text: &mut [u8], at: usize, bit: u8) {
-    if let Some(byte) = text.get_mut(at) {
-        *byte ^= bit;
-    }
 }

@@ -12,60 +12,51 @@ mod runs;
 mod setting;
 
 use changes::{is_small, texts_that_agree};
+use kernel_check::{Finding, Rows, compare_rows};
 use row::Row;
 use runs::agrees;
 use std::alloc::{AllocError, Global};
 use std::io;
-use std::io::Input;
 
-/// What is found of a row.
-enum Finding {
-    /// It goes as it says, and so many texts that its program becomes go alike.
-    Agrees(usize),
-    /// It is no row, or its program does something else.
-    Differs,
-    /// Of the texts that its program becomes by a change one doesn't go alike.
-    DiffersChanged,
+/// How many changed texts are refused or go alike.
+#[derive(Drop)]
+struct Changed {
+    texts: usize,
 }
 
-/// Compares the programs of a row.
-fn compare(alloc: Global, line: &str) -> Result<Finding, AllocError> {
-    match Row::parse(alloc, line) {
-        Some(row) if agrees(alloc, &row) => changed(alloc, &row),
-        _ => Ok(Finding::Differs),
+impl Rows for Changed {
+    /// Compares the programs of a row.
+    fn compare(
+        &mut self,
+        alloc: Global,
+        line: &str,
+        _number: usize,
+    ) -> Result<Finding, AllocError> {
+        match Row::parse(alloc, line) {
+            Some(row) if agrees(alloc, &row) => self.changed(alloc, &row),
+            _ => Ok(Finding::Differs),
+        }
     }
 }
 
-/// Compares the texts that a row's program becomes.
-fn changed(alloc: Global, row: &Row) -> Result<Finding, AllocError> {
-    if !is_small(&row.setting) {
-        return Ok(Finding::Agrees(0));
-    }
-    Ok(
+impl Changed {
+    /// Compares the texts that a row's program becomes, and counts those that go alike.
+    fn changed(&mut self, alloc: Global, row: &Row) -> Result<Finding, AllocError> {
+        if !is_small(&row.setting) {
+            return Ok(Finding::Agrees);
+        }
         match texts_that_agree(alloc, &row.setting, row.text.as_slice())? {
-            Some(texts) => Finding::Agrees(texts),
-            None => Finding::DiffersChanged,
-        },
-    )
+            Some(texts) => {
+                self.texts = self.texts.saturating_add(texts);
+                Ok(Finding::Agrees)
+            }
+            None => Ok(Finding::DiffersChanged),
+        }
+    }
 }
 
 fn main(rt: HostRuntime) -> io::Result<()> {
-    let alloc = rt.alloc();
-    let mut rows: usize = 0;
-    let mut agreed: usize = 0;
-    let mut texts: usize = 0;
-    for line in rt.lines(alloc).skip(1) {
-        let line = line?;
-        rows = rows.saturating_add(1);
-        match compare(alloc, line.as_str())? {
-            Finding::Agrees(more) => {
-                agreed = agreed.saturating_add(1);
-                texts = texts.saturating_add(more);
-            }
-            Finding::Differs => println!(rt; "differs: {line}")?,
-            Finding::DiffersChanged => println!(rt; "differs when it is changed: {line}")?,
-        }
-    }
-    println!(rt; "{agreed} of {rows} rows agree")?;
-    println!(rt; "{texts} changed texts are refused or agree")
+    let mut changed = Changed { texts: 0 };
+    compare_rows(&rt, &mut changed)?;
+    println!(rt; "{} changed texts are refused or agree", changed.texts)
 }

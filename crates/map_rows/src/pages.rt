@@ -1,8 +1,5 @@
 //! The memory of two tenants with the same maps, whose pages lie on frames of their own or share them.
 
-ghost use Rattle.std.specs.Prelude.{◌≡◌, length};
-ghost use Rattle.page_table.specs.State.{part, map_bytes};
-
 use crate::setting::{Setting, Value};
 use host_types::{MapNo, Options, Shape};
 use map_helpers::{update, update_needs};
@@ -133,19 +130,9 @@ fn place(memory: &mut Memory, count: usize, pages: Pages) -> bool {
     }
 }
 
-/// The bytes of a tenant's map; none where there is no such map.
-fn byte_len(memory: &Memory, tenant: u32, map: MapNo) -> u32
-    ensures { result ≡ length (map_bytes (part memory.now tenant) map) }
-{
-    match memory.shape(tenant, map) {
-        Some(shape) => shape.byte_len(),
-        None => 0,
-    }
-}
-
 /// Whether a tenant's map has just these bytes.
 fn has_bytes(memory: &Memory, tenant: u32, map: MapNo, bytes: &[u8]) -> bool {
-    let len = byte_len(memory, tenant, map);
+    let len = memory.byte_len(tenant, map);
     if len as usize != bytes.len() {
         return false;
     }

@@ -7,19 +7,17 @@ use crate::row::Row;
 use crate::setting::{Maps, Setting, put_all};
 use admission::release;
 use bpf_decode::decode;
+use host_types::rule::CUT_WIDE;
 use host_types::{Fault, Refused};
 use kernel_check::judge_alike;
 use page_table::Memory;
 use plain_machine::{ArrayMap, Ending, Machine};
 use std::alloc::Global;
 use tenant_runs::{RunReply, run};
-use verifier::{Verified, verify};
+use verifier::{Verified, is_context_size, verify};
 
 /// As many steps as a program has instructions at most.
 const STEPS: u32 = 4096;
-
-/// The greatest number of a refusal by the decoder.
-const LAST_OF_TEXT: u32 = 5;
 
 /// The tenant that runs a program; the other one does nothing.
 const RUNNING: u32 = 0;
@@ -43,7 +41,7 @@ fn context_size(setting: &Setting) -> u32
     ensures { IsContextSize result }
 {
     match u32::try_from(setting.context().len()) {
-        Ok(size) if size <= 256 && size % 8 == 0 => size,
+        Ok(size) if is_context_size(size) => size,
         _ => 0,
     }
 }
@@ -63,7 +61,7 @@ fn is_judged_alike(
     verified: &Result<Verified, Refused>,
 ) -> bool {
     if let Err(refused) = verified {
-        if refused.number <= LAST_OF_TEXT {
+        if refused.number <= CUT_WIDE {
             return true;
         }
     }

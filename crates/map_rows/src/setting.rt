@@ -98,8 +98,7 @@ fn map_of_zeros(alloc: Global, shape: Shape) -> Option<ArrayMap> {
     if !shape.is_valid() {
         return None;
     }
-    let bytes = vec![in alloc; 0; shape.byte_len() as usize].ok()?;
-    Some(ArrayMap::new(shape, bytes))
+    ArrayMap::of_zeros(alloc, shape).ok()
 }
 
 /// Puts a value into its map. It answers whether it has a place there.

@@ -1,6 +1,6 @@
 //! A memory and the plain program, to which the same is done.
 
-ghost use Rattle.std.specs.Prelude.{◌≡◌, ◌+◌, ◌<◌, ◌≤◌, IsTrue, length};
+ghost use Rattle.std.specs.Prelude.{◌+◌, ◌<◌, ◌≤◌, IsTrue, length};
 ghost use Rattle.page_table.specs.Changes.{IsPageOf};
 ghost use Rattle.page_table.specs.State.{part, map_bytes};
 
@@ -55,21 +55,11 @@ fn first_place(tenant: u32, map: MapNo) -> usize
     (tenant as usize * MAX_MAPS + map as usize) * MAX_PAGES
 }
 
-/// The bytes of a tenant's map; none where there is no such map.
-fn byte_len(memory: &Memory, tenant: u32, map: MapNo) -> u32
-    ensures { result ≡ length (map_bytes (part memory.now tenant) map) }
-{
-    match memory.shape(tenant, map) {
-        Some(shape) => shape.byte_len(),
-        None => 0,
-    }
-}
-
 /// Whether some bytes are in a tenant's map.
 fn has(memory: &Memory, tenant: u32, map: MapNo, at: u32, len: u32) -> bool
     ensures { IsTrue result → at + len ≤ length (map_bytes (part memory.now tenant) map) }
 {
-    let whole = byte_len(memory, tenant, map);
+    let whole = memory.byte_len(tenant, map);
     at <= whole && len <= whole - at
 }
 
@@ -77,7 +67,7 @@ fn has(memory: &Memory, tenant: u32, map: MapNo, at: u32, len: u32) -> bool
 fn is_there(memory: &Memory, page: Page) -> bool
     ensures { IsTrue result → IsPageOf memory.now page }
 {
-    page.number < byte_len(memory, page.tenant, page.map).div_ceil(4096)
+    page.number < memory.byte_len(page.tenant, page.map).div_ceil(4096)
 }
 
 /// What the memory keeps of the page at a place.
@@ -180,7 +170,7 @@ impl Both {
             }
             Err(_) => return Ok(true),
         };
-        let pages = byte_len(&self.memory, tenant, map).div_ceil(4096);
+        let pages = self.memory.byte_len(tenant, map).div_ceil(4096);
         for number in 0..pages {
             let place = first_place(tenant, map) + number as usize;
             self.plain.add(place, mergeable);
@@ -331,7 +321,7 @@ impl Both {
 
     /// The same of the pages of a tenant's map.
     fn map_agrees(&self, tenant: u32, map: MapNo, marks: &mut [bool]) -> bool {
-        let pages = byte_len(&self.memory, tenant, map).div_ceil(4096);
+        let pages = self.memory.byte_len(tenant, map).div_ceil(4096);
         for number in 0..pages {
             let place = first_place(tenant, map) + number as usize;
             let entry = entry_at(&self.memory, place);

@@ -8,7 +8,7 @@ ghost use Rattle.std.specs.Prelude.{◌<◌, ◌≤◌};
 mod both;
 
 use both::{Both, MAPS, TENANTS};
-use host_types::{Opt, Options};
+use host_types::Options;
 use std::alloc::{AllocError, Global};
 use std::io;
 use test_inputs::Draws;
@@ -46,16 +46,10 @@ fn store(both: &mut Both, draws: &mut Draws, pages: u32) -> bool
     }
 }
 
-/// Draws an option and a value, mostly so that the scanner runs.
+/// Draws an option and a value, and sets it.
 fn set(both: &mut Both, draws: &mut Draws) -> bool {
-    let value = draws.below(5);
-    match draws.below(8) {
-        0 => both.set(Opt::PagesToScan, value),
-        1 => both.set(Opt::Run, value),
-        2 => both.set(Opt::UseZeroPages, value),
-        3 => both.set(Opt::MaxPageSharing, value),
-        _ => both.set(Opt::Run, 1),
-    }
+    let (option, value) = draws.option();
+    both.set(option, value)
 }
 
 /// Draws an operation and does it to both. It answers whether both answered the same.

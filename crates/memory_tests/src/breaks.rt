@@ -3,27 +3,17 @@ ghost use Rattle.host_types.specs.Pages.{page_bytes, zero_page};
 ghost use Rattle.page_table.specs.State.{part, map_bytes, bytes_of_map};
 ghost use Rattle.page_table.specs.Changes.{IsPageOf, MayMerge};
 
-use host_types::{Fault, MapNo, Options, Page};
+use host_types::{Fault, Options, Page};
 use page_table::Memory;
 use std::alloc::Global;
 use std::test::Fail;
 use write_break::{load, needs, store, store_bytes};
 
-/// The bytes of a tenant's map; none where there is no such map.
-fn byte_len(memory: &Memory, tenant: u32, map: MapNo) -> u32
-    ensures { result ≡ length (map_bytes (part memory.now tenant) map) }
-{
-    match memory.shape(tenant, map) {
-        Some(shape) => shape.byte_len(),
-        None => 0,
-    }
-}
-
 /// Whether some bytes are in a tenant's map 0.
 fn has(memory: &Memory, tenant: u32, at: u32, len: u32) -> bool
     ensures { IsTrue result → at + len ≤ length (map_bytes (part memory.now tenant) 0) }
 {
-    let whole = byte_len(memory, tenant, 0);
+    let whole = memory.byte_len(tenant, 0);
     at <= whole && len <= whole - at
 }
 
@@ -42,7 +32,7 @@ pub(crate) fn page(tenant: u32, number: u32) -> Page
 pub(crate) fn is_there(memory: &Memory, page: Page) -> bool
     ensures { IsTrue result → IsPageOf memory.now page }
 {
-    page.number < byte_len(memory, page.tenant, page.map).div_ceil(4096)
+    page.number < memory.byte_len(page.tenant, page.map).div_ceil(4096)
 }
 
 /// Whether a page may be merged and has a frame of its own.

@@ -10,7 +10,7 @@ use Rattle.host_types.specs.Pages.{zero_page}
 use Rattle.frame_arena.proofs.Pages.{length-zero_page}
 use Rattle.page_table.specs.declared.entry.Entry.{Entry}
 use Rattle.page_table.specs.Table.{TableState, CountsState, IsTable, IsEntry, IsAlone, IsGroup, IsSound, AreCountsOf, LiesRight, times, one_if_zero, entry_at, state_of, states_of, contents_of, groups_of, is_on, pages_on, own_pages, used_by}
-use Rattle.page_table.proofs.Entries.{one_when, on_one, elsewhere, not_equal, equal, pages_on-set, none_on, at_set, entry_content-kept, contents-set, places_on-set, groups-kept, pages-set}
+use Rattle.page_table.proofs.Entries.{one_when, on_one, elsewhere, not_equal, equal, pages_on-set, none_on, at_set, entry_content-kept, contents-set, places_on-set, groups-kept, pages-set, one_if_zero-above}
 
 -- one where the page has a frame of its own
 abbrev pub own_one : Option Entry → ℕ
@@ -47,10 +47,6 @@ added_entry f mergeable = record { frame = f; protected = false; mergeable = mer
 abbrev pub added : TableState → ℕ → ℕ → Bool → TableState
 added table i f mergeable =
     record table { arena = slice_set table.arena f zero_page; entries = slice_set table.entries i (Some (added_entry f mergeable)) }
-
-one_if_zero-above : (f : ℕ) → 0 < f → one_if_zero f ≡ 0
-one_if_zero-above zero h = absurd (omega arith)
-one_if_zero-above (suc f) h = refl
 
 -- an unused frame is one that no page lies on, and isn't the zero frame
 pub record IsUnused (table : TableState) (f : ℕ) : Type 0 where

@@ -7,7 +7,7 @@ use Rattle.host_types.specs.declared.status.Status.TheVariants.{New, Volatile, W
 use Rattle.host_types.specs.Sharing.{PageState, state_at, is_in_company, cost_of, break_cost, is_shared}
 use Rattle.page_table.specs.declared.entry.Entry.{Entry}
 use Rattle.page_table.specs.Table.{TableState, CountsState, IsTable, IsSound, IsEntry, IsGroup, LiesRight, times, one_if_zero, entry_at, is_on, state_of, states_of, groups_of, sharing_of, pages_on, break_frames}
-use Rattle.page_table.proofs.Entries.{one_when, equal, some_on}
+use Rattle.page_table.proofs.Entries.{one_when, equal, some_on, one_if_zero-above}
 use Rattle.page_table.proofs.Groups.{company-places}
 use Rattle.page_table.proofs.Putting.{entry_fits}
 
@@ -84,14 +84,10 @@ cost-own table i entry is here own =
     by_status Grouped e = absurd (cc)
     by_status Zero e = absurd (cc)
 
-above : (f : ℕ) → 0 < f → one_if_zero f ≡ 0
-above zero h = absurd (omega arith)
-above (suc f) h = refl
-
 -- where a group has the frame, the frame isn't the zero frame
 pub group-frame : (table : TableState) (f : ℕ) → IsTable table → times f table.groups ≡ 1 → one_if_zero f ≡ 0
 group-frame table f is one =
-    above f (⊎_elim (λ none. absurd (omega (arith, one, none))) (λ group. IsGroup.above group) (is.groups f))
+    one_if_zero-above f (⊎_elim (λ none. absurd (omega (arith, one, none))) (λ group. IsGroup.above group) (is.groups f))
 
 -- a page on a frame that more hold takes a frame
 pub cost-one : (table : TableState) (i : ℕ) (entry : Entry) → IsTable table → entry_at table.entries i ≡ Some entry → is_shared entry.status ≡ true

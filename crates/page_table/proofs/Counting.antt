@@ -6,7 +6,7 @@ use Rattle.std.proofs.lemmas.Bool.Decides.{nat_tests, eqb_tells}
 use Rattle.page_table.specs.declared.entry.Entry.{Entry}
 use Rattle.page_table.specs.Table.{AreCounts, times, one_if_zero, frames_of, pages_on}
 use Rattle.page_table.specs.Reads.{is_frame}
-use Rattle.page_table.proofs.Entries.{one_when, on_one, not_equal, times-head, times-tail}
+use Rattle.page_table.proofs.Entries.{one_when, on_one, not_equal, times-head, times-tail, one_if_zero-above}
 use Rattle.page_table.proofs.Unused.{unused_default}
 
 -- a number that stands first counts once more
@@ -15,10 +15,6 @@ times-cons g f xs = sum_by-cons (λ (x : ℕ). if x == g then 1 else 0) f xs
 
 pub same_either_way : (f g : ℕ) → (f == g) ≡ (g == f)
 same_either_way f g = grind (arith, nat_tests)
-
-pub one_if_zero-above : (n : ℕ) → 0 < n → one_if_zero n ≡ 0
-one_if_zero-above zero h = absurd (omega arith)
-one_if_zero-above (suc n) h = refl
 
 -- a number isn't among those above it
 range-below : (f a n : ℕ) → f < a → times f (range_with_len a n) ≡ 0

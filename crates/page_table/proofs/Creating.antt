@@ -10,7 +10,8 @@ use Rattle.host_types.specs.Pages.{map_place, zero_page}
 use Rattle.host_types.specs.Shapes.{IsShape, byte_len_of}
 use Rattle.host_types.specs.Sharing.{new_page}
 use Rattle.host_types.proofs.Lists.{length-with_part, part-with_part_before, part-with_part_behind}
-use Rattle.frame_arena.proofs.Pages.{length-zero_page, replicate-zero_page}
+use Rattle.host_types.proofs.Pages.{replicate-zero_page}
+use Rattle.frame_arena.proofs.Pages.{length-zero_page}
 use Rattle.page_table.specs.declared.entry.Entry.{Entry}
 use Rattle.page_table.specs.declared.tenant.Tenant.{Tenant}
 use Rattle.page_table.specs.Limits.{page_count}

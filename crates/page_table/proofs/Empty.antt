@@ -1,11 +1,12 @@
 -- A memory without maps.
-use Rattle.std.proofs.Common.{◌≡◌, ◌∙◌, ℕ, zero, suc, ◌+◌, ◌*◌, ◌<◌, ◌≤◌, List, [], ◌∷◌, length, map, take, drop, replicate, slice_index_or, sum_by, Option, None, option_map, refl, sym, ap, arith, ⊎_elim, ◌⊎◌}
+use Rattle.std.proofs.Common.{◌≡◌, ◌∙◌, ℕ, zero, suc, ◌+◌, ◌*◌, ◌<◌, ◌≤◌, List, [], ◌∷◌, length, take, drop, replicate, slice_index_or, sum_by, Option, None, option_map, refl, sym, ap, arith, ⊎_elim, ◌⊎◌}
 use Rattle.std.proofs.lemmas.List.{length-replicate, length-take, get_or-take, get_or-drop, get_or_past}
 use Rattle.std.proofs.lemmas.List.Folds.{sum_by-replicate}
 use Rattle.host_types.specs.declared.options.Options.{Options}
 use Rattle.host_types.specs.declared.shape.Shape.{Shape}
 use Rattle.host_types.specs.Bytes.{part_of}
 use Rattle.host_types.specs.Pages.{zero_page}
+use Rattle.host_types.proofs.Lists.{map-replicate}
 use Rattle.page_table.specs.declared.entry.Entry.{Entry}
 use Rattle.page_table.specs.declared.tenant.Tenant.{Tenant}
 use Rattle.page_table.specs.Limits.{AreLimits}
@@ -14,10 +15,6 @@ use Rattle.page_table.specs.Table.{TableState, ArePages, entry_content, contents
 use Rattle.page_table.specs.View.{view_of, IsMemory, IsPass}
 use Rattle.page_table.proofs.Adding.{own_one}
 use Rattle.page_table.proofs.Putting.{empty_table}
-
-map-replicate : {X Y : Type 0} (f : X → Y) (n : ℕ) (x : X) → map f (replicate n x) ≡ replicate n (f x)
-map-replicate f zero x = refl
-map-replicate f (suc n) x = ap (λ l. f x ∷ l) (map-replicate f n x)
 
 nothing : (n i : ℕ) → slice_index_or (replicate {A = List ℕ} n []) i [] ≡ []
 nothing zero i = refl

@@ -1,12 +1,12 @@
 -- Entries by place: what a change of one of them changes.
-use Rattle.std.proofs.Common.{◌≡◌, ◌≢◌, ◌∙◌, ⊎_elim, ℕ, zero, suc, ◌+◌, ◌<◌, ◌≤◌, ◌==◌, Bool, true, false, if◌then◌else◌, List, [], ◌∷◌, length, map, sum_by, slice_set, Option, Some, None, refl, sym, ap, arith}
+use Rattle.std.proofs.Common.{◌≡◌, ◌≢◌, ◌∙◌, ⊎_elim, ℕ, zero, suc, ◌+◌, ◌<◌, ◌≤◌, ◌==◌, Bool, true, false, if◌then◌else◌, List, [], ◌∷◌, length, map, option_map, sum_by, slice_set, Option, Some, None, refl, sym, ap, arith}
 use Rattle.std.proofs.lemmas.List.{get_or-set_same, get_or-set_other, length-set}
 use Rattle.std.proofs.lemmas.List.Sums.{sum_by-set, sum_by-cons}
 use Rattle.std.proofs.lemmas.Bool.Decides.{nat_tests, eqb_tells}
 use Rattle.host_types.specs.Sharing.{is_shared}
 use Rattle.frame_arena.specs.Pages.{page_at}
 use Rattle.page_table.specs.declared.entry.Entry.{Entry}
-use Rattle.page_table.specs.Table.{times, entry_at, entry_content, is_on, places_on, pages_on}
+use Rattle.page_table.specs.Table.{times, entry_at, frames_of, entry_content, is_on, places_on, pages_on, one_if_zero}
 
 abbrev pub one_when : Bool → ℕ
 one_when b = if b then 1 else 0
@@ -30,6 +30,11 @@ on_one-true f x h = ap one_when h
 
 pub on_one-false : (f : ℕ) (x : Option Entry) → is_on f x ≡ false → on_one f x ≡ 0
 on_one-false f x h = ap one_when h
+
+-- a frame other than the zero frame has no holders but its pages
+pub one_if_zero-above : (f : ℕ) → 0 < f → one_if_zero f ≡ 0
+one_if_zero-above zero h = absurd (omega arith)
+one_if_zero-above (suc f) h = refl
 
 -- how many pages lie on a frame after one entry is replaced
 pub pages_on-set : (f : ℕ) (xs : List (Option Entry)) (i : ℕ) (x : Option Entry) → i < length xs
@@ -156,3 +161,14 @@ kept-shared xs i old x here shared j entry e own =
         shared_in : Option Entry → Bool
         shared_in None = false
         shared_in (Some y) = is_shared y.status
+
+-- a page that keeps its frame leaves all frames where they are
+pub frames-kept : (xs : List (Option Entry)) (i : ℕ) (before after : Entry) → entry_at xs i ≡ Some before → after.frame ≡ before.frame
+    → frames_of (slice_set xs i (Some after)) ≡ frames_of xs
+frames-kept [] i before after here same = absurd (cc)
+frames-kept (x ∷ xs) zero before after here same =
+    let first : Some after.frame ≡ option_map (λ (entry : Entry). entry.frame) x =
+    ap (λ (n : ℕ). Some n) same ∙ ap (option_map (λ (entry : Entry). entry.frame)) (sym here) in
+    ap (λ (frame : Option ℕ). frame ∷ frames_of xs) first
+frames-kept (x ∷ xs) (suc i) before after here same =
+    ap (λ (frames : List (Option ℕ)). option_map (λ (entry : Entry). entry.frame) x ∷ frames) (frames-kept xs i before after here same)

@@ -21,7 +21,7 @@ use Rattle.page_table.specs.State.{MemoryState, free_of, part, bytes_of_map}
 use Rattle.page_table.specs.Table.{TableState, CountsState, IsTable, IsEntry, IsAlone, IsGroup, IsSound, IsPageAt, AreCounts, LiesRight, maps_of, contents_of, times, one_if_zero, entry_at, state_of, states_of, frames_of, groups_of, sharing_of, is_on, pages_on, places_on}
 use Rattle.page_table.specs.View.{view_of, IsMemory}
 use Rattle.page_table.specs.Reads.{ReadsAs, AreGroups, AreMerged, HasPage, status_at, has_both, is_frame, free_frames}
-use Rattle.page_table.proofs.Entries.{one_when, alone, inside, equal, times-head, times-tail}
+use Rattle.page_table.proofs.Entries.{one_when, alone, inside, equal, times-head, times-tail, one_if_zero-above}
 use Rattle.page_table.proofs.Putting.{entry_fits, page_there as no_page}
 use Rattle.page_table.proofs.Maps.{length-maps_of}
 use Rattle.page_table.proofs.Reading.{map_at-part, bytes_in, is_page_at}
@@ -29,7 +29,7 @@ use Rattle.page_table.proofs.Recording.{reserved_fits}
 use Rattle.page_table.proofs.Scanning.{is_page_at_entry, page_there, frame_told}
 use Rattle.page_table.proofs.Free.{free_is}
 use Rattle.page_table.proofs.Groups.{among-places, length-places}
-use Rattle.page_table.proofs.Counting.{same_either_way, one_if_zero-above, length-unused, empty-frame}
+use Rattle.page_table.proofs.Counting.{same_either_way, length-unused, empty-frame}
 
 -- what is told of the entry at a place
 pub told_at : {X : Type 0} (tell : Entry → X) (xs : List (Option Entry)) (i : ℕ) → slice_index_or (map (option_map tell) xs) i None ≡ option_map tell (entry_at xs i)

@@ -9,10 +9,10 @@ use Rattle.host_types.specs.Sharing.{is_shared, with_status, joined_by}
 use Rattle.frame_arena.specs.Pages.{page_at}
 use Rattle.page_table.specs.declared.entry.Entry.{Entry}
 use Rattle.page_table.specs.Table.{TableState, CountsState, IsSound, is_open_frame, IsOwnAt, IsTable, IsEntry, IsGroup, LiesRight, times, entry_at, contents_of, groups_of, state_of, states_of, is_on, places_on, pages_on, joined_on}
-use Rattle.page_table.proofs.Entries.{on_one, on_one-false, not_equal, equal, inside, places_on-set, times-head, times-tail}
+use Rattle.page_table.proofs.Entries.{on_one, on_one-false, not_equal, equal, inside, places_on-set, times-head, times-tail, one_if_zero-above}
 use Rattle.page_table.proofs.Putting.{content_at}
 use Rattle.page_table.proofs.Pairing.{IsGroupEntry, places-joined}
-use Rattle.page_table.proofs.Moving.{IsMove, with_entry, lone, no_holder}
+use Rattle.page_table.proofs.Moving.{IsMove, with_entry, lone}
 
 -- a page on a frame
 pub page-on : (f : ℕ) (xs : List (Option Entry)) → 1 ≤ pages_on f xs → (i : ℕ) × (is_on f (entry_at xs i) ≡ true)
@@ -138,7 +138,7 @@ pub open-told : (table : TableState) (counts : CountsState) (group limit count :
 open-told table counts group limit count bytes same sound some counted below compared =
     let it = group_of table group sound.fits some in
     let known = sound.counted.counted group (group-inside table group sound.fits some) in
-    let none = no_holder group it.above in
+    let none = one_if_zero-above group it.above in
     let less : nat_lt (pages_on group table.entries) limit ≡ true = let few : pages_on group table.entries < limit = omega (arith, known, none, counted, below) in grind (arith, nat_tests) in
     same-bytes same (page_at table.arena group) bytes compared ∙ sym (ap (λ b. bytes_eq (page_at table.arena group) bytes && b) less ∙ and-true (bytes_eq (page_at table.arena group) bytes))
   where

@@ -1,5 +1,5 @@
 -- A page table stays sound where a page leaves a frame on which others lie.
-use Rattle.std.proofs.Common.{◌≡◌, ◌≢◌, ◌∙◌, inl, inr, ⊎_elim, ℕ, zero, suc, ◌+◌, ◌-◌, ◌<◌, ◌≤◌, ◌==◌, true, false, if◌then◌else◌, List, [], ◌∷◌, length, map, slice_index_or, slice_set, Option, Some, None, IfSome, option_map, refl, sym, ap, subst, arith}
+use Rattle.std.proofs.Common.{◌≡◌, ◌≢◌, ◌∙◌, inl, inr, ⊎_elim, ℕ, zero, ◌+◌, ◌-◌, ◌<◌, ◌≤◌, ◌==◌, true, false, if◌then◌else◌, List, [], ◌∷◌, length, map, slice_index_or, slice_set, Option, Some, None, IfSome, option_map, refl, sym, ap, subst, arith}
 use Rattle.std.proofs.lemmas.Bool.{lt-ltb}
 use Rattle.std.proofs.lemmas.List.{get_or-set_same, get_or-set_other, get_or-map, set-get_or, length-set, map-set}
 use Rattle.std.proofs.lemmas.Bool.Decides.{eqb_tells}
@@ -10,15 +10,10 @@ use Rattle.host_types.specs.Sharing.{broken, broken_page, is_shared, left_by, wi
 use Rattle.frame_arena.specs.Pages.{page_at}
 use Rattle.page_table.specs.declared.entry.Entry.{Entry}
 use Rattle.page_table.specs.Table.{TableState, CountsState, IsTable, IsEntry, IsAlone, IsGroup, IsSound, AreCountsOf, LiesRight, times, one_if_zero, entry_at, state_of, states_of, contents_of, groups_of, sharing_of, is_on, places_on, pages_on, used_by}
-use Rattle.page_table.proofs.Entries.{one_when, on_one, elsewhere, not_equal, equal, pages_on-set, none_on, inside, alone, at_set, entry_content-kept, contents-set, pages-set, times-head, times-tail}
+use Rattle.page_table.proofs.Entries.{one_when, on_one, elsewhere, not_equal, equal, pages_on-set, none_on, inside, alone, at_set, entry_content-kept, contents-set, pages-set, times-head, times-tail, one_if_zero-above}
 use Rattle.page_table.proofs.Adding.{own_one, own_pages-set, IsEntry-kept, IsUnused}
 use Rattle.page_table.proofs.Putting.{entry_fits, content_at}
 use Rattle.page_table.proofs.Groups.{length-places, without-places}
-
--- a frame above the zero frame has no holder but its pages
-none_above : (f : ℕ) → 0 < f → one_if_zero f ≡ 0
-none_above zero h = absurd (omega arith)
-none_above (suc f) h = refl
 
 -- the groups after a page left, where each still has pages
 pub groups-left : (old new : List (Option Entry)) (i : ℕ) (groups : List ℕ)
@@ -117,7 +112,7 @@ module _ (table : TableState) (i : ℕ) (entry next : Entry) (is : IsTable table
     where
       old : g ≡ entry.frame → 1 ≤ pages_on g (left table i entry next).entries
       old same =
-          let above = none_above g (IsGroup.above group) in
+          let above = one_if_zero-above g (IsGroup.above group) in
           let held : 1 < one_if_zero g + pages_on g table.entries = subst (λ (n : ℕ). 1 < one_if_zero n + pages_on n table.entries) (sym same) company in
           let count : pages_on g (left table i entry next).entries + 1 ≡ pages_on g table.entries =
           subst (λ (n : ℕ). pages_on n (left table i entry next).entries + 1 ≡ pages_on n table.entries) (sym same) pages_on-old in
@@ -193,7 +188,7 @@ module _ (table : TableState) (i : ℕ) (entry next : Entry) (is : IsTable table
       → length new.unused ≡ length taken.unused + one_if_zero (slice_index_or taken.counts entry.frame 0 - 1)
       → IsSound (left table i entry next) new
   sound-left old taken new protected counted took fewer counts more =
-      let held = none_above (slice_index_or taken.counts entry.frame 0 - 1) (omega (arith, company, before)) in
+      let held = one_if_zero-above (slice_index_or taken.counts entry.frame 0 - 1) (omega (arith, company, before)) in
       let used = used-left in
       record {
         fits = IsTable-left protected;
@@ -232,7 +227,7 @@ module _ (table : TableState) (i : ℕ) (entry next : Entry) (is : IsTable table
           let inside : next.frame < length old.counts = omega (arith, counted.sized, free.there) in
           let read : slice_index_or taken.counts next.frame 0 ≡ 1 = ap (λ (l : List ℕ). slice_index_or l next.frame 0) took ∙ get_or-set_same old.counts next.frame 1 0 inside in
           let same = new-other next.frame (λ e. fresh i entry here (sym e)) in
-          let none = none_above next.frame free.above in
+          let none = one_if_zero-above next.frame free.above in
           let one = pages_on-new in
           omega (arith, read, same, none, one)
 

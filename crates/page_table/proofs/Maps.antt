@@ -9,28 +9,11 @@ use Rattle.host_types.specs.Bytes.{part_of, with_part}
 use Rattle.host_types.specs.Memory.{FlatMap}
 use Rattle.host_types.specs.Pages.{page_bytes}
 use Rattle.host_types.specs.Shapes.{byte_len_of}
-use Rattle.host_types.proofs.Lists.{length-with_part}
+use Rattle.frame_arena.proofs.Parts.{part_of-drop, part_of-first, with_part-append}
 use Rattle.page_table.specs.Limits.{page_count}
 use Rattle.page_table.specs.Table.{maps_of, flat_of, ArePages, ArePagesOf, AreMaps}
 
 -- parts of lists
-
-part_of-drop : {X : Type 0} (xs : List X) (size i width : ℕ) → part_of (drop size xs) (i * size) width ≡ part_of xs (suc i * size) width
-unfolding part_of
-part_of-drop xs size i width =
-    let same : size + i * size ≡ suc i * size = omega arith in
-    ap (take width) (drop-drop (i * size) size xs ∙ ap (λ (n : ℕ). drop n xs) same)
-
-part_of-first : {X : Type 0} (xs : List X) (size : ℕ) → part_of xs (0 * size) size ≡ take size xs
-unfolding part_of
-part_of-first xs size =
-    let none : 0 * size ≡ 0 = omega arith in
-    ap (λ (n : ℕ). take size (drop n xs)) none
-
-with_part-front : {X : Type 0} (xs ys part : List X) (at : ℕ) → at + length part ≤ length xs → with_part (xs ++ ys) at part ≡ with_part xs at part ++ ys
-unfolding with_part
-with_part-front xs ys part at h =
-    rw (take-append-le at xs ys (omega arith), drop-append-le (at + length part) xs ys h, append_assoc (take at xs ++ part) (drop (at + length part) xs) ys) refl
 
 with_part-behind : {X : Type 0} (xs ys part : List X) (n at : ℕ) → length xs ≡ n → with_part (xs ++ ys) (n + at) part ≡ xs ++ with_part ys at part
 unfolding with_part
@@ -40,22 +23,6 @@ with_part-behind xs ys part n at h =
     let back : drop (length xs + (at + length part)) (xs ++ ys) ≡ drop (at + length part) ys =
     sym (drop-drop (at + length part) (length xs) (xs ++ ys)) ∙ ap (drop (at + length part)) (drop_at xs ys (length xs) refl) in
     rw (place, front, take-append-add xs ys at, back, append_assoc xs (take at ys) part, append_assoc xs (take at ys ++ part) (drop (at + length part) ys)) refl
-
-pub take-with_part : {X : Type 0} (xs part : List X) (size at : ℕ) → size ≤ length xs → at + length part ≤ size → take size (with_part xs at part) ≡ with_part (take size xs) at part
-take-with_part xs part size at long fits =
-    let first = length-take-le size xs long in
-    let split : with_part xs at part ≡ with_part (take size xs) at part ++ drop size xs =
-    ap (λ l. with_part l at part) (sym (take-append-drop size xs)) ∙ with_part-front (take size xs) (drop size xs) part at (omega (arith, first, fits)) in
-    let kept : length (with_part (take size xs) at part) ≡ size = length-with_part (take size xs) at part (omega (arith, first, fits)) ∙ first in
-    ap (take size) split ∙ take_at (with_part (take size xs) at part) (drop size xs) size kept
-
-pub drop-with_part : {X : Type 0} (xs part : List X) (size at : ℕ) → size ≤ length xs → at + length part ≤ size → drop size (with_part xs at part) ≡ drop size xs
-drop-with_part xs part size at long fits =
-    let first = length-take-le size xs long in
-    let split : with_part xs at part ≡ with_part (take size xs) at part ++ drop size xs =
-    ap (λ l. with_part l at part) (sym (take-append-drop size xs)) ∙ with_part-front (take size xs) (drop size xs) part at (omega (arith, first, fits)) in
-    let kept : length (with_part (take size xs) at part) ≡ size = length-with_part (take size xs) at part (omega (arith, first, fits)) ∙ first in
-    ap (drop size) split ∙ drop_at (with_part (take size xs) at part) (drop size xs) size kept
 
 -- one element set, in a part
 pub part_of-set_same : {X : Type 0} (xs : List X) (k n width : ℕ) (x : X) → n < width → part_of (slice_set xs (k + n) x) k width ≡ slice_set (part_of xs k width) n x
@@ -153,7 +120,7 @@ concat-written [] n at bytes there fits = absurd (let e = there 0 (omega arith) 
 concat-written (page ∷ pages) zero at bytes there fits =
     let e = there 0 (omega arith) in
     let place : at ≡ 0 * 4096 + at = omega arith in
-    sym (with_part-front page (concat pages) bytes at (omega (arith, e, fits))) ∙ ap (λ (m : ℕ). with_part (page ++ concat pages) m bytes) place
+    sym (with_part-append page (concat pages) bytes at (omega (arith, e, fits))) ∙ ap (λ (m : ℕ). with_part (page ++ concat pages) m bytes) place
 concat-written (page ∷ pages) (suc n) at bytes there fits =
     let e = there 0 (omega arith) in
     let rest = concat-written pages n at bytes (λ m le. there (suc m) (omega arith)) fits in

@@ -10,7 +10,7 @@ use Rattle.host_types.specs.Sharing.{is_shared, state_at}
 use Rattle.frame_arena.specs.Pages.{page_at}
 use Rattle.page_table.specs.declared.entry.Entry.{Entry}
 use Rattle.page_table.specs.Table.{TableState, CountsState, IsTable, IsEntry, IsAlone, IsGroup, IsSound, AreCountsOf, LiesRight, times, one_if_zero, entry_at, contents_of, state_of, sharing_of, is_on, pages_on, used_by}
-use Rattle.page_table.proofs.Entries.{one_when, on_one, elsewhere, not_equal, equal, pages_on-set, inside, alone, at_set, contents-set}
+use Rattle.page_table.proofs.Entries.{one_when, on_one, elsewhere, not_equal, equal, pages_on-set, inside, alone, at_set, contents-set, one_if_zero-above}
 use Rattle.page_table.proofs.Adding.{own_one, own_pages-set}
 use Rattle.page_table.proofs.Putting.{is_alone, entry_fits, content_at}
 
@@ -61,11 +61,6 @@ pages_on-le f (x ∷ xs) =
     bit : (b : Bool) → one_when b ≤ 1
     bit true = omega arith
     bit false = omega arith
-
--- a frame other than the zero frame has no holders but its pages
-pub no_holder : (f : ℕ) → 0 < f → one_if_zero f ≡ 0
-no_holder zero h = absurd (omega arith)
-no_holder (suc f) h = refl
 
 one_holder : (f : ℕ) → one_if_zero f ≤ 1
 one_holder zero = omega arith
@@ -212,7 +207,7 @@ module _ (table : TableState) (i : ℕ) (entry x : Entry) (move : IsMove table i
   pub single : (counts : CountsState) → AreCountsOf table counts → slice_index_or counts.counts entry.frame 0 ≡ 1
   single counts counted =
       let known = counted.counted entry.frame (entry_fits table i entry is here).frame in
-      let none = no_holder entry.frame lone.above in
+      let none = one_if_zero-above entry.frame lone.above in
       let one = lone.one in
       omega (arith, known, none, one)
 

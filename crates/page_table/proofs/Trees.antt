@@ -11,9 +11,8 @@ use Rattle.stable_tree.proofs.Removing.{has-itself}
 use Rattle.page_table.specs.Table.{TableState, CountsState, IsSound, IsGroup, IsTreeOf, times, pages_on, is_open_frame}
 use Rattle.page_table.proofs.Ending.{but}
 use Rattle.host_types.proofs.Without.{without-length, times-gone, times-kept}
-use Rattle.page_table.proofs.Entries.{one_when, times-head, times-tail, not_equal}
+use Rattle.page_table.proofs.Entries.{one_when, times-head, times-tail, not_equal, one_if_zero-above}
 use Rattle.page_table.proofs.Joining.{group_of, group-inside}
-use Rattle.page_table.proofs.Moving.{no_holder}
 
 -- a number that stands nowhere
 pub nowhere : (f : ℕ) (xs : List ℕ) → times f xs ≡ 0 → All (λ g. g ≢ f) xs
@@ -215,7 +214,7 @@ module _ (table : TableState) (counts : CountsState) (tree : Groups) (sound : Is
   counted : (f : ℕ) → 1 ≤ times f table.groups → slice_index_or counts.counts f 0 ≡ pages_on f table.entries
   counted f some =
       let known = sound.counted.counted f (group-inside table f sound.fits some) in
-      let none = no_holder f (IsGroup.above (group_of table f sound.fits some)) in
+      let none = one_if_zero-above f (IsGroup.above (group_of table f sound.fits some)) in
       omega (arith, known, none)
 
   -- the earliest open group is the earliest one of its bytes in the tree

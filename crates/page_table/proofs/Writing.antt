@@ -19,7 +19,8 @@ use Rattle.page_table.specs.State.{MemoryState, part, bytes_of_map}
 use Rattle.page_table.specs.Changes.{IsPageOf, IsOwn, map_written, part_written, IsKeptBut, AreMapsKeptBut, KeepsSettings}
 use Rattle.page_table.specs.Table.{TableState, entry_at, state_of, maps_of, flat_of, ArePages, ArePagesOf, contents_of, groups_of, states_of, frames_of}
 use Rattle.page_table.specs.View.{view_of, IsMemory}
-use Rattle.page_table.proofs.Maps.{maps_of-changed, AreMaps-changed, length-maps_of, part_of-set_same, part_of-set_other, concat-written, length-concat, take-with_part, drop-with_part}
+use Rattle.page_table.proofs.Maps.{maps_of-changed, AreMaps-changed, length-maps_of, part_of-set_same, part_of-set_other, concat-written, length-concat}
+use Rattle.frame_arena.proofs.Parts.{take-with_part, drop-with_part_before}
 use Rattle.page_table.proofs.Reading.{IsLocated, page_located, page_number, few_pages, content_in, bytes_in, map_at-part}
 
 -- a memory with one map of a tenant replaced
@@ -71,7 +72,7 @@ module _ (shape : Shape) (pages : List (List ℕ)) (n at : ℕ) (bytes : List �
         shaped = are.shaped;
         there = λ m less. at_page m less;
         none = λ m le. get_or-set_other pages n m written [] (λ e. omega (arith, e, le, there)) ∙ are.none m le;
-        padded = ap (drop (byte_len_of shape)) joined ∙ drop-with_part (concat pages) bytes (byte_len_of shape) (n * 4096 + at) (let h = whole in omega arith) in_map ∙ are.padded;
+        padded = ap (drop (byte_len_of shape)) joined ∙ drop-with_part_before (concat pages) bytes (byte_len_of shape) (n * 4096 + at) (let h = whole in omega arith) in_map ∙ are.padded;
       }
     where
       inside_page : n < length pages

@@ -10,7 +10,7 @@ ghost use Rattle.host_types.specs.Unmerging.{with_option, MaySet, unmerged, unme
 ghost use Rattle.host_types.specs.Visits.{page_to_visit, is_mergeable, flushed, moved_on, changed, waits, has_open, joined};
 ghost use Rattle.frame_arena.specs.Pages.{page_at};
 ghost use Rattle.page_table.specs.Limits.{AreLimits, page_count, shape_of};
-ghost use Rattle.page_table.specs.State.{MemoryState, part, bytes_of_map, free_number, new_memory, unreserved_tenant, free_of, have_of, frame_at};
+ghost use Rattle.page_table.specs.State.{MemoryState, part, map_bytes, bytes_of_map, free_number, new_memory, unreserved_tenant, free_of, have_of, frame_at};
 ghost use Rattle.page_table.specs.Reads.{ReadsAs};
 ghost use Rattle.page_table.specs.Changes.{IsNotWaiting, HadFingerprint, contents_now, open_frame, partner_place, zero_map, part_written, part_created, AreKept, MayMerge, IsKeptBut, AreMapsKeptBut, KeepsSettings, with_reserve, with_record, IsPageOf, IsOwn, with_new_pages, FitsMap, RefusesMap, RefusesMemory};
 ghost use Rattle.page_table.specs.declared.entry.Entry.{Entry};
@@ -195,6 +195,16 @@ impl Memory {
         shape_at(&self.shapes, map_index(tenant, map))
     }
 
+    /// The bytes of a tenant's map; none where there is no such map.
+    pub fn byte_len(&self, tenant: u32, map: MapNo) -> u32
+        ensures { result ≡ length (map_bytes (part self.now tenant) map) }
+    {
+        match self.shape(tenant, map) {
+            Some(shape) => shape.byte_len(),
+            None => 0,
+        }
+    }
+
     /// What is kept of a page.
     pub fn entry(&self, page: Page) -> Entry
         requires { IsPageOf self.now page }
@@ -366,6 +376,7 @@ impl Memory {
     pub fn take_out(&mut self, page: Page)
         requires there { IsPageOf self.old page }
         requires room { break_cost self.old.sharing (page_place page) ≤ have_of self.old }
+        ensures frames { break_cost self.old.sharing (page_place page) ≡ 0 → self.new.frames ≡ self.old.frames }
         ensures maps { self.new.maps ≡ self.old.maps }
         ensures kept { AreKept self.old self.new }
         ensures sharing { self.new.sharing ≡ broken self.old.sharing (page_place page) }

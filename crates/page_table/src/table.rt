@@ -9,7 +9,7 @@ ghost use Rattle.host_types.specs.Visits.{first_mergeable, is_mergeable, with_pa
 ghost use Rattle.host_types.specs.Pages.{zero_page};
 ghost use Rattle.frame_arena.specs.Pages.{IsPage, page_at};
 ghost use Rattle.page_table.specs.declared.entry.Entry.{Entry};
-ghost use Rattle.page_table.specs.Table.{TableState, CountsState, AreCounts, IsSound, IsEntry, IsPageAt, IsOwnAt, AreOwnKept, AreOthersKept, entry_at, states_of, contents_of, groups_of, sharing_of, forgets, used_by, break_frames, is_on, pages_on, one_if_zero, times, state_of, is_open_frame, joined_on, marked};
+ghost use Rattle.page_table.specs.Table.{TableState, CountsState, AreCounts, IsSound, IsEntry, IsPageAt, IsOwnAt, AreOwnKept, AreOthersKept, entry_at, states_of, contents_of, frames_of, groups_of, sharing_of, forgets, used_by, break_frames, is_on, pages_on, one_if_zero, times, state_of, is_open_frame, joined_on, marked};
 ghost use Rattle.page_table.specs.Tallies.{IsTally};
 
 use crate::counts::FrameCounts;
@@ -255,10 +255,12 @@ impl Table {
         u32::from(left > 1)
     }
 
-    /// Takes a page out of its group or off the zero frame. A page with its own frame stays as it is.
+    /// Takes a page out of its group or off the zero frame. A page with its own frame stays as it is, and the
+    /// last page of a group keeps the frame.
     pub(crate) fn take_out(&mut self, place: usize)
         requires there { IsPageAt self.old place }
         requires room { used_by self.old + break_frames self.old place ≤ length self.old.arena }
+        ensures frames { break_frames self.old place ≡ 0 → frames_of self.new.entries ≡ frames_of self.old.entries }
         ensures contents { contents_of self.new ≡ contents_of self.old }
         ensures sharing { (pass : Pass) →
             sharing_of self.new pass ≡ broken (sharing_of self.old pass) place }
@@ -305,6 +307,7 @@ impl Table {
         requires there { entry_at self.old.entries place ≡ Some entry }
         requires shared { is_shared entry.status ≡ true }
         requires last { one_if_zero entry.frame + pages_on entry.frame self.old.entries ≡ 1 }
+        ensures frames { frames_of self.new.entries ≡ frames_of self.old.entries }
         ensures contents { contents_of self.new ≡ contents_of self.old }
         ensures sharing { (pass : Pass) →
             sharing_of self.new pass ≡ broken (sharing_of self.old pass) place }

@@ -1,6 +1,6 @@
 use crate::pages::Pages;
 use crate::tenant::PlainTenant;
-use host_core::{Event, Reply};
+use host_core::{Event, Reply, told};
 use host_types::{Fault, Options};
 use std::alloc::{AllocError, Global};
 
@@ -11,14 +11,6 @@ pub struct PlainHost {
     alloc: Global,
     tenants: Vec<PlainTenant>,
     pages: Pages,
-}
-
-/// A refusal is a reply too.
-fn told(served: Result<Reply, Fault>) -> Reply {
-    match served {
-        Ok(reply) => reply,
-        Err(fault) => Reply::Refused(fault),
-    }
 }
 
 /// Tenants by number without maps, programs and runs.

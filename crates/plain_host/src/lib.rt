@@ -7,6 +7,7 @@
 mod host;
 mod maps;
 mod pages;
+mod places;
 mod programs;
 mod runs;
 mod tenant;

@@ -3,6 +3,7 @@
 ghost use Rattle.std.specs.Prelude.{length, IfOk};
 ghost use Rattle.host_types.specs.Shapes.{IsShape};
 
+use crate::places;
 use host_types::Shape;
 use host_types::limits::{MAX_MAPS, PAGE_SIZE};
 use plain_machine::ArrayMap;
@@ -42,14 +43,6 @@ pub(crate) fn page_count(shape: Shape) -> u32
     shape.byte_len().div_ceil(PAGE_SIZE)
 }
 
-/// A map of zeros.
-pub(crate) fn zero_map(alloc: Global, shape: Shape) -> Result<ArrayMap, AllocError>
-    requires { IsShape shape }
-{
-    let bytes = vec![in alloc; 0; shape.byte_len() as usize]?;
-    Ok(ArrayMap::new(shape, bytes))
-}
-
 /// A copy of a map, if it is there.
 pub(crate) fn copy_of(
     alloc: Global,
@@ -66,32 +59,14 @@ pub(crate) fn copy_of(
     Ok(Some(ArrayMap::new(shape, bytes)))
 }
 
-/// The map with a number, if it is there.
-pub(crate) fn map_at(maps: &[Option<ArrayMap>], number: usize) -> Option<&ArrayMap> {
-    match maps.get(number) {
-        Some(Some(map)) => Some(map),
-        _ => None,
-    }
-}
-
 /// A copy of all maps by number.
 pub(crate) fn copies_of(alloc: Global, maps: &[Option<ArrayMap>]) -> Result<Maps, AllocError> {
     let mut copies = Vec::new(alloc);
     for number in 0..MAX_MAPS {
-        let copy = copy_of(alloc, map_at(maps, number))?;
+        let copy = copy_of(alloc, places::at(maps, number))?;
         copies.push(copy)?;
     }
     Ok(copies)
-}
-
-/// The first number that no map has, below 8.
-pub(crate) fn free_number(maps: &[Option<ArrayMap>]) -> Option<usize> {
-    for (number, map) in maps.iter().enumerate() {
-        if map.is_none() {
-            return Some(number);
-        }
-    }
-    None
 }
 
 /// Where an element begins.

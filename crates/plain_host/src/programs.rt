@@ -1,15 +1,13 @@
 //! Programs as the plain verifier accepts them, with what each slot may need of frames.
 
-ghost use Rattle.std.specs.Prelude.{◌<◌, length, IfOk, OnOk};
-ghost use Rattle.host_types.specs.Shapes.{IsShape};
+ghost use Rattle.std.specs.Prelude.{IfOk};
 ghost use Rattle.verifier.specs.Verified.{AreShapes};
 ghost use Rattle.verifier.specs.Subject.{IsContextSize};
 
 use bpf_decode::{FRAME_POINTER, Insn, Operation, decode};
-use host_types::limits::MAX_PROGRAMS;
-use host_types::{Fault, MapHelper, Refused, Shape};
+use host_types::{Fault, MapHelper, Shape};
 use plain_machine::ArrayMap;
-use plain_verifier::{Judged, Table, judge_forward};
+use plain_verifier::{Judged, Table, judge_forward, push_shape};
 use std::alloc::{AllocError, Global};
 use verifier_kinds::Kind;
 
@@ -24,33 +22,6 @@ pub(crate) struct PlainProgram {
 /// A tenant's programs by place.
 pub(crate) type Programs = Vec<Option<PlainProgram>>;
 
-/// A tenant's places for programs, none of them taken.
-pub(crate) fn no_programs(alloc: Global) -> Result<Programs, AllocError> {
-    let mut programs = Vec::new(alloc);
-    for _ in 0..MAX_PROGRAMS {
-        programs.push(None)?;
-    }
-    Ok(programs)
-}
-
-/// The program at a place, if there is one.
-pub(crate) fn program_at(programs: &[Option<PlainProgram>], place: usize) -> Option<&PlainProgram> {
-    match programs.get(place) {
-        Some(Some(program)) => Some(program),
-        _ => None,
-    }
-}
-
-/// The first place where no program is.
-pub(crate) fn free_place(programs: &[Option<PlainProgram>]) -> Option<usize> {
-    for (place, program) in programs.iter().enumerate() {
-        if program.is_none() {
-            return Some(place);
-        }
-    }
-    None
-}
-
 impl PlainProgram {
     /// What the rest of a run may need from a slot on: the sum of what its slots may need.
     pub(crate) fn reserve(&self, slot: usize) -> u32 {
@@ -62,17 +33,6 @@ impl PlainProgram {
     }
 }
 
-/// Puts a shape behind others.
-fn add(shapes: &mut Vec<Shape>, shape: Shape) -> Result<(), AllocError>
-    requires shapes { AreShapes shapes.old.items }
-    requires shape { IsShape shape }
-    requires few { length shapes.old.items < 8 }
-    ensures { OnOk result (AreShapes shapes.new.items) }
-{
-    shapes.push(shape)?;
-    Ok(())
-}
-
 /// The shapes of a tenant's maps by number, up to the first number that no map has.
 fn shapes_of(alloc: Global, maps: &[Option<ArrayMap>]) -> Result<Vec<Shape>, AllocError>
     ensures { IfOk result (λ shapes. AreShapes shapes.items) }
@@ -80,7 +40,7 @@ fn shapes_of(alloc: Global, maps: &[Option<ArrayMap>]) -> Result<Vec<Shape>, All
     let mut shapes = Vec::new(alloc);
     for map in maps {
         match map {
-            Some(map) if map.shape().is_valid() && shapes.len() < 8 => add(
+            Some(map) if map.shape().is_valid() && shapes.len() < 8 => push_shape(
                 &mut shapes,
                 map.shape(),
             )?,
@@ -88,14 +48,6 @@ fn shapes_of(alloc: Global, maps: &[Option<ArrayMap>]) -> Result<Vec<Shape>, All
         }
     }
     Ok(shapes)
-}
-
-/// The instruction at a slot, if the text has the slot.
-pub(crate) fn insn_at(text: &[u8], slot: usize) -> Option<Insn> {
-    if text.len() % 8 != 0 || slot >= text.len() / 8 {
-        return None;
-    }
-    Some(Insn::read(text, slot))
 }
 
 /// The kind of a register before a slot, if the slot is reached and something is known of it.
@@ -121,7 +73,7 @@ fn cost_of_update(shapes: &[Shape], map: u32) -> u32
 fn cost_at(text: &[u8], shapes: &[Shape], table: &Table, slot: usize) -> u32
     requires { AreShapes shapes.now }
 {
-    let Some(insn) = insn_at(text, slot) else {
+    let Some(insn) = Insn::at(text, slot) else {
         return 0;
     };
     match Operation::of(insn.opcode) {
@@ -160,21 +112,12 @@ fn table_of(alloc: Global, text: &[u8], shapes: &[Shape], context_size: u32) -> 
 {
     let program = match decode(alloc, text) {
         Ok(program) => program,
-        Err(refused) => return Err(fault_of(refused)),
+        Err(refused) => return Err(refused.fault()),
     };
     match judge_forward(alloc, program, shapes, context_size) {
         Ok(Judged::Accepted(table)) => Ok(table),
-        Ok(Judged::Refused(refused)) => Err(fault_of(refused)),
+        Ok(Judged::Refused(refused)) => Err(refused.fault()),
         Err(AllocError) => Err(Fault::OutOfMemory),
-    }
-}
-
-/// A text's refusal as a host answers it.
-fn fault_of(refused: Refused) -> Fault {
-    if refused == Refused::OUT_OF_MEMORY {
-        Fault::OutOfMemory
-    } else {
-        Fault::Program(refused)
     }
 }
 

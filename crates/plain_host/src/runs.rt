@@ -1,7 +1,7 @@
 //! Runs of the standard's machine, and which bytes of a map its next step writes.
 
-use crate::maps::{Maps, PageRange, element_at, map_at};
-use crate::programs::insn_at;
+use crate::maps::{Maps, PageRange, element_at};
+use crate::places;
 use bpf_decode::{Insn, Operation, Size};
 use host_types::MapHelper;
 use host_types::layout::{MAP_NAMES, MAP_VALUES, REGION};
@@ -46,7 +46,7 @@ pub(crate) fn step(machine: &mut Machine, text: &[u8]) -> Made {
 
 /// What the next step writes to a map, where it is no fault.
 pub(crate) fn next_written(machine: &Machine, text: &[u8]) -> Option<Written> {
-    let insn = insn_at(text, machine.slot())?;
+    let insn = Insn::at(text, machine.slot())?;
     match Operation::of(insn.opcode) {
         Some(Operation::Store { size, .. }) => written_by_store(machine, &insn, size),
         Some(Operation::Call) => written_by_call(machine, &insn),
@@ -81,7 +81,7 @@ fn written_by_call(machine: &Machine, insn: &Insn) -> Option<Written> {
     }
     Some(Written {
         map,
-        range: range_of(map_at(machine.maps(), map)?, key)?,
+        range: range_of(places::at(machine.maps(), map)?, key)?,
     })
 }
 

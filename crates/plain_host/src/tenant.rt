@@ -1,16 +1,16 @@
 //! A tenant's private maps, its programs and its open run, and the events that name it.
 
 use crate::maps::{
-    Maps, PageRange, copies_of, copy_of, count_of, element_at, free_number, map_at, page_count,
-    value_of, zero_map,
+    Maps, PageRange, copies_of, copy_of, count_of, element_at, page_count, value_of,
 };
 use crate::pages::Pages;
-use crate::programs::{Programs, free_place, judge, no_programs, program_at};
+use crate::places;
+use crate::programs::{Programs, judge};
 use crate::runs::{PlainRun, Written, next_written, start, step};
 use host_core::{Event, Reply};
-use host_types::limits::{MAX_CONTEXT, MAX_MAPS};
+use host_types::limits::{MAX_CONTEXT, MAX_MAPS, MAX_PROGRAMS};
 use host_types::{Fault, Shape};
-use plain_machine::{Machine, Made};
+use plain_machine::{ArrayMap, Machine, Made};
 use std::alloc::{AllocError, Global};
 
 #[derive(Drop)]
@@ -21,17 +21,8 @@ pub(crate) struct PlainTenant {
     run: Option<PlainRun>,
 }
 
-/// A tenant's places for maps, none of them taken.
-fn no_maps(alloc: Global) -> Result<Maps, AllocError> {
-    let mut maps = Vec::new(alloc);
-    for _ in 0..MAX_MAPS {
-        maps.push(None)?;
-    }
-    Ok(maps)
-}
-
 /// Writes a value to an element of a map. A value of another size than the map's isn't written.
-fn put(map: Option<&mut Option<plain_machine::ArrayMap>>, key: u32, value: &[u8]) {
+fn put(map: Option<&mut Option<ArrayMap>>, key: u32, value: &[u8]) {
     if let Some(Some(map)) = map {
         if value.len() == map.shape().value_size as usize {
             map.update(key, value, 0);
@@ -43,8 +34,8 @@ impl PlainTenant {
     pub(crate) fn new(alloc: Global, number: u32) -> Result<PlainTenant, AllocError> {
         Ok(PlainTenant {
             number,
-            maps: no_maps(alloc)?,
-            programs: no_programs(alloc)?,
+            maps: places::none(alloc, MAX_MAPS)?,
+            programs: places::none(alloc, MAX_PROGRAMS)?,
             run: None,
         })
     }
@@ -52,7 +43,7 @@ impl PlainTenant {
     /// What the rest of the open run may need of frames.
     pub(crate) fn reserve(&self) -> u32 {
         match &self.run {
-            Some(run) => match program_at(&self.programs, run.program) {
+            Some(run) => match places::at(&self.programs, run.program) {
                 Some(program) => program.reserve(run.machine.slot()),
                 None => 0,
             },
@@ -118,7 +109,7 @@ impl PlainTenant {
         mergeable: bool,
         have: u32,
     ) -> Result<Reply, Fault> {
-        let Some(number) = free_number(&self.maps) else {
+        let Some(number) = places::first_free(&self.maps) else {
             return Err(Fault::TooManyMaps);
         };
         if !shape.is_valid() {
@@ -128,7 +119,7 @@ impl PlainTenant {
         if have < need {
             return Err(Fault::NoFrames { need, have });
         }
-        let Ok(map) = zero_map(alloc, shape) else {
+        let Ok(map) = ArrayMap::of_zeros(alloc, shape) else {
             return Err(Fault::OutOfMemory);
         };
         let Ok(()) = pages.add(self.number, number, need, mergeable) else {
@@ -142,7 +133,7 @@ impl PlainTenant {
 
     /// Loads a text to the first free place.
     fn load(&mut self, alloc: Global, text: &[u8], context_size: u32) -> Result<Reply, Fault> {
-        let Some(number) = free_place(&self.programs) else {
+        let Some(number) = places::first_free(&self.programs) else {
             return Err(Fault::TooManyPrograms);
         };
         if context_size > MAX_CONTEXT || context_size % 8 != 0 {
@@ -163,7 +154,7 @@ impl PlainTenant {
         context: &[u8],
         have: u32,
     ) -> Result<Reply, Fault> {
-        let need = match program_at(&self.programs, program) {
+        let need = match places::at(&self.programs, program) {
             None => return Err(Fault::NoProgram),
             Some(program) if program.context_size != context.len() => {
                 return Err(Fault::BadContext);
@@ -196,7 +187,7 @@ impl PlainTenant {
         let Some(run) = &mut self.run else {
             return Err(Fault::NoRun);
         };
-        let Some(program) = program_at(&self.programs, run.program) else {
+        let Some(program) = places::at(&self.programs, run.program) else {
             return Err(Fault::NoProgram);
         };
         let writes = next_written(&run.machine, &program.text);
@@ -228,7 +219,7 @@ impl PlainTenant {
         let Some(run) = &self.run else {
             return Ok(());
         };
-        let Ok(copy) = copy_of(alloc, map_at(run.machine.maps(), writes.map)) else {
+        let Ok(copy) = copy_of(alloc, places::at(run.machine.maps(), writes.map)) else {
             return Err(Fault::OutOfMemory);
         };
         if let Some(map) = &copy {
@@ -265,7 +256,7 @@ impl PlainTenant {
         }
         put(self.maps.get_mut(map), key, value);
         let at = element_at(shape, key);
-        if let Some(now) = map_at(&self.maps, map) {
+        if let Some(now) = places::at(&self.maps, map) {
             pages.written(
                 self.number,
                 map,
@@ -278,7 +269,7 @@ impl PlainTenant {
 
     /// The shape of a map.
     fn shape(&self, map: usize) -> Result<Shape, Fault> {
-        match map_at(&self.maps, map) {
+        match places::at(&self.maps, map) {
             Some(map) => Ok(map.shape()),
             None => Err(Fault::NoMap),
         }
@@ -286,7 +277,7 @@ impl PlainTenant {
 
     /// Reads the value of an element.
     fn lookup(&self, alloc: Global, map: usize, key: u32) -> Result<Reply, Fault> {
-        let Some(map) = map_at(&self.maps, map) else {
+        let Some(map) = places::at(&self.maps, map) else {
             return Err(Fault::NoMap);
         };
         if key >= map.shape().entries {

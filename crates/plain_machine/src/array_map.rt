@@ -1,4 +1,4 @@
-ghost use Rattle.std.specs.Prelude.{◌≡◌, ◌+◌, ◌^◌, ◌<◌, ◌≤◌, true, length};
+ghost use Rattle.std.specs.Prelude.{◌≡◌, ◌+◌, ◌^◌, ◌<◌, ◌≤◌, true, length, replicate, IfOk};
 ghost use Rattle.host_types.specs.Bytes.{number_of, part_of};
 ghost use Rattle.host_types.specs.Helpers.{failed, lookup_answer, update_answer, delete_answer, map_updated};
 ghost use Rattle.host_types.specs.Memory.{FlatMap, is_in_value};
@@ -8,6 +8,7 @@ ghost use Rattle.plain_machine.specs.Regions.{map_with_number};
 use crate::number::{number_of_bytes, put_bytes, put_part};
 use host_types::layout::{MAP_VALUES, REGION};
 use host_types::{MapNo, Shape};
+use std::alloc::{AllocError, Global};
 use std::marker::Model;
 
 /// The flag of an update that wants an element that isn't there.
@@ -48,6 +49,15 @@ impl ArrayMap {
         ensures { result ≡ record { shape = shape; bytes = bytes.items } }
     {
         ArrayMap { shape, bytes }
+    }
+
+    /// A map of zeros, of a shape that a map may have.
+    pub fn of_zeros(alloc: Global, shape: Shape) -> Result<Self, AllocError>
+        requires { IsShape shape }
+        ensures { IfOk result (λ map. map ≡ record { shape = shape; bytes = replicate (byte_len_of shape) 0 }) }
+    {
+        let bytes = vec![in alloc; 0; shape.byte_len() as usize]?;
+        Ok(ArrayMap::new(shape, bytes))
     }
 
     /// The bytes of all elements.

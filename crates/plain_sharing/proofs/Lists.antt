@@ -4,7 +4,7 @@ use Rattle.std.specs.List.{list_any}
 use Rattle.std.proofs.lemmas.List.{take_min, drop_min, take_all, take-replicate, drop-replicate, length-drop, length-map}
 use Rattle.std.proofs.Math.ListN.{get_or-map}
 use Rattle.std.proofs.lemmas.List.Sums.{sum_by_more}
-use Rattle.host_types.specs.Pages.{page_bytes, zero_page}
+use Rattle.host_types.specs.Pages.{page_bytes}
 use Rattle.host_types.specs.Sharing.{PageState}
 use Rattle.host_types.specs.Visits.{Contents, group_bytes}
 use Rattle.plain_sharing.specs.View.{page_of, page_states}
@@ -24,11 +24,6 @@ filter-map {X} test f (x ∷ xs) = by_test (test (f x)) (filter-map test f xs)
         → map f (cond b (x ∷ filter (λ y. test (f y)) xs) (filter (λ y. test (f y)) xs)) ≡ cond b (f x ∷ filter test (map f xs)) (filter test (map f xs))
     by_test true e = ap (λ l. f x ∷ l) e
     by_test false e = e
-
--- the same element again and again, mapped
-pub map-replicate : {X Y : Type 0} (f : X → Y) (n : ℕ) (x : X) → map f (replicate n x) ≡ replicate n (f x)
-map-replicate f zero x = refl
-map-replicate f (suc n) x = ap (λ l. f x ∷ l) (map-replicate f n x)
 
 -- one more element of a list is changed, from the first one on
 pub changed_more : {X : Type 0} (f : X → X) (xs ys : List X) (i : ℕ) (x d : X) → xs ≡ map f (take i ys) ++ drop i ys → i < length ys → x ≡ f (slice_index_or xs i d)
@@ -61,10 +56,6 @@ pub no_bytes : (contents : Contents) (places : List ℕ) → slice_get places 0 
 unfolding group_bytes
 no_bytes contents [] e = refl
 no_bytes contents (j ∷ places) e = absurd (cc)
-
-pub replicate-zero_page : (n : ℕ) → n ≡ 4096 → replicate n 0 ≡ zero_page
-unfolding zero_page
-replicate-zero_page n e = ap (λ (m : ℕ). replicate m 0) e
 
 -- as much of a list of zeros as is missing
 filled_up : (n k : ℕ) (xs : List ℕ) → n ≤ k → take n (xs ++ replicate k 0) ≡ take n xs ++ replicate (n - length xs) 0

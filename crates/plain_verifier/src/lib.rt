@@ -7,8 +7,10 @@
 mod laws;
 mod orders;
 mod pass;
+mod shapes;
 mod table;
 
 pub use laws::orders_agree;
 pub use pass::{judge_backward, judge_forward};
+pub use shapes::push_shape;
 pub use table::{Judged, Table};

@@ -4,7 +4,7 @@ use crate::text::{EXIT, text_of};
 use bpf_decode::decode;
 use host_types::{Refused, Shape};
 use std::alloc::Global;
-use verifier::verify;
+use verifier::{is_context_size, verify};
 
 /// The sizes that are told of R0 = 0, in two slots, and EXIT, with two maps: of the context, and the
 /// slots, instructions and maps.
@@ -16,7 +16,7 @@ fn sizes(alloc: Global, ctx_size: u32) -> Result<(u32, u32, u32, usize), Refused
         value_size: 8,
         entries: 1,
     };
-    if ctx_size > 256 || ctx_size % 8 != 0 {
+    if !is_context_size(ctx_size) {
         return Err(Refused::OUT_OF_MEMORY);
     }
     let program = verify(alloc, decode(alloc, &text)?, &[shape, shape], ctx_size)?;

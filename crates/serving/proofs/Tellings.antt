@@ -6,18 +6,11 @@ use Rattle.host_types.specs.declared.fault.Fault.{Fault}
 use Rattle.host_core.specs.declared.event.Event.{Event}
 use Rattle.host_core.specs.declared.event.Reply.{Reply}
 use Rattle.host_file.specs.declared.command.Command.{Command}
-use Rattle.engines.specs.Lines.{line_of, refusal_text, reply_lines}
+use Rattle.host_types.specs.Refusals.{refusal_text}
+use Rattle.engines.specs.Lines.{line_of, reply_lines}
 use Rattle.engines.specs.Replay.{is_refusal}
-use Rattle.engines.proofs.Noting.{Appends-none, Appends-join}
+use Rattle.engines.proofs.Noting.{Appends-none, Appends-join, or-assoc, or-false}
 use Rattle.serving.specs.Told.{Telling, Answered, Unserved, Names, IsOfFile, HasWritten, IsServedSo, told_text, tells_refusal, all_told, tell_refusal}
-
-or-assoc : (a b c : Bool) → ((a || b) || c) ≡ (a || (b || c))
-or-assoc true b c = refl
-or-assoc false b c = refl
-
-or-false : (a : Bool) → (a || false) ≡ a
-or-false true = refl
-or-false false = refl
 
 or-true : (a : Bool) → (a || true) ≡ true
 or-true true = refl

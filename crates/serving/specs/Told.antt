@@ -6,7 +6,8 @@ use Rattle.host_core.specs.declared.event.Event.{Event}
 use Rattle.host_core.specs.declared.event.Reply.{Reply}
 use Rattle.host_file.specs.declared.command.Command.{Command}
 use Rattle.host_file.specs.declared.command.Command.TheVariants.{Apply, Run}
-use Rattle.engines.specs.Lines.{line_of, refusal_text, reply_lines}
+use Rattle.host_types.specs.Refusals.{refusal_text}
+use Rattle.engines.specs.Lines.{line_of, reply_lines}
 use Rattle.engines.specs.Replay.{is_refusal}
 
 -- what a line tells: what the file's event of a number was answered, with the number of its run among those that its

@@ -1,13 +1,11 @@
 //! A host file that is served: what it may ask for, and in which order it is done.
 
 ghost use Rattle.std.specs.Prelude.{◌≡◌, ◌≤◌, length, All, IfErr, IfOk, IfSome, OnOk};
-ghost use Rattle.std.specs.Io.KnownBytes.{Appends};
 ghost use Rattle.host_file.specs.Faults.{IsBad};
 ghost use Rattle.host_file.specs.HostFile.{IsFileText, max_bytes};
 ghost use Rattle.host_file.specs.Served.{IsServedCommand};
 ghost use Rattle.host_file.specs.declared.file.HostFile.{HostFile};
 ghost use Rattle.turn.specs.Seats.{IsIdle};
-ghost use Rattle.engines.specs.Lines.{line_of, refusal_text};
 ghost use Rattle.tenant_workers.specs.Plans.{IsFor};
 ghost use Rattle.serving.specs.Told.{HasWritten, IsServedSo};
 
@@ -16,22 +14,14 @@ use crate::house::{House, open_house, plans_of};
 use crate::opening::open_all;
 use crate::runs::{add_runs, visits_of};
 use crate::telling::Told;
-use engines::{explain_host, file_from, write_refusal, written};
+use engines::{file_from, refuse, written};
 use host_file::{FileFault, HostFile, require_served};
-use host_types::Fault;
 use std::alloc::{AllocError, Global};
 use std::io::{Read, Write};
 use std::sync::Wait;
 use std::thread::Threads;
-use tenant_workers::{Gate, Plan, ScanPlan, Shared, serve};
+use tenant_workers::{Open, Plan, ScanPlan, Shared, serve};
 use turn::HostSeat;
-
-/// A gate that returns at once.
-struct Open;
-
-impl Gate for Open {
-    fn at<R: Wait>(&self, _rt: &R, _tenant: u32, _slot: u32) {}
-}
 
 /// Serves the host file that the reader gives. Its maps, programs, values and options are made, loaded,
 /// written and set in the file's order, and the first refusal among them is written and ends it. Then a
@@ -79,22 +69,6 @@ fn serve_document<T: Threads + Wait + Sync, W: Write, E: Write>(
             Ok(1)
         }
     }
-}
-
-/// Writes why nothing is served.
-fn refuse<W: Write, E: Write>(
-    file: &HostFile,
-    fault: Fault,
-    writer: &mut W,
-    words: &mut E,
-) -> Result<(), FileFault>
-    ensures line { OnOk result (Appends (W.contents writer.old) (W.contents writer.new) (line_of (refusal_text fault))) }
-    ensures bad { IfErr result (λ fault. ¬ IsBad fault) }
-{
-    write_refusal(writer, fault)?;
-    // The line is written: what it means may be lost.
-    let _ = explain_host(words, &file.options, fault);
-    Ok(())
 }
 
 /// Serves a host file by a new memory.

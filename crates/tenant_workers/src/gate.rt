@@ -5,3 +5,10 @@ use std::sync::Wait;
 pub trait Gate {
     fn at<R: Wait>(&self, rt: &R, tenant: u32, slot: u32);
 }
+
+/// A gate that returns at once.
+pub struct Open;
+
+impl Gate for Open {
+    fn at<R: Wait>(&self, _rt: &R, _tenant: u32, _slot: u32) {}
+}

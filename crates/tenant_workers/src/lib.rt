@@ -14,7 +14,7 @@ mod scanning;
 mod serving;
 mod shared;
 
-pub use gate::Gate;
+pub use gate::{Gate, Open};
 pub use plans::{Plan, ScanPlan, TenantPlan};
 pub use serving::serve;
 pub use shared::Shared;

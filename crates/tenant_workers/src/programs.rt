@@ -6,12 +6,12 @@ ghost use Rattle.turn.specs.Seats.{IsIdle, own_part};
 ghost use Rattle.tenant_workers.specs.Calls.{IsSameSeat};
 
 use crate::shared::Shared;
-use host_calls::{host_shapes, is_context_size, judge};
+use host_calls::{host_shapes, judge};
 use host_types::{Fault, Shape};
 use std::alloc::{AllocError, Global};
 use std::sync::Wait;
 use turn::Seat;
-use verifier::Verified;
+use verifier::{Verified, is_context_size};
 
 impl Shared {
     /// Judges a text as a program of the seat's tenant, with the maps that it has and a context of so many

@@ -1,7 +1,12 @@
-//! What several test programs are given: numbers of a fixed generator, and texts of programs.
+//! What several test programs and benches are given: numbers of a fixed generator, texts of programs, flips of a
+//! bit, and the number that the one argument is.
 #![tactic(auto)]
 
+mod arguments;
+mod bits;
 mod draws;
 pub mod texts;
 
+pub use arguments::rounds_of;
+pub use bits::{BITS, flip};
 pub use draws::Draws;

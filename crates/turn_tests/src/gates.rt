@@ -5,14 +5,14 @@ ghost use Rattle.std.specs.Prelude.{◌≡◌};
 ghost use Rattle.turn.specs.Seats.{IsIdle, own_part};
 ghost use Rattle.tenant_workers.specs.Runs.{IsResting};
 
-use crate::runs::{Open, counted, returned};
+use crate::runs::{counted, returned};
 use crate::tenants::{Two, length_and_first, told, two_tenants};
 use host_types::Fault;
 use std::alloc::Global;
 use std::sync::{Mutex, Wait};
 use std::test::Fail;
 use tenant_runs::RunReply;
-use tenant_workers::{Gate, ScanPlan, Shared};
+use tenant_workers::{Gate, Open, ScanPlan, Shared};
 use test_inputs::texts::COUNTER;
 use turn::{HostSeat, Seat};
 use verifier::Verified;

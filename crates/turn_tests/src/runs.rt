@@ -11,16 +11,9 @@ use std::alloc::Global;
 use std::sync::Wait;
 use std::test::Fail;
 use tenant_runs::RunReply;
-use tenant_workers::{Gate, Shared};
+use tenant_workers::{Gate, Open, Shared};
 use test_inputs::texts::COUNTER;
 use turn::Seat;
-
-/// A gate that returns at once.
-pub(crate) struct Open;
-
-impl Gate for Open {
-    fn at<R: Wait>(&self, _rt: &R, _tenant: u32, _slot: u32) {}
-}
 
 /// What a run of the counter by a seat answers, with a gate.
 pub(crate) fn counted(

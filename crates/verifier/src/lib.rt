@@ -19,4 +19,4 @@ mod way;
 pub use candidate::Candidate;
 pub use flow::{Onward, Target};
 pub use laws::{answer_is_one, reserve_falls};
-pub use verified::{Verified, verify};
+pub use verified::{Verified, is_context_size, verify};

@@ -1,4 +1,4 @@
-ghost use Rattle.std.specs.Prelude.{◌≡◌, ◌≤◌, ◌⊎◌, IfOk, IfErr, IsSome};
+ghost use Rattle.std.specs.Prelude.{◌≡◌, ◌≤◌, ◌⊎◌, ◌↔◌, IfOk, IfErr, IsSome, IsTrue};
 ghost use Rattle.bpf_decode.specs.Opcodes.{operation_of};
 ghost use Rattle.bpf_decode.specs.Text.{slots_of, insn_at, instructions_of, IsInstruction, out_of_memory};
 ghost use Rattle.verifier.specs.Subject.{IsContextSize, all_there};
@@ -10,6 +10,7 @@ use crate::candidate::Candidate;
 use crate::reserve::reserves;
 use crate::table::{Registers, kept_kinds};
 use bpf_decode::{Insn, Program};
+use host_types::limits::MAX_CONTEXT;
 use host_types::{Refused, Shape};
 use std::alloc::Global;
 use std::marker::Model;
@@ -44,6 +45,13 @@ impl Model for Verified {
       counted : v.instructions ≡ instructions_of v.candidate.text;
       reserved : AreReserves (record { subject = v.candidate; table = tight_table v.candidate }) v.reserves.items;
     } };
+}
+
+/// Whether a context may have so many bytes: 0 to 256, a multiple of 8.
+pub fn is_context_size(size: u32) -> bool
+    ensures { IsTrue result ↔ IsContextSize size }
+{
+    size <= MAX_CONTEXT && size % 8 == 0
 }
 
 impl Verified {

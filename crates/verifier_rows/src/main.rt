@@ -19,7 +19,7 @@ use rules::{print_insn, print_join};
 use std::alloc::{AllocError, Global};
 use std::io;
 use std::io::Input;
-use verifier::{Verified, verify};
+use verifier::{Verified, is_context_size, verify};
 use verifier_kinds::Kind;
 
 /// The kind at a place, which is written `slot.register`.
@@ -44,7 +44,7 @@ fn size_of(given: &str) -> u32
     ensures { IsContextSize result }
 {
     match given.split(' ').next().unwrap_or("").parse() {
-        Ok(size) if size <= 256 && size % 8 == 0 => size,
+        Ok(size) if is_context_size(size) => size,
         _ => 0,
     }
 }

@@ -7,10 +7,13 @@ use std::alloc::{AllocError, Global};
 use std::io;
 use std::io::Input;
 
-/// The words of a line, behind the program's name.
+/// The path of the program, which is longer than what is told of a word.
+const PATH: &str = "/home/someone/projects/bpf_host/crates/bpf_host/out/bpf_host";
+
+/// The words of a line, behind the program's path.
 fn words_of(alloc: Global, line: &str) -> Result<Vec<String>, AllocError> {
     let mut words = Vec::new(alloc);
-    words.push(String::from_str(alloc, "bpf_host")?)?;
+    words.push(String::from_str(alloc, PATH)?)?;
     for word in line.split('|').filter(|_| !line.is_empty()) {
         words.push(String::from_str(alloc, word)?)?;
     }

@@ -1,6 +1,6 @@
 -- A store page by page does what the whole store does.
 use Rattle.std.proofs.Common.{◌≡◌, ◌∙◌, ◌⊎◌, ⊎_elim, ℕ, zero, suc, ◌+◌, ◌-◌, ◌/◌, ◌%◌, ◌<◌, ◌≤◌, Bool, true, false, List, [], ◌∷◌, ◌++◌, length, take, drop, slice_set, Option, Some, None, option_map, unwrap_or, refl, sym, ap, arith}
-use Rattle.std.proofs.lemmas.List.{get_or-set_same, set-get_or, set-set, append_assoc, append-nil, length-append, length-take, take_at, drop_at, drop-drop, take-append-drop}
+use Rattle.std.proofs.lemmas.List.{get_or-set_same, set-get_or, set-set, append_assoc, length-append, length-take, take_at, drop_at, drop-drop}
 use Rattle.host_types.specs.Bytes.{with_part}
 use Rattle.host_types.specs.Memory.{FlatMap, FlatMaps, map_at}
 use Rattle.host_types.specs.declared.status.Status.{Status}
@@ -9,6 +9,7 @@ use Rattle.host_types.specs.Sharing.{Sharing, PageState, state_at, cost_of, is_i
 use Rattle.host_types.specs.Tenant.{TenantPart}
 use Rattle.page_table.specs.State.{MemoryState, part, map_bytes, have_of}
 use Rattle.page_table.specs.Changes.{map_written, part_written, KeepsSettings}
+use Rattle.page_table.proofs.Creating.{with_part-none}
 use Rattle.write_break.specs.Stores.{touched, place_of_byte, stored_sharing, store_frames, IsStored}
 
 -- some bytes lie on the pages from their first one to their last one
@@ -133,13 +134,6 @@ map_inside : (maps : FlatMaps) (m : ℕ) (flat : FlatMap) → map_at maps m ≡ 
 map_inside [] m flat e = absurd (cc)
 map_inside (x ∷ maps) zero flat e = omega arith
 map_inside (x ∷ maps) (suc m) flat e = let rest = map_inside maps m flat e in omega arith
-
--- no bytes written
-pub with_part-none : {X : Type 0} (xs : List X) (at : ℕ) → xs ≡ with_part xs at []
-unfolding with_part
-with_part-none xs at =
-    let place : at + 0 ≡ at = omega arith in
-    sym (ap (λ l. l ++ drop (at + 0) xs) (append-nil (take at xs)) ∙ ap (λ (n : ℕ). take at xs ++ drop n xs) place ∙ take-append-drop at xs)
 
 -- bytes written one after another
 pub with_part-twice : {X : Type 0} (xs : List X) (at : ℕ) (first later : List X) → at + length first ≤ length xs

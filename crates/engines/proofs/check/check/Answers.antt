@@ -1,6 +1,7 @@
 use Rattle.std.proofs.Common.{refl, inl, inr}
 use Rattle.engines.specs.Check.{acceptance_of}
-use Rattle.engines.specs.Lines.{line_of, refusal_text}
+use Rattle.host_types.specs.Refusals.{refusal_text}
+use Rattle.engines.specs.Lines.{line_of}
 use Rattle.engines.proofs.check.check.Goals as goal
 
 pub returns-in-Ok-clause-judged : goal.returns-in-Ok-clause-judged

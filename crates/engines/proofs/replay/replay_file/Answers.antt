@@ -2,6 +2,6 @@ use Rattle.std.proofs.Common.{refl}
 use Rattle.engines.specs.Replay.{refused}
 use Rattle.engines.proofs.replay.replay_file.Goals as goal
 
-pub returns-in_ok-write_refusal-in-Err-clause-replayed : goal.returns-in_ok-write_refusal-in-Err-clause-replayed
-returns-in_ok-write_refusal-in-Err-clause-replayed g c =
-    refused c.in-Err.fault c.in-Err.ensures.refused refl c.in_ok-write_refusal-in-Err.ensures.line
+pub returns-in_ok-refuse-in-Err-clause-replayed : goal.returns-in_ok-refuse-in-Err-clause-replayed
+returns-in_ok-refuse-in-Err-clause-replayed g c =
+    refused c.in-Err.fault c.in-Err.ensures.refused refl c.in_ok-refuse-in-Err.ensures.line

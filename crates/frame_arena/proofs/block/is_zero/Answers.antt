@@ -2,7 +2,7 @@ use Rattle.std.proofs.Common.{◌≡◌, refl, ◌∙◌}
 use Rattle.std.proofs.lemmas.Slice.Eq.{slice_eq-Decides}
 use Rattle.std.proofs.lemmas.Bool.Decides.{Decides-eqb}
 use Rattle.host_types.specs.Pages.{zero_page}
-use Rattle.frame_arena.proofs.Pages.{replicate-zero_page}
+use Rattle.host_types.proofs.Pages.{replicate-zero_page}
 use Rattle.frame_arena.proofs.block.is_zero.Goals as goal
 
 pub returns : goal.returns

@@ -1,6 +1,6 @@
 use Rattle.std.proofs.Common.{◌≡◌, bytes_eq, refl, ap, ◌∙◌}
 use Rattle.host_types.specs.Pages.{zero_page}
-use Rattle.plain_sharing.proofs.Lists.{replicate-zero_page}
+use Rattle.host_types.proofs.Pages.{replicate-zero_page}
 use Rattle.plain_sharing.proofs.contents.is_zeros.Goals as goal
 
 pub returns : goal.returns

@@ -1,4 +1,4 @@
-use Rattle.std.proofs.Common.{◌≡◌, ◌≤◌, ◌+◌, length, arith}
+use Rattle.std.proofs.Common.{◌≡◌, ◌∙◌, ◌≤◌, ◌+◌, length, sym, arith}
 use Rattle.host_types.specs.Pages.{page_place}
 use Rattle.host_types.specs.Sharing.{break_cost}
 use Rattle.page_table.specs.State.{MemoryState, have_of}
@@ -73,3 +73,10 @@ returns-clause-have c =
 pub returns-clause-settings : goal.returns-clause-settings
 returns-clause-settings c =
     rw (← c.self.view_is) (settings_kept c.self.inside.table c.take_out.new.self c.self.inside.shapes.items c.self.inside.tenants.items c.self.inside.pass _ c.take_out.ensures.contents c.take_out.ensures.arena)
+
+pub returns-clause-frames : goal.returns-clause-frames
+unfolding view_of
+returns-clause-frames c none =
+    let stays = rw c.place_of.ensures at c.take_out.ensures.frames in
+    let free : break_cost (before c).sharing (page_place c.args.page) ≡ 0 = rw (← c.self.view_is) at none in
+    rw (← c.self.view_is) (stays (sym (told c) ∙ free))

@@ -1,7 +1,7 @@
 use Rattle.std.proofs.Common.{◌≡◌, ◌+◌, Some, ap, arith}
 use Rattle.page_table.specs.Table.{TableState, GroupsState, entry_at, pages_on, one_if_zero}
 use Rattle.page_table.proofs.Ending.{but, one_group, contents-ended, sharing-ended, used-ended, sound-ended}
-use Rattle.page_table.proofs.Entries.{kept-shared}
+use Rattle.page_table.proofs.Entries.{frames-kept, kept-shared}
 use Rattle.page_table.proofs.Trees.{tree-removed}
 use Rattle.page_table.proofs.table.Table.end_group.Goals as goal
 use Rattle.page_table.proofs.table.Table.end_group.Goals.{After-remove-2}
@@ -52,3 +52,6 @@ remove-requires c =
     let last : one_if_zero c.args.entry.frame + pages_on c.args.entry.frame before.entries ≡ 1 = rw (← c.self.view_is) at c.requires.last in
     let one = one_group before c.args.place c.args.entry c.broken.result c.self.invariant.0.fits there c.requires.shared last c.broken.ensures.state c.broken.ensures.frame in
     omega (arith, one)
+
+pub returns-clause-frames : goal.returns-clause-frames
+returns-clause-frames c = rw (c.set.ensures, ← c.self.view_is) (frames-kept (table c).entries c.args.place c.args.entry c.broken.result (here c) c.broken.ensures.frame)

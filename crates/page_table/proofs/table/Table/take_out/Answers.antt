@@ -106,3 +106,8 @@ pub returns-else-count-gt1-clause-used : goal.returns-else-count-gt1-clause-used
 returns-else-count-gt1-clause-used c =
     let none = cost_last (goal.at.returns-else-count-gt1-clause-used c).In-Some c.count.result c.if-not-entry.false c.count.ensures c.if-count-gt1.false in
     omega (arith, none, c.end_group.ensures.used)
+
+pub returns-then-count-gt1-clause-frames : goal.returns-then-count-gt1-clause-frames
+returns-then-count-gt1-clause-frames c none =
+    let one = cost_more (goal.at.returns-then-count-gt1-clause-frames c).In-Some c.count.result c.if-not-entry.false c.count.ensures c.if-count-gt1.true in
+    absurd (omega (arith, one, none))

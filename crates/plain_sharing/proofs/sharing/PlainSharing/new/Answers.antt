@@ -1,6 +1,6 @@
 use Rattle.std.proofs.Common.{◌≡◌, replicate, [], None, ap, option_map, rules}
 use Rattle.plain_sharing.specs.View.{page_of, sharing_at_rest}
-use Rattle.plain_sharing.proofs.Lists.{map-replicate}
+use Rattle.host_types.proofs.Lists.{map-replicate}
 use Rattle.plain_sharing.proofs.sharing.PlainSharing.new.Goals as goal
 
 pub returns : goal.returns
