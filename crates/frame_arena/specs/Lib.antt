@@ -1,2 +1,3 @@
 pub mod Pages
 pub mod Block
+pub mod Digits

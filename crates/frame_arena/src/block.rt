@@ -5,6 +5,7 @@ ghost use Rattle.host_types.specs.Pages.{zero_page, folded, fingerprint_of};
 ghost use Rattle.frame_arena.specs.Pages.{IsAccessSize};
 
 use crate::number::write_number;
+use crate::sixteen::with_sixteen;
 use host_types::limits::PAGE_SIZE;
 
 /// Each byte is below 256, which its type says.
@@ -70,38 +71,19 @@ pub(crate) fn is_zero(page: &[u8]) -> bool
     page == [0; PAGE_SIZE as usize].as_slice()
 }
 
-/// The fingerprint of a page's bytes. Eight bytes are folded in at once.
+/// The fingerprint of a page's bytes. Sixteen bytes are folded in at once.
 #[tactic(auto, unfolding(host_types::specs::Pages::fingerprint_of))]
 pub(crate) fn fingerprint(page: &[u8]) -> u64
     ensures { result ≡ fingerprint_of page.now }
 {
     let mut fingerprint = 0u64;
     let mut rest = page;
-    while rest.len() >= 8 {
-        let (eight, later) = rest.split_at(8);
-        fingerprint = with_eight(fingerprint, eight);
+    while rest.len() >= 16 {
+        let (sixteen, later) = rest.split_at(16);
+        fingerprint = with_sixteen(fingerprint, sixteen);
         rest = later;
     }
     with_each(fingerprint, rest)
-}
-
-/// A fingerprint with eight bytes folded in: each is multiplied by a power of 31, and only the first
-/// product and the last sum can pass 64 bits.
-fn with_eight(fingerprint: u64, bytes: &[u8]) -> u64
-    requires { length bytes.now ≡ 8 }
-    ensures { result ≡ fold folded fingerprint bytes.now }
-{
-    let high = u64::from(bytes[0]) * 27512614111
-        + u64::from(bytes[1]) * 887503681
-        + u64::from(bytes[2]) * 28629151
-        + u64::from(bytes[3]) * 923521;
-    let low = u64::from(bytes[4]) * 29791
-        + u64::from(bytes[5]) * 961
-        + u64::from(bytes[6]) * 31
-        + u64::from(bytes[7]);
-    fingerprint
-        .wrapping_mul(852891037441)
-        .wrapping_add(high + low)
 }
 
 /// A fingerprint with bytes folded in one by one.

@@ -5,5 +5,6 @@
 mod arena;
 mod block;
 mod number;
+mod sixteen;
 
 pub use arena::FrameArena;
