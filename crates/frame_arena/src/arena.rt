@@ -6,6 +6,7 @@ ghost use Rattle.host_types.specs.Pages.{zero_page, fingerprint_of};
 ghost use Rattle.frame_arena.specs.Pages.{IsPage, IsAccessSize, page_at};
 
 use crate::block;
+use crate::bytes::Bytes;
 use crate::number::read_number;
 use host_types::limits::PAGE_SIZE;
 use std::alloc::{AllocError, Global};
@@ -18,7 +19,7 @@ use std::marker::Model;
 pub struct FrameArena {
     frames: u32,
     /// The pages, one after another.
-    block: Vec<u8>,
+    block: Bytes,
 }
 
 impl Model for FrameArena {
@@ -27,9 +28,9 @@ impl Model for FrameArena {
 
     ghost Value = { List (List ℕ) };
 
-    ghost view = { λ arena. pages_of arena.frames arena.block.items };
+    ghost view = { λ arena. pages_of arena.frames arena.block };
 
-    ghost invariant = { λ arena. length arena.block.items ≡ arena.frames * 4096 };
+    ghost invariant = { λ arena. length arena.block ≡ arena.frames * 4096 };
 }
 
 /// Where a frame's byte stands in the block.
@@ -46,7 +47,7 @@ impl FrameArena {
     pub fn new(alloc: Global, frames: u32) -> Result<Self, AllocError>
         ensures { IfOk result (λ arena. arena ≡ replicate frames zero_page) }
     {
-        let block = vec![in alloc; 0; place(frames, 0)]?;
+        let block = Bytes::zeros(alloc, place(frames, 0))?;
         Ok(FrameArena { frames, block })
     }
 
@@ -55,7 +56,7 @@ impl FrameArena {
         ensures count { result ≡ length self.now }
         ensures pages { All IsPage self.now }
     {
-        block::bytes_are_small(&self.block);
+        block::bytes_are_small(self.block.as_slice());
         self.frames
     }
 
@@ -80,7 +81,7 @@ impl FrameArena {
             (with_part (page_at self.old frame) at (bytes_of size value)) }
     {
         let start = place(frame, at);
-        block::put_number(&mut self.block, start, size as usize, value);
+        block::put_number(self.block.as_mut_slice(), start, size as usize, value);
     }
 
     /// Reads bytes of a page from the byte `at` on.
@@ -100,7 +101,7 @@ impl FrameArena {
             (with_part (page_at self.old frame) at bytes.now) }
     {
         let start = place(frame, at);
-        block::put(&mut self.block, start, bytes);
+        block::put(self.block.as_mut_slice(), start, bytes);
     }
 
     /// Copies a page into another frame. A copy of a frame to itself changes nothing.
@@ -111,7 +112,7 @@ impl FrameArena {
     {
         let from = place(from, 0);
         let to = place(to, 0);
-        block::copy(&mut self.block, from, to);
+        block::copy(self.block.as_mut_slice(), from, to);
     }
 
     /// Whether two frames hold the same bytes.
@@ -153,7 +154,7 @@ impl FrameArena {
         requires { frame < length self.old }
         ensures { self.new ≡ slice_set self.old frame zero_page }
     {
-        block::clear(&mut self.block, place(frame, 0));
+        block::clear(self.block.as_mut_slice(), place(frame, 0));
     }
 
     /// The bytes of a frame.
@@ -162,7 +163,7 @@ impl FrameArena {
         ensures bytes { result.now ≡ page_at self.now frame }
         ensures sized { length result.now ≡ PAGE_SIZE }
     {
-        block::part(&self.block, place(frame, 0), PAGE_SIZE as usize)
+        block::part(self.block.as_slice(), place(frame, 0), PAGE_SIZE as usize)
     }
 
     /// Some bytes of a frame, from the byte `at` on.
@@ -172,6 +173,6 @@ impl FrameArena {
         ensures bytes { result.now ≡ part_of (page_at self.now frame) at size }
         ensures sized { length result.now ≡ size }
     {
-        block::part(&self.block, place(frame, at), size)
+        block::part(self.block.as_slice(), place(frame, at), size)
     }
 }
