@@ -1,5 +1,5 @@
 -- Host files (this project's own format, docs/HOST.md): what a TOML document says.
-use Rattle.std.specs.Prelude.{◌≡◌, ℕ, ◌≤◌, pos, List, [], ◌∷◌, codes, Any, MatchOption, Option, Some, None, Ok, Bool, true}
+use Rattle.std.specs.Prelude.{◌≡◌, ℕ, ◌≤◌, ◌==◌, ◌||◌, pos, List, [], ◌∷◌, length, codes, count_by, Any, MatchOption, Option, Some, None, Ok, Bool, true}
 use Rattle.host_types.specs.declared.options.Opt.{Opt}
 use Rattle.host_types.specs.declared.options.Options.{Options}
 use Rattle.host_types.specs.OptionTable.{default_options, option_name}
@@ -168,10 +168,30 @@ pub record IsHostFile (ms : Members) (file : HostFile) : Type 0 where
   pub options : HasOptions ms file.options
   pub events : HasEvents ms file.commands
 
--- the most bytes that a host file may have
-abbrev pub max_bytes : ℕ
-max_bytes = 67108864
+-- a character that opens an array, a table or a header of one, or parts a key (`.`, `[` and `{`)
+abbrev pub opens : ℕ → Bool
+opens c = (c == 46 || c == 91) || c == 123
 
--- a text is a TOML document that is a host file
+-- the character that stands between a key and its value (`=`)
+abbrev pub is_equals : ℕ → Bool
+is_equals c = c == 61
+
+-- the most bytes that a host file may have, the most characters that open something, and the most of `=`
+abbrev pub max_bytes : ℕ
+max_bytes = 16777216
+
+abbrev pub max_openings : ℕ
+max_openings = 300000
+
+abbrev pub max_equals : ℕ
+max_equals = 1000000
+
+-- a text is within the limits, wherever in it the characters stand
+pub record IsSmall (text : List ℕ) : Type 0 where
+  pub bytes : length text ≤ max_bytes
+  pub openings : count_by opens text ≤ max_openings
+  pub equals : count_by is_equals text ≤ max_equals
+
+-- a text within the limits is a TOML document that is a host file
 abbrev pub IsFileText : List ℕ → HostFile → Type 0
-IsFileText text file = (ms : Members) × (parse_document text ≡ Some ms) × IsHostFile ms file
+IsFileText text file = (ms : Members) × IsSmall text × (parse_document text ≡ Some ms) × IsHostFile ms file

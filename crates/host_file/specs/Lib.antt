@@ -1,4 +1,5 @@
 pub mod Faults
 pub mod HostFile
+pub mod Kinds
 pub mod Section
 pub mod Served

@@ -1,5 +1,8 @@
-ghost use Rattle.std.specs.Prelude.{codes, IfOk};
+ghost use Rattle.std.specs.Prelude.{codes, IfErr, IfOk};
+ghost use Rattle.host_file.specs.Faults.{MeansNone, Refutes};
 ghost use Rattle.host_file.specs.HostFile.{HasOption, HasString, IsBeginning, IsEvent};
+ghost use Rattle.host_file.specs.Kinds.{IsComplete};
+ghost use Rattle.host_file.specs.Kinds as kind;
 ghost use Rattle.host_file.specs.Section.{members_of};
 
 use crate::command::Command;
@@ -13,7 +16,8 @@ use std::alloc::Global;
 
 /// The command of an event's table.
 pub fn command_of(alloc: Global, event: &Section<'_>) -> Result<Command, FileFault>
-    ensures { IfOk result (IsEvent (members_of event.now)) }
+    ensures read { IfOk result (IsEvent (members_of event.now)) }
+    ensures bad { IfErr result (MeansNone (IsEvent (members_of event.now))) }
 {
     match event.text(Key::Do)? {
         "map" => map(alloc, event),
@@ -34,7 +38,8 @@ pub fn command_of(alloc: Global, event: &Section<'_>) -> Result<Command, FileFau
 
 fn map(alloc: Global, event: &Section<'_>) -> Result<Command, FileFault>
     requires { HasString (members_of event.now) Key.Do (codes "map") }
-    ensures { IfOk result (IsEvent (members_of event.now)) }
+    ensures read { IfOk result (IsEvent (members_of event.now)) }
+    ensures bad { IfErr result (Refutes (IsComplete (members_of event.now) kind.map)) }
 {
     event.require_only(
         alloc,
@@ -56,7 +61,8 @@ fn map(alloc: Global, event: &Section<'_>) -> Result<Command, FileFault>
 
 fn load(alloc: Global, event: &Section<'_>) -> Result<Command, FileFault>
     requires { HasString (members_of event.now) Key.Do (codes "load") }
-    ensures { IfOk result (IsEvent (members_of event.now)) }
+    ensures read { IfOk result (IsEvent (members_of event.now)) }
+    ensures bad { IfErr result (Refutes (IsComplete (members_of event.now) kind.load)) }
 {
     event.require_only(alloc, &[Key::Do, Key::Tenant, Key::Hex, Key::Context])?;
     Ok(Command::Apply(Event::Load {
@@ -68,14 +74,16 @@ fn load(alloc: Global, event: &Section<'_>) -> Result<Command, FileFault>
 
 fn begin(alloc: Global, event: &Section<'_>) -> Result<Command, FileFault>
     requires { HasString (members_of event.now) Key.Do (codes "begin") }
-    ensures { IfOk result (IsEvent (members_of event.now)) }
+    ensures read { IfOk result (IsEvent (members_of event.now)) }
+    ensures bad { IfErr result (Refutes (IsComplete (members_of event.now) kind.begin)) }
 {
     Ok(Command::Apply(beginning(alloc, event)?))
 }
 
 fn step(alloc: Global, event: &Section<'_>) -> Result<Command, FileFault>
     requires { HasString (members_of event.now) Key.Do (codes "step") }
-    ensures { IfOk result (IsEvent (members_of event.now)) }
+    ensures read { IfOk result (IsEvent (members_of event.now)) }
+    ensures bad { IfErr result (Refutes (IsComplete (members_of event.now) kind.step)) }
 {
     event.require_only(alloc, &[Key::Do, Key::Tenant, Key::Count])?;
     Ok(Command::Step {
@@ -86,7 +94,8 @@ fn step(alloc: Global, event: &Section<'_>) -> Result<Command, FileFault>
 
 fn finish(alloc: Global, event: &Section<'_>) -> Result<Command, FileFault>
     requires { HasString (members_of event.now) Key.Do (codes "finish") }
-    ensures { IfOk result (IsEvent (members_of event.now)) }
+    ensures read { IfOk result (IsEvent (members_of event.now)) }
+    ensures bad { IfErr result (Refutes (IsComplete (members_of event.now) kind.finish)) }
 {
     event.require_only(alloc, &[Key::Do, Key::Tenant])?;
     Ok(Command::Finish {
@@ -96,14 +105,16 @@ fn finish(alloc: Global, event: &Section<'_>) -> Result<Command, FileFault>
 
 fn run(alloc: Global, event: &Section<'_>) -> Result<Command, FileFault>
     requires { HasString (members_of event.now) Key.Do (codes "run") }
-    ensures { IfOk result (IsEvent (members_of event.now)) }
+    ensures read { IfOk result (IsEvent (members_of event.now)) }
+    ensures bad { IfErr result (Refutes (IsComplete (members_of event.now) kind.run)) }
 {
     Ok(Command::Run(beginning(alloc, event)?))
 }
 
 /// The event that opens a run.
 fn beginning(alloc: Global, event: &Section<'_>) -> Result<Event, FileFault>
-    ensures { IfOk result (IsBeginning (members_of event.now)) }
+    ensures read { IfOk result (IsBeginning (members_of event.now)) }
+    ensures bad { IfErr result (Refutes (IsComplete (members_of event.now) kind.begin)) }
 {
     event.require_only(alloc, &[Key::Do, Key::Tenant, Key::Program, Key::Context])?;
     Ok(Event::Begin {
@@ -115,7 +126,8 @@ fn beginning(alloc: Global, event: &Section<'_>) -> Result<Event, FileFault>
 
 fn visit(alloc: Global, event: &Section<'_>) -> Result<Command, FileFault>
     requires { HasString (members_of event.now) Key.Do (codes "visit") }
-    ensures { IfOk result (IsEvent (members_of event.now)) }
+    ensures read { IfOk result (IsEvent (members_of event.now)) }
+    ensures bad { IfErr result (Refutes (IsComplete (members_of event.now) kind.visit)) }
 {
     event.require_only(alloc, &[Key::Do, Key::Count])?;
     Ok(Command::Visit {
@@ -125,7 +137,8 @@ fn visit(alloc: Global, event: &Section<'_>) -> Result<Command, FileFault>
 
 fn update(alloc: Global, event: &Section<'_>) -> Result<Command, FileFault>
     requires { HasString (members_of event.now) Key.Do (codes "update") }
-    ensures { IfOk result (IsEvent (members_of event.now)) }
+    ensures read { IfOk result (IsEvent (members_of event.now)) }
+    ensures bad { IfErr result (Refutes (IsComplete (members_of event.now) kind.update)) }
 {
     event.require_only(
         alloc,
@@ -141,7 +154,8 @@ fn update(alloc: Global, event: &Section<'_>) -> Result<Command, FileFault>
 
 fn lookup(alloc: Global, event: &Section<'_>) -> Result<Command, FileFault>
     requires { HasString (members_of event.now) Key.Do (codes "lookup") }
-    ensures { IfOk result (IsEvent (members_of event.now)) }
+    ensures read { IfOk result (IsEvent (members_of event.now)) }
+    ensures bad { IfErr result (Refutes (IsComplete (members_of event.now) kind.lookup)) }
 {
     event.require_only(alloc, &[Key::Do, Key::Tenant, Key::Map, Key::Key])?;
     Ok(Command::Apply(Event::HostLookup {
@@ -153,7 +167,8 @@ fn lookup(alloc: Global, event: &Section<'_>) -> Result<Command, FileFault>
 
 fn set(alloc: Global, event: &Section<'_>) -> Result<Command, FileFault>
     requires { HasString (members_of event.now) Key.Do (codes "set") }
-    ensures { IfOk result (IsEvent (members_of event.now)) }
+    ensures read { IfOk result (IsEvent (members_of event.now)) }
+    ensures bad { IfErr result (Refutes (IsComplete (members_of event.now) kind.set)) }
 {
     event.require_only(alloc, &[Key::Do, Key::Option, Key::Value])?;
     Ok(Command::Apply(Event::Set {
@@ -164,7 +179,8 @@ fn set(alloc: Global, event: &Section<'_>) -> Result<Command, FileFault>
 
 /// The option that an event names.
 fn option(alloc: Global, event: &Section<'_>) -> Result<Opt, FileFault>
-    ensures { IfOk result (HasOption (members_of event.now)) }
+    ensures read { IfOk result (HasOption (members_of event.now)) }
+    ensures bad { IfErr result (MeansNone (HasOption (members_of event.now))) }
 {
     let name = event.text(Key::Option)?;
     match Opt::named(name) {
@@ -175,7 +191,8 @@ fn option(alloc: Global, event: &Section<'_>) -> Result<Opt, FileFault>
 
 fn unmerge(alloc: Global, event: &Section<'_>) -> Result<Command, FileFault>
     requires { HasString (members_of event.now) Key.Do (codes "unmerge") }
-    ensures { IfOk result (IsEvent (members_of event.now)) }
+    ensures read { IfOk result (IsEvent (members_of event.now)) }
+    ensures bad { IfErr result (Refutes (IsComplete (members_of event.now) kind.unmerge)) }
 {
     event.require_only(alloc, &[Key::Do])?;
     Ok(Command::Apply(Event::Unmerge))
@@ -183,7 +200,8 @@ fn unmerge(alloc: Global, event: &Section<'_>) -> Result<Command, FileFault>
 
 fn counters(alloc: Global, event: &Section<'_>) -> Result<Command, FileFault>
     requires { HasString (members_of event.now) Key.Do (codes "counters") }
-    ensures { IfOk result (IsEvent (members_of event.now)) }
+    ensures read { IfOk result (IsEvent (members_of event.now)) }
+    ensures bad { IfErr result (Refutes (IsComplete (members_of event.now) kind.counters)) }
 {
     event.require_only(alloc, &[Key::Do])?;
     Ok(Command::Apply(Event::Counters))

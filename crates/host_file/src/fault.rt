@@ -1,6 +1,6 @@
 use crate::key::Key;
 use hex::FromHexError;
-use std::alloc::AllocError;
+use std::alloc::{AllocError, AllocFailed};
 use std::{fmt, io};
 use thiserror::Error;
 
@@ -11,7 +11,7 @@ pub enum FileFault {
     #[error("bad host file: {0}")]
     Bad(BadFile),
     #[error("out of memory")]
-    OutOfMemory(#[from(alloc)] AllocError),
+    OutOfMemory(AllocError),
     /// The input can't be read; nothing was applied.
     #[error("cannot read the host file: {0}")]
     Read(io::Error),
@@ -21,6 +21,28 @@ pub enum FileFault {
     /// The words of the command line are none that the program takes.
     #[error("{0}")]
     Usage(String),
+}
+
+impl From<AllocError> for FileFault {
+    ghost use Rattle.std.specs.Prelude.{◌≡◌};
+    ghost use Rattle.host_file.specs.declared.fault.FileFault.TheVariants.{OutOfMemory};
+
+    ghost from_gives = { λ error fault. fault ≡ OutOfMemory error };
+
+    fn from(error: AllocError) -> Self {
+        FileFault::OutOfMemory(error)
+    }
+}
+
+/// Lets go of what found no room.
+impl<T: Drop> From<AllocFailed<T>> for FileFault {
+    ghost use Rattle.host_file.specs.Faults.{IsOutOfMemory};
+
+    ghost from_gives = { λ failed fault. IsOutOfMemory fault };
+
+    fn from(failed: AllocFailed<T>) -> Self {
+        FileFault::OutOfMemory(AllocError::from(failed))
+    }
 }
 
 /// What is wrong with a host file, and where.
@@ -45,8 +67,12 @@ pub enum Place {
 /// What is wrong at a place of a host file.
 #[derive(Debug, Drop, Error)]
 pub enum Cause {
-    #[error("it has more than 67108864 bytes")]
+    #[error("it has more than 16777216 bytes")]
     TooLong,
+    #[error("it has more than 300000 of the characters `.`, `[` and `{{`")]
+    TooManyOpenings,
+    #[error("it has more than 1000000 of the character `=`")]
+    TooManyEquals,
     #[error("it is no UTF-8 text")]
     NotText,
     #[error("{0}")]

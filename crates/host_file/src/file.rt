@@ -1,5 +1,6 @@
-ghost use Rattle.std.specs.Prelude.{IfOk};
+ghost use Rattle.std.specs.Prelude.{IfErr, IfOk};
 ghost use Rattle.toml.specs.View.{array_view};
+ghost use Rattle.host_file.specs.Faults.{MeansNone};
 ghost use Rattle.host_file.specs.HostFile.{AreEvents, HasEvents, HasOptions, IsFileText, IsHostFile, IsOptionTable};
 ghost use Rattle.host_file.specs.Section.{members_of};
 
@@ -8,13 +9,11 @@ use crate::event::command_of;
 use crate::fault::{BadFile, Cause, FileFault, Place};
 use crate::key::Key;
 use crate::section::Section;
+use crate::size::require_small;
 use host_types::Options;
 use std::alloc::{AllocError, Global};
 use toml::Value;
 use toml::value::Array;
-
-/// The most bytes that a host file may have. A longer one is bad.
-pub const MAX_BYTES: usize = 64 << 20;
 
 /// What a host file says.
 #[derive(Debug, Drop)]
@@ -29,8 +28,10 @@ pub struct HostFile {
 /// the options that aren't as by default, and `event`, an array of tables that each have `do` and
 /// the keys of what they do.
 pub fn read_file(alloc: Global, text: &str) -> Result<HostFile, FileFault>
-    ensures { IfOk result (λ file. IsFileText text.now file) }
+    ensures read { IfOk result (IsFileText text.now) }
+    ensures bad { IfErr result (MeansNone (IsFileText text.now)) }
 {
+    require_small(text)?;
     let table = match toml::table_from_str(alloc, text) {
         Ok(table) => table,
         Err(error) if error.is_memory() => return Err(FileFault::OutOfMemory(AllocError)),
@@ -43,7 +44,8 @@ pub fn read_file(alloc: Global, text: &str) -> Result<HostFile, FileFault>
 }
 
 fn host_file(alloc: Global, document: &Section<'_>) -> Result<HostFile, FileFault>
-    ensures { IfOk result (IsHostFile (members_of document.now)) }
+    ensures read { IfOk result (IsHostFile (members_of document.now)) }
+    ensures bad { IfErr result (MeansNone (IsHostFile (members_of document.now))) }
 {
     document.require_only(
         alloc,
@@ -59,7 +61,8 @@ fn host_file(alloc: Global, document: &Section<'_>) -> Result<HostFile, FileFaul
 
 /// The options that a document sets, and the others by default.
 fn options(alloc: Global, document: &Section<'_>) -> Result<Options, FileFault>
-    ensures { IfOk result (HasOptions (members_of document.now)) }
+    ensures read { IfOk result (HasOptions (members_of document.now)) }
+    ensures bad { IfErr result (MeansNone (HasOptions (members_of document.now))) }
 {
     match document.table(Key::Options)? {
         None => Ok(Options::standard()),
@@ -68,7 +71,8 @@ fn options(alloc: Global, document: &Section<'_>) -> Result<Options, FileFault>
 }
 
 fn table_options(alloc: Global, table: &Section<'_>) -> Result<Options, FileFault>
-    ensures { IfOk result (IsOptionTable (members_of table.now)) }
+    ensures read { IfOk result (IsOptionTable (members_of table.now)) }
+    ensures bad { IfErr result (MeansNone (IsOptionTable (members_of table.now))) }
 {
     let keys = [
         Key::PagesToScan,
@@ -88,7 +92,8 @@ fn table_options(alloc: Global, table: &Section<'_>) -> Result<Options, FileFaul
 
 /// The commands of a document's events.
 fn commands(alloc: Global, document: &Section<'_>) -> Result<Commands, FileFault>
-    ensures { IfOk result (HasEvents (members_of document.now)) }
+    ensures read { IfOk result (HasEvents (members_of document.now)) }
+    ensures bad { IfErr result (MeansNone (HasEvents (members_of document.now))) }
 {
     match document.array(Key::Event)? {
         None => Ok(Commands::from(Vec::new(alloc))),
@@ -101,7 +106,8 @@ fn array_commands(
     document: &Section<'_>,
     values: &Array,
 ) -> Result<Commands, FileFault>
-    ensures { IfOk result (AreEvents (array_view values.now)) }
+    ensures read { IfOk result (AreEvents (array_view values.now)) }
+    ensures bad { IfErr result (MeansNone (AreEvents (array_view values.now))) }
 {
     let mut commands = Vec::new(alloc);
     for (number, value) in values.iter().enumerate() {

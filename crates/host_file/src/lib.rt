@@ -9,9 +9,11 @@ mod file;
 mod key;
 mod section;
 mod serving;
+mod size;
 
 pub use command::{Command, Commands};
 pub use fault::{BadFile, Cause, FileFault, Place};
-pub use file::{HostFile, MAX_BYTES, read_file};
+pub use file::{HostFile, read_file};
 pub use key::Key;
 pub use serving::require_served;
+pub use size::MAX_BYTES;

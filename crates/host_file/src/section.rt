@@ -1,6 +1,7 @@
-ghost use Rattle.std.specs.Prelude.{◌≡◌, ◌↔◌, ℕ, option_map, Any, IfNone, IfOk, IfSome, IsTrue, OnOk};
-ghost use Rattle.toml.specs.Data.{array, table};
+ghost use Rattle.std.specs.Prelude.{◌≡◌, ◌↔◌, ℕ, option_map, Any, IfErr, IfNone, IfOk, IfSome, IsSome, IsTrue, OnOk, Option};
+ghost use Rattle.toml.specs.Data.{Data, Items, Members, array, table};
 ghost use Rattle.toml.specs.View.{view, array_view, table_view};
+ghost use Rattle.host_file.specs.Faults.{MeansNone, Refutes};
 ghost use Rattle.host_file.specs.HostFile.{HasAnyNumber, HasFlagOr, HasHex, HasNumber, HasNumberOr, HasOnly, HasString, IsNumber, key_name, value_at};
 ghost use Rattle.host_file.specs.Section.{members_of};
 ghost use Rattle.host_file.specs.declared.fault.FileFault.TheVariants.{Bad};
@@ -47,7 +48,8 @@ impl<'a> Section<'a> {
 
     /// Refuses a table with another key than these.
     pub fn require_only(&self, alloc: Global, keys: &[Key]) -> Result<(), FileFault>
-        ensures { OnOk result (HasOnly (members_of self.now) keys.now) }
+        ensures only { OnOk result (HasOnly (members_of self.now) keys.now) }
+        ensures bad { IfErr result (Refutes (HasOnly (members_of self.now) keys.now)) }
     {
         match self.other_key(keys) {
             None => Ok(()),
@@ -58,7 +60,7 @@ impl<'a> Section<'a> {
     /// The first key that is none of these.
     fn other_key(&self, keys: &[Key]) -> Option<&'a str>
         ensures none { IfNone result (HasOnly (members_of self.now) keys.now) }
-        ensures other { IfSome result (λ name. Any (λ key. key_name key ≡ name.now) keys.now → ⊥) }
+        ensures other { IsSome result → HasOnly (members_of self.now) keys.now → ⊥ }
     {
         for (name, _) in self.table {
             if !is_among(keys, name.as_str()) {
@@ -69,7 +71,8 @@ impl<'a> Section<'a> {
     }
 
     fn require(&self, key: Key) -> Result<&'a Value, FileFault>
-        ensures { IfOk result (λ value. value_at (members_of self.now) key ≡ Some (view value.now)) }
+        ensures read { IfOk result (λ value. value_at (members_of self.now) key ≡ Some (view value.now)) }
+        ensures bad { IfErr result (MeansNone (λ (value : Data). value_at (members_of self.now) key ≡ Some value)) }
     {
         match self.get(key) {
             Some(value) => Ok(value),
@@ -79,7 +82,8 @@ impl<'a> Section<'a> {
 
     /// The table at a key, if there is one.
     pub fn table(&self, key: Key) -> Result<Option<&'a Table>, FileFault>
-        ensures { IfOk result (λ found. value_at (members_of self.now) key ≡ option_map (λ t. table (table_view t.now)) found) }
+        ensures read { IfOk result (λ found. value_at (members_of self.now) key ≡ option_map (λ t. table (table_view t.now)) found) }
+        ensures bad { IfErr result (MeansNone (λ (found : Option Members). value_at (members_of self.now) key ≡ option_map table found)) }
     {
         match self.get(key) {
             None => Ok(None),
@@ -92,7 +96,8 @@ impl<'a> Section<'a> {
 
     /// The array at a key, if there is one.
     pub fn array(&self, key: Key) -> Result<Option<&'a Array>, FileFault>
-        ensures { IfOk result (λ found. value_at (members_of self.now) key ≡ option_map (λ t. array (array_view t.now)) found) }
+        ensures read { IfOk result (λ found. value_at (members_of self.now) key ≡ option_map (λ t. array (array_view t.now)) found) }
+        ensures bad { IfErr result (MeansNone (λ (found : Option Items). value_at (members_of self.now) key ≡ option_map array found)) }
     {
         match self.get(key) {
             None => Ok(None),
@@ -105,7 +110,8 @@ impl<'a> Section<'a> {
 
     /// The number at a key.
     pub fn number(&self, key: Key) -> Result<u32, FileFault>
-        ensures { IfOk result (HasNumber (members_of self.now) key) }
+        ensures read { IfOk result (HasNumber (members_of self.now) key) }
+        ensures bad { IfErr result (MeansNone (HasNumber (members_of self.now) key)) }
     {
         let value = self.require(key)?;
         number_of(value).ok_or(self.bad(Cause::NotNumber(key)))
@@ -113,7 +119,8 @@ impl<'a> Section<'a> {
 
     /// The number at a key, or a default where the key is missing.
     pub fn number_or(&self, key: Key, default: u32) -> Result<u32, FileFault>
-        ensures { IfOk result (HasNumberOr default (members_of self.now) key) }
+        ensures read { IfOk result (HasNumberOr default (members_of self.now) key) }
+        ensures bad { IfErr result (MeansNone (HasNumberOr default (members_of self.now) key)) }
     {
         match self.get(key) {
             None => Ok(default),
@@ -123,7 +130,8 @@ impl<'a> Section<'a> {
 
     /// The number at a key, if there is one.
     pub fn any_number(&self, key: Key) -> Result<Option<u32>, FileFault>
-        ensures { IfOk result (HasAnyNumber (members_of self.now) key) }
+        ensures read { IfOk result (HasAnyNumber (members_of self.now) key) }
+        ensures bad { IfErr result (MeansNone (HasAnyNumber (members_of self.now) key)) }
     {
         match self.get(key) {
             None => Ok(None),
@@ -136,7 +144,8 @@ impl<'a> Section<'a> {
 
     /// Whether it is true at a key, or a default where the key is missing.
     pub fn flag_or(&self, key: Key, default: bool) -> Result<bool, FileFault>
-        ensures { IfOk result (HasFlagOr default (members_of self.now) key) }
+        ensures read { IfOk result (HasFlagOr default (members_of self.now) key) }
+        ensures bad { IfErr result (MeansNone (HasFlagOr default (members_of self.now) key)) }
     {
         match self.get(key) {
             None => Ok(default),
@@ -149,7 +158,8 @@ impl<'a> Section<'a> {
 
     /// The string at a key.
     pub fn text(&self, key: Key) -> Result<&'a str, FileFault>
-        ensures { IfOk result (λ text. HasString (members_of self.now) key text.now) }
+        ensures read { IfOk result (λ text. HasString (members_of self.now) key text.now) }
+        ensures bad { IfErr result (MeansNone (HasString (members_of self.now) key)) }
     {
         let value = self.require(key)?;
         match value.as_str() {
@@ -160,7 +170,8 @@ impl<'a> Section<'a> {
 
     /// The bytes of the hex text at a key.
     pub fn bytes(&self, alloc: Global, key: Key) -> Result<Bytes, FileFault>
-        ensures { IfOk result (HasHex (members_of self.now) key) }
+        ensures read { IfOk result (HasHex (members_of self.now) key) }
+        ensures bad { IfErr result (MeansNone (HasHex (members_of self.now) key)) }
     {
         let text = self.text(key)?;
         match hex::decode(alloc, text) {
