@@ -106,7 +106,10 @@ pub fn on_option(option: Opt) -> Advice {
             "`pages_to_scan` can't have this value",
             "give it 1 to 100000",
         ),
-        Opt::Run => ("`run` can't be set to this value", "give it 0 or 1"),
+        Opt::Run => (
+            "`run` can't be set to this value",
+            "give it 0 or 1; what 2 does in Linux is the event `unmerge`",
+        ),
         Opt::UseZeroPages => ("`use_zero_pages` can't have this value", "give it 0 or 1"),
         Opt::MaxPageSharing => (
             "`max_page_sharing` can't have this value",

@@ -30,7 +30,7 @@ pub fn on_limits(number: u32) -> Option<Advice>
         40 => (
             "an option can't have this value",
             "give `pages_to_scan` 1 to 100000, `run` and `use_zero_pages` 0 or 1, and \
-            `max_page_sharing` 2 to 65535",
+            `max_page_sharing` 2 to 65535; what `run` 2 does in Linux is the event `unmerge`",
         ),
         41 => ("memory ran out", "give the process more"),
         _ => return None,

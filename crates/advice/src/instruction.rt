@@ -5,10 +5,11 @@ ghost use Rattle.std.specs.Prelude.{IfSome, IsTrue};
 ghost use Rattle.advice.specs.Answered.{is_answered};
 
 use crate::Advice;
-use bpf_decode::{AluCode, Insn, Operation, Size, Source};
+use bpf_decode::{AluCode, Insn, Operation, Size, Source, Width};
 use host_types::limits::MAX_TEXT;
 use host_types::rule::{
-    BAD_FIELD, BAD_LENGTH, JUMP_OUT, POINTER_LEAKS, UNKNOWN_OPCODE, WRONG_KIND,
+    BAD_FIELD, BAD_LENGTH, JUMP_OUT, MISALIGNED, OUTSIDE_MAP, POINTER_LEAKS, UNKNOWN_OPCODE,
+    UNSET_STACK, WRONG_KIND,
 };
 use host_types::{MapHelper, Refused};
 
@@ -18,6 +19,9 @@ const ATOMIC: u8 = 0xc3;
 
 /// The field src of a call of a function of the program's own (RFC 9669, section 4.3).
 const LOCAL_CALL: u8 = 1;
+
+/// The imm of a call that a linker was to fill in, as LLVM writes it.
+const UNLINKED: i32 = -1;
 
 /// What is said of a refusal of this text alone.
 pub fn on_refused(refused: Refused, text: &[u8]) -> Option<Advice>
@@ -32,6 +36,9 @@ pub fn on_refused(refused: Refused, text: &[u8]) -> Option<Advice>
         BAD_FIELD => on_field(&insn),
         JUMP_OUT => on_target(&insn, text, refused.slot),
         WRONG_KIND => on_kind(&insn),
+        UNSET_STACK => on_unset_bytes(&insn),
+        OUTSIDE_MAP => on_reach(&insn),
+        MISALIGNED => on_alignment(&insn),
         POINTER_LEAKS => on_leak(&insn),
         _ => None,
     }
@@ -42,7 +49,8 @@ fn on_length(text: &[u8]) -> Advice {
     if text.is_empty() {
         Advice {
             wrong: "the text is empty",
-            mend: "give 1 to 4096 slots of eight bytes",
+            mend: "give 1 to 4096 slots of eight bytes; a HEX that is made from a file is empty where \
+                that wasn't written",
         }
     } else if text.len() > MAX_TEXT {
         Advice {
@@ -81,6 +89,11 @@ fn on_opcode(opcode: u8) -> Option<Advice> {
 /// A field with a number that means nothing there.
 fn on_field(insn: &Insn) -> Option<Advice> {
     let (wrong, mend) = match Operation::of(insn.opcode)? {
+        Operation::Call if insn.src == LOCAL_CALL && insn.imm == UNLINKED => (
+            "a call that a linker was to fill in isn't taken, as of a library's `memcmp`",
+            "write the function out and inline it; in C, `__builtin_memcpy` and `__builtin_memset` of \
+                constant sizes need none",
+        ),
         Operation::Call if insn.src == LOCAL_CALL => (
             "a call of a function of the program's own isn't taken",
             "inline it: in C mark it `static inline __attribute__((always_inline))`",
@@ -159,6 +172,17 @@ fn on_kind(insn: &Insn) -> Option<Advice> {
             "an address is compared",
             "compare numbers, and a lookup's answer with 0 once",
         ),
+        Operation::Alu {
+            code: AluCode::Add,
+            width: Width::Bits64,
+            source: Source::Register,
+        } => (
+            "a number that isn't constant is added to an address of the context or the stack, or an \
+                address is added",
+            "add constants alone there: in C give each its arm of a `switch`, with \
+                `asm volatile(\"\" : \"+r\"(x))` behind the load of x in each arm; add a number to a \
+                lookup's answer, not the answer to it",
+        ),
         Operation::Alu { .. } => (
             "this arithmetic isn't taken on an address",
             "copy an address with 64 bits, and add or subtract constants alone; to one in a map's \
@@ -183,6 +207,60 @@ fn on_arguments(insn: &Insn) -> Option<Advice> {
             "name the map by the wide instruction with src 1, store key and value on the stack, \
             and give 0 as flags",
         ),
+    };
+    Some(Advice { wrong, mend })
+}
+
+/// Bytes of the stack that a helper would read.
+fn on_unset_bytes(insn: &Insn) -> Option<Advice> {
+    match Operation::of(insn.opcode)? {
+        Operation::Call => Some(Advice {
+            wrong: "the helper would read bytes of the stack that weren't all stored",
+            mend: "store the four bytes of the key, and of an update's value as many as the map's \
+                `value_size` says: in C set a struct that has padding to 0 by `__builtin_memset` first",
+        }),
+        _ => None,
+    }
+}
+
+/// A number that is added to an address in a map's value, or an access there.
+fn on_reach(insn: &Insn) -> Option<Advice> {
+    let (wrong, mend) = match Operation::of(insn.opcode)? {
+        Operation::Alu {
+            source: Source::Register,
+            ..
+        } => (
+            "the number may lead more than 65536 bytes away from the map's value",
+            "bound it before: mask it, or compare it as an unsigned number of 64 bits. Of a signed \
+                compare, and of one with the low 32 bits, nothing is known. In C a compare behind a \
+                remainder, or one that can't fail, is left out: put `asm volatile(\"\" : \"+r\"(i))` \
+                before it",
+        ),
+        Operation::Load { .. } | Operation::Store { .. } => (
+            "the access may lie outside the map's value",
+            "compare the index, as an unsigned number of 64 bits, with how many there are before it \
+                is added, or mask it, so that the whole access lies in the value; or make the map \
+                with larger values",
+        ),
+        _ => return None,
+    };
+    Some(Advice { wrong, mend })
+}
+
+/// A place that may be no multiple of what it has to be.
+fn on_alignment(insn: &Insn) -> Option<Advice> {
+    let (wrong, mend) = match Operation::of(insn.opcode)? {
+        Operation::Load { .. } | Operation::Store { .. } => (
+            "the place of the access may be no multiple of its size",
+            "use multiples of the size; an index keeps them by a shift to the left, or by a mask \
+                without the low bits; in C mark the struct `__attribute__((packed))`, or read single \
+                bytes",
+        ),
+        Operation::Call => (
+            "the key's place is no multiple of 4",
+            "let it lie at one: in C look up by a `u32` of its own",
+        ),
+        _ => return None,
     };
     Some(Advice { wrong, mend })
 }

@@ -46,7 +46,9 @@ pub fn on_way(number: u32) -> Option<Advice>
     let (wrong, mend) = match number {
         BACK_JUMP => (
             "a jump leads to its own slot or back",
-            "jump forward alone: unroll loops, in C by `#pragma unroll`",
+            "jump forward alone: unroll loops, in C by `#pragma clang loop unroll(full)` and a constant \
+            bound; where a `break` at a number that isn't constant stops that, put what follows under \
+            its condition",
         ),
         JUMP_OUT => (
             "a jump leads past the end, or into a wide instruction",
@@ -123,8 +125,8 @@ pub fn on_access(number: u32) -> Option<Advice>
         OUTSIDE_MAP => (
             "an access that may lie outside a map's value, or an address that may be more than 65536 \
             bytes from the value's beginning",
-            "compare the index with the value's size before it is added, or mask it, so that the \
-            whole access lies in the value; or make the map with larger values",
+            "compare the index, as an unsigned number, with the value's size before it is added, or mask \
+            it, so that the whole access lies in the value; or make the map with larger values",
         ),
         MISALIGNED => (
             "the place of an access may be no multiple of its size, or that of a key none of 4",
