@@ -7,8 +7,8 @@ use crate::numbers::{grow, look, number, with_numbers};
 use host_types::{Fault, Options};
 use std::alloc::Global;
 use std::sync::Wait;
-use std::test::Fail;
 use std::thread;
+use std::thread::Threads;
 use turn::{Seat, Turn};
 
 /// Two tenants and four frames.
@@ -58,20 +58,21 @@ fn numbers_at_end(rt: &impl Wait, turn: Turn, mut first: Seat, mut second: Seat)
     [one, other, last]
 }
 
-#[test]
-fn two_threads_count_to_a_thousand(rt: HostRuntime) -> Result<(), Fail> {
+/// What each of two threads sees at the end that add 1 a thousand times, and the memory has then.
+pub(crate) fn counted<R: AllocGlobal + Threads + Wait + Sync>(
+    rt: &R,
+) -> Result<[Option<u64>; 3], Fault> {
     let Two {
         turn,
         first,
         second,
     } = two_tenants(rt.alloc())?;
     let (first, second) = thread::join(
-        &rt,
-        || add_thousand(&rt, &turn, first),
-        || add_thousand(&rt, &turn, second),
+        rt,
+        || add_thousand(rt, &turn, first),
+        || add_thousand(rt, &turn, second),
     );
-    assert!(rt; numbers_at_end(&rt, turn, first, second) == [Some(1000); 3]);
-    Ok(())
+    Ok(numbers_at_end(rt, turn, first, second))
 }
 
 /// Whether a try wins. The memory is given back.
@@ -99,14 +100,12 @@ fn tries(turn: &Turn, first: &mut Seat, second: &mut Seat) -> [bool; 3]
     [true, beside, wins(turn, second)]
 }
 
-/// A `try_take` that never wins meets its contract, so this test rules it out.
-#[test]
-fn try_take_never_wins(rt: HostRuntime) -> Result<(), Fail> {
+/// A `try_take` that never wins meets its contract, so this row rules it out.
+pub(crate) fn tried(rt: &impl AllocGlobal) -> Result<[bool; 3], Fault> {
     let Two {
         turn,
         mut first,
         mut second,
     } = two_tenants(rt.alloc())?;
-    assert!(rt; tries(&turn, &mut first, &mut second) == [true, false, true]);
-    Ok(())
+    Ok(tries(&turn, &mut first, &mut second))
 }

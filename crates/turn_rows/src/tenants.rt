@@ -1,4 +1,4 @@
-//! Two tenants whose numbers may share a frame, and what is told of them.
+//! Two tenants whose numbers may share a frame.
 
 ghost use Rattle.std.specs.Prelude.{◌≡◌, IfOk};
 ghost use Rattle.turn.specs.Seats.{IsIdle, own_part};
@@ -6,7 +6,6 @@ ghost use Rattle.tenant_workers.specs.Runs.{IsResting};
 
 use crate::numbers::with_numbers;
 use host_types::{Fault, Options};
-use ksm_counters::Counters;
 use std::alloc::Global;
 use tenant_workers::Shared;
 use turn::{HostSeat, ScanSeat, Seat, Turn};
@@ -52,20 +51,4 @@ pub(crate) fn two_tenants(alloc: Global, frames: u32) -> Result<Two, Fault> {
         scanner,
         host,
     })
-}
-
-/// Shared, sharing and volatile pages, and free frames.
-pub(crate) fn told(counters: Counters) -> [u32; 4] {
-    [
-        counters.pages_shared,
-        counters.pages_sharing,
-        counters.pages_volatile,
-        counters.frames_free,
-    ]
-}
-
-pub(crate) fn length_and_first(value: Result<Vec<u8>, Fault>) -> Option<(usize, u8)> {
-    let bytes = value.ok()?;
-    let first = *bytes.first()?;
-    Some((bytes.len(), first))
 }

@@ -8,7 +8,6 @@ use host_types::{Fault, Options};
 use page_table::Memory;
 use std::alloc::Global;
 use std::sync::Wait;
-use std::test::Fail;
 use turn::{HostSeat, ScanSeat, Seat, Turn};
 
 /// Three tenants and ten frames.
@@ -98,15 +97,12 @@ fn is_whole_by(rt: &(impl Wait + AllocGlobal), ending: u32) -> Result<bool, Faul
 
 /// A `close` that changes another tenant's part meets its contract, as does one that gives nothing to some
 /// seats; so every tenant's map is looked at, whichever seat ends the turn.
-#[test]
-fn every_tenant_keeps_its_map_at_the_end(rt: HostRuntime) -> Result<(), Fail> {
-    let whole = [
-        is_whole_by(&rt, 0)?,
-        is_whole_by(&rt, 1)?,
-        is_whole_by(&rt, 2)?,
-    ];
-    assert!(rt; whole == [true; 3]);
-    Ok(())
+pub(crate) fn whole(rt: &(impl Wait + AllocGlobal)) -> Result<[bool; 3], Fault> {
+    Ok([
+        is_whole_by(rt, 0)?,
+        is_whole_by(rt, 1)?,
+        is_whole_by(rt, 2)?,
+    ])
 }
 
 /// Whether a new turn's seats are numbered from 0 on, where there is one for so many tenants.
@@ -116,11 +112,8 @@ fn is_numbered(alloc: Global, seats: u32) -> Result<bool, Fault> {
     Ok(seats.iter().map(|seat| seat.tenant()).eq(0..3))
 }
 
-#[test]
-fn a_turn_has_a_seat_for_each_tenant(rt: HostRuntime) -> Result<(), Fail> {
-    let few = is_numbered(rt.alloc(), 2);
-    let all = is_numbered(rt.alloc(), 3);
-    let many = is_numbered(rt.alloc(), 4);
-    assert!(rt; [few, all, many] == [Err(Fault::BadShape), Ok(true), Err(Fault::BadShape)]);
-    Ok(())
+/// The same of fewer seats than tenants, as many, and more.
+pub(crate) fn numbered(rt: &impl AllocGlobal) -> Result<[Result<bool, Fault>; 3], Fault> {
+    let alloc = rt.alloc();
+    Ok([2, 3, 4].map(|seats| is_numbered(alloc, seats)))
 }
