@@ -124,9 +124,12 @@ fn obey_on_pages<W: Write>(
     match verb {
         "look" => look(writer, memory, numbers),
         "needs" => tell_cost(writer, memory, numbers),
-        "pair" => tell_done(writer, pair(memory, page(first, second), page(third, fourth))),
+        "pair" => tell_done(
+            writer,
+            pair(memory, page(first, second), page(third, fourth)),
+        ),
         "zero" => tell_done(writer, zero(memory, page(first, second))),
-        "fill" => match fill(alloc, memory, first, second, third, fourth as u8) {
+        "fill" => match fill(alloc, memory, first, second, third, (fourth % 256) as u8) {
             Ok(done) => tell_done(writer, done),
             Err(fault) => tell(writer, Err(fault)),
         },

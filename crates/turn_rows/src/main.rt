@@ -13,6 +13,7 @@ mod runs;
 mod serving;
 mod tenants;
 mod turns;
+mod wakes;
 
 use host_types::Fault;
 use std::fmt::Debug;
@@ -45,5 +46,11 @@ fn main(rt: HostRuntime) -> io::Result<()> {
     tell(&rt, "turn_held_through_run", gates::runs_scanned(&rt))?;
     tell(&rt, "a gate runs another tenant", gates::run_overtaken(&rt))?;
     copy::tell_row(&rt)?;
-    tell(&rt, "serve_invents_replies", serving::meetings(&rt))
+    tell(&rt, "serve_invents_replies", serving::meetings(&rt))?;
+    tell(&rt, "sleepers that are woken", wakes::woken(rt))?;
+    tell(
+        &rt,
+        "rounds in which no ring is missed",
+        wakes::rounds_woken(rt),
+    )
 }
