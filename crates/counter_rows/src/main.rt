@@ -5,6 +5,11 @@
 //!     map TENANT VALUE_SIZE ENTRIES         a map whose pages may be merged
 //!     fixed TENANT VALUE_SIZE ENTRIES       a map whose pages may not
 //!     store TENANT VALUE                    eight bytes at the beginning of the tenant's first map
+//!     fill TENANT AT LEN BYTE               bytes of the tenant's first map
+//!     look TENANT AT                        the number in eight bytes of the tenant's first map
+//!     needs TENANT AT LEN                   how many frames a store there takes, of those that are there
+//!     pair TENANT PAGE TENANT PAGE          two pages of first maps on one frame
+//!     zero TENANT PAGE                      a page of a first map on the frame of zeros
 //!     visit COUNT                           what each visit did
 //!     unmerge, counters                     everything unmerged; the nine counters
 //!     OPTION VALUE                          an option, by its name
@@ -12,9 +17,12 @@
 //! The file `stdout` says what is wanted.
 #![tactic(auto)]
 
+mod pages;
+
 use host_types::{Fault, Opt, Options};
 use ksm_counters::{counters, text};
 use page_table::Memory;
+use pages::{cost, fill, number_at, page, pair, zero};
 use scanner::{set, unmerge_all, visit};
 use std::alloc::Global;
 use std::io;
@@ -27,6 +35,7 @@ struct Numbers {
     first: u32,
     second: u32,
     third: u32,
+    fourth: u32,
 }
 
 /// The number that a word is, else 0.
@@ -74,6 +83,60 @@ fn tell<W: Write>(writer: &mut W, outcome: Result<(), Fault>) -> io::Result<()> 
     }
 }
 
+/// Writes whether something was done that may not be.
+fn tell_done<W: Write>(writer: &mut W, done: bool) -> io::Result<()> {
+    if done {
+        return Ok(());
+    }
+    writeln!(writer, "not done")
+}
+
+/// Writes the number in eight bytes, where they are there.
+fn look<W: Write>(writer: &mut W, memory: &Memory, numbers: &Numbers) -> io::Result<()> {
+    match number_at(memory, numbers.first, numbers.second) {
+        Some(number) => writeln!(writer, "{number:#x}"),
+        None => writeln!(writer, "not there"),
+    }
+}
+
+/// Writes how many frames a store takes, of those that are free and not reserved.
+fn tell_cost<W: Write>(writer: &mut W, memory: &Memory, numbers: &Numbers) -> io::Result<()> {
+    match cost(memory, numbers.first, numbers.second, numbers.third) {
+        Some(cost) => writeln!(writer, "{cost} of {}", memory.have()),
+        None => writeln!(writer, "not there"),
+    }
+}
+
+/// Does to single pages what a line says, and writes what is answered; another verb sets an option.
+fn obey_on_pages<W: Write>(
+    writer: &mut W,
+    alloc: Global,
+    memory: &mut Memory,
+    verb: &str,
+    numbers: &Numbers,
+) -> io::Result<()> {
+    let Numbers {
+        first,
+        second,
+        third,
+        fourth,
+    } = *numbers;
+    match verb {
+        "look" => look(writer, memory, numbers),
+        "needs" => tell_cost(writer, memory, numbers),
+        "pair" => tell_done(
+            writer,
+            pair(memory, page(first, second), page(third, fourth)),
+        ),
+        "zero" => tell_done(writer, zero(memory, page(first, second))),
+        "fill" => match fill(alloc, memory, first, second, third, (fourth % 256) as u8) {
+            Ok(done) => tell_done(writer, done),
+            Err(fault) => tell(writer, Err(fault)),
+        },
+        name => tell(writer, set_named(memory, name, first)),
+    }
+}
+
 /// Sets the option with a name; another name sets none.
 fn set_named(memory: &mut Memory, name: &str, value: u32) -> Result<(), Fault> {
     match Opt::named(name) {
@@ -95,6 +158,7 @@ fn obey<W: Write>(
         first: number(words.next()),
         second: number(words.next()),
         third: number(words.next()),
+        fourth: number(words.next()),
     };
     let outcome = match verb {
         "memory" => renew(alloc, memory, numbers.first, numbers.second),
@@ -107,7 +171,7 @@ fn obey<W: Write>(
             store_first(memory, numbers.first, numbers.second);
             Ok(())
         }
-        name => set_named(memory, name, numbers.first),
+        verb => return obey_on_pages(writer, alloc, memory, verb, &numbers),
     };
     tell(writer, outcome)
 }

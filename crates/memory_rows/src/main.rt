@@ -1,6 +1,7 @@
 //! The memory beside the plain program of pages that share frames, over operations that a fixed
 //! generator draws: new maps, stores, visits, options and unmergings. After each one both have to tell the
-//! same, the counters too, and all bytes are those of a plain copy. The file `stdout` says what is wanted.
+//! same, the counters too, and all bytes are those of a plain copy. At last the plain program counts passes
+//! up to the largest number. The file `stdout` says what is wanted.
 #![tactic(auto)]
 
 ghost use Rattle.std.specs.Prelude.{◌<◌, ◌≤◌};
@@ -9,6 +10,7 @@ mod both;
 
 use both::{Both, MAPS, TENANTS};
 use host_types::Options;
+use plain_sharing::PlainSharing;
 use std::alloc::{AllocError, Global};
 use std::io;
 use test_inputs::Draws;
@@ -87,6 +89,18 @@ fn first_wrong(alloc: Global, frames: u32) -> Result<Option<u32>, AllocError> {
     Ok(None)
 }
 
+/// How many passes are counted after each of two visits of the only page, from one before the largest
+/// number on: each visit ends a pass. No number of visits would get there.
+fn passes_at_their_end(alloc: Global) -> Result<[u64; 2], AllocError> {
+    let mut plain = PlainSharing::new(alloc, 1, Options::standard())?;
+    plain.add(0, true);
+    plain.count_from(u64::MAX - 1);
+    plain.visit(alloc, &[])?;
+    let first = plain.full_scans();
+    plain.visit(alloc, &[])?;
+    Ok([first, plain.full_scans()])
+}
+
 fn main(rt: HostRuntime) -> io::Result<()> {
     for frames in [3, 4, 16, 256] {
         match first_wrong(rt.alloc(), frames) {
@@ -95,5 +109,8 @@ fn main(rt: HostRuntime) -> io::Result<()> {
             Err(AllocError) => println!(rt; "{frames} frames: no memory")?,
         }
     }
-    Ok(())
+    match passes_at_their_end(rt.alloc()) {
+        Ok([first, second]) => println!(rt; "passes: {first}, then {second}"),
+        Err(AllocError) => println!(rt; "passes: no memory"),
+    }
 }

@@ -1,16 +1,8 @@
-//! Tests of the crates that programs go through, in a crate above them all: so each of those is proved
-//! once. Rows with numbers that others computed stand in `kernel_rows` and `worked_rows`.
+//! Tests of the standard's machine, in a crate above it: so it is proved once. What accepted programs
+//! return, on it and on the host, has rows in `kernel_rows`, `worked_rows` and `map_rows`.
 #![tactic(auto)]
 
-#[cfg(test)]
-mod agreement;
-#[cfg(test)]
-mod arithmetic;
-#[cfg(test)]
-mod contexts;
 #[cfg(test)]
 mod machine;
 #[cfg(test)]
 mod text;
-#[cfg(test)]
-mod verified;

@@ -19,7 +19,7 @@ fn run(alloc: Global, machine: &mut Machine, slots: &[u64]) -> Result<Ending, Al
 }
 
 /// How at most ten steps of a program go on a context of two double words, with no maps.
-pub(crate) fn run_on(
+fn run_on(
     alloc: Global,
     context: [u64; 2],
     slots: &[u64],

@@ -1,0 +1,56 @@
+//! Rows of turns, seats and threads: what no contract of `turn` and `tenant_workers` says, as that a call succeeds
+//! where memory is there, that visits act, and that others have their turns between the instructions of a run. A
+//! line has the name of a row and what was answered; the file `stdout` says what is wanted.
+#![tactic(auto)]
+
+mod calls;
+mod copy;
+mod ends;
+mod gates;
+mod numbers;
+mod refused;
+mod runs;
+mod serving;
+mod tenants;
+mod turns;
+mod wakes;
+
+use host_types::Fault;
+use std::fmt::Debug;
+use std::io;
+
+/// Writes the name of a row and its answer, or why there was none.
+fn tell<T: Debug + Drop>(rt: &impl Print, name: &str, answer: Result<T, Fault>) -> io::Result<()> {
+    match answer {
+        Ok(answer) => println!(rt; "{name}: {answer:?}"),
+        Err(fault) => println!(rt; "{name}: {fault}"),
+    }
+}
+
+fn main(rt: HostRuntime) -> io::Result<()> {
+    tell(
+        &rt,
+        "each of two threads counts to a thousand",
+        turns::counted(&rt),
+    )?;
+    tell(&rt, "try_take_never_wins", turns::tried(&rt))?;
+    tell(&rt, "every tenant has its map at the end", ends::whole(&rt))?;
+    tell(
+        &rt,
+        "a turn has a seat for each tenant",
+        ends::numbered(&rt),
+    )?;
+    tell(&rt, "always_out_of_memory", calls::answers(&rt))?;
+    tell(&rt, "maps of a seat", calls::filled(&rt))?;
+    tell(&rt, "no frame is free", refused::answers(&rt))?;
+    tell(&rt, "turn_held_through_run", gates::runs_scanned(&rt))?;
+    tell(&rt, "a gate runs another tenant", gates::run_overtaken(&rt))?;
+    copy::tell_row(&rt)?;
+    tell(&rt, "serve_invents_replies", serving::meetings(&rt))?;
+    tell(&rt, "sleepers that are woken", wakes::woken(rt))?;
+    tell(
+        &rt,
+        "rounds in which no ring is missed",
+        wakes::rounds_woken(rt),
+    )
+}

@@ -1,0 +1,41 @@
+//! Calls for which frames are missing. That they are refused needlessly, and with which numbers, a seat can't know.
+
+ghost use Rattle.std.specs.Prelude.{◌≡◌};
+
+use crate::runs::counted;
+use crate::tenants::{Two, two_tenants};
+use host_types::{Fault, MapNo};
+use std::sync::Wait;
+use tenant_runs::RunReply;
+use tenant_workers::Open;
+
+/// What is answered where each frame has a page of its own, and when two of them are merged.
+#[derive(Debug, Drop)]
+pub(crate) struct Crowded {
+    update: Result<(), Fault>,
+    run: Result<RunReply, Fault>,
+    maps: [Result<MapNo, Fault>; 2],
+    unmerged: Result<(), Fault>,
+}
+
+/// What the first of two tenants is answered, and the host at last, whose frame a new map has.
+pub(crate) fn answers(rt: &(impl Wait + AllocGlobal)) -> Result<Crowded, Fault> {
+    let alloc = rt.alloc();
+    let Two {
+        shared,
+        mut first,
+        second: _second,
+        mut scanner,
+        mut host,
+    } = two_tenants(alloc, 3)?;
+    let update = shared.update(rt, &mut first, 0, 0, &[5; 8]);
+    let run = counted(rt, alloc, &shared, &mut first, &Open);
+    let map = shared.create_map(rt, &mut first, 8, 513, true);
+    shared.scan_batch(rt, &mut scanner, 4);
+    Ok(Crowded {
+        update,
+        run,
+        maps: [map, shared.create_map(rt, &mut first, 8, 1, true)],
+        unmerged: shared.unmerge(rt, &mut host),
+    })
+}

@@ -1,5 +1,0 @@
-use Rattle.turn.specs.Seats.{IsIdle}
-use Rattle.turn_tests.proofs.creating.made_until_refused.Given as goal
-
-abbrev pub invariant-loop-made : goal.invariant-loop-made
-invariant-loop-made g l = IsIdle l.shared l.seat
