@@ -19,11 +19,7 @@ fn run(alloc: Global, machine: &mut Machine, slots: &[u64]) -> Result<Ending, Al
 }
 
 /// How at most ten steps of a program go on a context of two double words, with no maps.
-fn run_on(
-    alloc: Global,
-    context: [u64; 2],
-    slots: &[u64],
-) -> Result<Ending, AllocError> {
+fn run_on(alloc: Global, context: [u64; 2], slots: &[u64]) -> Result<Ending, AllocError> {
     let context = context_of(context).to_vec(alloc)?;
     let mut machine = Machine::start(context, Vec::new(alloc));
     run(alloc, &mut machine, slots)
