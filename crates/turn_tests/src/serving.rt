@@ -1,5 +1,5 @@
-//! Plans of two tenants that threads serve beside a scanner. What `serve` leaves in its plans, and that its
-//! threads run between each other's instructions, no contract says.
+//! Plans of two tenants that threads serve beside a scanner. That a thread is started for each, and that they run
+//! between each other's instructions, no contract says.
 
 ghost use Rattle.std.specs.Prelude.{◌≡◌, ◌<◌, IfOk, All};
 ghost use Rattle.turn.specs.Seats.{IsIdle, own_part};
@@ -201,8 +201,8 @@ fn meetings<R: Threads + Wait + Sync>(rt: &R, alloc: Global) -> Result<u32, Faul
     Ok(met)
 }
 
-/// A `serve` that runs one tenant after the other, or that invents the replies, meets its contract, so
-/// this test rules both out; one that holds the turn through a run is ruled out by `turn_held_through_run`.
+/// A `serve` that runs one tenant after the other, or that answers each run 41 without a thread, meets its contract,
+/// so this test rules both out; one that holds the turn through a run is ruled out by `turn_held_through_run`.
 #[test]
 fn serve_invents_replies(rt: HostRuntime) -> Result<(), Fail> {
     assert!(rt; meetings(&rt, rt.alloc())? == 20);
