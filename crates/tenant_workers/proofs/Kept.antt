@@ -1,10 +1,13 @@
 -- Plans that stay as they were.
-use Rattle.std.proofs.Common.{◌≡◌, ℕ, zero, suc, List, [], ◌∷◌, map, get_or, refl, ap, Result}
+use Rattle.std.proofs.Common.{◌≡◌, ℕ, zero, suc, List, [], ◌∷◌, map, get_or, length, take, ◌++◌, refl, sym, ap, subst, ◌∙◌, Result}
 use Rattle.std.proofs.Math.ListN.{set}
+use Rattle.std.proofs.lemmas.List.{length-map, take_at}
 use Rattle.host_types.specs.declared.fault.Fault.{Fault}
 use Rattle.tenant_runs.specs.declared.driving.RunReply.{RunReply}
 use Rattle.tenant_workers.specs.declared.plans.TenantPlan.{TenantPlan}
-use Rattle.tenant_workers.specs.Plans.{Planned, planned_by}
+use Rattle.tenant_workers.specs.Plans.{AreSamePlans, AreServed, IsServed, Planned, planned_by}
+use Rattle.tenant_workers.specs.Jobs.{AreEach}
+use Rattle.tenant_workers.proofs.Jobs.{each-mapped}
 
 -- an element written over by another one that is mapped to the same
 pub map-set_same : {X Y : Type 0} (f : X → Y) (xs : List X) (place : ℕ) (x y : X) → f y ≡ f (get_or xs place x) → map f (set xs place y) ≡ map f xs
@@ -18,3 +21,15 @@ with_replies planned replies = record planned { replies = replies }
 -- a plan with the same replies says the same
 pub same_replies : (plan : TenantPlan) (replies : List (Result RunReply Fault)) → replies ≡ plan.replies.items → with_replies (planned_by plan) replies ≡ planned_by plan
 same_replies plan replies same = ap (with_replies (planned_by plan)) same
+
+-- as many plans
+same_many : (old new : List TenantPlan) → AreSamePlans old new → length new ≡ length old
+same_many old new same = sym (length-map new planned_by) ∙ ap length same ∙ length-map old planned_by
+
+-- plans that were served, as they were before room was made in them
+pub served-from : (old reserved beyond new : List TenantPlan) (count : ℕ) → AreSamePlans old reserved → length old ≡ count
+    → AreEach (λ was is. IsServed (planned_by was) (planned_by is)) (take count (reserved ++ beyond)) new → AreServed old new
+served-from old reserved beyond new count same many each =
+    let whole = take_at reserved beyond count (same_many old reserved same ∙ many) in
+    subst (λ plans. AreEach IsServed plans (map planned_by new)) (ap (map planned_by) whole ∙ same)
+    (each-mapped planned_by IsServed (take count (reserved ++ beyond)) new each)

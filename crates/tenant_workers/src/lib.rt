@@ -13,6 +13,7 @@ mod running;
 mod scanning;
 mod serving;
 mod shared;
+mod threads;
 
 pub use gate::{Gate, Open};
 pub use plans::{Plan, ScanPlan, TenantPlan};

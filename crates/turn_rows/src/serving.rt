@@ -1,5 +1,5 @@
-//! Plans of two tenants that threads serve beside a scanner. That its threads run between each other's
-//! instructions, no contract says.
+//! Plans of two tenants that threads serve beside a scanner. That a thread is started for each, and that they run
+//! between each other's instructions, no contract says.
 
 ghost use Rattle.std.specs.Prelude.{◌≡◌, ◌<◌, IfOk, All};
 ghost use Rattle.turn.specs.Seats.{IsIdle, own_part};
@@ -181,8 +181,8 @@ fn meet_once<R: Threads + Wait + Sync>(rt: &R, alloc: Global) -> Result<bool, Fa
     Ok(counted && gate.alone.load(Ordering::SeqCst) == 0)
 }
 
-/// How often they meet, of twenty times. A `serve` that runs one tenant after the other, or that invents the
-/// replies, is ruled out by it; one that holds the turn through a run by `turn_held_through_run`.
+/// How often they meet, of twenty times. A `serve` that runs one tenant after the other, or that answers each run 41
+/// without a thread, is ruled out by it; one that holds the turn through a run by `turn_held_through_run`.
 pub(crate) fn meetings<R: AllocGlobal + Threads + Wait + Sync>(rt: &R) -> Result<u32, Fault> {
     let mut met = 0u32;
     for _time in 0..20 {
