@@ -46,7 +46,11 @@ fn main(rt: HostRuntime) -> io::Result<()> {
     tell(&rt, "turn_held_through_run", gates::runs_scanned(&rt))?;
     tell(&rt, "a gate runs another tenant", gates::run_overtaken(&rt))?;
     copy::tell_row(&rt)?;
-    tell(&rt, "tenants that meet within their runs", serving::meetings(&rt))?;
+    tell(
+        &rt,
+        "tenants that meet within their runs",
+        serving::meetings(&rt),
+    )?;
     tell(&rt, "sleepers that are woken", wakes::woken(rt))?;
     tell(
         &rt,
