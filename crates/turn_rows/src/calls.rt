@@ -20,14 +20,14 @@ const MAP_NUMBER: usize = 28;
 /// What is answered to calls of a seat whose tenant has one map, on frames enough.
 #[derive(Debug, Drop)]
 pub(crate) struct Made {
+    run: Result<RunReply, Fault>,
     /// Two shapes out of the limits, two maps, and one more than there are frames for.
     maps: [Result<MapNo, Fault>; 5],
     /// Slots, instructions and reserve of the counter, of itself on another map, and of texts that aren't accepted.
     programs: [Result<[u32; 3], Fault>; 5],
+    updates: [Result<(), Fault>; 4],
     /// How many bytes values have, and how many of them are zeros.
     values: [Result<(usize, usize), Fault>; 3],
-    run: Result<RunReply, Fault>,
-    updates: [Result<(), Fault>; 4],
 }
 
 /// The slots, the instructions and the reserve of a program that a seat loads.
@@ -74,6 +74,7 @@ pub(crate) fn answers(rt: &(impl Wait + AllocGlobal)) -> Result<Made, Fault> {
         host: _host,
     } = two_tenants(alloc, 7)?;
     let seat = &mut first;
+    let run = counted(rt, alloc, &shared, seat, &Open);
     let maps = [
         shared.create_map(rt, seat, 0, 1, true),
         shared.create_map(rt, seat, 4097, 1, true),
@@ -103,13 +104,12 @@ pub(crate) fn answers(rt: &(impl Wait + AllocGlobal)) -> Result<Made, Fault> {
         read(rt, alloc, &shared, seat, 1, 199),
         read(rt, alloc, &shared, seat, 1, 200),
     ];
-    let run = counted(rt, alloc, &shared, seat, &Open);
     Ok(Made {
+        run,
         maps,
         programs,
-        values,
-        run,
         updates,
+        values,
     })
 }
 

@@ -11,11 +11,11 @@ use std::sync::Wait;
 use turn::{HostSeat, ScanSeat, Seat, Turn};
 
 /// Three tenants and ten frames.
-struct Three {
-    turn: Turn,
-    seats: (Seat, Seat, Seat),
-    scanner: ScanSeat,
-    host: HostSeat,
+pub(crate) struct Three {
+    pub(crate) turn: Turn,
+    pub(crate) seats: (Seat, Seat, Seat),
+    pub(crate) scanner: ScanSeat,
+    pub(crate) host: HostSeat,
 }
 
 /// Options of which none has its usual value.
@@ -26,7 +26,7 @@ const OPTIONS: Options = Options {
     max_page_sharing: 3,
 };
 
-fn three_tenants(alloc: Global) -> Result<Three, Fault>
+pub(crate) fn three_tenants(alloc: Global) -> Result<Three, Fault>
     ensures first { IfOk result (λ three. IsIdle three.turn three.seats.0) }
     ensures second { IfOk result (λ three. IsIdle three.turn three.seats.1) }
     ensures third { IfOk result (λ three. IsIdle three.turn three.seats.2) }

@@ -5,8 +5,9 @@ ghost use Rattle.std.specs.Prelude.{◌≡◌, IfOk};
 ghost use Rattle.std.specs.Arc.{arc_value};
 ghost use Rattle.turn.specs.Seats.{IsIdle};
 
-use crate::numbers::{grow, with_numbers};
-use host_types::{Fault, Options};
+use crate::ends::{Three, three_tenants};
+use crate::numbers::grow;
+use host_types::Fault;
 use std::alloc::{AllocError, Global};
 use std::hint::spin_loop;
 use std::sync::atomic::{AtomicU64, Ordering};
@@ -91,11 +92,13 @@ fn seated(game: &Arc<Game, Global>, seat: Seat) -> Result<Player, Fault>
 
 /// A game of three.
 fn new_game(alloc: Global) -> Result<Players, Fault> {
-    let memory = with_numbers(alloc, 8, 3, Options::standard())?;
-    let (turn, mut seats, _scanner, _host) = Turn::new(alloc, memory, 3)?;
-    let third = seats.remove(2);
-    let second = seats.remove(1);
-    let first = seats.remove(0);
+    let Three {
+        turn,
+        seats,
+        scanner: _scanner,
+        host: _host,
+    } = three_tenants(alloc)?;
+    let (first, second, third) = seats;
     let game = Game {
         turn,
         round: AtomicU64::new(0),
