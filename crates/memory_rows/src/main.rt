@@ -110,7 +110,8 @@ fn main(rt: HostRuntime) -> io::Result<()> {
         }
     }
     match passes_at_their_end(rt.alloc()) {
-        Ok([first, second]) => println!(rt; "passes: {first}, then {second}"),
-        Err(AllocError) => println!(rt; "passes: no memory"),
+        Ok(passes) => println!(rt; "passes: {passes:?}")?,
+        Err(AllocError) => println!(rt; "passes: no memory")?,
     }
+    Ok(())
 }

@@ -18,6 +18,8 @@ mod wakes;
 use host_types::Fault;
 use std::fmt::Debug;
 use std::io;
+use std::sync::Wait;
+use std::thread::Threads;
 
 /// Writes the name of a row and its answer, or why there was none.
 fn tell<T: Debug + Drop>(rt: &impl Print, name: &str, answer: Result<T, Fault>) -> io::Result<()> {
@@ -27,7 +29,22 @@ fn tell<T: Debug + Drop>(rt: &impl Print, name: &str, answer: Result<T, Fault>) 
     }
 }
 
+/// Whether threads that sleep until a turn ends were woken. Where they aren't, the rows behind would wait for them.
+fn tell_wakes<R>(rt: R) -> io::Result<bool>
+where
+    R: AllocGlobal + Print + Threads + Wait + Copy + Send + 'static,
+{
+    let woken = wakes::woken(rt);
+    tell(&rt, "sleepers that are woken", woken)?;
+    let rounds = wakes::rounds_woken(rt);
+    tell(&rt, "rounds in which no ring is missed", rounds)?;
+    Ok(woken == Ok(wakes::SLEEPERS) && rounds == Ok(wakes::ROUNDS))
+}
+
 fn main(rt: HostRuntime) -> io::Result<()> {
+    if !tell_wakes(rt)? {
+        return Ok(());
+    }
     tell(
         &rt,
         "each of two threads counts to a thousand",
@@ -50,11 +67,5 @@ fn main(rt: HostRuntime) -> io::Result<()> {
         &rt,
         "tenants that meet within their runs",
         serving::meetings(&rt),
-    )?;
-    tell(&rt, "sleepers that are woken", wakes::woken(rt))?;
-    tell(
-        &rt,
-        "rounds in which no ring is missed",
-        wakes::rounds_woken(rt),
     )
 }

@@ -23,7 +23,10 @@ const LOOKS: u32 = 200_000_000;
 const UNTIL_ASLEEP: u32 = 2_000_000;
 
 /// How many rounds a sleeper has in which the memory is given just when it is about to sleep.
-const ROUNDS: u64 = 5_000;
+pub(crate) const ROUNDS: u64 = 50_000;
+
+/// How many threads sleep while the memory is kept.
+pub(crate) const SLEEPERS: u64 = 2;
 
 /// What threads share: the turn, which round it is, and how many turns sleepers had.
 #[derive(Drop)]
@@ -147,7 +150,7 @@ where
     let (mut keeper, first, second) = new_game(rt.alloc())?;
     start(rt, first, 1)?;
     start(rt, second, 1)?;
-    Ok(keeper.keep(&rt, UNTIL_ASLEEP, 1, 2))
+    Ok(keeper.keep(&rt, UNTIL_ASLEEP, 1, SLEEPERS))
 }
 
 /// In how many rounds a thread is woken, or doesn't fall asleep, that is about to sleep while the memory is given.
@@ -159,7 +162,7 @@ where
     start(rt, first, ROUNDS)?;
     let mut woken = 0u64;
     for round in 0..ROUNDS {
-        let looks = (round * 7919 % 1500) as u32;
+        let looks = (round * 7919 % 3000) as u32;
         woken = keeper.keep(&rt, looks, round + 1, round + 1);
         if woken <= round {
             break;
