@@ -3,6 +3,9 @@
 ghost use Rattle.std.specs.Prelude.{◌≡◌, [], ◌∷◌, IfErr, IfSome, MatchOption, OnOk, map};
 ghost use Rattle.std.specs.Io.KnownBytes.{Appends};
 ghost use Rattle.host_file.specs.Faults.{IsBad};
+ghost use Rattle.host_file.specs.declared.command.Command.TheVariants.{Apply};
+ghost use Rattle.turn.specs.Seats.{own_part};
+ghost use Rattle.serving.specs.Lookups.{IsLookedUp, lookup_by, value_reply};
 ghost use Rattle.serving.specs.RunLines.{all_run_lines, beginning_for, beginnings_for, run_lines, whole_reply};
 ghost use Rattle.serving.specs.Told.{HasWritten, Names};
 
@@ -121,7 +124,11 @@ fn looked_up(
     alloc: Global,
     plans: &mut [TenantPlan<'_>],
     event: &Event,
-) -> Option<Reply> {
+) -> Option<Reply>
+    ensures parts { map (λ plan. own_part plan.seat) plans.new ≡ map (λ plan. own_part plan.seat) plans.old }
+    ensures answers { MatchOption result (lookup_by (Apply event.now) ≡ [])
+        (λ reply. (lookup_by (Apply event.now) ≡ event.now ∷ []) × IsLookedUp (map (λ plan. own_part plan.seat) plans.old) event.now reply) }
+{
     let Event::HostLookup { tenant, map, key } = event else {
         return None;
     };
@@ -134,7 +141,9 @@ fn looked_up(
 }
 
 /// What the host would answer with a value.
-fn value_reply(value: Result<Vec<u8>, Fault>) -> Reply {
+fn value_reply(value: Result<Vec<u8>, Fault>) -> Reply
+    ensures { result ≡ value_reply value }
+{
     match value {
         Ok(bytes) => Reply::Value(Bytes::from(bytes)),
         Err(fault) => Reply::Refused(fault),

@@ -1,9 +1,14 @@
 //! What is done before a thread starts, in the file's order.
 
-ghost use Rattle.std.specs.Prelude.{◌≡◌, All, IfErr, OnOk};
+ghost use Rattle.std.specs.Prelude.{◌≡◌, ◌⊎◌, ◌++◌, [], ◌∷◌, All, IfErr, OnOk};
+ghost use Rattle.bpf_decode.specs.Text.{IsWellFormed};
+ghost use Rattle.host_types.specs.declared.fault.Fault.TheVariants.{OutOfMemory};
+ghost use Rattle.verifier.specs.Verified.{Accepted, IsVerified};
+ghost use Rattle.host_calls.specs.Programs.{RefusesProgram, subject_of};
 ghost use Rattle.host_file.specs.Faults.{IsBad};
-ghost use Rattle.turn.specs.Seats.{IsIdle};
+ghost use Rattle.turn.specs.Seats.{IsIdle, own_part};
 ghost use Rattle.tenant_workers.specs.Plans.{IsFor};
+ghost use Rattle.serving.specs.Opened.{IsGiven, RefusesGift, home_of};
 ghost use Rattle.serving.specs.Told.{HasWritten};
 
 use crate::telling::Told;
@@ -82,7 +87,10 @@ fn apply_for(
     plan: &mut TenantPlan<'_>,
     event: &Event,
 ) -> Result<(), Fault>
-    ensures { plan.new.shared.now ≡ plan.old.shared.now }
+    ensures own { plan.new.shared.now ≡ plan.old.shared.now }
+    ensures runs { plan.new.runs.items ≡ plan.old.runs.items }
+    ensures given { OnOk result (IsGiven event.now (home_of plan.old) (home_of plan.new)) }
+    ensures refused { IfErr result (RefusesGift event.now (home_of plan.old)) }
 {
     match event {
         Event::CreateMap {
@@ -121,7 +129,12 @@ fn load(
     text: &[u8],
     context_size: u32,
 ) -> Result<(), Fault>
-    ensures { plan.new.shared.now ≡ plan.old.shared.now }
+    ensures own { plan.new.shared.now ≡ plan.old.shared.now }
+    ensures runs { plan.new.runs.items ≡ plan.old.runs.items }
+    ensures part { own_part plan.new.seat ≡ own_part plan.old.seat }
+    ensures loaded { OnOk result ((v : Accepted) × (v.subject ≡ subject_of (own_part plan.old.seat) text.now context_size)
+        × IsVerified v × IsWellFormed text.now × (plan.new.programs.items ≡ plan.old.programs.items ++ v ∷ [])) }
+    ensures refused { IfErr result (λ fault. RefusesProgram (subject_of (own_part plan.old.seat) text.now context_size) fault ⊎ (fault ≡ OutOfMemory)) }
 {
     let program = plan
         .shared

@@ -1,0 +1,55 @@
+-- What is answered to the lookups of a served file, when all threads have ended (docs/HOST.md).
+use Rattle.std.specs.Prelude.{◌≡◌, ℕ, List, [], ◌∷◌, ◌++◌, flat_map, MatchOption, slice_get, Result, Ok, Err, Vec}
+use Rattle.host_types.specs.declared.fault.Fault.{Fault}
+use Rattle.host_types.specs.declared.fault.Fault.TheVariants.{BadTenant}
+use Rattle.host_types.specs.Tenant.{TenantPart}
+use Rattle.host_calls.specs.Calls.{IsValue, RefusesLookup}
+use Rattle.host_core.specs.declared.event.Event.{Event}
+use Rattle.host_core.specs.declared.event.Event.TheVariants.{HostLookup}
+use Rattle.host_core.specs.declared.event.Reply.{Reply}
+use Rattle.host_core.specs.declared.event.Reply.TheVariants.{Value, Refused}
+use Rattle.host_file.specs.declared.command.Command.{Command}
+use Rattle.host_file.specs.declared.command.Command.TheVariants.{Apply}
+use Rattle.engines.specs.Lines.{reply_lines}
+
+-- the event by which a command looks a value up
+abbrev pub lookup_by : Command → List Event
+lookup_by (Apply (HostLookup tenant map key)) = HostLookup tenant map key ∷ []
+lookup_by _ = []
+
+-- all of them, in the file's order
+abbrev pub lookups_in : List Command → List Event
+lookups_in commands = flat_map lookup_by commands
+
+-- what is answered of a value that was read, or wasn't
+abbrev pub value_reply : Result (Vec ℕ) Fault → Reply
+value_reply (Ok bytes) = Value bytes.items
+value_reply (Err fault) = Refused fault
+
+-- the answer to a lookup in a tenant's part: the value, or why there is none
+abbrev pub IsAnswerIn : TenantPart → ℕ → ℕ → Reply → Type 0
+IsAnswerIn part map key (Value bytes) = IsValue part map key bytes
+IsAnswerIn part map key (Refused fault) = RefusesLookup part map key fault
+IsAnswerIn part map key _ = ⊥
+
+-- the answer to a lookup, where the tenants have these parts
+abbrev pub IsLookedUp : List TenantPart → Event → Reply → Type 0
+IsLookedUp parts (HostLookup tenant map key) reply = MatchOption (slice_get parts tenant) (reply ≡ Refused BadTenant) (λ part. IsAnswerIn part map key reply)
+IsLookedUp parts event reply = ⊥
+
+-- each of them has its answer, in order
+abbrev pub AreLookedUp : List TenantPart → List Event → List Reply → Type 0
+AreLookedUp parts [] [] = Unit {0}
+AreLookedUp parts (event ∷ events) (reply ∷ replies) = IsLookedUp parts event reply × AreLookedUp parts events replies
+AreLookedUp parts events replies = ⊥
+
+-- their lines
+abbrev pub lookup_lines : List Event → List Reply → List ℕ
+lookup_lines (event ∷ events) (reply ∷ replies) = reply_lines event 0 reply ++ lookup_lines events replies
+lookup_lines events replies = []
+
+-- the lines of these lookups, with their answers where the tenants have these parts
+pub record AreLookupLines (parts : List TenantPart) (events : List Event) (lines : List ℕ) : Type 0 where
+  pub replies : List Reply
+  pub looked_up : AreLookedUp parts events replies
+  pub written : lines ≡ lookup_lines events replies
