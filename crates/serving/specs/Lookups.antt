@@ -1,6 +1,5 @@
 -- What is answered to the lookups of a served file, when all threads have ended (docs/HOST.md).
-use Rattle.std.specs.Prelude.{◌≡◌, ℕ, List, [], ◌∷◌, ◌++◌, flat_map, MatchOption, slice_get, Result, Ok, Err, Vec}
-use Rattle.host_types.specs.declared.fault.Fault.{Fault}
+use Rattle.std.specs.Prelude.{◌≡◌, ℕ, List, [], ◌∷◌, ◌++◌, flat_map, MatchOption, slice_get}
 use Rattle.host_types.specs.declared.fault.Fault.TheVariants.{BadTenant}
 use Rattle.host_types.specs.Tenant.{TenantPart}
 use Rattle.host_calls.specs.Calls.{IsValue, RefusesLookup}
@@ -20,11 +19,6 @@ lookup_by _ = []
 -- all of them, in the file's order
 abbrev pub lookups_in : List Command → List Event
 lookups_in commands = flat_map lookup_by commands
-
--- what is answered of a value that was read, or wasn't
-abbrev pub value_reply : Result (Vec ℕ) Fault → Reply
-value_reply (Ok bytes) = Value bytes.items
-value_reply (Err fault) = Refused fault
 
 -- the answer to a lookup in a tenant's part: the value, or why there is none
 abbrev pub IsAnswerIn : TenantPart → ℕ → ℕ → Reply → Type 0

@@ -1,11 +1,12 @@
 //! What is written when all threads have ended.
 
-ghost use Rattle.std.specs.Prelude.{◌≡◌, [], ◌∷◌, IfErr, IfSome, MatchOption, OnOk, map};
+ghost use Rattle.std.specs.Prelude.{◌≡◌, [], ◌∷◌, IfErr, IfSome, MatchOption, MatchResult, OnOk, map};
 ghost use Rattle.std.specs.Io.KnownBytes.{Appends};
 ghost use Rattle.host_file.specs.Faults.{IsBad};
+ghost use Rattle.host_core.specs.declared.event.Reply.TheVariants as reply;
 ghost use Rattle.host_file.specs.declared.command.Command.TheVariants.{Apply};
 ghost use Rattle.turn.specs.Seats.{own_part};
-ghost use Rattle.serving.specs.Lookups.{IsLookedUp, lookup_by, value_reply};
+ghost use Rattle.serving.specs.Lookups.{IsLookedUp, lookup_by};
 ghost use Rattle.serving.specs.RunLines.{all_run_lines, beginning_for, beginnings_for, run_lines, whole_reply};
 ghost use Rattle.serving.specs.Told.{HasWritten, Names};
 
@@ -142,7 +143,7 @@ fn looked_up(
 
 /// What the host would answer with a value.
 fn value_reply(value: Result<Vec<u8>, Fault>) -> Reply
-    ensures { result ≡ value_reply value }
+    ensures { MatchResult value (λ bytes. result ≡ reply.Value bytes.items) (λ fault. result ≡ reply.Refused fault) }
 {
     match value {
         Ok(bytes) => Reply::Value(Bytes::from(bytes)),
