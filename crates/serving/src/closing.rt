@@ -1,12 +1,12 @@
 //! What is written when all threads have ended.
 
-ghost use Rattle.std.specs.Prelude.{◌≡◌, [], ◌∷◌, IfErr, IfSome, MatchOption, MatchResult, OnOk, map};
+ghost use Rattle.std.specs.Prelude.{◌≡◌, ℕ, List, [], ◌∷◌, IfErr, IfSome, MatchOption, MatchResult, OnOk, map};
 ghost use Rattle.std.specs.Io.KnownBytes.{Appends};
 ghost use Rattle.host_file.specs.Faults.{IsBad};
 ghost use Rattle.host_core.specs.declared.event.Reply.TheVariants as reply;
 ghost use Rattle.host_file.specs.declared.command.Command.TheVariants.{Apply};
 ghost use Rattle.turn.specs.Seats.{own_part};
-ghost use Rattle.serving.specs.Lookups.{IsLookedUp, lookup_by};
+ghost use Rattle.serving.specs.Lookups.{AreLookupLines, IsLookedUp, lookup_by, lookups_in};
 ghost use Rattle.serving.specs.RunLines.{all_run_lines, beginning_for, beginnings_for, run_lines, whole_reply};
 ghost use Rattle.serving.specs.Told.{HasWritten, Names};
 
@@ -106,6 +106,8 @@ pub(crate) fn tell_lookups<W: Write, E: Write>(
     words: &mut E,
 ) -> Result<(), FileFault>
     ensures told { OnOk result (HasWritten commands.now told.old.has_refused told.new.has_refused (W.contents writer.old) (W.contents writer.new)) }
+    ensures lines { OnOk result ((lines : List ℕ) × AreLookupLines (map (λ plan. own_part plan.seat) plans.old) (lookups_in commands.now) lines
+        × Appends (W.contents writer.old) (W.contents writer.new) lines) }
     ensures bad { IfErr result (λ fault. ¬ IsBad fault) }
 {
     for (number, command) in commands.iter().enumerate() {
