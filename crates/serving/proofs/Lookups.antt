@@ -1,5 +1,5 @@
 -- Lines of lookups, one after the other.
-use Rattle.std.proofs.Common.{◌≡◌, ◌∙◌, ◌<◌, ◌+◌, ℕ, zero, suc, List, [], ◌∷◌, ◌++◌, length, get_or, drop, map, append_assoc, append-nil, sym, ap, refl, subst, Option, Some, None, Result, Ok, Err, IfOk, IfErr, MatchOption, MatchResult, arith}
+use Rattle.std.proofs.Common.{◌≡◌, ◌∙◌, ◌<◌, ◌≤◌, ◌+◌, ℕ, zero, suc, List, [], ◌∷◌, ◌++◌, length, get_or, drop, map, append_assoc, append-nil, sym, ap, refl, subst, Option, Some, None, Result, Ok, Err, IfOk, IfErr, MatchOption, MatchResult, arith}
 use Rattle.std.specs.Prelude.{slice_get}
 use Rattle.std.specs.Io.KnownBytes.{Appends}
 use Rattle.std.proofs.lemmas.List.{drop_more}
@@ -67,9 +67,24 @@ part-at f (first ∷ plans) zero plan within = refl
 part-at f (first ∷ plans) (suc place) plan within = part-at f plans place plan (omega (arith, within))
 
 pub looked-up : {X V : Type 0} (f : X → TenantPart) (bytes_of : V → List ℕ) (plans : List X) (tenant m key : ℕ) (plan : X) (value : Result V Fault) (reply : Reply)
-    → tenant < length plans → plan ≡ get_or plans tenant plan
-    → IfOk value (λ v. IsValue (f plan) m key (bytes_of v)) → IfErr value (RefusesLookup (f plan) m key) → MatchResult value (λ v. reply ≡ Value (bytes_of v)) (λ fault. reply ≡ Refused fault)
+    → tenant < length plans
+    → IfOk value (λ v. IsValue (f (get_or plans tenant plan)) m key (bytes_of v)) → IfErr value (RefusesLookup (f (get_or plans tenant plan)) m key)
+    → MatchResult value (λ v. reply ≡ Value (bytes_of v)) (λ fault. reply ≡ Refused fault)
     → IsLookedUp (map f plans) (HostLookup tenant m key) reply
-looked-up f bytes_of plans tenant m key plan value reply within at is refused same =
+looked-up f bytes_of plans tenant m key plan value reply within is refused same =
     subst (λ found. MatchOption found (reply ≡ Refused BadTenant) (λ owned. IsAnswerIn owned m key reply)) (sym (part-at f plans tenant plan within))
-    (subst (λ p. IsAnswerIn (f p) m key reply) at (answer-in bytes_of (f plan) m key value reply is refused same))
+    (answer-in bytes_of (f (get_or plans tenant plan)) m key value reply is refused same)
+
+-- the lookups from a place on, by what the command there looks up
+pub lookups-step : (commands : List Command) (place : ℕ) (command named : Command) (found : List Event) → place < length commands → command ≡ get_or commands place command
+    → command ≡ named → lookup_by named ≡ found → lookups_in (drop place commands) ≡ found ++ lookups_in (drop (place + 1) commands)
+lookups-step commands place command named found within is same finds =
+    lookups-more commands place command within is ∙ ap (λ c. lookup_by c ++ lookups_in (drop (place + 1) commands)) same
+    ∙ ap (λ events. events ++ lookups_in (drop (place + 1) commands)) finds
+
+-- none is left
+pub lookups-end : (commands : List Command) (place : ℕ) → length commands ≤ place → lookups_in (drop place commands) ≡ []
+lookups-end [] zero past = refl
+lookups-end [] (suc place) past = refl
+lookups-end (command ∷ commands) zero past = absurd (omega (arith, past))
+lookups-end (command ∷ commands) (suc place) past = lookups-end commands place (omega (arith, past))
