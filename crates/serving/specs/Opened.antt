@@ -30,6 +30,11 @@ pub record Home : Type 0 where
 abbrev pub home_of : TenantPlan → Home
 home_of plan = record { part = own_part plan.seat; programs = plan.programs.items }
 
+-- nothing is loaded, or to be run
+pub record IsNewPlan (plan : TenantPlan) : Type 0 where
+  pub programs : plan.programs.items ≡ []
+  pub runs : plan.runs.items ≡ []
+
 -- what an event gives the tenant that it names: a map of zeros at its first free number, a program at the next
 -- number, a value in a map; other events give nothing
 abbrev pub IsGiven : Event → Home → Home → Type 0

@@ -7,6 +7,7 @@ ghost use Rattle.host_file.specs.Served.{IsServedCommand};
 ghost use Rattle.host_file.specs.declared.file.HostFile.{HostFile};
 ghost use Rattle.turn.specs.Seats.{IsIdle};
 ghost use Rattle.tenant_workers.specs.Plans.{IsFor};
+ghost use Rattle.serving.specs.Prepared.{visits_in};
 ghost use Rattle.serving.specs.Told.{HasWritten, IsServedSo};
 
 use crate::closing::{tell_lookups, tell_runs};
@@ -122,6 +123,7 @@ fn serve_plan<T: Threads + Wait + Sync, W: Write, E: Write>(
     requires host { IsIdle shared.now host.old }
     requires own { All (IsFor shared.now) plan.old.tenants.items }
     requires scan { plan.old.scan.shared.now ≡ shared.now }
+    requires visits { plan.old.scan.visits ≡ visits_in file.now.options.pages_to_scan file.now.commands }
     ensures told { OnOk result (HasWritten file.now.commands told.old.has_refused told.new.has_refused (W.contents writer.old) (W.contents writer.new)) }
     ensures bad { IfErr result (λ fault. ¬ IsBad fault) }
 {

@@ -4,6 +4,7 @@ ghost use Rattle.std.specs.Prelude.{◌≡◌, All, IfOk};
 ghost use Rattle.turn.specs.Seats.{IsIdle};
 ghost use Rattle.tenant_workers.specs.Plans.{IsFor};
 ghost use Rattle.serving.specs.AtRest.{IsAtRest};
+ghost use Rattle.serving.specs.Opened.{IsNewPlan};
 
 use host_file::HostFile;
 use host_types::Fault;
@@ -43,7 +44,8 @@ pub(crate) fn plans_of<'a>(
     seats: Vec<Seat>,
 ) -> Result<Vec<TenantPlan<'a>>, AllocError>
     requires { All (IsAtRest shared.now) seats.items }
-    ensures { IfOk result (λ plans. All (IsFor shared.now) plans.items) }
+    ensures own { IfOk result (λ plans. All (IsFor shared.now) plans.items) }
+    ensures new { IfOk result (λ plans. All IsNewPlan plans.items) }
 {
     let mut plans = Vec::with_capacity(alloc, seats.len())?;
     for seat in seats {
