@@ -7,8 +7,10 @@ ghost use Rattle.verifier.specs.Verified.{Accepted, IsVerified};
 ghost use Rattle.host_calls.specs.Programs.{RefusesProgram, subject_of};
 ghost use Rattle.host_file.specs.Faults.{IsBad};
 ghost use Rattle.turn.specs.Seats.{IsIdle, own_part};
+ghost use Rattle.tenant_workers.specs.Calls.{memory_left};
 ghost use Rattle.tenant_workers.specs.Plans.{IsFor};
-ghost use Rattle.serving.specs.Opened.{IsGiven, RefusesGift, home_of};
+ghost use Rattle.host_file.specs.declared.command.Command.TheVariants.{Apply};
+ghost use Rattle.serving.specs.Opened.{HaveOpened, IsGiven, IsSetIn, RefusesGift, home_of};
 ghost use Rattle.serving.specs.Told.{HasWritten};
 
 use crate::telling::Told;
@@ -53,7 +55,7 @@ pub(crate) fn open_all<W: Write, E: Write>(
 }
 
 /// Does what an event asks for before a thread starts.
-#[tactic(auto, using(crate::proofs::Kept::own_set))]
+#[tactic(auto, using(crate::proofs::Kept::own_set, crate::proofs::Opened::opened_given, crate::proofs::Opened::opened_nobody))]
 fn apply(
     rt: &impl Wait,
     alloc: Global,
@@ -66,6 +68,8 @@ fn apply(
     requires own { All (IsFor shared.now) plans.old }
     ensures host { IsIdle shared.now host.new }
     ensures own { All (IsFor shared.now) plans.new }
+    ensures opened { OnOk result (HaveOpened (Apply event.now ∷ []) plans.old plans.new) }
+    ensures set { OnOk result (IsSetIn (memory_left host.new) event.now) }
 {
     if let Event::Set { option, value } = event {
         return shared.set(rt, host, *option, *value);

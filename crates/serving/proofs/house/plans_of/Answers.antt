@@ -16,6 +16,6 @@ invariant_of-push c =
 pub loop-seat-preserved : goal.loop-seat-preserved
 loop-seat-preserved c = (
   All-rest (IsAtRest c.args.shared.now) c.in-Some.seat (into_iter_items c.next.new.self) (into_iter_items c.loop-seat.seat-iterator) c.in-Some.ensures.steps.0 c.loop-seat.invariant.0,
-  rw (c.in_ok-push.ensures.items) (All-push (IsFor c.args.shared.now) c.loop-seat.plans.items _ c.loop-seat.invariant.1.0 record { own = refl }),
-  rw (c.in_ok-push.ensures.items) (All-push IsNewPlan c.loop-seat.plans.items _ c.loop-seat.invariant.1.1 record { programs = search rules; runs = search rules }),
+  rw (c.in_ok-push.ensures.items) (All-push (IsFor c.args.shared.now) c.loop-seat.plans.items _ c.loop-seat.invariant.1 record { own = refl }),
+  rw (c.in_ok-push.ensures.items) (All-push IsNewPlan c.loop-seat.plans.items _ c.loop-seat.invariant.2 record { programs = search rules; runs = search rules }),
 )
