@@ -118,7 +118,7 @@ pub fn refuse<W: Write, E: Write>(
 {
     write_refusal(writer, fault)?;
     // The line is written: what it means may be lost.
-    let _ = explain_host(words, &file.options, fault);
+    let _ = explain_host(words, file, fault);
     Ok(())
 }
 

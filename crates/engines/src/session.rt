@@ -9,6 +9,7 @@ ghost use Rattle.engines.specs.Replay.{AreOf, AreOfAll, AreStepsToEnd, AreVisits
 ghost use Rattle.engines.specs.Sessions.{AreStepsMade, HasTold, IsOneEvent, Performs};
 
 use crate::explanation::explain_event;
+use crate::fault::written;
 use crate::lines::write_reply;
 use host_core::{Event, Host, Reply};
 use host_file::{Command, FileFault, HostFile};
@@ -99,8 +100,23 @@ impl Session {
         }
     }
 
-    /// Lets the scanner make visits.
+    /// Lets the scanner make visits. They may take long, so what was written is passed on first.
     fn visit<W: Write, E: Write>(
+        &mut self,
+        number: usize,
+        count: u32,
+        writer: &mut W,
+        words: &mut E,
+    ) -> Result<(), FileFault>
+        ensures performs { OnOk result (Performs (AreVisits count) self.old self.new (W.contents writer.old) (W.contents writer.new)) }
+        ensures bad { IfErr result (λ fault. ¬ IsBad fault) }
+    {
+        written(writer.flush())?;
+        self.make_visits(number, count, writer, words)
+    }
+
+    /// Makes visits, one after the other.
+    fn make_visits<W: Write, E: Write>(
         &mut self,
         number: usize,
         count: u32,
