@@ -1,3 +1,4 @@
 pub mod Kept
 pub mod Resting
+pub mod RunLines
 pub mod Tellings

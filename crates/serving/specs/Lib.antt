@@ -1,2 +1,4 @@
 pub mod AtRest
+pub mod Prepared
+pub mod RunLines
 pub mod Told

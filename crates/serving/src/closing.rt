@@ -1,7 +1,9 @@
 //! What is written when all threads have ended.
 
-ghost use Rattle.std.specs.Prelude.{IfErr, IfSome, OnOk};
+ghost use Rattle.std.specs.Prelude.{◌≡◌, [], ◌∷◌, IfErr, IfSome, MatchOption, OnOk, map};
+ghost use Rattle.std.specs.Io.KnownBytes.{Appends};
 ghost use Rattle.host_file.specs.Faults.{IsBad};
+ghost use Rattle.serving.specs.RunLines.{all_run_lines, beginning_for, beginnings_for, run_lines, whole_reply};
 ghost use Rattle.serving.specs.Told.{HasWritten, Names};
 
 use crate::telling::Told;
@@ -23,19 +25,19 @@ pub(crate) fn tell_runs<W: Write, E: Write>(
     words: &mut E,
 ) -> Result<(), FileFault>
     ensures told { OnOk result (HasWritten commands.now told.old.has_refused told.new.has_refused (W.contents writer.old) (W.contents writer.new)) }
+    ensures lines { OnOk result (Appends (W.contents writer.old) (W.contents writer.new)
+        (all_run_lines commands.now 0 (map (λ plan. plan.replies.items) plans.now))) }
     ensures bad { IfErr result (λ fault. ¬ IsBad fault) }
 {
-    let mut tenant = 0u32;
-    for plan in plans {
+    for (tenant, plan) in plans.iter().enumerate() {
         tell_tenant(tenant, &plan.replies, commands, told, writer, words)?;
-        tenant = tenant.saturating_add(1);
     }
     Ok(())
 }
 
 /// Writes what each run of a tenant was answered. Those that began are counted from 0.
 fn tell_tenant<W: Write, E: Write>(
-    tenant: u32,
+    tenant: usize,
     replies: &[Result<RunReply, Fault>],
     commands: &[Command],
     told: &mut Told,
@@ -43,6 +45,8 @@ fn tell_tenant<W: Write, E: Write>(
     words: &mut E,
 ) -> Result<(), FileFault>
     ensures told { OnOk result (HasWritten commands.now told.old.has_refused told.new.has_refused (W.contents writer.old) (W.contents writer.new)) }
+    ensures lines { OnOk result (Appends (W.contents writer.old) (W.contents writer.new)
+        (run_lines (beginnings_for tenant commands.now) replies.now 0)) }
     ensures bad { IfErr result (λ fault. ¬ IsBad fault) }
 {
     let mut replies = replies.iter();
@@ -61,17 +65,23 @@ fn tell_tenant<W: Write, E: Write>(
 }
 
 /// The event that opens a command's run, where it is a run of this tenant.
-fn run_of(tenant: u32, command: &Command) -> Option<&Event>
-    ensures { IfSome result (λ event. Names event.now command.now) }
+fn run_of(tenant: usize, command: &Command) -> Option<&Event>
+    ensures names { IfSome result (λ event. Names event.now command.now) }
+    ensures begins { MatchOption result (beginning_for tenant command.now ≡ []) (λ event. beginning_for tenant command.now ≡ event.now ∷ []) }
 {
-    match command {
-        Command::Run(event) if event.tenant() == Some(tenant) => Some(event),
+    let Command::Run(event) = command else {
+        return None;
+    };
+    match event {
+        Event::Begin { tenant: named, .. } if *named as usize == tenant => Some(event),
         _ => None,
     }
 }
 
 /// What the host would answer to a run that is made whole.
-fn reply_of(answer: &Result<RunReply, Fault>) -> Reply {
+fn reply_of(answer: &Result<RunReply, Fault>) -> Reply
+    ensures { result ≡ whole_reply answer.now }
+{
     match answer {
         Ok(reply) => Reply::Ended {
             ret: reply.ret,
