@@ -15,6 +15,7 @@ use crate::explanation::explain_host;
 use crate::fault::written;
 use crate::lines::write_refusal;
 use crate::session::Session;
+use crate::watch::{Unwatched, Watch};
 use host_core::Host;
 use host_file::{BadFile, Cause, FileFault, HostFile, MAX_BYTES, Place, read_file};
 use host_types::Fault;
@@ -39,8 +40,25 @@ pub fn replay<R: Read, W: Write, E: Write>(
         × IsReplayed file (W.contents writer.old) (W.contents writer.new) status))) }
     ensures bad { IfErr result (λ fault. IsBad fault → (writer.new ≡ writer.old) × (words.new ≡ words.old)) }
 {
+    replay_watched(alloc, reader, writer, words, &mut Unwatched)
+}
+
+/// Replays as `replay` does, and tells somebody how far it is.
+pub fn replay_watched<R: Read, W: Write, E: Write, V: Watch>(
+    alloc: Global,
+    reader: &mut R,
+    writer: &mut W,
+    words: &mut E,
+    watch: &mut V,
+) -> Result<u8, FileFault>
+    ensures status { IfOk result (λ status. status ≤ 1) }
+    ensures replayed { IfOk result (λ status. IfSome (R.remaining reader.old) (λ bytes.
+        (length bytes ≤ max_bytes) × ((file : HostFile) × IsFileText bytes file
+        × IsReplayed file (W.contents writer.old) (W.contents writer.new) status))) }
+    ensures bad { IfErr result (λ fault. IsBad fault → (writer.new ≡ writer.old) × (words.new ≡ words.old)) }
+{
     let file = file_from(alloc, reader)?;
-    let status = replay_file(alloc, &file, writer, words);
+    let status = replay_file(alloc, &file, writer, words, watch);
     let flushed = writer.flush();
     let status = status?;
     written(flushed)?;
@@ -88,17 +106,18 @@ fn read_fault(error: io::Error) -> FileFault {
 }
 
 /// Applies the events of a host file to a new host.
-fn replay_file<W: Write, E: Write>(
+fn replay_file<W: Write, E: Write, V: Watch>(
     alloc: Global,
     file: &HostFile,
     writer: &mut W,
     words: &mut E,
+    watch: &mut V,
 ) -> Result<u8, FileFault>
     ensures replayed { IfOk result (IsReplayed file.now (W.contents writer.old) (W.contents writer.new)) }
     ensures fault { IfErr result (λ fault. ¬ IsBad fault) }
 {
     match Host::new(alloc, file.frames, file.tenants, file.options) {
-        Ok(host) => replay_commands(alloc, host, file, writer, words),
+        Ok(host) => replay_commands(alloc, host, file, writer, words, watch),
         Err(fault) => {
             refuse(file, fault, writer, words)?;
             Ok(1)
@@ -123,18 +142,19 @@ pub fn refuse<W: Write, E: Write>(
 }
 
 /// Performs the commands of a host file on its new host.
-fn replay_commands<W: Write, E: Write>(
+fn replay_commands<W: Write, E: Write, V: Watch>(
     alloc: Global,
     host: Host,
     file: &HostFile,
     writer: &mut W,
     words: &mut E,
+    watch: &mut V,
 ) -> Result<u8, FileFault>
     requires { StandsForSystem host (new_system file.now.frames file.now.tenants file.now.options) }
     ensures replayed { IfOk result (IsReplayed file.now (W.contents writer.old) (W.contents writer.new)) }
     ensures fault { IfErr result (λ fault. ¬ IsBad fault) }
 {
     let mut session = Session::new(alloc, host, file)?;
-    session.perform_all(file.commands.as_slice(), writer, words)?;
+    session.perform_all(file.commands.as_slice(), writer, words, watch)?;
     Ok(u8::from(session.has_refused()))
 }
