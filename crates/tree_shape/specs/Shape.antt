@@ -1,0 +1,36 @@
+-- The shape of a balanced search tree whose nodes stand in a list, each at a place.
+use Rattle.std.specs.Prelude.{◌≡◌, ◌≢◌, ⊤, ℕ, suc, ◌+◌, ◌<◌, ◌≤◌, List, [], ◌∷◌, ◌++◌, length, max, slice_index_or}
+use Rattle.tree_shape.specs.declared.Node.{Node}
+
+-- a node's place, and what hangs on its left and on its right
+pub data Tree : Type 0 where
+  leaf : Tree
+  fork : ℕ → Tree → Tree → Tree
+
+unfoldable pub levels : Tree → ℕ
+levels leaf = 0
+levels (fork at l r) = suc (max (levels l) (levels r))
+
+-- the places, from left to right
+unfoldable pub in_order : Tree → List ℕ
+in_order leaf = []
+in_order (fork at l r) = in_order l ++ at ∷ in_order r
+
+-- at each node the sides differ by one level at most
+unfoldable pub IsEven : Tree → Type 0
+IsEven leaf = ⊤
+IsEven (fork at l r) = (levels l ≤ levels r + 1) × (levels r ≤ levels l + 1) × IsEven l × IsEven r
+
+-- the link of an empty side
+abbrev pub none : ℕ
+none = 4294967295
+
+abbrev pub blank : Node
+blank = record { left = none; right = none; height = 0 }
+
+-- what hangs at a link is the tree, and each node knows its levels
+unfoldable pub Holds : List Node → ℕ → Tree → Type 0
+Holds nodes link leaf = link ≡ none
+Holds nodes link (fork at l r) =
+    (link ≡ at) × (at ≢ none) × (at < length nodes) × ((slice_index_or nodes at blank).height ≡ levels (fork at l r))
+    × Holds nodes (slice_index_or nodes at blank).left l × Holds nodes (slice_index_or nodes at blank).right r
