@@ -1,5 +1,5 @@
 -- The shape of a balanced search tree whose nodes stand in a list, each at a place.
-use Rattle.std.specs.Prelude.{◌≡◌, ◌≢◌, ⊤, ℕ, suc, ◌+◌, ◌<◌, ◌≤◌, List, [], ◌∷◌, ◌++◌, length, max, slice_index_or}
+use Rattle.std.specs.Prelude.{◌≡◌, ◌≢◌, ⊤, ℕ, suc, ◌+◌, ◌<◌, ◌≤◌, List, [], ◌∷◌, ◌++◌, length, max, slice_index_or, ◌==◌, if◌then◌else◌}
 use Rattle.tree_shape.specs.declared.Node.{Node}
 
 -- a node's place, and what hangs on its left and on its right
@@ -34,3 +34,15 @@ Holds nodes link leaf = link ≡ none
 Holds nodes link (fork at l r) =
     (link ≡ at) × (at ≢ none) × (at < length nodes) × ((slice_index_or nodes at blank).height ≡ levels (fork at l r))
     × Holds nodes (slice_index_or nodes at blank).left l × Holds nodes (slice_index_or nodes at blank).right r
+
+-- the levels of what hangs at a link, as its node knows them
+abbrev pub height_at : List Node → ℕ → ℕ
+height_at nodes link = if link == none then 0 else (slice_index_or nodes link blank).height
+
+-- a link leads to a node, or nowhere
+abbrev pub IsLink : List Node → ℕ → Type 0
+IsLink nodes link = link ≢ none → link < length nodes
+
+-- a node with two sides
+abbrev pub with_sides : List Node → ℕ → ℕ → Node
+with_sides nodes left right = record { left = left; right = right; height = suc (max (height_at nodes left) (height_at nodes right)) }
