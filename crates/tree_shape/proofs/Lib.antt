@@ -1,3 +1,4 @@
 pub mod Low
 pub mod Turning
 pub mod Changing
+pub mod Holding

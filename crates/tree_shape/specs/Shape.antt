@@ -46,3 +46,8 @@ IsLink nodes link = link ≢ none → link < length nodes
 -- a node with two sides
 abbrev pub with_sides : List Node → ℕ → ℕ → Node
 with_sides nodes left right = record { left = left; right = right; height = suc (max (height_at nodes left) (height_at nodes right)) }
+
+-- a place isn't one of a tree's
+unfoldable pub IsAway : ℕ → Tree → Type 0
+IsAway place leaf = ⊤
+IsAway place (fork at l r) = (at ≢ place) × IsAway place l × IsAway place r
