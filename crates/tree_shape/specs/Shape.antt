@@ -51,3 +51,21 @@ with_sides nodes left right = record { left = left; right = right; height = suc 
 unfoldable pub IsAway : ℕ → Tree → Type 0
 IsAway place leaf = ⊤
 IsAway place (fork at l r) = (at ≢ place) × IsAway place l × IsAway place r
+
+-- two trees have no place in common
+unfoldable pub AreApart : Tree → Tree → Type 0
+AreApart leaf r = ⊤
+AreApart (fork at a b) r = IsAway at r × AreApart a r × AreApart b r
+
+-- each place stands once in a tree
+unfoldable pub IsOnce : Tree → Type 0
+IsOnce leaf = ⊤
+IsOnce (fork at l r) = IsAway at l × IsAway at r × AreApart l r × IsOnce l × IsOnce r
+
+-- What stands at two links, and the place of a node to be set above both.
+pub record AreSides (nodes : List Node) (left at right : ℕ) (l r : Tree) : Type 0 where
+  pub lefts : Holds nodes left l
+  pub rights : Holds nodes right r
+  pub inside : at < length nodes
+  pub some : at ≢ none
+  pub once : IsOnce (fork at l r)
