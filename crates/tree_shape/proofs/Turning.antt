@@ -186,3 +186,22 @@ settled-level at l r evenl evenr left right = by_test (nat_lt (levels r + 1) (le
         let few : levels l ≤ levels r + 1 = grind (arith, test) in
         let less : levels r ≤ levels l + 1 = grind (arith, other) in
         fork-level (max (levels l) (levels r)) at l r few less evenl evenr (omega arith) (omega arith)
+
+-- which turn a node takes, as its code tests it
+pub left_up-once : (at side : ℕ) (a b r : Tree) → levels b ≤ levels a → left_up at (fork side a b) r ≡ fork side a (fork at b r)
+unfolding left_up
+left_up-once at side a leaf r few = refl
+left_up-once at side a (fork top b c) r few = let test : nat_lt (levels a) (levels (fork top b c)) ≡ false = grind (arith, few) in rw test refl
+
+pub left_up-twice : (at side top : ℕ) (a b c r : Tree) → levels a < levels (fork top b c) → left_up at (fork side a (fork top b c)) r ≡ fork top (fork side a b) (fork at c r)
+unfolding left_up
+left_up-twice at side top a b c r more = let test : nat_lt (levels a) (levels (fork top b c)) ≡ true = grind (arith, more) in rw test refl
+
+pub right_up-once : (at side : ℕ) (l b d : Tree) → levels b ≤ levels d → right_up at l (fork side b d) ≡ fork side (fork at l b) d
+unfolding right_up
+right_up-once at side l leaf d few = refl
+right_up-once at side l (fork top b c) d few = let test : nat_lt (levels d) (levels (fork top b c)) ≡ false = grind (arith, few) in rw test refl
+
+pub right_up-twice : (at side top : ℕ) (l b c d : Tree) → levels d < levels (fork top b c) → right_up at l (fork side (fork top b c) d) ≡ fork top (fork at l b) (fork side c d)
+unfolding right_up
+right_up-twice at side top l b c d more = let test : nat_lt (levels d) (levels (fork top b c)) ≡ true = grind (arith, more) in rw test refl
