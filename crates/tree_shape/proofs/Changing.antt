@@ -1,12 +1,12 @@
 -- What is put in or taken out changes a tree's levels by one at most, and keeps the places of the others in order.
-use Rattle.std.proofs.Common.{◌≡◌, ℕ, zero, suc, ◌+◌, ◌<◌, ◌≤◌, nat_lt, Bool, true, false, if◌then◌else◌, List, [], ◌∷◌, ◌++◌, max, refl, sym, ap, ◌∙◌, arith, append_assoc}
+use Rattle.std.proofs.Common.{◌≡◌, ℕ, suc, ◌+◌, ◌<◌, ◌≤◌, nat_lt, Bool, true, false, if◌then◌else◌, List, [], ◌∷◌, ◌++◌, max, refl, sym, ap, ◌∙◌, arith, append_assoc}
 use Rattle.std.specs.declared.cmp.Ordering.{Ordering}
 use Rattle.std.specs.declared.cmp.Ordering.TheVariants.{Less, Equal, Greater}
 use Rattle.std.proofs.lemmas.List.{append-nil}
 use Rattle.tree_shape.specs.Shape.{Tree, leaf, fork, levels, in_order, IsEven}
 use Rattle.tree_shape.specs.Turns.{left_up, right_up, settled}
 use Rattle.tree_shape.specs.Changes.{by_order, entered, least, without_least, merged, taken}
-use Rattle.tree_shape.proofs.Turning.{IsLevel, levels-fork, levels-none, even-fork, even-sides, in_order-settled, settled-level}
+use Rattle.tree_shape.proofs.Turning.{levels-fork, levels-none, even-fork, even-sides, in_order-settled, settled-level}
 
 -- sides that are even already
 settled-flat : (at : ℕ) (l r : Tree) → levels l ≤ levels r + 1 → levels r ≤ levels l + 1 → settled at l r ≡ fork at l r

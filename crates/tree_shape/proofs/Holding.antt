@@ -1,10 +1,10 @@
 -- What hangs at a link, where nodes are read or written.
-use Rattle.std.proofs.Common.{◌≡◌, ◌≢◌, ℕ, zero, suc, ◌+◌, ◌<◌, ◌≤◌, ◌==◌, Bool, true, false, if◌then◌else◌, List, [], ◌∷◌, length, max, slice_index_or, slice_set, refl, sym, ap, subst, ◌∙◌, arith}
+use Rattle.std.proofs.Common.{◌≡◌, ◌≢◌, ℕ, suc, ◌<◌, ◌==◌, true, false, List, length, max, slice_index_or, slice_set, refl, sym, ap, ◌∙◌, arith}
 use Rattle.std.proofs.lemmas.Bool.Decides.{nat_tests}
 use Rattle.std.proofs.lemmas.List.{get_or-set_same, get_or-set_other, length-set}
 use Rattle.tree_shape.specs.declared.Node.{Node}
 use Rattle.tree_shape.specs.Shape.{Tree, leaf, fork, levels, Holds, IsAway, IsLink, none, blank, height_at, with_sides}
-use Rattle.tree_shape.proofs.Turning.{levels-fork, levels-none}
+use Rattle.tree_shape.proofs.Turning.{levels-fork}
 
 -- the link of a node leads to it
 pub holds-link : (nodes : List Node) (link : ℕ) (t : Tree) → Holds nodes link t → IsLink nodes link

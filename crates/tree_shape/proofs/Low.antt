@@ -1,5 +1,5 @@
 -- An even tree has few levels.
-use Rattle.std.proofs.Common.{◌≡◌, ℕ, zero, suc, ◌+◌, ◌*◌, ◌^◌, ◌<◌, ◌≤◌, List, [], ◌∷◌, ◌++◌, length, max, refl, sym, ap, ◌∙◌, arith, ⊎_elim, length-append}
+use Rattle.std.proofs.Common.{◌≡◌, ℕ, zero, suc, ◌+◌, ◌^◌, ◌<◌, ◌≤◌, ◌∷◌, length, refl, arith, ⊎_elim, length-append}
 use Rattle.std.proofs.lemmas.Bool.{cases_lt}
 use Rattle.tree_shape.specs.Shape.{Tree, leaf, fork, levels, in_order, IsEven}
 

@@ -1,8 +1,8 @@
 -- What hangs at a link after nodes were turned.
-use Rattle.std.proofs.Common.{◌≡◌, ◌≢◌, ℕ, zero, suc, ◌+◌, ◌<◌, ◌≤◌, List, [], ◌∷◌, length, max, slice_index_or, slice_set, refl, sym, ap, subst, ◌∙◌, arith}
+use Rattle.std.proofs.Common.{◌≢◌, ℕ, List, slice_index_or, slice_set, sym, arith}
 use Rattle.std.proofs.lemmas.List.{length-set}
 use Rattle.tree_shape.specs.declared.Node.{Node}
-use Rattle.tree_shape.specs.Shape.{Tree, leaf, fork, levels, Holds, IsAway, AreApart, IsOnce, AreSides, none, blank, with_sides}
+use Rattle.tree_shape.specs.Shape.{Tree, leaf, fork, Holds, IsAway, AreApart, IsOnce, AreSides, blank, with_sides}
 use Rattle.tree_shape.proofs.Holding.{holds-kept, holds-joined}
 
 away-fork : (place at : ℕ) (l r : Tree) → at ≢ place → IsAway place l → IsAway place r → IsAway place (fork at l r)

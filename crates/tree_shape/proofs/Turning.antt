@@ -1,5 +1,5 @@
 -- What is settled has the same places in the same order, is even, and has the levels of its higher side or one more.
-use Rattle.std.proofs.Common.{◌≡◌, ℕ, zero, suc, ◌+◌, ◌<◌, ◌≤◌, nat_lt, Bool, true, false, if◌then◌else◌, List, [], ◌∷◌, ◌++◌, max, refl, sym, ap, ◌∙◌, arith, append_assoc}
+use Rattle.std.proofs.Common.{◌≡◌, ℕ, suc, ◌+◌, ◌<◌, ◌≤◌, nat_lt, Bool, true, false, if◌then◌else◌, List, [], ◌∷◌, ◌++◌, max, refl, sym, ap, ◌∙◌, arith, append_assoc}
 use Rattle.tree_shape.specs.Shape.{Tree, leaf, fork, levels, in_order, IsEven}
 use Rattle.tree_shape.specs.Turns.{left_up, right_up, settled}
 

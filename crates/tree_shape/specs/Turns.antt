@@ -1,5 +1,5 @@
 -- How a tree is made even again where one side of its first node is two levels higher than the other.
-use Rattle.std.specs.Prelude.{ℕ, ◌+◌, nat_lt, Bool, true, false, if◌then◌else◌}
+use Rattle.std.specs.Prelude.{ℕ, ◌+◌, nat_lt, if◌then◌else◌}
 use Rattle.tree_shape.specs.Shape.{Tree, leaf, fork, levels}
 
 -- the left side comes up
