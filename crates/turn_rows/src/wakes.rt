@@ -23,7 +23,7 @@ const LOOKS: u32 = 200_000_000;
 const UNTIL_ASLEEP: u32 = 2_000_000;
 
 /// How many rounds a sleeper has in which the memory is given just when it is about to sleep.
-pub(crate) const ROUNDS: u64 = 50_000;
+pub(crate) const ROUNDS: u64 = 20_000;
 
 /// How many threads sleep while the memory is kept.
 pub(crate) const SLEEPERS: u64 = 2;
