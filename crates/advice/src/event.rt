@@ -2,11 +2,19 @@
 
 use crate::Advice;
 use host_types::Opt;
+use host_types::limits::{MAX_FRAMES, MAX_TENANTS};
 
 /// A host of so many frames or tenants as none has.
-pub fn on_host_size() -> Advice {
+pub fn on_host_size(frames: u32, tenants: u32) -> Advice {
+    let has_frames = (2..=MAX_FRAMES).contains(&frames);
+    let has_tenants = (1..=MAX_TENANTS).contains(&tenants);
+    let wrong = match (has_frames, has_tenants) {
+        (false, true) => "`frames` isn't from 2 to 4096",
+        (true, false) => "`tenants` isn't from 1 to 16",
+        _ => "`frames` isn't from 2 to 4096, and `tenants` not from 1 to 16",
+    };
     Advice {
-        wrong: "`frames` isn't from 2 to 4096, or `tenants` not from 1 to 16",
+        wrong,
         mend: "mend the top of the host file",
     }
 }

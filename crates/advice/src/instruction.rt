@@ -89,19 +89,7 @@ fn on_opcode(opcode: u8) -> Option<Advice> {
 /// A field with a number that means nothing there.
 fn on_field(insn: &Insn) -> Option<Advice> {
     let (wrong, mend) = match Operation::of(insn.opcode)? {
-        Operation::Call if insn.src == LOCAL_CALL && insn.imm == UNLINKED => (
-            "a call that a linker was to fill in isn't taken, as of a library's `memcmp`",
-            "write the function out and inline it; in C, `__builtin_memcpy` and `__builtin_memset` of \
-                constant sizes need none",
-        ),
-        Operation::Call if insn.src == LOCAL_CALL => (
-            "a call of a function of the program's own isn't taken",
-            "inline it: in C mark it `static inline __attribute__((always_inline))`",
-        ),
-        Operation::Call if insn.src != 0 => (
-            "a call with this field src isn't taken",
-            "call a helper by its number, with src 0",
-        ),
+        Operation::Call if insn.src != 0 => return Some(on_callee(insn)),
         Operation::LoadImmediate => (
             "this form of the wide instruction isn't taken",
             "load a number with src 0, or name a map with src 1, the second half's other fields 0",
@@ -134,6 +122,28 @@ fn on_field(insn: &Insn) -> Option<Advice> {
         ),
     };
     Some(Advice { wrong, mend })
+}
+
+/// A call of something other than a helper.
+fn on_callee(insn: &Insn) -> Advice {
+    if insn.src != LOCAL_CALL {
+        return Advice {
+            wrong: "a call with this field src isn't taken",
+            mend: "call a helper by its number, with src 0",
+        };
+    }
+    if insn.imm == UNLINKED {
+        Advice {
+            wrong: "a call that a linker was to fill in isn't taken, as of a library's `memcmp`",
+            mend: "write the function out and inline it; in C, `__builtin_memcpy` and `__builtin_memset` \
+                of constant sizes need none",
+        }
+    } else {
+        Advice {
+            wrong: "a call of a function of the program's own isn't taken",
+            mend: "inline it: in C mark it `static inline __attribute__((always_inline))`",
+        }
+    }
 }
 
 /// A jump that leads to no instruction.

@@ -1,15 +1,18 @@
 //! The program `bpf_host` (docs/HOST.md).
 #![tactic(auto)]
 
+mod progress;
+
 use command_line::{Request, WrongWords, request_of};
 use engines::check::check;
-use engines::replay::replay;
-use engines::{status_of, write_fault};
+use engines::replay::replay_watched;
+use engines::{Watch, status_of, write_fault};
 use host_file::FileFault;
 use plain_text::quoted;
+use progress::Progress;
 use serving::serve_file;
 use std::alloc::{AllocError, Global};
-use std::io::{self, BufWriter, Write};
+use std::io::{self, BufWriter, IsTerminal, Write};
 use std::process::ExitCode;
 use std::rt::{Env, Files};
 use std::sync::Wait;
@@ -17,9 +20,10 @@ use std::thread::Threads;
 use std::{env, fs};
 
 fn main(rt: HostRuntime) -> ExitCode {
-    let errors = rt.stderr();
-    let mut errors = io::writer(&errors);
-    let outcome = run(&rt, &mut errors);
+    let stderr = rt.stderr();
+    let mut errors = io::writer(&stderr);
+    let mut progress = Progress::new(&rt, io::writer(&stderr), stderr.is_terminal());
+    let outcome = run(&rt, &mut errors, &mut progress);
     if let Err(fault) = &outcome {
         // The status tells it too: the words may be lost.
         let _ = write_fault(rt.alloc(), &mut errors, fault);
@@ -37,9 +41,10 @@ fn say_path<W: Write>(alloc: Global, words: &mut W, path: &str) -> io::Result<()
 
 /// Does what the command line asks for. What a refusal means goes to `errors`. Answers the status 0
 /// or 1, or the fault of status 2.
-fn run<R: AllocGlobal + Env + Files + Print + Threads + Wait + Sync, E: Write>(
+fn run<R: AllocGlobal + Env + Files + Print + Threads + Wait + Sync, E: Write, V: Watch>(
     rt: &R,
     errors: &mut E,
+    progress: &mut V,
 ) -> Result<u8, FileFault> {
     let alloc = rt.alloc();
     let words: Vec<String> = match env::args(rt) {
@@ -54,7 +59,7 @@ fn run<R: AllocGlobal + Env + Files + Print + Threads + Wait + Sync, E: Write>(
     let mut output = output.map_err(|_| FileFault::OutOfMemory(AllocError))?;
     match request {
         Request::Replay { path } => {
-            let answer = replay_at(rt, path, &mut output, errors);
+            let answer = replay_at(rt, path, &mut output, errors, progress);
             name_file(alloc, errors, path, answer)
         }
         Request::Serve { path } => {
@@ -91,14 +96,15 @@ fn words_fault(wrong: WrongWords) -> FileFault {
 }
 
 /// Replays the host file at a path.
-fn replay_at<R: AllocGlobal + Files, W: Write, E: Write>(
+fn replay_at<R: AllocGlobal + Files, W: Write, E: Write, V: Watch>(
     rt: &R,
     path: &str,
     output: &mut W,
     errors: &mut E,
+    progress: &mut V,
 ) -> Result<u8, FileFault> {
     let mut file = fs::open(rt, path).map_err(FileFault::Read)?;
-    replay(rt.alloc(), &mut file, output, errors)
+    replay_watched(rt.alloc(), &mut file, output, errors, progress)
 }
 
 /// Serves the host file at a path.

@@ -295,6 +295,31 @@ performs-no_run pages event reply old new was is other =
     performs-as (IsOneEvent event reply) (AreOf pages (Run event)) old new was is
     (λ events replies alone. (reply, [], [], alone.0, alone.1, nothing-more (tenant_of event) reply other))
 
+-- what an output took once what it had taken was passed on
+Keeps-Appends : (was half is : Option (List ℕ)) (xs : List ℕ) → Keeps was half → Appends half is xs → Appends was is xs
+Keeps-Appends None half is xs kept taken = tt
+Keeps-Appends (Some known) None is xs kept taken = absurd kept
+Keeps-Appends (Some known) (Some same) None xs kept taken = absurd taken
+Keeps-Appends (Some known) (Some same) (Some all) xs kept taken = taken ∙ ap (λ ys. ys ++ xs) kept
+
+pub performs-kept : (Asked : List Event → List Reply → Type 0) (old new : Session) (was half is : Option (List ℕ))
+    → Keeps was half → Performs Asked old new half is → Performs Asked old new was is
+performs-kept Asked old new was half is kept performs w stands =
+    let (events, replies, next, asked, noted) = performs w stands in (
+      events,
+      replies,
+      next,
+      asked,
+      record {
+        stands = noted.stands;
+        happen = noted.happen;
+        begun = noted.begun;
+        pages = noted.pages;
+        refused = noted.refused;
+        written = Keeps-Appends was half is (lines_from old.begun.items events replies) kept noted.written;
+      },
+    )
+
 -- no visits, and one more visit
 pub performs-no_visit : (old : Session) (was : Option (List ℕ)) → Performs (AreVisits 0) old old was was
 performs-no_visit old was w stands = ([], [], w, (refl, refl), noted-none w old was stands)

@@ -1,4 +1,5 @@
 pub mod Check
+pub mod Input
 pub mod Lines
 pub mod Replay
 pub mod Sessions

@@ -8,7 +8,7 @@ ghost use Rattle.engines.specs.Check.{AnswersWords, AskNothing, IsAccepted, IsCh
 ghost use Rattle.engines.specs.Lines.{line_of};
 
 mod acceptance;
-mod question;
+pub(crate) mod question;
 
 use crate::explanation::explain_check;
 use crate::fault::written;
@@ -48,9 +48,9 @@ pub fn check<W: Write, E: Write>(
             Ok(0)
         }
         Err(fault) => {
-            tell_refusal(output, fault)?;
+            write_refusal(output, fault)?;
             // The answer is written: what it means may be lost.
-            let _ = explain_check(words, asked.text.as_slice(), fault);
+            let _ = explain_check(alloc, words, &asked, fault);
             Ok(1)
         }
     }
@@ -83,15 +83,5 @@ fn tell_accepted<W: Write>(output: &mut W, program: &Verified) -> Result<(), Fil
 {
     let acceptance = Acceptance::of(program);
     written(writeln!(output, "{acceptance}"))?;
-    written(output.flush())
-}
-
-/// Writes that a program is refused, and passes it on.
-fn tell_refusal<W: Write>(output: &mut W, fault: Fault) -> Result<(), FileFault>
-    ensures line { OnOk result (Appends (W.contents output.old) (W.contents output.new) (line_of (refusal_text fault))) }
-    ensures bad { IfErr result (λ fault. ¬ IsBad fault) }
-    ensures words { IfErr result (λ fault. ¬ IsOfWords fault) }
-{
-    write_refusal(output, fault)?;
     written(output.flush())
 }

@@ -3,6 +3,7 @@
 ghost use Rattle.std.specs.Prelude.{◌≡◌, ◌<◌, ◌%◌, length};
 ghost use Rattle.bpf_decode.specs.Text.{slots_of};
 
+use crate::check::question::Question;
 use advice::{
     Advice, advice_on, advice_on_text, on_context_length, on_context_size, on_frames_for_map,
     on_frames_for_run, on_frames_for_unmerging, on_frames_for_update, on_host_size, on_map_count,
@@ -10,32 +11,60 @@ use advice::{
 };
 use bpf_decode::Insn;
 use disassembly::Assembly;
+use findings::{Judged, write_findings};
 use host_core::Event;
+use host_file::HostFile;
 use host_types::rule::{BAD_LENGTH, CUT_WIDE};
 use host_types::{Fault, Opt, Options, Refused};
+use std::alloc::Global;
 use std::io;
 use std::io::Write;
 
-/// Writes what the refusal of a program means that was to be checked: its text is given.
-pub fn explain_check<W: Write>(words: &mut W, text: &[u8], fault: Fault) -> io::Result<()> {
+/// Writes what the refusal of a program means that was to be checked, and what was known where it is refused.
+pub fn explain_check<W: Write>(
+    alloc: Global,
+    words: &mut W,
+    asked: &Question,
+    fault: Fault,
+) -> io::Result<()> {
     let advice = match fault {
-        Fault::Program(refused) => return explain_program(words, text, refused),
+        Fault::Program(refused) => return explain_checked(alloc, words, asked, refused),
         Fault::TooManyMaps => Some(on_shape_count()),
         Fault::BadShape => Some(on_shape()),
         Fault::BadContext => Some(on_context_size()),
         _ => advice_on(fault.number()),
     };
-    write_advice(words, fault, advice)
+    write_advice(words, fault, advice)?;
+    writeln!(words)
+}
+
+/// Writes the refusal of a text that was to be checked, and what was known there.
+fn explain_checked<W: Write>(
+    alloc: Global,
+    words: &mut W,
+    asked: &Question,
+    refused: Refused,
+) -> io::Result<()> {
+    let text = asked.text.as_slice();
+    explain_program(words, text, refused)?;
+    let judged = Judged {
+        text,
+        shapes: asked.shapes.as_slice(),
+        context_size: asked.context_size,
+    };
+    write_findings(alloc, words, &judged, refused)?;
+    writeln!(words)
 }
 
 /// Writes what the refusal of an event means.
 pub fn explain_event<W: Write>(words: &mut W, event: &Event, fault: Fault) -> io::Result<()> {
     match (event, fault) {
         (Event::Load { text, .. }, Fault::Program(refused)) => {
-            explain_program(words, text.as_slice(), refused)
+            explain_program(words, text.as_slice(), refused)?;
         }
-        _ => write_advice(words, fault, advice_on_event(event, fault)),
+        _ => write_advice(words, fault, advice_on_event(event, fault))?,
     }
+    writeln!(words)
 }
 
 /// The advice on the refusal of an event by its number and by what was to be done.
@@ -55,17 +84,21 @@ fn advice_on_event(event: &Event, fault: Fault) -> Option<Advice> {
     }
 }
 
-/// Writes what the refusal of a host with these options means.
+/// Writes what the refusal of the host of a file means.
 pub(crate) fn explain_host<W: Write>(
     words: &mut W,
-    options: &Options,
+    file: &HostFile,
     fault: Fault,
 ) -> io::Result<()> {
-    match (fault, wrong_option(options)) {
-        (Fault::BadShape, _) => write_advice(words, fault, Some(on_host_size())),
-        (Fault::BadOption, Some(option)) => write_advice(words, fault, Some(on_option(option))),
-        _ => write_advice(words, fault, advice_on(fault.number())),
+    match (fault, wrong_option(&file.options)) {
+        (Fault::BadShape, _) => {
+            let advice = on_host_size(file.frames, file.tenants);
+            write_advice(words, fault, Some(advice))?;
+        }
+        (Fault::BadOption, Some(option)) => write_advice(words, fault, Some(on_option(option)))?,
+        _ => write_advice(words, fault, advice_on(fault.number()))?,
     }
+    writeln!(words)
 }
 
 /// The first option that can't have its value.
@@ -95,8 +128,8 @@ fn explain_program<W: Write>(words: &mut W, text: &[u8], refused: Refused) -> io
 
 fn write_advice<W: Write>(words: &mut W, fault: Fault, advice: Option<Advice>) -> io::Result<()> {
     match advice {
-        Some(advice) => writeln!(words, "{}; {}", advice.wrong, advice.mend),
-        None => writeln!(words, "{}", fault.name()),
+        Some(advice) => write!(words, "{}; {}", advice.wrong, advice.mend),
+        None => write!(words, "{}", fault.name()),
     }
 }
 

@@ -8,8 +8,10 @@ mod fault;
 mod lines;
 pub mod replay;
 mod session;
+mod watch;
 
 pub use fault::{status_of, write_fault, written};
 pub use lines::write_reply;
 pub use replay::{file_from, refuse};
 pub use session::explain_reply;
+pub use watch::{Unwatched, Watch};

@@ -1,6 +1,6 @@
 //! The lines of the output (docs/HOST.md).
 
-ghost use Rattle.std.specs.Prelude.{[], ◌∷◌, Some, IfErr, OnOk};
+ghost use Rattle.std.specs.Prelude.{[], ◌∷◌, ◌++◌, Some, IfErr, OnOk};
 ghost use Rattle.std.specs.Io.KnownBytes.{Appends};
 ghost use Rattle.host_types.specs.Refusals.{refusal_text};
 ghost use Rattle.hex.specs.Hex.{encode_lower};
@@ -31,17 +31,18 @@ impl fmt::Display for Front {
     }
 }
 
-/// Writes the line of a refusal of the host itself.
+/// Writes the line of a refusal of the host itself, and passes it on: what it means stands behind it.
 pub(crate) fn write_refusal<W: Write>(writer: &mut W, fault: Fault) -> Result<(), FileFault>
     ensures line { OnOk result (Appends (W.contents writer.old) (W.contents writer.new) (line_of (refusal_text fault))) }
     ensures bad { IfErr result (λ fault. ¬ IsBad fault) }
     ensures words { IfErr result (λ fault. ¬ IsOfWords fault) }
 {
-    written(writeln!(writer, "{fault}"))
+    written(writeln!(writer, "{fault}"))?;
+    written(writer.flush())
 }
 
-/// Writes the lines of a reply to an event, where it has any. `run` is the number of the latest run of
-/// the event's tenant.
+/// Writes the lines of a reply to an event, where it has any, and passes on that of a refusal: what it means
+/// stands behind it. `run` is the number of the latest run of the event's tenant.
 pub fn write_reply<W: Write>(
     writer: &mut W,
     event: &Event,
@@ -56,10 +57,7 @@ pub fn write_reply<W: Write>(
         Reply::Ended { ret, steps } => {
             written(writeln!(writer, "{front}run {run} ret {ret} steps {steps}"))
         }
-        Reply::Refused(fault) => {
-            let fault = *fault;
-            written(writeln!(writer, "{front}{fault}"))
-        }
+        Reply::Refused(fault) => write_refused(writer, event.tenant(), *fault),
         Reply::Value(value) => write_value(writer, event, value.as_slice()),
         Reply::Counters(counters) => written(text(counters, writer)),
         Reply::Map(_)
@@ -69,6 +67,20 @@ pub fn write_reply<W: Write>(
         | Reply::Visited(_)
         | Reply::Done => Ok(()),
     }
+}
+
+/// Writes the line of a refusal, and passes it on: what it means stands behind it.
+fn write_refused<W: Write>(
+    writer: &mut W,
+    tenant: Option<u32>,
+    fault: Fault,
+) -> Result<(), FileFault>
+    ensures line { OnOk result (Appends (W.contents writer.old) (W.contents writer.new) (line_of (tenant_front tenant ++ refusal_text fault))) }
+    ensures bad { IfErr result (λ fault. ¬ IsBad fault) }
+{
+    let front = Front(tenant);
+    written(writeln!(writer, "{front}{fault}"))?;
+    written(writer.flush())
 }
 
 /// Writes the line of the value that an event looked up.

@@ -1,6 +1,6 @@
 //! The engine of `replay`: a host file's events in their order, on one thread.
 
-ghost use Rattle.std.specs.Prelude.{◌≡◌, ◌≤◌, length, IfErr, IfOk, IfSome, OnOk};
+ghost use Rattle.std.specs.Prelude.{◌≡◌, ◌<◌, ◌≤◌, length, IfErr, IfOk, IfSome, OnOk};
 ghost use Rattle.std.specs.Io.KnownBytes.{Appends};
 ghost use Rattle.host_types.specs.Refusals.{refusal_text};
 ghost use Rattle.host_core.specs.World.{new_system};
@@ -8,6 +8,7 @@ ghost use Rattle.host_core.specs.HostView.{StandsForSystem};
 ghost use Rattle.host_file.specs.Faults.{IsBad};
 ghost use Rattle.host_file.specs.HostFile.{IsFileText, max_bytes};
 ghost use Rattle.host_file.specs.declared.file.HostFile.{HostFile};
+ghost use Rattle.engines.specs.Input.{AreNoFile};
 ghost use Rattle.engines.specs.Lines.{line_of};
 ghost use Rattle.engines.specs.Replay.{IsReplayed};
 
@@ -15,6 +16,7 @@ use crate::explanation::explain_host;
 use crate::fault::written;
 use crate::lines::write_refusal;
 use crate::session::Session;
+use crate::watch::{Unwatched, Watch};
 use host_core::Host;
 use host_file::{BadFile, Cause, FileFault, HostFile, MAX_BYTES, Place, read_file};
 use host_types::Fault;
@@ -38,18 +40,38 @@ pub fn replay<R: Read, W: Write, E: Write>(
         (length bytes ≤ max_bytes) × ((file : HostFile) × IsFileText bytes file
         × IsReplayed file (W.contents writer.old) (W.contents writer.new) status))) }
     ensures bad { IfErr result (λ fault. IsBad fault → (writer.new ≡ writer.old) × (words.new ≡ words.old)) }
+    ensures no_file { IfErr result (λ fault. IsBad fault → IfSome (R.remaining reader.old) AreNoFile) }
+{
+    replay_watched(alloc, reader, writer, words, &mut Unwatched)
+}
+
+/// Replays as `replay` does, and tells somebody how far it is.
+pub fn replay_watched<R: Read, W: Write, E: Write, V: Watch>(
+    alloc: Global,
+    reader: &mut R,
+    writer: &mut W,
+    words: &mut E,
+    watch: &mut V,
+) -> Result<u8, FileFault>
+    ensures status { IfOk result (λ status. status ≤ 1) }
+    ensures replayed { IfOk result (λ status. IfSome (R.remaining reader.old) (λ bytes.
+        (length bytes ≤ max_bytes) × ((file : HostFile) × IsFileText bytes file
+        × IsReplayed file (W.contents writer.old) (W.contents writer.new) status))) }
+    ensures bad { IfErr result (λ fault. IsBad fault → (writer.new ≡ writer.old) × (words.new ≡ words.old)) }
+    ensures no_file { IfErr result (λ fault. IsBad fault → IfSome (R.remaining reader.old) AreNoFile) }
 {
     let file = file_from(alloc, reader)?;
-    let status = replay_file(alloc, &file, writer, words);
+    let status = replay_file(alloc, &file, writer, words, watch);
     let flushed = writer.flush();
     let status = status?;
     written(flushed)?;
     Ok(status)
 }
 
-/// The host file that a reader gives.
+/// The host file that a reader gives. It is called bad only where its bytes are none.
 pub fn file_from<R: Read>(alloc: Global, reader: &mut R) -> Result<HostFile, FileFault>
-    ensures { IfOk result (λ file. IfSome (R.remaining reader.old) (λ bytes. (length bytes ≤ max_bytes) × IsFileText bytes file)) }
+    ensures read { IfOk result (λ file. IfSome (R.remaining reader.old) (λ bytes. (length bytes ≤ max_bytes) × IsFileText bytes file)) }
+    ensures bad { IfErr result (λ fault. IsBad fault → IfSome (R.remaining reader.old) AreNoFile) }
 {
     let bytes = bytes_from(alloc, reader)?;
     match str::from_utf8(bytes.as_slice()) {
@@ -60,12 +82,15 @@ pub fn file_from<R: Read>(alloc: Global, reader: &mut R) -> Result<HostFile, Fil
 
 /// The bytes that a reader gives, where they aren't more than a host file may have.
 fn bytes_from<R: Read>(alloc: Global, reader: &mut R) -> Result<Vec<u8>, FileFault>
-    ensures { IfOk result (λ read. IfSome (R.remaining reader.old) (λ bytes. (length bytes ≤ max_bytes) × (read.items ≡ bytes))) }
+    ensures read { IfOk result (λ read. IfSome (R.remaining reader.old) (λ bytes. (length bytes ≤ max_bytes) × (read.items ≡ bytes))) }
+    ensures bad { IfErr result (λ fault. IsBad fault → IfSome (R.remaining reader.old) (λ bytes. max_bytes < length bytes)) }
 {
     let mut bytes = Vec::new(alloc);
     // One byte more tells that there are more.
     let mut front = reader.take(MAX_BYTES as u64 + 1);
-    front.read_to_end(&mut bytes).map_err(read_fault)?;
+    if let Err(error) = front.read_to_end(&mut bytes) {
+        return Err(read_fault(error));
+    }
     if bytes.len() > MAX_BYTES {
         return Err(bad_document(Cause::TooLong));
     }
@@ -79,7 +104,9 @@ fn bad_document(cause: Cause) -> FileFault {
     })
 }
 
-fn read_fault(error: io::Error) -> FileFault {
+fn read_fault(error: io::Error) -> FileFault
+    ensures { ¬ IsBad result }
+{
     if error.kind() == io::ErrorKind::OutOfMemory {
         FileFault::OutOfMemory(AllocError)
     } else {
@@ -88,17 +115,18 @@ fn read_fault(error: io::Error) -> FileFault {
 }
 
 /// Applies the events of a host file to a new host.
-fn replay_file<W: Write, E: Write>(
+fn replay_file<W: Write, E: Write, V: Watch>(
     alloc: Global,
     file: &HostFile,
     writer: &mut W,
     words: &mut E,
+    watch: &mut V,
 ) -> Result<u8, FileFault>
     ensures replayed { IfOk result (IsReplayed file.now (W.contents writer.old) (W.contents writer.new)) }
     ensures fault { IfErr result (λ fault. ¬ IsBad fault) }
 {
     match Host::new(alloc, file.frames, file.tenants, file.options) {
-        Ok(host) => replay_commands(alloc, host, file, writer, words),
+        Ok(host) => replay_commands(alloc, host, file, writer, words, watch),
         Err(fault) => {
             refuse(file, fault, writer, words)?;
             Ok(1)
@@ -118,23 +146,24 @@ pub fn refuse<W: Write, E: Write>(
 {
     write_refusal(writer, fault)?;
     // The line is written: what it means may be lost.
-    let _ = explain_host(words, &file.options, fault);
+    let _ = explain_host(words, file, fault);
     Ok(())
 }
 
 /// Performs the commands of a host file on its new host.
-fn replay_commands<W: Write, E: Write>(
+fn replay_commands<W: Write, E: Write, V: Watch>(
     alloc: Global,
     host: Host,
     file: &HostFile,
     writer: &mut W,
     words: &mut E,
+    watch: &mut V,
 ) -> Result<u8, FileFault>
     requires { StandsForSystem host (new_system file.now.frames file.now.tenants file.now.options) }
     ensures replayed { IfOk result (IsReplayed file.now (W.contents writer.old) (W.contents writer.new)) }
     ensures fault { IfErr result (λ fault. ¬ IsBad fault) }
 {
     let mut session = Session::new(alloc, host, file)?;
-    session.perform_all(file.commands.as_slice(), writer, words)?;
+    session.perform_all(file.commands.as_slice(), writer, words, watch)?;
     Ok(u8::from(session.has_refused()))
 }

@@ -9,7 +9,9 @@ ghost use Rattle.engines.specs.Replay.{AreOf, AreOfAll, AreStepsToEnd, AreVisits
 ghost use Rattle.engines.specs.Sessions.{AreStepsMade, HasTold, IsOneEvent, Performs};
 
 use crate::explanation::explain_event;
+use crate::fault::written;
 use crate::lines::write_reply;
+use crate::watch::Watch;
 use host_core::{Event, Host, Reply};
 use host_file::{Command, FileFault, HostFile};
 use host_types::{Fault, Opt};
@@ -56,28 +58,30 @@ impl Session {
     }
 
     /// Performs commands in their order.
-    pub fn perform_all<W: Write, E: Write>(
+    pub fn perform_all<W: Write, E: Write, V: Watch>(
         &mut self,
         commands: &[Command],
         writer: &mut W,
         words: &mut E,
+        watch: &mut V,
     ) -> Result<(), FileFault>
         ensures performs { OnOk result (Performs (AreOfAll self.old.pages_to_scan commands.now) self.old self.new (W.contents writer.old) (W.contents writer.new)) }
         ensures bad { IfErr result (λ fault. ¬ IsBad fault) }
     {
         for (number, command) in commands.iter().enumerate() {
-            self.perform(number, command, writer, words)?;
+            self.perform(number, command, writer, words, watch)?;
         }
         Ok(())
     }
 
     /// Performs a command, that of the file's event of this number.
-    fn perform<W: Write, E: Write>(
+    fn perform<W: Write, E: Write, V: Watch>(
         &mut self,
         number: usize,
         command: &Command,
         writer: &mut W,
         words: &mut E,
+        watch: &mut V,
     ) -> Result<(), FileFault>
         ensures performs { OnOk result (Performs (AreOf self.old.pages_to_scan command.now) self.old self.new (W.contents writer.old) (W.contents writer.new)) }
         ensures bad { IfErr result (λ fault. ¬ IsBad fault) }
@@ -94,25 +98,44 @@ impl Session {
             Command::Run(event) => self.run(number, event, writer, words),
             Command::Visit { count } => {
                 let count = count.unwrap_or(self.pages_to_scan);
-                self.visit(number, count, writer, words)
+                self.visit(number, count, writer, words, watch)
             }
         }
     }
 
-    /// Lets the scanner make visits.
-    fn visit<W: Write, E: Write>(
+    /// Lets the scanner make visits. They may take long, so what was written is passed on first.
+    fn visit<W: Write, E: Write, V: Watch>(
         &mut self,
         number: usize,
         count: u32,
         writer: &mut W,
         words: &mut E,
+        watch: &mut V,
+    ) -> Result<(), FileFault>
+        ensures performs { OnOk result (Performs (AreVisits count) self.old self.new (W.contents writer.old) (W.contents writer.new)) }
+        ensures bad { IfErr result (λ fault. ¬ IsBad fault) }
+    {
+        written(writer.flush())?;
+        self.make_visits(number, count, writer, words, watch)
+    }
+
+    /// Makes visits, one after the other.
+    fn make_visits<W: Write, E: Write, V: Watch>(
+        &mut self,
+        number: usize,
+        count: u32,
+        writer: &mut W,
+        words: &mut E,
+        watch: &mut V,
     ) -> Result<(), FileFault>
         ensures performs { OnOk result (Performs (AreVisits count) self.old self.new (W.contents writer.old) (W.contents writer.new)) }
         ensures bad { IfErr result (λ fault. ¬ IsBad fault) }
     {
         for _visit in 0..count {
+            watch.see(number, _visit, count);
             self.apply(number, &Event::Visit, writer, words)?;
         }
+        watch.pass();
         Ok(())
     }
 

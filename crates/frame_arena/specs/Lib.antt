@@ -6,3 +6,4 @@ pub mod Places
 pub mod Lends
 pub mod Bytes
 pub mod BytesLends
+pub mod Counted

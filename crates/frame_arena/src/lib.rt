@@ -5,8 +5,10 @@
 mod arena;
 mod block;
 mod bytes;
+mod counted;
 mod memory;
 mod number;
 mod sixteen;
 
 pub use arena::FrameArena;
+pub use counted::Counted;

@@ -15,14 +15,13 @@ use Rattle.verifier.specs.Reserve.{reserve_from}
 use Rattle.verifier.specs.Verified.{Accepted, IsVerified}
 use Rattle.interp.specs.declared.need.Need.{Need}
 use Rattle.interp.specs.declared.need.Need.TheVariants.{Private, Ended, Load, Store, Lookup, Update, Delete}
-use Rattle.interp.specs.declared.way.Awaited.{Awaited}
-use Rattle.interp.specs.declared.way.Awaited.TheVariants.{Nothing, Loaded, Returned}
 use Rattle.interp.specs.Machine.{MachineState, Next, step}
 use Rattle.interp.specs.Needs.{map_of, answer_of}
-use Rattle.interp.specs.StandsFor.{Running, StandsFor, Asks, IsNoMore, ReachesQuietly, FollowsSteps, answered_by, value_of}
+use Rattle.interp.specs.StandsFor.{Running, StandsFor, Asks, IsNoMore, ReachesQuietly, FollowsSteps, value_of}
 use Rattle.interp.specs.Written.{written_by}
 use Rattle.tenant_runs.specs.Meeting.{sharing_met}
 use Rattle.tenant_runs.specs.UnderWay.{IsUnderWay, IsAsking}
+use Rattle.tenant_runs.proofs.Roomy.{answered_slot}
 use Rattle.host_core.specs.declared.tenant.OpenRun.{OpenRun as KeptRun}
 use Rattle.host_core.specs.Happens.{sharing_after}
 use Rattle.host_core.specs.Stretches.{IsUnderWayAt, HasAdvanced, quiet, answered, ended, part_in}
@@ -106,12 +105,6 @@ asking_at programs kept v s n need run owned under asked = record {
   maps = under.maps ∙ sym asked.maps;
   reserve = rw under.reserve asked.less;
 }
-
--- a run that takes an answer stays at its slot
-answered_slot : (awaited : Awaited) (run : Running) (number : ℕ) → (answered_by awaited run number).slot ≡ run.slot
-answered_slot (Loaded i size extension) run number = refl
-answered_slot Returned run number = refl
-answered_slot Nothing run number = refl
 
 -- the pages of an update are those of its value, where it writes one
 update_shares : (sharing : Sharing) (t m key flags : ℕ) (flat : FlatMap) (b : Bool)

@@ -12,3 +12,4 @@ pub mod Loading
 pub mod Advances
 pub mod Stepping
 pub mod Making
+pub mod FoundOpen

@@ -24,9 +24,8 @@ use Rattle.verifier.specs.Verified.{Accepted, IsVerified}
 use Rattle.interp.specs.declared.need.Need.{Need}
 use Rattle.interp.specs.declared.need.Need.TheVariants.{Private, Ended as NeedEnded, Load as AskLoad, Store as AskStore, Lookup as AskLookup, Update as AskUpdate, Delete as AskDelete}
 use Rattle.interp.specs.Fits.{HaveShapes}
-use Rattle.interp.specs.Machine.{MachineState, Next, Exits, step, step_by, step_store, step_call, fallen}
+use Rattle.interp.specs.Machine.{MachineState, Outcome, Next, Exits, step, step_by, step_store, step_call, fallen}
 use Rattle.interp.specs.Needs.{map_stored, maps_after}
-use Rattle.interp.specs.Runs.{Runs}
 use Rattle.interp.specs.StandsFor.{Running, StandsFor, IsNoMore, ReachesQuietly}
 use Rattle.interp.specs.Written.{written, written_by_operation}
 use Rattle.tenant_runs.specs.Meeting.{KeepsSizes}
@@ -35,7 +34,7 @@ use Rattle.host_core.specs.declared.event.Event.TheVariants.{Step}
 use Rattle.host_core.specs.declared.event.Reply.{Reply}
 use Rattle.host_core.specs.declared.event.Reply.TheVariants.{Stepped, Ended, Refused}
 use Rattle.host_core.specs.declared.tenant.OpenRun.{OpenRun as KeptRun}
-use Rattle.host_core.specs.World.{OpenRun, Tenant, System, IsTenant, IsOpenRun, IsCovered, accepted_of, reserve_of, reserved_in, owned_by}
+use Rattle.host_core.specs.World.{Beginning, started, met, Leads, OpenRun, Tenant, System, IsTenant, IsOpenRun, IsCovered, accepted_of, reserve_of, reserved_in, owned_by}
 use Rattle.host_core.specs.Happens.{Answers, StepHappens, Happens, IsPromised, IsPromisedOf, AllHappen, StepsHappen, changed_system, sharing_after}
 use Rattle.host_core.specs.HostView.{TenantView, EachProgram, StandsForRun, StandsForAnyRun, StandsForTenant, StandsForMemory, IsKept, HasMadeSteps, steps_of}
 use Rattle.host_core.specs.Stretches.{IsUnderWayAt, HasAdvanced, HasDone, IsQuiet, IsAnswered, IsEnded, quiet, answered, ended, part_in}
@@ -167,18 +166,23 @@ tenant_at tenant r steps u = record tenant { maps = u.memory.maps; run = Some (r
 abbrev tenant_after : Tenant → FlatMaps → Tenant
 tenant_after tenant maps = record tenant { maps = maps; run = None }
 
+-- one step more
+led-more : (text : List ℕ) (beginning : Beginning) (steps : ℕ) (s : MachineState) (outcome : Outcome) → Leads text beginning steps (Next s) → step text s ≡ Some outcome → Leads text beginning (suc steps) outcome
+led-more text (started context maps) steps s outcome led makes = (s, led, makes)
+led-more text (met from before) steps s outcome (since, whole, led) makes = (suc since, omega (arith, whole), (s, led, makes))
+
 -- a step after which an open run goes on
-step-on : (x : System) (t : ℕ) (tenant : Tenant) (r : OpenRun) (u : MachineState) (sharing : Sharing) → slice_get x.world t ≡ Some tenant → tenant.run ≡ Some r → Runs r.program.text r.context r.maps r.steps (Next r.state)
+step-on : (x : System) (t : ℕ) (tenant : Tenant) (r : OpenRun) (u : MachineState) (sharing : Sharing) → slice_get x.world t ≡ Some tenant → tenant.run ≡ Some r → Leads r.program.text r.beginning r.steps (Next r.state)
     → step r.program.text r.state ≡ Some (Next u) → sharing ≡ sharing_after x.sharing t (written r.program.text r.state) → suc r.steps < instructions_of r.program.text
     → Happens x (Step t) Stepped (changed_system x t (tenant_at tenant r (suc r.steps) u) sharing) × IsPromised x (Step t) Stepped (changed_system x t (tenant_at tenant r (suc r.steps) u) sharing)
 step-on x t tenant r u sharing there is_open reached makes shares few =
     let next = tenant_at tenant r (suc r.steps) u in
     step-open x t tenant r Stepped (changed_system x t next sharing) there is_open
     (Next u, makes, (refl, ap (changed_system x t next) shares))
-    (u, (r.state, reached, makes), few, subst (λ o. IsSomeAnd o (λ one. one.maps ≡ u.memory.maps)) (sym (slice_get-set x.world t tenant next there)) refl)
+    (u, led-more r.program.text r.beginning r.steps r.state (Next u) reached makes, few, subst (λ o. IsSomeAnd o (λ one. one.maps ≡ u.memory.maps)) (sym (slice_get-set x.world t tenant next there)) refl)
 
 -- a step with which an open run ends
-step-last : (x : System) (t : ℕ) (tenant : Tenant) (r : OpenRun) (number : ℕ) (maps : FlatMaps) → slice_get x.world t ≡ Some tenant → tenant.run ≡ Some r → Runs r.program.text r.context r.maps r.steps (Next r.state)
+step-last : (x : System) (t : ℕ) (tenant : Tenant) (r : OpenRun) (number : ℕ) (maps : FlatMaps) → slice_get x.world t ≡ Some tenant → tenant.run ≡ Some r → Leads r.program.text r.beginning r.steps (Next r.state)
     → step r.program.text r.state ≡ Some (Exits number maps) → suc r.steps ≤ instructions_of r.program.text
     → Happens x (Step t) (Ended number (suc r.steps)) (changed_system x t (tenant_after tenant maps) x.sharing) × IsPromised x (Step t) (Ended number (suc r.steps)) (changed_system x t (tenant_after tenant maps) x.sharing)
 step-last x t tenant r number maps there is_open reached makes few =
@@ -186,7 +190,7 @@ step-last x t tenant r number maps there is_open reached makes few =
     let shares : x.sharing ≡ sharing_after x.sharing t (written r.program.text r.state) = ap (sharing_after x.sharing t) (sym (exit_writes r.program.text r.state number maps makes)) in
     step-open x t tenant r (Ended number (suc r.steps)) (changed_system x t next x.sharing) there is_open
     (Exits number maps, makes, (refl, ap (changed_system x t next) shares))
-    (maps, (r.state, reached, makes), few, subst (λ o. IsSomeAnd o (λ one. one.maps ≡ maps)) (sym (slice_get-set x.world t tenant next there)) refl)
+    (maps, led-more r.program.text r.beginning r.steps r.state (Exits number maps) reached makes, few, subst (λ o. IsSomeAnd o (λ one. one.maps ≡ maps)) (sym (slice_get-set x.world t tenant next there)) refl)
 
 -- one more event
 AllHappen-push : (x next x' : System) (events : List Event) (replies : List Reply) (event : Event) (reply : Reply) → AllHappen x events replies next → Happens next event reply x' × IsPromised next event reply x' → IsCovered x'
@@ -212,8 +216,8 @@ tenant_at-same tenant r u is_open maps same =
 
 -- steps that write to no map, and where they lead
 steps-on : (x : System) (t : ℕ) (tenant : Tenant) (r : OpenRun) (n : ℕ) (u : MachineState) → slice_get x.world t ≡ Some tenant → tenant.run ≡ Some r → tenant.maps ≡ r.state.memory.maps → IsCovered x
-    → Runs r.program.text r.context r.maps r.steps (Next r.state) → ReachesQuietly (accepted_of r.program) r.state n u → r.steps + n < instructions_of r.program.text
-    → AllHappen x (replicate n (Step t)) (replicate n Stepped) (changed_system x t (tenant_at tenant r (r.steps + n) u) x.sharing) × Runs r.program.text r.context r.maps (r.steps + n) (Next u) × IsNoMore (accepted_of r.program) r.state u
+    → Leads r.program.text r.beginning r.steps (Next r.state) → ReachesQuietly (accepted_of r.program) r.state n u → r.steps + n < instructions_of r.program.text
+    → AllHappen x (replicate n (Step t)) (replicate n Stepped) (changed_system x t (tenant_at tenant r (r.steps + n) u) x.sharing) × Leads r.program.text r.beginning (r.steps + n) (Next u) × IsNoMore (accepted_of r.program) r.state u
 steps-on x t tenant r zero u there is_open maps covers reached led few =
     let here : u ≡ r.state = led in
     let same = tenant_at-same tenant r u is_open maps here in
@@ -229,7 +233,7 @@ steps-on x t tenant r (suc n) u there is_open maps covers reached (v, led, makes
     let now : reserve_from (accepted_of r.program) u.slot ≤ reserve_of tenant.run = rw is_open (omega (arith, less, fewer)) in
     let covers' = subst IsCovered (sym twice) (covered-changed x t tenant next there covers now) in
     let all = push-same x (changed_system x t here x.sharing) (changed_system (changed_system x t here x.sharing) t next x.sharing) n (Step t) Stepped before one covers' in
-    rw (add-suc r.steps n) (subst (λ y. AllHappen x (replicate (suc n) (Step t)) (replicate (suc n) Stepped) y) twice all, (v, come, makes), omega (arith, less, fewer))
+    rw (add-suc r.steps n) (subst (λ y. AllHappen x (replicate (suc n) (Step t)) (replicate (suc n) Stepped) y) twice all, led-more r.program.text r.beginning (r.steps + n) v (Next u) come makes, omega (arith, less, fewer))
 
 -- the maps of a tenant are those of its run
 maps_of_run : (tenant : Tenant) (r : OpenRun) → IsTenant tenant → tenant.run ≡ Some r → tenant.maps ≡ r.state.memory.maps
@@ -288,7 +292,7 @@ made-no_run kept t limit memory closed some reads x tenant there s stands =
 -- the tenant after steps that its run goes on from
 stood-on : (programs : List (Option Accepted)) (kept after : KeptRun) (tenant : Tenant) (r : OpenRun) (n : ℕ) (u : MachineState)
     → StandsForTenant (record { programs = programs; run = Some kept }) tenant → (run : StandsForRun programs kept r) → after.program ≡ kept.program → StandsFor run.accepted after.run u
-    → ((j : ℕ) → shape_in u.memory.maps j ≡ shape_in tenant.maps j) → after.run.steps ≡ n → Runs r.program.text r.context r.maps n (Next u)
+    → ((j : ℕ) → shape_in u.memory.maps j ≡ shape_in tenant.maps j) → after.run.steps ≡ n → Leads r.program.text r.beginning n (Next u)
     → StandsForTenant (record { programs = programs; run = Some after }) (tenant_at tenant r n u)
 stood-on programs kept after tenant r n u stood run same_program stands shapes counted reached =
     let here : after.run.steps ≤ instructions_before run.accepted.subject.text u.slot = subst (λ slot. after.run.steps ≤ instructions_before run.accepted.subject.text slot) stands.slot stands.steps in
@@ -355,7 +359,7 @@ made-answered programs kept after t n before later x tenant r there stood stands
     let one = step-on (changed_system x t middle x.sharing) t middle (run_at r (r.steps + m) h) u sharing (slice_get-set x.world t tenant middle there) refl come makes refl few in
     let twice = changed_system-twice x t middle next x.sharing sharing in
     let shapes : (j : ℕ) → shape_in u.memory.maps j ≡ shape_in tenant.maps j = λ j. ap (λ m. shape_in m j) did.writes ∙ after_shapes did.need did.value h.memory.maps j ∙ ap (λ m. shape_in m j) (did.maps ∙ sym maps) in
-    let stood' = stood-on programs kept after tenant r (suc (r.steps + m)) u stood run same_program did.stands shapes counted (h, come, makes) in
+    let stood' = stood-on programs kept after tenant r (suc (r.steps + m)) u stood run same_program did.stands shapes counted (led-more r.program.text r.beginning (r.steps + m) h (Next u) come makes) in
     let stands' = changed_stands before later x t tenant next sharing stands there sizes.tenants sizes.frames reads' did.stands.state.maps.eight (did.owned ∙ owned-on tenant r v (suc (r.steps + m)) u same) others shares in
     let covers = subst IsCovered (sym twice) (covered later (changed_system x t next sharing) reads' stands') in
     let all = push-same x (changed_system x t middle x.sharing) (changed_system (changed_system x t middle x.sharing) t next sharing) m (Step t) Stepped happen one covers in

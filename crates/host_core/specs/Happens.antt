@@ -25,7 +25,6 @@ use Rattle.verifier.specs.Reserve.{reserve_from}
 use Rattle.verifier.specs.Subject.{Subject}
 use Rattle.verifier.specs.Table.{Table, IsTightTable, IsRefusal}
 use Rattle.interp.specs.Machine.{MachineState, Outcome, Next, Exits, step}
-use Rattle.interp.specs.Runs.{Runs}
 use Rattle.interp.specs.Written.{Written, written}
 use Rattle.host_calls.specs.Calls.{FitsNewMap, FitsValue, IsCharged, IsValue, RefusesNewMap, RefusesUpdate, RefusesLookup}
 use Rattle.host_calls.specs.Programs.{subject_of}
@@ -33,7 +32,7 @@ use Rattle.host_core.specs.declared.event.Event.{Event}
 use Rattle.host_core.specs.declared.event.Event.TheVariants.{CreateMap, Load, Begin, Step, Visit, HostUpdate, HostLookup, Set, Unmerge, Counters}
 use Rattle.host_core.specs.declared.event.Reply.{Reply}
 use Rattle.host_core.specs.declared.event.Reply.TheVariants.{Map, Program, Begun, Stepped, Ended, Visited as WasVisited, Done, Value, Counters as AreCounters, Refused}
-use Rattle.host_core.specs.World.{OpenRun, Tenant, World, System, program_at, free_place, begun_run, all_maps, accepted_of, owned_by, have_in, IsCovered}
+use Rattle.host_core.specs.World.{Leads, OpenRun, Tenant, World, System, program_at, free_place, begun_run, all_maps, accepted_of, owned_by, have_in, IsCovered}
 
 -- an event was answered so, and changed nothing
 abbrev pub Answers : System → Reply → Reply → System → Type 0
@@ -209,10 +208,10 @@ Happens x Counters reply x' = Answers x (AreCounters (counters_of x.frames (cont
 -- that the standard reaches from its beginning, after fewer steps than the program has instructions; and
 -- at the end the number and the maps are those of the standard's exit, after no more steps than that.
 abbrev pub IsPromisedOf : OpenRun → ℕ → Reply → World → Type 0
-IsPromisedOf r t Stepped w' = (s : MachineState) × Runs r.program.text r.context r.maps (suc r.steps) (Next s)
+IsPromisedOf r t Stepped w' = (s : MachineState) × Leads r.program.text r.beginning (suc r.steps) (Next s)
     × (suc r.steps < instructions_of r.program.text)
     × IsSomeAnd (slice_get w' t) (λ tenant. tenant.maps ≡ s.memory.maps)
-IsPromisedOf r t (Ended number steps) w' = (maps : FlatMaps) × Runs r.program.text r.context r.maps steps (Exits number maps)
+IsPromisedOf r t (Ended number steps) w' = (maps : FlatMaps) × Leads r.program.text r.beginning steps (Exits number maps)
     × (steps ≤ instructions_of r.program.text)
     × IsSomeAnd (slice_get w' t) (λ tenant. tenant.maps ≡ maps)
 IsPromisedOf r t reply w' = ⊥

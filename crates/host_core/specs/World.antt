@@ -1,6 +1,6 @@
 -- What a host is, without any of its machinery: each tenant's private memory, programs and open run, and
 -- which pages share frames.
-use Rattle.std.specs.Prelude.{◌≡◌, ℕ, ◌-◌, ◌*◌, ◌≤◌, List, flat_map, length, position, replicate, slice_get, slice_index_or, sum_by, is_none, IfSome, Option, None, Some}
+use Rattle.std.specs.Prelude.{◌≡◌, ℕ, ◌+◌, ◌-◌, ◌*◌, ◌≤◌, List, flat_map, length, position, replicate, slice_get, slice_index_or, sum_by, is_none, IfSome, Option, None, Some}
 use Rattle.host_types.specs.declared.options.Options.{Options}
 use Rattle.host_types.specs.Memory.{FlatMaps}
 use Rattle.host_types.specs.Sharing.{Sharing, frames_free}
@@ -11,15 +11,24 @@ use Rattle.verifier.specs.Reserve.{reserve_from}
 use Rattle.verifier.specs.Subject.{Subject}
 use Rattle.verifier.specs.Table.{tight_table}
 use Rattle.verifier.specs.Verified.{Accepted}
-use Rattle.interp.specs.Machine.{MachineState, Next, start_state}
-use Rattle.interp.specs.Runs.{Runs}
+use Rattle.interp.specs.Machine.{MachineState, Outcome, Next, start_state}
+use Rattle.interp.specs.Runs.{Reaches, Runs}
 
--- An open run: its beginning, which is a program, a context and the maps as they were then; the state
--- that it reached, and in how many steps.
+-- Where a run begins, so far as it is known: with a context and the maps as they were then; or, for a run that
+-- was found open, with the state that it was met in, after so many steps.
+pub data Beginning : Type 0 where
+  started : List ℕ → FlatMaps → Beginning
+  met : MachineState → ℕ → Beginning
+
+-- so many steps in all lead a program from a beginning to an outcome
+abbrev pub Leads : List ℕ → Beginning → ℕ → Outcome → Type 0
+Leads text (started context maps) steps outcome = Runs text context maps steps outcome
+Leads text (met s before) steps outcome = (since : ℕ) × (before + since ≡ steps) × Reaches text s since outcome
+
+-- An open run: its program and its beginning; the state that it reached, and in how many steps.
 pub record OpenRun : Type 0 where
   pub program : Subject
-  pub context : List ℕ
-  pub maps : FlatMaps
+  pub beginning : Beginning
   pub state : MachineState
   pub steps : ℕ
 
@@ -58,13 +67,17 @@ new_system frames tenants options =
 
 -- a run that has just begun
 abbrev pub begun_run : Subject → List ℕ → FlatMaps → OpenRun
-begun_run program context maps = record { program = program; context = context; maps = maps; state = start_state context maps; steps = 0 }
+begun_run program context maps = record { program = program; beginning = started context maps; state = start_state context maps; steps = 0 }
 
 -- The state of an open run is the one that the standard reaches from its beginning in as many steps, and
 -- they are no more than the instructions before its slot.
 pub record IsOpenRun (r : OpenRun) : Type 0 where
-  pub reached : Runs r.program.text r.context r.maps r.steps (Next r.state)
+  pub reached : Leads r.program.text r.beginning r.steps (Next r.state)
   pub steps : r.steps ≤ instructions_before r.program.text r.state.slot
+
+-- A run that begins where it was met is open, however it came there.
+abbrev pub MetIsOpen : Type 0
+MetIsOpen = (r : OpenRun) → r.beginning ≡ met r.state r.steps → r.steps ≤ instructions_before r.program.text r.state.slot → IsOpenRun r
 
 -- a tenant has eight places for programs, and with an open run it has the maps of that run's state
 pub record IsTenant (tenant : Tenant) : Type 0 where

@@ -2,7 +2,7 @@ ghost use Rattle.std.specs.Prelude.{◌≡◌, ◌≤◌, ◌↔◌, ◌⊎◌, 
 ghost use Rattle.host_types.specs.OptionTable.{AreOptions};
 ghost use Rattle.page_table.specs.Changes.{RefusesMemory};
 ghost use Rattle.page_table.specs.Limits.{AreLimits};
-ghost use Rattle.host_core.specs.World.{System, IsCovered, new_system};
+ghost use Rattle.host_core.specs.World.{System, IsCovered, MetIsOpen, new_system};
 ghost use Rattle.host_core.specs.Happens.{Happens, IsPromised, AllHappen, StepsHappen, SetHappens, UnmergeHappens, JoinHappens, SplitHappens};
 ghost use Rattle.host_core.specs.HostView.{StandsForSystem, tenant_of, reply_of};
 
@@ -179,4 +179,11 @@ pub fn told(served: Result<Reply, Fault>) -> Reply
 pub fn lists_join()
     ensures joined { JoinHappens }
     ensures split { SplitHappens }
+{}
+
+/// Each state that an open run stands for may be taken as its beginning: nothing is asked of how the run came
+/// there. This is a law about the definitions: the function does nothing.
+#[tactic(auto, using(crate::proofs::FoundOpen::met_is_open))]
+pub fn each_state_begins()
+    ensures met { MetIsOpen }
 {}

@@ -9,4 +9,4 @@ mod tenant;
 
 pub use bytes::Bytes;
 pub use event::{Event, Reply};
-pub use host::{Host, lists_join, told};
+pub use host::{Host, each_state_begins, lists_join, told};

@@ -4,7 +4,8 @@
 //! Below each request stands what goes to the standard output, then, after `! `, what goes to standard error,
 //! and last the exit status, or the words of a fault; it ends with the status of the last. The file `stdout` of
 //! this crate says what is wanted; rows are cheaper there than in tests, whose texts are proved. The output of a
-//! `$ full serve` takes nothing, and that of a `$ stuck serve` fails when it is asked to pass on what it took.
+//! `$ full serve` takes nothing, and that of a `$ stuck serve` fails when it is asked to pass on what it took. In
+//! that of a `$ marked replay` or `$ marked serve` a line `~` stands where it passed on what it took.
 #![tactic(auto)]
 
 use engines::check::check;
@@ -30,6 +31,32 @@ const FULL: &str = "$ full serve";
 
 /// What a host file stands below that is to be served into an output that fails at its end.
 const STUCK: &str = "$ stuck serve";
+
+/// What stands before a request whose output is marked.
+const MARKED: &str = "$ marked ";
+
+/// An output with a line where it was asked to pass on what it took, if it took anything since the last one.
+#[derive(Drop)]
+struct Marked<'a> {
+    taken: &'a mut Vec<u8>,
+    /// How many bytes were passed on, the mark among them.
+    passed: usize,
+}
+
+impl<'a> Write for Marked<'a> {
+    fn write(&mut self, buf: &[u8]) -> io::Result<usize> {
+        self.taken.extend_from_slice(buf)?;
+        Ok(buf.len())
+    }
+
+    fn flush(&mut self) -> io::Result<()> {
+        if self.passed < self.taken.len() {
+            self.taken.extend_from_slice(b"~\n")?;
+            self.passed = self.taken.len();
+        }
+        Ok(())
+    }
+}
 
 /// An output that fails.
 #[derive(Drop)]
@@ -92,6 +119,17 @@ impl Told {
             return self.check(alloc, words);
         }
         let mut file = below.as_bytes();
+        if let Some(head) = head.strip_prefix(MARKED) {
+            let mut output = Marked {
+                taken: &mut self.output,
+                passed: 0,
+            };
+            return if head.starts_with("serve") {
+                serve_file(rt, alloc, &mut file, &mut output, &mut self.words)
+            } else {
+                replay(alloc, &mut file, &mut output, &mut self.words)
+            };
+        }
         if head.starts_with(SERVE) {
             return serve_file(rt, alloc, &mut file, &mut self.output, &mut self.words);
         }

@@ -436,8 +436,10 @@ impl Memory {
     /// The page that was visited last in this pass, none at the start of a pass.
     #[tactic(auto, unfolding(crate::specs::View::view_of))]
     pub fn cursor(&self) -> Option<Page>
-        ensures { option_map page_place result ≡ self.now.sharing.cursor }
+        ensures place { option_map page_place result ≡ self.now.sharing.cursor }
+        ensures there { IfSome result (IsPageOf self.now) }
     {
+        self.table.facts();
         match self.pass.cursor {
             Some(place) => Some(page_at(place)),
             None => None,

@@ -17,7 +17,7 @@ use crate::entry::Entry;
 use crate::order::GroupOrder;
 use crate::page_list::PageList;
 use crate::tally::Tally;
-use frame_arena::FrameArena;
+use frame_arena::{Counted, FrameArena};
 use host_types::Status;
 use stable_tree::StableTree;
 use std::alloc::{AllocError, Global};
@@ -318,7 +318,8 @@ impl Table {
     {
         self.entries.set(place, entry.broken(entry.frame));
         self.groups.remove(entry.frame);
-        self.tree.remove(&self.arena, entry.frame);
+        self.tree
+            .remove(&mut Counted::new(&self.arena), entry.frame);
     }
 
     /// Makes two pages of the same bytes, each with its own frame, a new last group.
@@ -346,7 +347,7 @@ impl Table {
         self.counts.share(one.frame);
         self.counts.release(other.frame);
         self.groups.push(one.frame);
-        self.tree.insert(&self.arena, one.frame);
+        self.tree.insert(&mut Counted::new(&self.arena), one.frame);
     }
 
     /// Puts a page of zeros, which has its own frame, on the zero frame.
@@ -390,7 +391,7 @@ impl Table {
         requires { frame < length self.now.arena }
         ensures { result ≡ find (is_open_frame self.now (page_at self.now.arena frame) limit) self.now.groups }
     {
-        let spot = self.tree.find(&self.arena, frame)?;
+        let spot = self.tree.find(&mut Counted::new(&self.arena), frame)?;
         self.tree.first_open(spot, self.counts.all(), limit)
     }
 

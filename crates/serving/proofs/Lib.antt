@@ -1,3 +1,8 @@
+pub mod AtFirst
 pub mod Kept
-pub mod Resting
+pub mod Lookups
+pub mod Opened
+pub mod Places
+pub mod RunLines
+pub mod Served
 pub mod Tellings

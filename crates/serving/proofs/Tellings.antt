@@ -1,20 +1,8 @@
 -- Lines that are written one after the other.
-use Rattle.std.proofs.Common.{◌≡◌, ℕ, zero, suc, ◌<◌, Bool, true, false, ◌||◌, if◌then◌else◌, List, [], ◌∷◌, ◌++◌, length, get_or, Option, Result, Ok, Err, OnOk, append_assoc, append-nil, sym, ap, refl, subst, ◌∙◌, arith}
+use Rattle.std.proofs.Common.{◌≡◌, ◌∙◌, ℕ, Bool, ◌||◌, List, [], ◌∷◌, ◌++◌, Option, append_assoc, append-nil, sym, ap, refl, subst}
 use Rattle.std.specs.Io.KnownBytes.{Appends}
-use Rattle.std.proofs.lemmas.List.Elements.{All-nil, All-cons, All-append}
-use Rattle.host_types.specs.declared.fault.Fault.{Fault}
-use Rattle.host_core.specs.declared.event.Event.{Event}
-use Rattle.host_core.specs.declared.event.Reply.{Reply}
-use Rattle.host_file.specs.declared.command.Command.{Command}
-use Rattle.host_types.specs.Refusals.{refusal_text}
-use Rattle.engines.specs.Lines.{line_of, reply_lines}
-use Rattle.engines.specs.Replay.{is_refusal}
 use Rattle.engines.proofs.Noting.{Appends-none, Appends-join, or-assoc, or-false}
-use Rattle.serving.specs.Told.{Telling, Answered, Unserved, Names, IsOfFile, HasWritten, IsServedSo, told_text, tells_refusal, all_told, tell_refusal}
-
-or-true : (a : Bool) → (a || true) ≡ true
-or-true true = refl
-or-true false = refl
+use Rattle.serving.specs.Told.{Telling, HasWritten, told_text, tells_refusal, all_told, tell_refusal}
 
 -- what is written of two lists
 all-join : (first rest : List Telling) → all_told (first ++ rest) ≡ all_told first ++ all_told rest
@@ -27,77 +15,55 @@ refusal-join [] rest = refl
 refusal-join (telling ∷ first) rest = ap (λ b. tells_refusal telling || b) (refusal-join first rest) ∙ sym (or-assoc (tells_refusal telling) (tell_refusal first) (tell_refusal rest))
 
 -- nothing was written
-pub told-none : (commands : List Command) (refused : Bool) (known : Option (List ℕ)) → HasWritten commands refused refused known known
-told-none commands refused known = record {
-  tellings = [];
-  asked = All-nil (IsOfFile commands);
-  refused = sym (or-false refused);
-  written = Appends-none known;
-}
+pub told-none : (refused : Bool) (known : Option (List ℕ)) → HasWritten [] refused refused known known
+told-none refused known = record { refused = sym (or-false refused); written = Appends-none known }
 
 -- one line was written
-pub told-one : (commands : List Command) (telling : Telling) (before after : Bool) (was is : Option (List ℕ)) → IsOfFile commands telling
-    → after ≡ (before || tells_refusal telling) → Appends was is (told_text telling) → HasWritten commands before after was is
-told-one commands telling before after was is asked noted written = record {
-  tellings = telling ∷ [];
-  asked = All-cons (IsOfFile commands) telling [] asked (All-nil (IsOfFile commands));
+pub told-one : (telling : Telling) (before after : Bool) (was is : Option (List ℕ)) → after ≡ (before || tells_refusal telling) → Appends was is (told_text telling)
+    → HasWritten (telling ∷ []) before after was is
+told-one telling before after was is noted written = record {
   refused = noted ∙ ap (λ b. before || b) (sym (or-false (tells_refusal telling)));
   written = rw (append-nil) written;
 }
 
 -- some lines and then others
-pub told-join : (commands : List Command) (before mid_way after : Bool) (was half is : Option (List ℕ))
-    → HasWritten commands before mid_way was half → HasWritten commands mid_way after half is → HasWritten commands before after was is
-told-join commands before mid_way after was half is first rest = record {
-  tellings = first.tellings ++ rest.tellings;
-  asked = All-append (IsOfFile commands) first.tellings rest.tellings first.asked rest.asked;
-  refused = rest.refused ∙ ap (λ b. b || tell_refusal rest.tellings) first.refused
-      ∙ or-assoc before (tell_refusal first.tellings) (tell_refusal rest.tellings) ∙ ap (λ b. before || b) (sym (refusal-join first.tellings rest.tellings));
-  written = rw (all-join first.tellings rest.tellings) (Appends-join was half is (all_told first.tellings) (all_told rest.tellings) first.written rest.written);
+pub told-join : (first rest : List Telling) (before mid_way after : Bool) (was half is : Option (List ℕ))
+    → HasWritten first before mid_way was half → HasWritten rest mid_way after half is → HasWritten (first ++ rest) before after was is
+told-join first rest before mid_way after was half is one two = record {
+  refused = two.refused ∙ ap (λ b. b || tell_refusal rest) one.refused
+      ∙ or-assoc before (tell_refusal first) (tell_refusal rest) ∙ ap (λ b. before || b) (sym (refusal-join first rest));
+  written = rw (all-join first rest) (Appends-join was half is (all_told first) (all_told rest) one.written two.written);
 }
 
--- the file's event with a number
-asked-at : (commands : List Command) (number : ℕ) (event : Event) (run : ℕ) (reply : Reply) (command : Command) → number < length commands
-    → command ≡ get_or commands number command → Names event command → IsOfFile commands (Answered number event run reply)
-asked-at [] number event run reply command within is names = absurd (omega (arith, within))
-asked-at (first ∷ rest) zero event run reply command within is names = subst (Names event) is names
-asked-at (first ∷ rest) (suc number) event run reply command within is names = asked-at rest number event run reply command (omega (arith, within)) is names
+-- some lines were written, and the rest of them are to follow
+pub record IsToldUpTo (all rest : List Telling) (before after : Bool) (was is : Option (List ℕ)) : Type 0 where
+  pub told : List Telling
+  pub written : HasWritten told before after was is
+  pub follows : told ++ rest ≡ all
 
--- one more line was written, of the file's event with a number
-pub told-answer : (commands : List Command) (number : ℕ) (event : Event) (run : ℕ) (reply : Reply) (command : Command) (before mid_way after : Bool) (was half is : Option (List ℕ))
-    → number < length commands → command ≡ get_or commands number command → Names event command
-    → HasWritten commands before mid_way was half → after ≡ (mid_way || is_refusal reply) → Appends half is (reply_lines event run reply) → HasWritten commands before after was is
-told-answer commands number event run reply command before mid_way after was half is within at names told noted written =
-    told-join commands before mid_way after was half is told
-    (told-one commands (Answered number event run reply) mid_way after half is (asked-at commands number event run reply command within at names) noted written)
+pub upto-none : (all rest : List Telling) (refused : Bool) (was : Option (List ℕ)) → rest ≡ all → IsToldUpTo all rest refused refused was was
+upto-none all rest refused was same = record { told = []; written = told-none refused was; follows = same }
 
--- the same, if the line was written
-pub told-if-ok : {A E : Type 0} (result : Result A E) (commands : List Command) (number : ℕ) (event : Event) (run : ℕ) (reply : Reply) (command : Command) (before mid_way after : Bool) (was half is : Option (List ℕ))
-    → number < length commands → command ≡ get_or commands number command → Names event command
-    → HasWritten commands before mid_way was half → OnOk result (after ≡ (mid_way || is_refusal reply)) → OnOk result (Appends half is (reply_lines event run reply)) → OnOk result (HasWritten commands before after was is)
-told-if-ok (Ok a) commands number event run reply command before mid_way after was half is within at names told noted written =
-    told-answer commands number event run reply command before mid_way after was half is within at names told noted written
-told-if-ok (Err e) commands number event run reply command before mid_way after was half is within at names told noted written = tt
+-- more of them were written
+pub upto-more : (all rest more later : List Telling) (before mid_way after : Bool) (was half is : Option (List ℕ)) → rest ≡ more ++ later
+    → HasWritten more mid_way after half is → IsToldUpTo all rest before mid_way was half → IsToldUpTo all later before after was is
+upto-more all rest more later before mid_way after was half is parts written so_far = record {
+  told = so_far.told ++ more;
+  written = told-join so_far.told more before mid_way after was half is so_far.written written;
+  follows = append_assoc so_far.told more later ∙ ap (λ xs. so_far.told ++ xs) (sym parts) ∙ so_far.follows;
+}
 
--- one more line was written, that nothing is served
-pub told-unserved : {A E : Type 0} (result : Result A E) (commands : List Command) (fault : Fault) (before mid_way : Bool) (was half is : Option (List ℕ))
-    → HasWritten commands before mid_way was half → OnOk result (Appends half is (line_of (refusal_text fault))) → OnOk result (HasWritten commands before true was is)
-told-unserved (Ok a) commands fault before mid_way was half is told written =
-    told-join commands before mid_way true was half is told
-    (told-one commands (Unserved fault) mid_way true half is tt (sym (or-true mid_way)) written)
-told-unserved (Err e) commands fault before mid_way was half is told written = tt
+-- one more was written
+pub upto-next : (all rest later : List Telling) (telling : Telling) (before mid_way after : Bool) (was half is : Option (List ℕ)) → rest ≡ telling ∷ later
+    → after ≡ (mid_way || tells_refusal telling) → Appends half is (told_text telling) → IsToldUpTo all rest before mid_way was half → IsToldUpTo all later before after was is
+upto-next all rest later telling before mid_way after was half is parts noted written so_far =
+    upto-more all rest (telling ∷ []) later before mid_way after was half is parts (told-one telling mid_way after half is noted written) so_far
 
--- what was told from the beginning, as a status
-pub served-so : (commands : List Command) (after : Bool) (was is : Option (List ℕ)) → HasWritten commands false after was is → IsServedSo commands (if after then 1 else 0) was is
-served-so commands after was is told = (told.tellings, told.asked, ap (λ b. if b then 1 else 0) told.refused, told.written)
+-- nothing of it was to be told
+pub upto-on : (all rest later : List Telling) (before after : Bool) (was is : Option (List ℕ)) → rest ≡ later → IsToldUpTo all rest before after was is → IsToldUpTo all later before after was is
+upto-on all rest later before after was is same so_far = subst (λ xs. IsToldUpTo all xs before after was is) same so_far
 
--- some lines and then, if they were written, others
-pub told-join-if_ok : {A E : Type 0} (result : Result A E) (commands : List Command) (before mid_way after : Bool) (was half is : Option (List ℕ))
-    → HasWritten commands before mid_way was half → OnOk result (HasWritten commands mid_way after half is) → OnOk result (HasWritten commands before after was is)
-told-join-if_ok (Ok a) commands before mid_way after was half is first rest = told-join commands before mid_way after was half is first rest
-told-join-if_ok (Err e) commands before mid_way after was half is first rest = tt
-
--- nothing but that nothing is served
-pub served-unserved : (commands : List Command) (fault : Fault) (was is : Option (List ℕ)) → Appends was is (line_of (refusal_text fault)) → IsServedSo commands 1 was is
-served-unserved commands fault was is written =
-    served-so commands true was is (told-one commands (Unserved fault) false true was is tt refl written)
+-- all of it
+pub upto-all : (all rest : List Telling) (before after : Bool) (was is : Option (List ℕ)) → rest ≡ [] → IsToldUpTo all rest before after was is → HasWritten all before after was is
+upto-all all rest before after was is none so_far =
+    subst (λ xs. HasWritten xs before after was is) (sym (append-nil so_far.told) ∙ ap (λ xs. so_far.told ++ xs) (sym none) ∙ so_far.follows) so_far.written

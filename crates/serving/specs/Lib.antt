@@ -1,2 +1,7 @@
-pub mod AtRest
+pub mod AtFirst
+pub mod Lookups
+pub mod Opened
+pub mod Prepared
+pub mod RunLines
+pub mod Served
 pub mod Told

@@ -1,8 +1,15 @@
 //! What is written when all threads have ended.
 
-ghost use Rattle.std.specs.Prelude.{IfErr, IfSome, OnOk};
+ghost use Rattle.std.specs.Prelude.{◌≡◌, List, [], ◌∷◌, IfErr, IfOk, MatchOption, MatchResult, OnOk, map};
 ghost use Rattle.host_file.specs.Faults.{IsBad};
-ghost use Rattle.serving.specs.Told.{HasWritten, Names};
+ghost use Rattle.host_core.specs.declared.event.Reply.{Reply};
+ghost use Rattle.host_core.specs.declared.event.Reply.TheVariants as reply;
+ghost use Rattle.host_file.specs.declared.command.Command.TheVariants.{Apply};
+ghost use Rattle.turn.specs.Seats.{own_part};
+ghost use Rattle.serving.specs.Lookups.{AreLookedUp, IsLookedUp, lookup_by, lookup_tellings, lookups_in};
+ghost use Rattle.serving.specs.RunLines.{all_run_tellings, beginning_for, beginnings_for, run_tellings, whole_reply};
+ghost use Rattle.serving.specs.Served.{AreTold, outcome_of};
+ghost use Rattle.serving.specs.Told.{HasWritten};
 
 use crate::telling::Told;
 use host_core::{Bytes, Event, Reply};
@@ -14,35 +21,54 @@ use std::sync::Wait;
 use tenant_runs::RunReply;
 use tenant_workers::TenantPlan;
 
+/// Writes what came of each tenant's plan: what its runs were answered, and then the values that are looked up.
+/// Answers the status.
+pub(crate) fn tell_served<W: Write, E: Write>(
+    rt: &impl Wait,
+    alloc: Global,
+    plans: &mut [TenantPlan<'_>],
+    commands: &[Command],
+    writer: &mut W,
+    words: &mut E,
+) -> Result<u8, FileFault>
+    ensures told { IfOk result (λ status. AreTold commands.now (map outcome_of plans.old) status (W.contents writer.old) (W.contents writer.new)) }
+    ensures bad { IfErr result (λ fault. ¬ IsBad fault) }
+{
+    let mut told = Told { has_refused: false };
+    tell_runs(plans, commands, &mut told, writer, words)?;
+    tell_lookups(rt, alloc, plans, commands, &mut told, writer, words)?;
+    Ok(u8::from(told.has_refused))
+}
+
 /// Writes what each run was answered, by tenant and within a tenant in order.
-pub(crate) fn tell_runs<W: Write, E: Write>(
+fn tell_runs<W: Write, E: Write>(
     plans: &[TenantPlan<'_>],
     commands: &[Command],
     told: &mut Told,
     writer: &mut W,
     words: &mut E,
 ) -> Result<(), FileFault>
-    ensures told { OnOk result (HasWritten commands.now told.old.has_refused told.new.has_refused (W.contents writer.old) (W.contents writer.new)) }
+    ensures told { OnOk result (HasWritten (all_run_tellings commands.now 0 (map (λ plan. plan.replies.items) plans.now))
+        told.old.has_refused told.new.has_refused (W.contents writer.old) (W.contents writer.new)) }
     ensures bad { IfErr result (λ fault. ¬ IsBad fault) }
 {
-    let mut tenant = 0u32;
-    for plan in plans {
+    for (tenant, plan) in plans.iter().enumerate() {
         tell_tenant(tenant, &plan.replies, commands, told, writer, words)?;
-        tenant = tenant.saturating_add(1);
     }
     Ok(())
 }
 
 /// Writes what each run of a tenant was answered. Those that began are counted from 0.
 fn tell_tenant<W: Write, E: Write>(
-    tenant: u32,
+    tenant: usize,
     replies: &[Result<RunReply, Fault>],
     commands: &[Command],
     told: &mut Told,
     writer: &mut W,
     words: &mut E,
 ) -> Result<(), FileFault>
-    ensures told { OnOk result (HasWritten commands.now told.old.has_refused told.new.has_refused (W.contents writer.old) (W.contents writer.new)) }
+    ensures told { OnOk result (HasWritten (run_tellings (beginnings_for tenant commands.now) replies.now 0)
+        told.old.has_refused told.new.has_refused (W.contents writer.old) (W.contents writer.new)) }
     ensures bad { IfErr result (λ fault. ¬ IsBad fault) }
 {
     let mut replies = replies.iter();
@@ -61,17 +87,22 @@ fn tell_tenant<W: Write, E: Write>(
 }
 
 /// The event that opens a command's run, where it is a run of this tenant.
-fn run_of(tenant: u32, command: &Command) -> Option<&Event>
-    ensures { IfSome result (λ event. Names event.now command.now) }
+fn run_of(tenant: usize, command: &Command) -> Option<&Event>
+    ensures begins { MatchOption result (beginning_for tenant command.now ≡ []) (λ event. beginning_for tenant command.now ≡ event.now ∷ []) }
 {
-    match command {
-        Command::Run(event) if event.tenant() == Some(tenant) => Some(event),
+    let Command::Run(event) = command else {
+        return None;
+    };
+    match event {
+        Event::Begin { tenant: named, .. } if *named as usize == tenant => Some(event),
         _ => None,
     }
 }
 
 /// What the host would answer to a run that is made whole.
-fn reply_of(answer: &Result<RunReply, Fault>) -> Reply {
+fn reply_of(answer: &Result<RunReply, Fault>) -> Reply
+    ensures { result ≡ whole_reply answer.now }
+{
     match answer {
         Ok(reply) => Reply::Ended {
             ret: reply.ret,
@@ -82,7 +113,7 @@ fn reply_of(answer: &Result<RunReply, Fault>) -> Reply {
 }
 
 /// Writes each value that is looked up, in the file's order.
-pub(crate) fn tell_lookups<W: Write, E: Write>(
+fn tell_lookups<W: Write, E: Write>(
     rt: &impl Wait,
     alloc: Global,
     plans: &mut [TenantPlan<'_>],
@@ -91,7 +122,9 @@ pub(crate) fn tell_lookups<W: Write, E: Write>(
     writer: &mut W,
     words: &mut E,
 ) -> Result<(), FileFault>
-    ensures told { OnOk result (HasWritten commands.now told.old.has_refused told.new.has_refused (W.contents writer.old) (W.contents writer.new)) }
+    ensures told { OnOk result ((answers : List Reply) × AreLookedUp (map (λ plan. own_part plan.seat) plans.old) (lookups_in commands.now) answers
+        × HasWritten (lookup_tellings (lookups_in commands.now) answers)
+        told.old.has_refused told.new.has_refused (W.contents writer.old) (W.contents writer.new)) }
     ensures bad { IfErr result (λ fault. ¬ IsBad fault) }
 {
     for (number, command) in commands.iter().enumerate() {
@@ -111,7 +144,11 @@ fn looked_up(
     alloc: Global,
     plans: &mut [TenantPlan<'_>],
     event: &Event,
-) -> Option<Reply> {
+) -> Option<Reply>
+    ensures parts { map (λ plan. own_part plan.seat) plans.new ≡ map (λ plan. own_part plan.seat) plans.old }
+    ensures answers { MatchOption result (lookup_by (Apply event.now) ≡ [])
+        (λ reply. (lookup_by (Apply event.now) ≡ event.now ∷ []) × IsLookedUp (map (λ plan. own_part plan.seat) plans.old) event.now reply) }
+{
     let Event::HostLookup { tenant, map, key } = event else {
         return None;
     };
@@ -124,7 +161,9 @@ fn looked_up(
 }
 
 /// What the host would answer with a value.
-fn value_reply(value: Result<Vec<u8>, Fault>) -> Reply {
+fn value_reply(value: Result<Vec<u8>, Fault>) -> Reply
+    ensures { MatchResult value (λ bytes. result ≡ reply.Value bytes.items) (λ fault. result ≡ reply.Refused fault) }
+{
     match value {
         Ok(bytes) => Reply::Value(Bytes::from(bytes)),
         Err(fault) => Reply::Refused(fault),

@@ -1,19 +1,23 @@
 //! A host file that is served: what it may ask for, and in which order it is done.
 
-ghost use Rattle.std.specs.Prelude.{◌≡◌, ◌≤◌, length, All, IfErr, IfOk, IfSome, OnOk};
+ghost use Rattle.std.specs.Prelude.{◌≡◌, ◌≤◌, length, All, IfErr, IfOk, IfSome};
+ghost use Rattle.host_types.specs.OptionTable.{AreOptions};
+ghost use Rattle.page_table.specs.Limits.{AreLimits};
 ghost use Rattle.host_file.specs.Faults.{IsBad};
 ghost use Rattle.host_file.specs.HostFile.{IsFileText, max_bytes};
 ghost use Rattle.host_file.specs.Served.{IsServedCommand};
 ghost use Rattle.host_file.specs.declared.file.HostFile.{HostFile};
 ghost use Rattle.turn.specs.Seats.{IsIdle};
 ghost use Rattle.tenant_workers.specs.Plans.{IsFor};
-ghost use Rattle.serving.specs.Told.{HasWritten, IsServedSo};
+ghost use Rattle.serving.specs.Prepared.{visits_in};
+ghost use Rattle.serving.specs.Opened.{IsNewPlan};
+ghost use Rattle.serving.specs.Served.{IsServedSo};
 
-use crate::closing::{tell_lookups, tell_runs};
+use crate::closing::tell_served;
 use crate::house::{House, open_house, plans_of};
 use crate::opening::open_all;
 use crate::runs::{add_runs, visits_of};
-use crate::telling::Told;
+use crate::telling::tell_stop;
 use engines::{file_from, refuse, written};
 use host_file::{FileFault, HostFile, require_served};
 use std::alloc::{AllocError, Global};
@@ -29,6 +33,7 @@ use turn::HostSeat;
 /// When they have ended each run or its refusal is one line, by tenant and in order, and then each value
 /// that is looked up. What a refusal means goes to `words`. Answers the status: 0, or 1 if a refusal was
 /// written. A bad file applies nothing.
+#[tactic(auto, using(crate::proofs::Served::status_few))]
 pub fn serve_file<T: Threads + Wait + Sync, R: Read, W: Write, E: Write>(
     rt: &T,
     alloc: Global,
@@ -39,7 +44,7 @@ pub fn serve_file<T: Threads + Wait + Sync, R: Read, W: Write, E: Write>(
     ensures status { IfOk result (λ status. status ≤ 1) }
     ensures served { IfOk result (λ status. IfSome (R.remaining reader.old) (λ bytes.
         (length bytes ≤ max_bytes) × ((file : HostFile) × IsFileText bytes file × All (IsServedCommand file.tenants) file.commands
-        × IsServedSo file.commands status (W.contents writer.old) (W.contents writer.new)))) }
+        × IsServedSo file status (W.contents writer.old) (W.contents writer.new)))) }
     ensures bad { IfErr result (λ fault. IsBad fault → (writer.new ≡ writer.old) × (words.new ≡ words.old)) }
 {
     let file = file_from(alloc, reader)?;
@@ -59,7 +64,7 @@ fn serve_document<T: Threads + Wait + Sync, W: Write, E: Write>(
     writer: &mut W,
     words: &mut E,
 ) -> Result<u8, FileFault>
-    ensures served { IfOk result (λ status. IsServedSo file.now.commands status (W.contents writer.old) (W.contents writer.new)) }
+    ensures served { IfOk result (λ status. IsServedSo file.now status (W.contents writer.old) (W.contents writer.new)) }
     ensures bad { IfErr result (λ fault. ¬ IsBad fault) }
 {
     match open_house(alloc, file) {
@@ -80,7 +85,9 @@ fn serve_house<T: Threads + Wait + Sync, W: Write, E: Write>(
     writer: &mut W,
     words: &mut E,
 ) -> Result<u8, FileFault>
-    ensures served { IfOk result (λ status. IsServedSo file.now.commands status (W.contents writer.old) (W.contents writer.new)) }
+    requires count { length house.seats.items ≡ file.now.tenants }
+    requires limits { AreLimits file.now.frames file.now.tenants × AreOptions file.now.options }
+    ensures served { IfOk result (λ status. IsServedSo file.now status (W.contents writer.old) (W.contents writer.new)) }
     ensures bad { IfErr result (λ fault. ¬ IsBad fault) }
 {
     let House {
@@ -100,11 +107,9 @@ fn serve_house<T: Threads + Wait + Sync, W: Write, E: Write>(
             visits: visits_of(file.commands.as_slice(), file.options.pages_to_scan),
         },
     };
-    let mut told = Told::default();
     serve_plan(
-        rt, alloc, &shared, &mut host, &mut plan, file, &mut told, writer, words,
-    )?;
-    Ok(u8::from(told.has_refused))
+        rt, alloc, &shared, &mut host, &mut plan, file, writer, words,
+    )
 }
 
 /// Serves a host file by the plans of its tenants.
@@ -115,38 +120,29 @@ fn serve_plan<T: Threads + Wait + Sync, W: Write, E: Write>(
     host: &mut HostSeat,
     plan: &mut Plan<'_>,
     file: &HostFile,
-    told: &mut Told,
     writer: &mut W,
     words: &mut E,
-) -> Result<(), FileFault>
+) -> Result<u8, FileFault>
     requires host { IsIdle shared.now host.old }
     requires own { All (IsFor shared.now) plan.old.tenants.items }
+    requires new { All IsNewPlan plan.old.tenants.items }
+    requires count { length plan.old.tenants.items ≡ file.now.tenants }
+    requires limits { AreLimits file.now.frames file.now.tenants × AreOptions file.now.options }
     requires scan { plan.old.scan.shared.now ≡ shared.now }
-    ensures told { OnOk result (HasWritten file.now.commands told.old.has_refused told.new.has_refused (W.contents writer.old) (W.contents writer.new)) }
+    requires visits { plan.old.scan.visits ≡ visits_in file.now.options.pages_to_scan file.now.commands }
+    ensures served { IfOk result (λ status. IsServedSo file.now status (W.contents writer.old) (W.contents writer.new)) }
     ensures bad { IfErr result (λ fault. ¬ IsBad fault) }
 {
     let commands = file.commands.as_slice();
-    open_all(
-        rt,
-        alloc,
-        shared,
-        host,
-        &mut plan.tenants,
-        commands,
-        told,
-        writer,
-        words,
-    )?;
-    if told.has_refused {
-        return Ok(());
+    if let Err(stop) = open_all(rt, alloc, shared, host, &mut plan.tenants, commands) {
+        return tell_stop(stop.number, stop.event, stop.fault, writer, words);
     }
     if add_runs(alloc, shared, &mut plan.tenants, commands).is_err() {
         return Err(FileFault::OutOfMemory(AllocError));
     }
     if let Err(fault) = serve(rt, alloc, shared, plan, &Open) {
-        told.has_refused = true;
-        return refuse(file, fault, writer, words);
+        refuse(file, fault, writer, words)?;
+        return Ok(1);
     }
-    tell_runs(&plan.tenants, commands, told, writer, words)?;
-    tell_lookups(rt, alloc, &mut plan.tenants, commands, told, writer, words)
+    tell_served(rt, alloc, &mut plan.tenants, commands, writer, words)
 }

@@ -1,9 +1,13 @@
 //! A new memory that all tenants of a host file are lent.
 
-ghost use Rattle.std.specs.Prelude.{◌≡◌, All, IfOk};
+ghost use Rattle.std.specs.Prelude.{◌≡◌, All, IfErr, IfOk, OnOk, length};
+ghost use Rattle.host_types.specs.OptionTable.{AreOptions};
+ghost use Rattle.page_table.specs.Changes.{RefusesMemory};
+ghost use Rattle.page_table.specs.Limits.{AreLimits};
 ghost use Rattle.turn.specs.Seats.{IsIdle};
 ghost use Rattle.tenant_workers.specs.Plans.{IsFor};
-ghost use Rattle.serving.specs.AtRest.{IsAtRest};
+ghost use Rattle.serving.specs.AtFirst.{IsAtFirst};
+ghost use Rattle.serving.specs.Opened.{IsNewPlan};
 
 use host_file::HostFile;
 use host_types::Fault;
@@ -12,22 +16,29 @@ use std::alloc::{AllocError, Global};
 use tenant_workers::{Shared, TenantPlan};
 use turn::{HostSeat, ScanSeat, Seat, Turn};
 
-/// A lent memory and its seats, all at rest.
+/// A lent memory without maps, and its seats.
 #[derive(Drop)]
 pub(crate) struct House {
     pub(crate) shared: Shared,
     pub(crate) seats: Vec<Seat>,
     pub(crate) scanner: ScanSeat,
     pub(crate) host: HostSeat,
-    ghost rest: { All (IsAtRest shared) seats.items },
+    ghost first: { All (IsAtFirst shared) seats.items },
     ghost scanner_idle: { IsIdle shared scanner },
     ghost host_idle: { IsIdle shared host },
 }
 
-/// A new memory as a host file wants it, lent. Refusals are those of a new memory, and 41.
-pub(crate) fn open_house(alloc: Global, file: &HostFile) -> Result<House, Fault> {
+/// A new memory as a host file wants it, lent. Refusals are those of a new memory.
+pub(crate) fn open_house(alloc: Global, file: &HostFile) -> Result<House, Fault>
+    ensures count { IfOk result (λ house. length house.seats.items ≡ file.now.tenants) }
+    ensures limits { OnOk result (AreLimits file.now.frames file.now.tenants × AreOptions file.now.options) }
+    ensures refused { IfErr result (RefusesMemory file.now.frames file.now.tenants file.now.options) }
+{
     let memory = Memory::new(alloc, file.frames, file.tenants, file.options)?;
-    let (turn, seats, scanner, host) = Turn::new(alloc, memory, file.tenants)?;
+    // There is a seat for each of the memory's tenants: it is refused only where memory ran out.
+    let Ok((turn, seats, scanner, host)) = Turn::new(alloc, memory, file.tenants) else {
+        return Err(Fault::OutOfMemory);
+    };
     Ok(House {
         shared: Shared::new(turn),
         seats,
@@ -36,14 +47,16 @@ pub(crate) fn open_house(alloc: Global, file: &HostFile) -> Result<House, Fault>
     })
 }
 
-/// The plans of seats at rest: nothing is loaded or to be run yet.
+/// The plans of new seats: nothing is made, loaded or to be run yet.
 pub(crate) fn plans_of<'a>(
     alloc: Global,
     shared: &'a Shared,
     seats: Vec<Seat>,
 ) -> Result<Vec<TenantPlan<'a>>, AllocError>
-    requires { All (IsAtRest shared.now) seats.items }
-    ensures { IfOk result (λ plans. All (IsFor shared.now) plans.items) }
+    requires { All (IsAtFirst shared.now) seats.items }
+    ensures own { IfOk result (λ plans. All (IsFor shared.now) plans.items) }
+    ensures new { IfOk result (λ plans. All IsNewPlan plans.items) }
+    ensures count { IfOk result (λ plans. length plans.items ≡ length seats.items) }
 {
     let mut plans = Vec::with_capacity(alloc, seats.len())?;
     for seat in seats {

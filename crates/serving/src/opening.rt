@@ -1,54 +1,66 @@
 //! What is done before a thread starts, in the file's order.
 
-ghost use Rattle.std.specs.Prelude.{◌≡◌, All, IfErr, OnOk};
-ghost use Rattle.host_file.specs.Faults.{IsBad};
-ghost use Rattle.turn.specs.Seats.{IsIdle};
+ghost use Rattle.std.specs.Prelude.{◌≡◌, ◌⊎◌, ◌++◌, [], ◌∷◌, All, IfErr, OnOk, length, map};
+ghost use Rattle.bpf_decode.specs.Text.{IsWellFormed};
+ghost use Rattle.host_types.specs.declared.fault.Fault.TheVariants.{OutOfMemory};
+ghost use Rattle.verifier.specs.Verified.{Accepted, IsVerified};
+ghost use Rattle.host_calls.specs.Programs.{RefusesProgram, subject_of};
+ghost use Rattle.turn.specs.Seats.{IsIdle, own_part};
+ghost use Rattle.tenant_workers.specs.Calls.{memory_left};
 ghost use Rattle.tenant_workers.specs.Plans.{IsFor};
-ghost use Rattle.serving.specs.Told.{HasWritten};
+ghost use Rattle.host_file.specs.declared.command.Command.TheVariants.{Apply};
+ghost use Rattle.serving.specs.Opened.{HaveOpened, IsGiven, IsNewPlan, IsSetIn, IsStopped, RefusesGift, RefusesOpening, home_of};
 
-use crate::telling::Told;
-use host_core::{Event, Reply};
-use host_file::{Command, FileFault};
+use host_core::Event;
+use host_file::Command;
 use host_types::Fault;
 use std::alloc::Global;
-use std::io::Write;
 use std::sync::Wait;
 use tenant_workers::{Shared, TenantPlan};
 use turn::HostSeat;
 
-/// Makes the maps, loads the programs, writes the values and sets the options, up to the first refusal, which
-/// is written.
-pub(crate) fn open_all<W: Write, E: Write>(
+/// Where the opening of a file stopped: the event with this number among its commands was refused.
+#[derive(Drop)]
+pub(crate) struct Stop<'c> {
+    pub(crate) number: usize,
+    pub(crate) event: &'c Event,
+    pub(crate) fault: Fault,
+}
+
+/// Makes the maps, loads the programs, writes the values and sets the options, up to the first refusal.
+pub(crate) fn open_all<'c>(
     rt: &impl Wait,
     alloc: Global,
     shared: &Shared,
     host: &mut HostSeat,
     plans: &mut [TenantPlan<'_>],
-    commands: &[Command],
-    told: &mut Told,
-    writer: &mut W,
-    words: &mut E,
-) -> Result<(), FileFault>
+    commands: &'c [Command],
+) -> Result<(), Stop<'c>>
     requires host { IsIdle shared.now host.old }
     requires own { All (IsFor shared.now) plans.old }
+    requires new { All IsNewPlan plans.old }
     ensures host { IsIdle shared.now host.new }
     ensures own { All (IsFor shared.now) plans.new }
-    ensures told { OnOk result (HasWritten commands.now told.old.has_refused told.new.has_refused (W.contents writer.old) (W.contents writer.new)) }
-    ensures bad { IfErr result (λ fault. ¬ IsBad fault) }
+    ensures opened { OnOk result (HaveOpened commands.now plans.old plans.new) }
+    ensures stopped { IfErr result (λ stop. IsStopped (length plans.old) commands.now stop.event.now stop.fault) }
 {
     for (number, command) in commands.iter().enumerate() {
         let Command::Apply(event) = command else {
             continue;
         };
         if let Err(fault) = apply(rt, alloc, shared, host, plans, event) {
-            return told.tell(writer, words, number, event, 0, &Reply::Refused(fault));
+            return Err(Stop {
+                number,
+                event,
+                fault,
+            });
         }
     }
     Ok(())
 }
 
 /// Does what an event asks for before a thread starts.
-#[tactic(auto, using(crate::proofs::Kept::own_set))]
+#[tactic(auto, using(crate::proofs::Kept::own_set, crate::proofs::Opened::opened_given, crate::proofs::Opened::opened_nobody, crate::proofs::Opened::refused_set, crate::proofs::Opened::refused_gift, crate::proofs::Opened::refused_nobody))]
 fn apply(
     rt: &impl Wait,
     alloc: Global,
@@ -61,6 +73,9 @@ fn apply(
     requires own { All (IsFor shared.now) plans.old }
     ensures host { IsIdle shared.now host.new }
     ensures own { All (IsFor shared.now) plans.new }
+    ensures opened { OnOk result (HaveOpened (Apply event.now ∷ []) plans.old plans.new) }
+    ensures set { OnOk result (IsSetIn (memory_left host.new) event.now) }
+    ensures refused { IfErr result (RefusesOpening (map home_of plans.old) event.now) }
 {
     if let Event::Set { option, value } = event {
         return shared.set(rt, host, *option, *value);
@@ -82,7 +97,10 @@ fn apply_for(
     plan: &mut TenantPlan<'_>,
     event: &Event,
 ) -> Result<(), Fault>
-    ensures { plan.new.shared.now ≡ plan.old.shared.now }
+    ensures own { plan.new.shared.now ≡ plan.old.shared.now }
+    ensures runs { plan.new.runs.items ≡ plan.old.runs.items }
+    ensures given { OnOk result (IsGiven event.now (home_of plan.old) (home_of plan.new)) }
+    ensures refused { IfErr result (RefusesGift event.now (home_of plan.old)) }
 {
     match event {
         Event::CreateMap {
@@ -121,7 +139,12 @@ fn load(
     text: &[u8],
     context_size: u32,
 ) -> Result<(), Fault>
-    ensures { plan.new.shared.now ≡ plan.old.shared.now }
+    ensures own { plan.new.shared.now ≡ plan.old.shared.now }
+    ensures runs { plan.new.runs.items ≡ plan.old.runs.items }
+    ensures part { own_part plan.new.seat ≡ own_part plan.old.seat }
+    ensures loaded { OnOk result ((v : Accepted) × (v.subject ≡ subject_of (own_part plan.old.seat) text.now context_size)
+        × IsVerified v × IsWellFormed text.now × (plan.new.programs.items ≡ plan.old.programs.items ++ v ∷ [])) }
+    ensures refused { IfErr result (λ fault. RefusesProgram (subject_of (own_part plan.old.seat) text.now context_size) fault ⊎ (fault ≡ OutOfMemory)) }
 {
     let program = plan
         .shared

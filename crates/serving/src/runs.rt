@@ -1,7 +1,8 @@
 //! What the threads are to do.
 
-ghost use Rattle.std.specs.Prelude.{◌≡◌, All};
-ghost use Rattle.tenant_workers.specs.Plans.{IsFor};
+ghost use Rattle.std.specs.Prelude.{◌≡◌, [], ◌∷◌, All, OnOk};
+ghost use Rattle.tenant_workers.specs.Plans.{IsFor, planned_by};
+ghost use Rattle.serving.specs.Prepared.{HaveRuns, pages_set, visits_in, with_runs};
 
 use host_core::Event;
 use host_file::Command;
@@ -16,8 +17,9 @@ pub(crate) fn add_runs(
     plans: &mut [TenantPlan<'_>],
     commands: &[Command],
 ) -> Result<(), AllocError>
-    requires { All (IsFor shared.now) plans.old }
-    ensures { All (IsFor shared.now) plans.new }
+    requires own { All (IsFor shared.now) plans.old }
+    ensures own { All (IsFor shared.now) plans.new }
+    ensures planned { OnOk result (HaveRuns commands.now plans.old plans.new) }
 {
     for command in commands {
         add_run(alloc, shared, plans, command)?;
@@ -33,8 +35,9 @@ fn add_run(
     plans: &mut [TenantPlan<'_>],
     command: &Command,
 ) -> Result<(), AllocError>
-    requires { All (IsFor shared.now) plans.old }
-    ensures { All (IsFor shared.now) plans.new }
+    requires own { All (IsFor shared.now) plans.old }
+    ensures own { All (IsFor shared.now) plans.new }
+    ensures planned { OnOk result (HaveRuns (command.now ∷ []) plans.old plans.new) }
 {
     let Command::Run(
         Event::Begin {
@@ -60,7 +63,8 @@ fn plan_run(
     program: u32,
     context: &[u8],
 ) -> Result<(), AllocError>
-    ensures { plan.new.shared.now ≡ plan.old.shared.now }
+    ensures own { plan.new.shared.now ≡ plan.old.shared.now }
+    ensures planned { OnOk result (planned_by plan.new ≡ with_runs (planned_by plan.old) ((program, context.now) ∷ [])) }
 {
     let context = context.to_vec(alloc)?;
     plan.runs.push((program, context))?;
@@ -69,7 +73,9 @@ fn plan_run(
 
 /// How many visits a file asks for in all, at most 4,294,967,295. One without a count makes as many as
 /// `pages_to_scan` is when all options are set.
-pub(crate) fn visits_of(commands: &[Command], pages_to_scan: u32) -> u32 {
+pub(crate) fn visits_of(commands: &[Command], pages_to_scan: u32) -> u32
+    ensures { result ≡ visits_in pages_to_scan commands.now }
+{
     let pages = pages_at_last(commands, pages_to_scan);
     let mut visits = 0u32;
     for command in commands {
@@ -81,7 +87,9 @@ pub(crate) fn visits_of(commands: &[Command], pages_to_scan: u32) -> u32 {
 }
 
 /// The last value that `pages_to_scan` is set to.
-fn pages_at_last(commands: &[Command], pages_to_scan: u32) -> u32 {
+fn pages_at_last(commands: &[Command], pages_to_scan: u32) -> u32
+    ensures { result ≡ pages_set pages_to_scan commands.now }
+{
     let mut pages = pages_to_scan;
     for command in commands {
         if let Command::Apply(

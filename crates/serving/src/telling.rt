@@ -1,6 +1,7 @@
 //! What is written of a served file's events.
 
-ghost use Rattle.std.specs.Prelude.{◌≡◌, ◌||◌, IfErr, OnOk};
+ghost use Rattle.std.specs.Prelude.{◌≡◌, ◌||◌, IfErr, IfOk, OnOk};
+ghost use Rattle.host_core.specs.declared.event.Reply.TheVariants.{Refused};
 ghost use Rattle.std.specs.Io.KnownBytes.{Appends};
 ghost use Rattle.host_file.specs.Faults.{IsBad};
 ghost use Rattle.engines.specs.Lines.{reply_lines};
@@ -9,10 +10,11 @@ ghost use Rattle.engines.specs.Replay.{is_refusal};
 use engines::{explain_reply, write_reply};
 use host_core::{Event, Reply};
 use host_file::FileFault;
+use host_types::Fault;
 use std::io::Write;
 
 /// Whether a refusal was written.
-#[derive(Clone, Copy, Debug, Default)]
+#[derive(Clone, Copy, Debug)]
 pub(crate) struct Told {
     pub(crate) has_refused: bool,
 }
@@ -40,4 +42,21 @@ impl Told {
         }
         Ok(())
     }
+}
+
+/// Writes the refusal at which the opening of a file stopped. Answers the status.
+pub(crate) fn tell_stop<W: Write, E: Write>(
+    number: usize,
+    event: &Event,
+    fault: Fault,
+    writer: &mut W,
+    words: &mut E,
+) -> Result<u8, FileFault>
+    ensures status { IfOk result (λ status. status ≡ 1) }
+    ensures written { OnOk result (Appends (W.contents writer.old) (W.contents writer.new) (reply_lines event.now 0 (Refused fault))) }
+    ensures bad { IfErr result (λ fault. ¬ IsBad fault) }
+{
+    let mut told = Told { has_refused: false };
+    told.tell(writer, words, number, event, 0, &Reply::Refused(fault))?;
+    Ok(1)
 }

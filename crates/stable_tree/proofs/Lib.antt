@@ -5,3 +5,4 @@ pub mod Inserting
 pub mod Ordered
 pub mod Removing
 pub mod Counting
+pub mod Digits

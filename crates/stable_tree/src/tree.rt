@@ -1,13 +1,14 @@
-ghost use Rattle.std.specs.Prelude.{◌≡◌, ◌≢◌, ◌++◌, ◌∷◌, [], ◌==◌, ◌+◌, ◌<◌, ◌≤◌, ℕ, List, not, nat_lt, filter, find, insert, remove, length, max, All, IsTrue, ◌↔◌, if◌then◌else◌, OnOk, OnErr, IfSome, slice_index_or, slice_set};
+ghost use Rattle.std.specs.Prelude.{◌≡◌, ◌≢◌, ◌++◌, ◌∷◌, [], ◌==◌, ◌+◌, ◌*◌, ◌<◌, ◌≤◌, ℕ, List, not, nat_lt, filter, find, insert, remove, length, max, All, IsTrue, ◌↔◌, if◌then◌else◌, OnOk, OnErr, IfSome, slice_index_or, slice_set};
 ghost use Rattle.std.specs.Ordering.{is_lt};
 ghost use Rattle.frame_arena.specs.Pages.{page_at};
+ghost use Rattle.stable_tree.specs.Digits.{digits};
 ghost use Rattle.stable_tree.specs.Groups.{Groups, IsSorted, IsSpot, IsCutAt, has, order, is_before, is_there, group_frames, groups_at, groups_found, chains_among, dups_among};
 
 use crate::chains::{
     Chain, add, first_below, first_of, frames_of, lengthen, position_of, shorten, size_of, take_out,
 };
 use crate::dups::Dups;
-use frame_arena::FrameArena;
+use frame_arena::Counted;
 use std::alloc::{AllocError, Global};
 use std::marker::Model;
 
@@ -101,12 +102,14 @@ impl StableTree {
         self.dups.groups
     }
 
-    /// Where the groups that have the bytes of a frame stand, if there are any.
-    pub fn find(&self, arena: &FrameArena, frame: u32) -> Option<Spot>
-        requires frame { frame < length arena.now }
-        requires sorted { IsSorted arena.now self.now.chains }
-        ensures found { groups_found self.now result ≡ filter (has arena.now (page_at arena.now frame)) (group_frames self.now) }
+    /// Where the groups that have the bytes of a frame stand, if there are any. It, `insert` and `remove`
+    /// look at pages at most twice for each binary digit of the number of contents.
+    pub fn find(&self, arena: &mut Counted, frame: u32) -> Option<Spot>
+        requires frame { frame < length arena.old.pages }
+        requires sorted { IsSorted arena.old.pages self.now.chains }
+        ensures found { groups_found self.now result ≡ filter (has arena.old.pages (page_at arena.old.pages frame)) (group_frames self.now) }
         ensures spot { IfSome result (IsSpot self.now) }
+        ensures few { arena.new.steps ≤ arena.old.steps + 2 * digits (length self.now.chains) }
     {
         let chain = self.lower_bound(arena, frame);
         if self.is_there(arena, frame, chain) {
@@ -125,15 +128,16 @@ impl StableTree {
     }
 
     /// Puts a group behind all others that have its bytes. It takes no memory.
-    pub fn insert(&mut self, arena: &FrameArena, frame: u32)
-        requires frame { frame < length arena.now }
-        requires sorted { IsSorted arena.now self.old.chains }
+    pub fn insert(&mut self, arena: &mut Counted, frame: u32)
+        requires frame { frame < length arena.old.pages }
+        requires sorted { IsSorted arena.old.pages self.old.chains }
         requires new { All (λ group. group ≢ frame) (group_frames self.old) }
         requires room { length (group_frames self.old) < self.old.room }
-        ensures inserted { (bytes : List ℕ) → filter (has arena.now bytes) (group_frames self.new)
-            ≡ filter (has arena.now bytes) (group_frames self.old) ++ filter (has arena.now bytes) (frame ∷ []) }
-        ensures sorted { IsSorted arena.now self.new.chains }
+        ensures inserted { (bytes : List ℕ) → filter (has arena.old.pages bytes) (group_frames self.new)
+            ≡ filter (has arena.old.pages bytes) (group_frames self.old) ++ filter (has arena.old.pages bytes) (frame ∷ []) }
+        ensures sorted { IsSorted arena.old.pages self.new.chains }
         ensures room { self.new.room ≡ self.old.room }
+        ensures few { arena.new.steps ≤ arena.old.steps + 2 * digits (length self.old.chains) }
     {
         let chain = self.lower_bound(arena, frame);
         if self.is_there(arena, frame, chain) {
@@ -144,12 +148,13 @@ impl StableTree {
     }
 
     /// Takes out a group, if it is there. The arena's pages are as they were when it was put in.
-    pub fn remove(&mut self, arena: &FrameArena, frame: u32)
-        requires frame { frame < length arena.now }
-        requires sorted { IsSorted arena.now self.old.chains }
+    pub fn remove(&mut self, arena: &mut Counted, frame: u32)
+        requires frame { frame < length arena.old.pages }
+        requires sorted { IsSorted arena.old.pages self.old.chains }
         ensures removed { group_frames self.new ≡ filter (λ group. not (group == frame)) (group_frames self.old) }
-        ensures sorted { IsSorted arena.now self.new.chains }
+        ensures sorted { IsSorted arena.old.pages self.new.chains }
         ensures room { self.new.room ≡ self.old.room }
+        ensures few { arena.new.steps ≤ arena.old.steps + 2 * digits (length self.old.chains) }
     {
         let chain = self.lower_bound(arena, frame);
         if !self.is_there(arena, frame, chain) {
@@ -254,29 +259,36 @@ impl StableTree {
     }
 
     /// Whether there is a chain of this number, and its content is a frame's.
-    fn is_there(&self, arena: &FrameArena, frame: u32, chain: usize) -> bool
-        requires frame { frame < length arena.now }
-        requires sorted { IsSorted arena.now self.now.chains }
-        ensures { result ≡ is_there arena.now (page_at arena.now frame) self.now.chains chain }
+    fn is_there(&self, arena: &mut Counted, frame: u32, chain: usize) -> bool
+        requires frame { frame < length arena.old.pages }
+        requires sorted { IsSorted arena.old.pages self.now.chains }
+        ensures told { result ≡ is_there arena.old.pages (page_at arena.old.pages frame) self.now.chains chain }
+        ensures pages { arena.new.pages ≡ arena.old.pages }
+        ensures few { arena.new.steps ≤ arena.old.steps + 1 }
+        ensures none { length self.now.chains ≤ chain → arena.new.steps ≡ arena.old.steps }
     {
         chain < self.count() && same_page(arena, self.first(chain), frame)
     }
 
     /// Whether the content of a chain comes before a frame's.
-    fn is_before(&self, arena: &FrameArena, frame: u32, chain: usize) -> bool
-        requires frame { frame < length arena.now }
+    fn is_before(&self, arena: &mut Counted, frame: u32, chain: usize) -> bool
+        requires frame { frame < length arena.old.pages }
         requires chain { chain < length self.now.chains }
-        requires sorted { IsSorted arena.now self.now.chains }
-        ensures { result ≡ is_before arena.now (page_at arena.now frame) (slice_index_or self.now.chains chain []) }
+        requires sorted { IsSorted arena.old.pages self.now.chains }
+        ensures told { result ≡ is_before arena.old.pages (page_at arena.old.pages frame) (slice_index_or self.now.chains chain []) }
+        ensures pages { arena.new.pages ≡ arena.old.pages }
+        ensures few { arena.new.steps ≤ arena.old.steps + 1 }
     {
         comes_before(arena, self.first(chain), frame)
     }
 
     /// The first chain whose content doesn't come before a frame's.
-    fn lower_bound(&self, arena: &FrameArena, frame: u32) -> usize
-        requires frame { frame < length arena.now }
-        requires sorted { IsSorted arena.now self.now.chains }
-        ensures { IsCutAt arena.now (page_at arena.now frame) self.now.chains result }
+    fn lower_bound(&self, arena: &mut Counted, frame: u32) -> usize
+        requires frame { frame < length arena.old.pages }
+        requires sorted { IsSorted arena.old.pages self.now.chains }
+        ensures place { IsCutAt arena.old.pages (page_at arena.old.pages frame) self.now.chains result }
+        ensures pages { arena.new.pages ≡ arena.old.pages }
+        ensures few { arena.new.steps ≤ arena.old.steps + digits (length self.now.chains) }
     {
         let mut low = 0;
         let mut high = self.count();
@@ -293,19 +305,23 @@ impl StableTree {
 }
 
 /// Whether two frames have the same bytes. A frame isn't compared with itself.
-fn same_page(arena: &FrameArena, a: u32, b: u32) -> bool
-    requires a { a < length arena.now }
-    requires b { b < length arena.now }
-    ensures { IsTrue result ↔ (page_at arena.now a ≡ page_at arena.now b) }
+fn same_page(arena: &mut Counted, a: u32, b: u32) -> bool
+    requires a { a < length arena.old.pages }
+    requires b { b < length arena.old.pages }
+    ensures told { IsTrue result ↔ (page_at arena.old.pages a ≡ page_at arena.old.pages b) }
+    ensures pages { arena.new.pages ≡ arena.old.pages }
+    ensures few { arena.new.steps ≤ arena.old.steps + 1 }
 {
     a == b || arena.same(a, b)
 }
 
 /// Whether the bytes of a frame come before another's. A frame isn't compared with itself.
-fn comes_before(arena: &FrameArena, a: u32, b: u32) -> bool
-    requires a { a < length arena.now }
-    requires b { b < length arena.now }
-    ensures { result ≡ is_lt (order (page_at arena.now a) (page_at arena.now b)) }
+fn comes_before(arena: &mut Counted, a: u32, b: u32) -> bool
+    requires a { a < length arena.old.pages }
+    requires b { b < length arena.old.pages }
+    ensures told { result ≡ is_lt (order (page_at arena.old.pages a) (page_at arena.old.pages b)) }
+    ensures pages { arena.new.pages ≡ arena.old.pages }
+    ensures few { arena.new.steps ≤ arena.old.steps + 1 }
 {
     a != b && arena.order(a, b).is_lt()
 }

@@ -1,7 +1,7 @@
 -- A run that is driven on a memory, from one thing that it asks to the next.
 use Rattle.std.proofs.Common.{◌≡◌, ◌≤◌, ◌<◌, ◌+◌, ℕ, zero, suc, List, Some, refl, sym, ◌∙◌, arith, add-zero}
 use Rattle.host_types.specs.Tenant.{TenantPart}
-use Rattle.page_table.specs.State.{MemoryState, part}
+use Rattle.page_table.specs.State.{MemoryState}
 use Rattle.page_table.specs.Changes.{IsKeptBut}
 use Rattle.bpf_decode.specs.Text.{instructions_of}
 use Rattle.verifier.specs.Reserve.{reserve_from}
@@ -16,7 +16,7 @@ use Rattle.interp.specs.Machine.{MachineState, Outcome, Next, Exits, step}
 use Rattle.interp.specs.Runs.{Reaches}
 use Rattle.interp.specs.StandsFor.{Running, StandsFor, Asks, IsNoMore, ReachesQuietly, FollowsSteps}
 use Rattle.tenant_runs.specs.Meeting.{KeepsSizes}
-use Rattle.tenant_runs.specs.UnderWay.{IsUnderWay, IsAsking}
+use Rattle.tenant_runs.specs.UnderWay.{IsUnderWay, IsAsking, part_with_have}
 
 -- from a state for which the run stood, its steps lead to one in which it is under way
 pub record IsFollowed (v : Accepted) (start run : Running) (s : MachineState) (owned : TenantPart) : Type 0 where
@@ -29,12 +29,12 @@ pub record IsFollowed (v : Accepted) (start run : Running) (s : MachineState) (o
 -- what a driven run keeps
 pub record IsFinishing (v : Accepted) (tenant : ℕ) (old : MemoryState) (start : Running) (memory : MemoryState) (run : Running) : Type 0 where
   pub verified : IsVerified v
-  pub some : (s : MachineState) × IsUnderWay v start s (part old tenant)
-  pub followed : (s : MachineState) → IsUnderWay v start s (part old tenant) → IsFollowed v start run s (part memory tenant)
+  pub some : (s : MachineState) × IsUnderWay v start s (part_with_have old tenant)
+  pub followed : (s : MachineState) → IsUnderWay v start s (part_with_have old tenant) → IsFollowed v start run s (part_with_have memory tenant)
   pub others : IsKeptBut tenant old memory
   pub sizes : KeepsSizes old memory
 
-pub begins_to_finish : (v : Accepted) (tenant : ℕ) (old : MemoryState) (start : Running) → IsVerified v → (s : MachineState) × IsUnderWay v start s (part old tenant) → IsFinishing v tenant old start old start
+pub begins_to_finish : (v : Accepted) (tenant : ℕ) (old : MemoryState) (start : Running) → IsVerified v → (s : MachineState) × IsUnderWay v start s (part_with_have old tenant) → IsFinishing v tenant old start old start
 begins_to_finish v tenant old start verified some = record {
   verified = verified;
   some = some;

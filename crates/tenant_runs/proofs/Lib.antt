@@ -2,3 +2,4 @@ pub mod Rooms
 pub mod Shapes
 pub mod Finishing
 pub mod WholeRuns
+pub mod Roomy

@@ -1,9 +1,10 @@
 -- Runs on a tenant's part.
-use Rattle.std.specs.Prelude.{◌≡◌, ◌≢◌, ℕ, ◌<◌, ◌≤◌, List, length}
+use Rattle.std.specs.Prelude.{◌≡◌, ◌≢◌, ℕ, ◌+◌, ◌<◌, ◌≤◌, List, length}
 use Rattle.host_types.specs.declared.fault.Fault.{Fault}
 use Rattle.host_types.specs.declared.fault.Fault.TheVariants.{NoFrames, NoProgram, BadContext, OutOfMemory, BadTenant}
 use Rattle.host_types.specs.Tenant.{TenantPart}
 use Rattle.bpf_decode.specs.Text.{instructions_of}
+use Rattle.page_table.specs.Changes.{with_reserve}
 use Rattle.page_table.specs.State.{MemoryState, part, have_of}
 use Rattle.verifier.specs.Reserve.{reserve_from}
 use Rattle.verifier.specs.Verified.{Accepted}
@@ -27,6 +28,10 @@ pub record IsAsking (v : Accepted) (s : MachineState) (need : Need) (run : Runni
   pub eight : length owned.maps ≡ 8
   pub maps : owned.maps ≡ s.memory.maps
   pub reserve : reserve_from v s.slot ≤ owned.reserve
+
+-- a tenant's part, with what may be had beside what is reserved for it: its run may take both
+abbrev pub part_with_have : MemoryState → ℕ → TenantPart
+part_with_have memory tenant = with_reserve (have_of memory + (part memory tenant).reserve) (part memory tenant)
 
 -- A whole run on a tenant's part: the tenant has the program's maps, the context has its size, the reply
 -- is that of the standard's machine, whose maps are the tenant's afterwards, and nothing is reserved any

@@ -6,7 +6,7 @@ ghost use Rattle.verifier.specs.Reserve.{reserve_from};
 ghost use Rattle.interp.specs.Machine.{MachineState, Next, Exits, step};
 ghost use Rattle.interp.specs.Runs.{Reaches};
 ghost use Rattle.tenant_runs.specs.Meeting.{sharing_met, KeepsSizes};
-ghost use Rattle.tenant_runs.specs.UnderWay.{IsUnderWay, IsAsking};
+ghost use Rattle.tenant_runs.specs.UnderWay.{IsUnderWay, IsAsking, part_with_have};
 
 use crate::meeting::meet;
 use interp::{Need, Run};
@@ -23,11 +23,11 @@ pub struct RunReply {
 }
 
 /// Does what a tenant's run asks, and gives it the answer: then it stands for the state to which the
-/// standard's step leads, and its maps are the tenant's. What is reserved for it is what the rest of it
-/// may need.
+/// standard's step leads, and its maps are the tenant's. What is reserved for it before and what `have()` tells
+/// are together enough for the rest of it; afterwards just what the rest of it may need is reserved.
 pub fn answer(memory: &mut Memory, tenant: u32, program: &Verified, run: &mut Run, need: Need)
-    requires asks { (s : MachineState) × IsAsking program.now s need run.old (part memory.old tenant) }
-    ensures goes_on { (s : MachineState) → IsAsking program.now s need run.old (part memory.old tenant)
+    requires asks { (s : MachineState) × IsAsking program.now s need run.old (part_with_have memory.old tenant) }
+    ensures goes_on { (s : MachineState) → IsAsking program.now s need run.old (part_with_have memory.old tenant)
         → (next : MachineState) × (step program.now.subject.text s ≡ Some (Next next)) × IsUnderWay program.now run.new next (part memory.new tenant) }
     ensures reserve { (part memory.new tenant).reserve ≡ reserve_from program.now run.old.slot }
     ensures steps { run.new.steps ≡ run.old.steps }
@@ -49,8 +49,8 @@ pub fn answer(memory: &mut Memory, tenant: u32, program: &Verified, run: &mut Ru
 /// ends, with the number and the maps of the standard's machine on the tenant's maps alone, within as
 /// many steps from its beginning as it has instructions; and no other tenant's part changes.
 pub fn finish(memory: &mut Memory, tenant: u32, program: &Verified, run: &mut Run) -> RunReply
-    requires under_way { (s : MachineState) × IsUnderWay program.now run.old s (part memory.old tenant) }
-    ensures ended { (s : MachineState) → IsUnderWay program.now run.old s (part memory.old tenant)
+    requires under_way { (s : MachineState) × IsUnderWay program.now run.old s (part_with_have memory.old tenant) }
+    ensures ended { (s : MachineState) → IsUnderWay program.now run.old s (part_with_have memory.old tenant)
         → (n : ℕ) × Reaches program.now.subject.text s n (Exits result.ret (part memory.new tenant).maps) × (result.steps ≡ run.old.steps + n) }
     ensures few { result.steps ≤ instructions_of program.now.subject.text }
     ensures others { IsKeptBut tenant memory.old memory.new }

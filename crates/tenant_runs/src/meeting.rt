@@ -1,12 +1,11 @@
 ghost use Rattle.std.specs.Prelude.{◌≡◌, ◌+◌, ◌≤◌, length, option_map, unwrap_or};
 ghost use Rattle.host_types.specs.Helpers.{lookup_answer};
 ghost use Rattle.host_types.specs.Memory.{FlatMap, map_at};
-ghost use Rattle.page_table.specs.State.{part};
+ghost use Rattle.page_table.specs.State.{part, have_of};
 ghost use Rattle.page_table.specs.Changes.{IsKeptBut};
 ghost use Rattle.interp.specs.Needs.{map_of};
 ghost use Rattle.tenant_runs.specs.Meeting.{MayMeet, answer_in, charge_in, part_met, sharing_met, KeepsSizes};
 
-use admission::lower;
 use host_types::MapNo;
 use interp::Need;
 use map_helpers::{delete, lookup, update};
@@ -14,12 +13,12 @@ use page_table::Memory;
 use write_break::{load, store};
 
 /// Does what a tenant's run asks of its maps, and tells the answer, which is 0 after a store. The frames
-/// that it may take were reserved for the run: the record is lowered to the reserve of what is left of
-/// the run, and pages that share their frames are taken out before they are written.
+/// that it may take are reserved for the run or may be had: just the reserve of what is left of the run is
+/// recorded, and pages that share their frames are taken out before they are written.
 pub fn meet(memory: &mut Memory, tenant: u32, need: Need, value: &[u8], left: u32) -> u64
     requires there { length (part memory.old tenant).maps ≡ 8 }
     requires may { MayMeet (part memory.old tenant) need value.now }
-    requires charged { charge_in (part memory.old tenant) need + left ≤ (part memory.old tenant).reserve }
+    requires charged { charge_in (part memory.old tenant) need + left ≤ have_of memory.old + (part memory.old tenant).reserve }
     ensures answer { result ≡ answer_in (part memory.old tenant) need }
     ensures part { part memory.new tenant ≡ part_met (part memory.old tenant) need value.now left }
     ensures others { IsKeptBut tenant memory.old memory.new }
@@ -27,7 +26,7 @@ pub fn meet(memory: &mut Memory, tenant: u32, need: Need, value: &[u8], left: u3
     ensures sizes { KeepsSizes memory.old memory.new }
 {
     memory.maps_are_flat();
-    lower(memory, tenant, left);
+    memory.record(tenant, left);
     match need {
         Need::Load { map, at, size } => load(memory, tenant, map, at, size.bytes()),
         Need::Store {

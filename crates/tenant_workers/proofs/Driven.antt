@@ -10,13 +10,13 @@ use Rattle.interp.specs.Machine.{MachineState, Next, Exits, step}
 use Rattle.interp.specs.Runs.{Reaches}
 use Rattle.interp.specs.StandsFor.{Running, StandsFor, IsBegun, Asks, Follows}
 use Rattle.tenant_runs.specs.UnderWay.{IsUnderWay, IsAsking}
-use Rattle.turn.specs.Seats.{SeatState, gave}
-use Rattle.tenant_workers.specs.Calls.{IsSameSeat}
+use Rattle.turn.specs.Seats.{SeatState}
+use Rattle.tenant_workers.specs.Calls.{IsSameSeat, resting_with}
 use Rattle.tenant_runs.proofs.Finishing.{IsFollowed, steps_below}
 
 -- the same seat of the same seat
 pub same_on : (first middle last : SeatState) → IsSameSeat first middle → IsSameSeat middle last → IsSameSeat first last
-same_on first middle last same later = later ∙ ap (λ (seat : SeatState). gave seat last.view.seen) same
+same_on first middle last same later = later ∙ ap (λ (seat : SeatState). resting_with seat last.view.seen last.view.turns) same
 
 -- what a driven run keeps, of what it was with its tenant's part at first
 pub record IsDriven (v : Accepted) (start : Running) (owned : TenantPart) (run : Running) (now : TenantPart) : Type 0 where

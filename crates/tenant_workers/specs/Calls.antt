@@ -1,18 +1,67 @@
--- What a call leaves of its seat, and of the memory that it gave back.
-use Rattle.std.specs.Prelude.{◌≡◌}
+-- What a call leaves of its seat, and what its turn did to the memory.
+use Rattle.std.specs.Prelude.{◌≡◌, ◌*◌, ℕ, Bool, false, List, [], ◌∷◌, ◌++◌, length, All}
+use Rattle.host_types.specs.Pages.{map_place}
+use Rattle.host_types.specs.Unmerging.{with_option, unmerged}
 use Rattle.host_types.specs.Visits.{visit}
+use Rattle.host_types.specs.declared.options.Opt.{Opt}
+use Rattle.host_types.specs.declared.shape.Shape.{Shape}
 use Rattle.host_types.specs.declared.visited.Visited.{Visited}
+use Rattle.page_table.specs.Limits.{page_count}
 use Rattle.page_table.specs.State.{MemoryState}
-use Rattle.page_table.specs.Changes.{contents_now}
-use Rattle.turn.specs.Seats.{SeatState, gave}
+use Rattle.page_table.specs.Changes.{contents_now, with_new_pages, IsKeptBut, KeepsSettings}
+use Rattle.turn.specs.Seats.{SeatState}
+
+-- a seat that holds nothing, as it knows the memory after so many turns
+abbrev pub resting_with : SeatState → MemoryState → List (MemoryState × MemoryState) → SeatState
+resting_with seat memory turns = record seat { view = record seat.view { holds = false; seen = memory; turns = turns } }
 
 -- the same seat of the same turn, with the same tenants, which holds nothing
 abbrev pub IsSameSeat : SeatState → SeatState → Type 0
-IsSameSeat old new = new ≡ gave old new.view.seen
+IsSameSeat old new = new ≡ resting_with old new.view.seen new.view.turns
 
 -- the memory as the seat's last turn left it: a call that changed nothing found it so
 abbrev pub memory_left : SeatState → MemoryState
 memory_left seat = seat.view.seen
+
+-- the seat made one turn, and this is what became of the memory in it
+pub record HasChanged (changed : MemoryState → MemoryState → Type 0) (old new : SeatState) : Type 0 where
+  pub taken : MemoryState
+  pub made : new.view.turns ≡ old.view.turns ++ (taken, memory_left new) ∷ []
+  pub change : changed taken (memory_left new)
+
+-- the memory stays as it was taken
+abbrev pub IsUnchanged : MemoryState → MemoryState → Type 0
+IsUnchanged old new = new ≡ old
+
+-- an option was set, and nothing else changed
+abbrev pub HasSet : Opt → ℕ → MemoryState → MemoryState → Type 0
+HasSet option value old new =
+    new ≡ record old { sharing = record old.sharing { options = with_option old.sharing.options option value } }
+
+-- everything was unmerged, and no map changed
+pub record HasUnmerged (old new : MemoryState) : Type 0 where
+  pub sharing : new.sharing ≡ unmerged old.sharing
+  pub maps : new.maps ≡ old.maps
+
+-- A map of a tenant was made: its pages were never visited, and may be merged or not; nothing else changed of which
+-- pages share frames, and no other tenant's part.
+pub record HasMap (tenant m : ℕ) (shape : Shape) (mergeable : Bool) (old new : MemoryState) : Type 0 where
+  pub sharing : new.sharing ≡ with_new_pages old.sharing (map_place tenant m * 256) (page_count shape) mergeable
+  pub others : IsKeptBut tenant old new
+  pub settings : KeepsSettings old new
+
+-- the scanner made one visit
+pub record IsVisit (old new : MemoryState) : Type 0 where
+  pub visited : Visited
+  pub is : visit (contents_now old) old.sharing ≡ (visited, new.sharing)
+  pub maps : new.maps ≡ old.maps
+
+-- the seat made so many turns, one visit each; what others did between them shows in the memory as it was taken
+pub record HasVisited (visits : ℕ) (old new : SeatState) : Type 0 where
+  pub turns : List (MemoryState × MemoryState)
+  pub made : new.view.turns ≡ old.view.turns ++ turns
+  pub count : length turns ≡ visits
+  pub each : All (λ turn. IsVisit turn.0 turn.1) turns
 
 -- a visit of the scanner left the memory so
 pub record IsVisited (memory : MemoryState) : Type 0 where

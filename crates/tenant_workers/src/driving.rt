@@ -50,6 +50,7 @@ pub(crate) fn drive(
 }
 
 /// The one turn in which what a run asks is done and answered.
+#[tactic(auto, using(tenant_runs::proofs::Roomy::asking_roomy))]
 fn meet(
     shared: &Shared,
     rt: &impl Wait,

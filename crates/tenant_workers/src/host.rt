@@ -1,11 +1,11 @@
-ghost use Rattle.std.specs.Prelude.{◌≡◌, OnOk, IfErr, length};
+ghost use Rattle.std.specs.Prelude.{◌≡◌, OnOk, OnErr, IfErr, length};
 ghost use Rattle.host_types.specs.OptionTable.{MayBe};
 ghost use Rattle.host_types.specs.Unmerging.{with_option, MaySet, RefusesSet, RefusesUnmerge, SharesNothing};
 ghost use Rattle.page_table.specs.State.{have_of};
 ghost use Rattle.page_table.specs.Changes.{contents_now};
 ghost use Rattle.ksm_counters.specs.Counters.{counters_of};
 ghost use Rattle.turn.specs.Seats.{IsIdle};
-ghost use Rattle.tenant_workers.specs.Calls.{IsSameSeat, memory_left};
+ghost use Rattle.tenant_workers.specs.Calls.{IsSameSeat, memory_left, HasChanged, HasSet, HasUnmerged, IsUnchanged};
 
 use crate::shared::Shared;
 use host_calls::{host_set, host_unmerge};
@@ -15,7 +15,7 @@ use std::sync::Wait;
 use turn::HostSeat;
 
 impl Shared {
-    /// Sets one option to a value that it may be set to. No tenant's part changes.
+    /// Sets one option to a value that it may be set to. Nothing else changes.
     ///
     /// Refusals in their order: 40 where the option can't have the value, 44 where `max_page_sharing` is
     /// to be set while there is a group. A refusal changes nothing.
@@ -33,7 +33,9 @@ impl Shared {
         ensures may { OnOk result (MayBe option value × MaySet (memory_left seat.new).sharing option) }
         ensures set { OnOk result ((memory_left seat.new).sharing.options
             ≡ with_option (memory_left seat.new).sharing.options option value) }
+        ensures only { OnOk result (HasChanged (HasSet option value) seat.old seat.new) }
         ensures refused { IfErr result (RefusesSet (memory_left seat.new).sharing option value) }
+        ensures unchanged { OnErr result (HasChanged IsUnchanged seat.old seat.new) }
     {
         let mut held = self.turn.take(rt, seat);
         let answer = host_set(held.memory_mut(), option, value);
@@ -51,9 +53,11 @@ impl Shared {
         ensures idle { IsIdle self.now seat.new }
         ensures same { IsSameSeat seat.old seat.new }
         ensures unmerged { OnOk result (SharesNothing (memory_left seat.new).sharing) }
+        ensures only { OnOk result (HasChanged HasUnmerged seat.old seat.new) }
         ensures stopped { OnOk result ((memory_left seat.new).sharing.options.run ≡ 2) }
         ensures refused { IfErr result
             (RefusesUnmerge (memory_left seat.new).sharing (have_of (memory_left seat.new))) }
+        ensures unchanged { OnErr result (HasChanged IsUnchanged seat.old seat.new) }
     {
         let mut held = self.turn.take(rt, seat);
         let answer = host_unmerge(held.memory_mut());

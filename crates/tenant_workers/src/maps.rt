@@ -3,9 +3,9 @@ ghost use Rattle.page_table.specs.Changes.{part_created};
 ghost use Rattle.page_table.specs.Limits.{shape_of};
 ghost use Rattle.page_table.specs.State.{free_number};
 ghost use Rattle.map_helpers.specs.Updates.{part_updated};
-ghost use Rattle.host_calls.specs.Calls.{FitsNewMap, FitsValue, IsValue, RefusesNewMap, RefusesUpdate, RefusesLookup, TellsHave};
+ghost use Rattle.host_calls.specs.Calls.{FitsNewMap, FitsValue, IsValue, RefusesNewMap, RefusesUpdate, RefusesLookup, TellsHave, HasFrames};
 ghost use Rattle.turn.specs.Seats.{IsIdle, own_part};
-ghost use Rattle.tenant_workers.specs.Calls.{IsSameSeat, memory_left};
+ghost use Rattle.tenant_workers.specs.Calls.{IsSameSeat, memory_left, HasChanged, HasMap, IsUnchanged};
 
 use crate::shared::Shared;
 use host_calls::{host_create_map, host_lookup, host_update};
@@ -18,9 +18,9 @@ impl Shared {
     /// Makes a map of zeros for the seat's tenant, at its first free number.
     ///
     /// Refusals in their order: 32 where the tenant has eight maps, 33 where the shape is out of limits, 31
-    /// just where the map's pages are more than the frames that may be had, 41 where memory ran out; 42
-    /// never, as a seat's tenant is there. A missing frame tells both numbers. A refusal leaves the seat's
-    /// part.
+    /// just where the map's pages are more than the frames that may be had, 41 where memory ran out, and the
+    /// frames are there; 42 never, as a seat's tenant is there. A missing frame tells both numbers. A refusal
+    /// changes nothing.
     pub fn create_map(
         &self,
         rt: &impl Wait,
@@ -36,10 +36,14 @@ impl Shared {
         ensures number { IfOk result (λ m. free_number (own_part seat.old) ≡ Some m) }
         ensures created { IfOk result (λ m.
             own_part seat.new ≡ part_created (own_part seat.old) m (shape_of value_size entries)) }
+        ensures made { IfOk result (λ m.
+            HasChanged (HasMap seat.old.view.first m (shape_of value_size entries) mergeable) seat.old seat.new) }
         ensures refused { IfErr result
             (RefusesNewMap (own_part seat.old) (shape_of value_size entries)) }
         ensures told { IfErr result (TellsHave (memory_left seat.new)) }
+        ensures framed { IfErr result (HasFrames (memory_left seat.new) (shape_of value_size entries)) }
         ensures kept { OnErr result (own_part seat.new ≡ own_part seat.old) }
+        ensures unchanged { OnErr result (HasChanged IsUnchanged seat.old seat.new) }
     {
         let tenant = seat.tenant();
         let mut held = self.turn.take(rt, seat);

@@ -1,6 +1,6 @@
 ghost use Rattle.std.specs.Prelude.{◌≡◌};
 ghost use Rattle.turn.specs.Seats.{IsIdle, own_part};
-ghost use Rattle.tenant_workers.specs.Calls.{IsSameSeat};
+ghost use Rattle.tenant_workers.specs.Calls.{IsSameSeat, HasVisited};
 ghost use Rattle.tenant_workers.specs.Runs.{IsResting};
 
 use crate::shared::Shared;
@@ -49,6 +49,7 @@ impl<'a> ScanPlan<'a> {
         ensures shared { self.new.shared.now ≡ self.old.shared.now }
         ensures visits { self.new.visits ≡ self.old.visits }
         ensures same { IsSameSeat self.old.seat self.new.seat }
+        ensures made { HasVisited self.old.visits self.old.seat self.new.seat }
     {
         let shared = self.shared;
         shared.scan_batch(rt, &mut self.seat, self.visits);

@@ -1,6 +1,6 @@
 ghost use Rattle.std.specs.Prelude.{◌≡◌, ◌<◌};
 ghost use Rattle.turn.specs.Seats.{IsIdle};
-ghost use Rattle.tenant_workers.specs.Calls.{IsSameSeat, IsVisited, memory_left};
+ghost use Rattle.tenant_workers.specs.Calls.{IsSameSeat, IsVisit, IsVisited, HasChanged, HasVisited, memory_left};
 
 use crate::shared::Shared;
 use scanner::visit;
@@ -8,11 +8,12 @@ use std::sync::Wait;
 use turn::ScanSeat;
 
 impl Shared {
-    /// So many visits of the scanner, one turn a visit. No tenant's part changes.
+    /// So many visits of the scanner, one turn a visit, and no other turn. No tenant's part changes.
     pub fn scan_batch(&self, rt: &impl Wait, seat: &mut ScanSeat, visits: u32)
         requires idle { IsIdle self.now seat.old }
         ensures idle { IsIdle self.now seat.new }
         ensures same { IsSameSeat seat.old seat.new }
+        ensures visits { HasVisited visits seat.old seat.new }
         ensures visited { 0 < visits → IsVisited (memory_left seat.new) }
     {
         for _visit in 0..visits {
@@ -25,6 +26,7 @@ impl Shared {
         requires idle { IsIdle self.now seat.old }
         ensures idle { IsIdle self.now seat.new }
         ensures same { IsSameSeat seat.old seat.new }
+        ensures visit { HasChanged IsVisit seat.old seat.new }
         ensures visited { IsVisited (memory_left seat.new) }
     {
         let mut held = self.turn.take(rt, seat);

@@ -7,24 +7,23 @@ use Rattle.std.proofs.lemmas.Option.{same_Some}
 use Rattle.atomic_table.specs.Table.{State, Me, step, Allows, Splits, Valid, stepped, carried_after, takes, keeps, gives, Final, Seen}
 use Rattle.atomic_table.proofs.Lists.{set_again, set_else, at_longer}
 use Rattle.page_table.specs.State.{MemoryState, part}
-use Rattle.turn.specs.declared.view.View.{View}
-use Rattle.turn.specs.Views.{Has, RemembersParts, Spares, holding, resting}
+use Rattle.turn.specs.Views.{SeatView, Has, RemembersParts, Spares, holding, resting}
 use Rattle.turn.specs.Rule.{Each, Apart, IsHome, IsOut, IsInTurn, Takes, Gives}
 use Rattle.turn.proofs.Views.{at_set_same, Each-set, Each-more, Apart-set, Apart-split}
 
 -- the state with these words, homes and views
-abbrev state : List ℕ → List (mathlib.Core.Option.Option (Option MemoryState)) → List View → State (Option MemoryState) View
+abbrev state : List ℕ → List (mathlib.Core.Option.Option (Option MemoryState)) → List SeatView → State (Option MemoryState) SeatView
 state words homes views = record { words = words; homes = homes; views = views }
 
 -- what a take has to find, in a state
-abbrev CanTake : ℕ → Me (Option MemoryState) View → State (Option MemoryState) View → Type 0
+abbrev CanTake : ℕ → Me (Option MemoryState) SeatView → State (Option MemoryState) SeatView → Type 0
 CanTake id me s =
-    (w : View) × (a : Rattle.atomic_table.specs.Table.Act (Option MemoryState)) × Valid s.homes me.1 a
+    (w : SeatView) × (a : Rattle.atomic_table.specs.Table.Act (Option MemoryState)) × Valid s.homes me.1 a
     × IsInTurn (stepped s 0 (either (slice_index s.words 0 == 0) 1 (slice_index s.words 0)) id me.1 w a)
     × Takes (step 1 0 0 1 none) me (slice_index s.words 0) (w, carried_after me.1 a)
 
 -- a take finds the memory home, and wins
-take_wins : (id : ℕ) (me : Me (Option MemoryState) View) (s : State (Option MemoryState) View) (r : IsInTurn s)
+take_wins : (id : ℕ) (me : Me (Option MemoryState) SeatView) (s : State (Option MemoryState) SeatView) (r : IsInTurn s)
     → IsHome s r.memory → get_elem? s.views id ≡ some me.0 → CanTake id me s
 take_wins id me s r home there =
     let new = holding me.0 r.memory in
@@ -50,7 +49,7 @@ take_wins id me s r home there =
     (subst (λ (homes : List (mathlib.Core.Option.Option (Option MemoryState))). CanTake id me (state (0 ∷ []) homes s.views)) (sym home.slot) found)
 
 -- a take finds the memory out, and loses
-take_loses : (id : ℕ) (me : Me (Option MemoryState) View) (s : State (Option MemoryState) View) (r : IsInTurn s)
+take_loses : (id : ℕ) (me : Me (Option MemoryState) SeatView) (s : State (Option MemoryState) SeatView) (r : IsInTurn s)
     → IsOut s r.memory → get_elem? s.views id ≡ some me.0 → CanTake id me s
 take_loses id me s r out there =
     let same : IsInTurn (state (1 ∷ []) (none ∷ []) s.views) = record {
@@ -69,14 +68,14 @@ take_loses id me s r out there =
       });
     } in
     let next : IsInTurn (state (1 ∷ []) (none ∷ []) (set s.views id me.0)) =
-    subst (λ (views : List View). IsInTurn (state (1 ∷ []) (none ∷ []) views)) (sym (set_again s.views id me.0 there)) same in
+    subst (λ (views : List SeatView). IsInTurn (state (1 ∷ []) (none ∷ []) views)) (sym (set_again s.views id me.0 there)) same in
     let found : CanTake id me (state (1 ∷ []) (none ∷ []) s.views) =
     (me.0, keeps, tt, next, ((λ e. absurd (omega arith)), (λ ne. refl))) in
     subst (λ (words : List ℕ). CanTake id me (state words s.homes s.views)) (sym out.word)
     (subst (λ (homes : List (mathlib.Core.Option.Option (Option MemoryState))). CanTake id me (state (1 ∷ []) homes s.views)) (sym out.slot) found)
 
 -- whatever a take finds, the rule is kept, where it compares the word with 0 and writes 1
-pub take_keeps : (slots id home out : ℕ) (me : Me (Option MemoryState) View) → home ≡ 0 → out ≡ 1
+pub take_keeps : (slots id home out : ℕ) (me : Me (Option MemoryState) SeatView) → home ≡ 0 → out ≡ 1
     → Allows IsInTurn slots id me 0 (λ n. either (n == home) out n) (Takes (step 1 0 home out none) me)
 take_keeps slots id home out me is_home is_out =
     subst (λ (h : ℕ). Allows IsInTurn slots id me 0 (λ n. either (n == h) out n) (Takes (step 1 0 h out none) me)) (sym is_home)
@@ -89,9 +88,9 @@ slot_of [] = None
 slot_of (x ∷ xs) = x.1
 
 -- what a give has to find, in a state
-abbrev CanGive : ℕ → View → MemoryState → State (Option MemoryState) View → Type 0
+abbrev CanGive : ℕ → SeatView → MemoryState → State (Option MemoryState) SeatView → Type 0
 CanGive id view memory s =
-    (w : View) × (a : Rattle.atomic_table.specs.Table.Act (Option MemoryState)) × Valid s.homes ((0, Some memory) ∷ []) a
+    (w : SeatView) × (a : Rattle.atomic_table.specs.Table.Act (Option MemoryState)) × Valid s.homes ((0, Some memory) ∷ []) a
     × IsInTurn (stepped s 0 0 id ((0, Some memory) ∷ []) w a)
     × Gives (step 1 0 0 0 none) (view, (0, Some memory) ∷ []) 0 (w, carried_after ((0, Some memory) ∷ []) a)
 
@@ -101,13 +100,13 @@ false_of false never = refl
 false_of true never = absurd (never refl)
 
 -- the seat that holds the memory gives one in which every other tenant's part is as it was taken
-give_home : (id : ℕ) (view : View) (memory : MemoryState) (s : State (Option MemoryState) View) (r : IsInTurn s)
+give_home : (id : ℕ) (view : SeatView) (memory : MemoryState) (s : State (Option MemoryState) SeatView) (r : IsInTurn s)
     → IsOut s r.memory → get_elem? s.views id ≡ some view → view.holds ≡ true → Spares view memory → CanGive id view memory s
 give_home id view memory s r out there holds spares =
     let mine : id ≡ out.holder = out.alone id view there holds in
     let here : out.view ≡ view =
     some-injective out.view view (sym out.there ∙ ap (get_elem? s.views) (sym mine) ∙ there) in
-    let taken : view.seen ≡ r.memory = ap (λ (v : View). v.seen) (sym here) ∙ out.seen in
+    let taken : view.seen ≡ r.memory = ap (λ (v : SeatView). v.seen) (sym here) ∙ out.seen in
     let new = resting view memory in
     let next : IsInTurn (state (0 ∷ []) (some (Some memory) ∷ []) (set s.views id new)) = record {
       memory = memory;
@@ -129,7 +128,7 @@ give_home id view memory s r out there holds spares =
     (subst (λ (homes : List (mathlib.Core.Option.Option (Option MemoryState))). CanGive id view memory (state (1 ∷ []) homes s.views)) (sym out.slot) found)
 
 -- a give by the seat that holds keeps the rule, where it writes 0
-pub give_keeps : (slots id home : ℕ) (me : Me (Option MemoryState) View) (memory : MemoryState) → home ≡ 0
+pub give_keeps : (slots id home : ℕ) (me : Me (Option MemoryState) SeatView) (memory : MemoryState) → home ≡ 0
     → me.1 ≡ (0, Some memory) ∷ [] → me.0.holds ≡ true → Spares me.0 memory
     → Allows IsInTurn slots id me 0 (λ _. home) (λ _. Gives (step 1 0 0 0 none) me 0)
 give_keeps slots id home me memory is_home carried holds spares =
@@ -142,7 +141,7 @@ give_keeps slots id home me memory is_home carried holds spares =
     r.place))
 
 -- a seat that holds nothing may be cut in two
-pub split_keeps : (id : ℕ) (old left right : View) → left.seen ≡ old.seen → right.seen ≡ old.seen
+pub split_keeps : (id : ℕ) (old left right : SeatView) → left.seen ≡ old.seen → right.seen ≡ old.seen
     → old.holds ≡ false → left.holds ≡ false → right.holds ≡ false
     → ((t : ℕ) → Has left t → Has old t) → ((t : ℕ) → Has right t → Has old t) → ((t : ℕ) → Has left t → Has right t → ⊥)
     → Splits IsInTurn id old left right
@@ -164,7 +163,7 @@ split_keeps id old left right seen seen' idle idle_left idle_right less more cut
     let out : IsOut s r.memory → IsOut (state s.words s.homes views) r.memory = λ o.
     let other : o.holder ≢ id = λ same.
     let here : o.view ≡ old = some-injective o.view old (sym o.there ∙ ap (get_elem? s.views) same ∙ there) in
-    absurd (cc (o.holds, idle, ap (λ (v : View). v.holds) here)) in
+    absurd (cc (o.holds, idle, ap (λ (v : SeatView). v.holds) here)) in
     record {
       word = o.word;
       slot = o.slot;
@@ -184,7 +183,7 @@ split_keeps id old left right seen seen' idle idle_left idle_right less more cut
     }
 
 -- where the word is 0 at the end, a memory in the slot has the seat's own parts
-pub closes : (id : ℕ) (view : View) (words : List ℕ) (slots : List (Option MemoryState)) (memory : MemoryState)
+pub closes : (id : ℕ) (view : SeatView) (words : List ℕ) (slots : List (Option MemoryState)) (memory : MemoryState)
     → Final (Seen IsInTurn id view) words slots → get_elem? words 0 ≡ some 0 → get_elem? slots 0 ≡ some (Some memory) → RemembersParts view memory
 closes id view words slots memory end home at =
     let s = end.0 in

@@ -3,16 +3,15 @@ use Rattle.std.specs.Prelude.{◌≡◌, ◌≢◌, ℕ, length, Bool, false, Li
 use Rattle.atomic_table.specs.Seated.{TableId}
 use Rattle.host_types.specs.Tenant.{TenantPart}
 use Rattle.page_table.specs.State.{MemoryState, part}
-use Rattle.turn.specs.declared.view.View.{View}
 use Rattle.host_types.specs.declared.fault.Fault.{Fault}
 use Rattle.host_types.specs.declared.fault.Fault.TheVariants.{BadShape, OutOfMemory}
-use Rattle.turn.specs.Views.{new_view, holding, resting}
+use Rattle.turn.specs.Views.{SeatView, new_view, holding, resting}
 
 -- the turn that the seat belongs to, its number there, and what it knows
 pub record SeatState : Type 0 where
   pub turn : TableId
   pub id : ℕ
-  pub view : View
+  pub view : SeatView
 
 -- what a tenant's seat knows: the part of its tenant
 abbrev pub own_part : SeatState → TenantPart

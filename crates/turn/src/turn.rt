@@ -131,6 +131,7 @@ impl Turn {
         requires first { rest.old.me.0.first ≡ tenant }
         requires some { tenant < rest.old.me.0.end }
         requires idle { rest.old.me.0.holds ≡ false }
+        requires none { rest.old.me.0.turns ≡ [] }
         requires maps { AreFlatMaps (part rest.old.me.0.seen tenant).maps }
         ensures turn { rest.new.table_id ≡ rest.old.table_id }
         ensures rest { rest.new.me ≡ (new_view (tenant + 1) rest.old.me.0.end rest.old.me.0.seen, rest.old.me.1) }
@@ -148,6 +149,7 @@ impl Turn {
         requires turn { rest.old.table_id ≡ self.now }
         requires first { rest.old.me.0.first ≡ tenants }
         requires idle { rest.old.me.0.holds ≡ false }
+        requires none { rest.old.me.0.turns ≡ [] }
         ensures turn { rest.new.table_id ≡ rest.old.table_id }
         ensures rest { rest.new.me ≡ rest.old.me }
         ensures seat { IsNewSeat self.now tenants tenants rest.old.me.0.seen result }

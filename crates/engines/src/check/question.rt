@@ -74,8 +74,33 @@ fn text_of(alloc: Global, hex: &str) -> Result<Bytes, FileFault>
     match hex::decode(alloc, hex) {
         Ok(text) => Ok(Bytes::from(text)),
         Err(FromHexError::OutOfMemory) => Err(FileFault::OutOfMemory(AllocError)),
-        Err(error) => Err(usage(format!(in alloc; "HEX is no hex text: {error}"))),
+        Err(_) => Err(no_hex(alloc, hex)),
     }
+}
+
+/// What is wrong with a word that is no hex text: its first character that is no digit, or else how many
+/// there are.
+fn no_hex(alloc: Global, hex: &str) -> FileFault
+    ensures { IsOfWords result }
+{
+    usage(match wrong_character(hex) {
+        Some((place, c)) => {
+            format!(in alloc;
+                "HEX has `{c}` at character {place}, counted from 0, which is no hex digit"
+            )
+        }
+        None => format!(in alloc; "HEX has {} digits, and each byte has two", hex.len()),
+    })
+}
+
+/// The first character that is no hex digit, and how many stand before it.
+fn wrong_character(hex: &str) -> Option<(usize, char)> {
+    for (place, c) in hex.chars().enumerate() {
+        if !c.is_ascii_hexdigit() {
+            return Some((place, c));
+        }
+    }
+    None
 }
 
 /// The shapes of maps that words V:E give. A fault names the first word that gives none.

@@ -19,5 +19,5 @@ returns-clause-judged g c = (
   line_of (refusal_text c.in-Err.fault),
   c.in_ok-asked.ensures.asked,
   inr (refl, (c.in-Err.fault, refl, c.in-Err.ensures.refused)),
-  c.in_ok-tell_refusal-in-Err.ensures.line,
+  c.in_ok-write_refusal-in-Err.ensures.line,
 )

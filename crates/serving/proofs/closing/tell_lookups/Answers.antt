@@ -1,19 +1,40 @@
-use Rattle.std.proofs.Common.{refl}
-use Rattle.serving.proofs.Tellings.{told-answer}
+use Rattle.std.proofs.Common.{◌∙◌, [], ◌∷◌, arith, refl, subst}
+use Rattle.host_file.specs.declared.command.Command.TheVariants.{Apply}
+use Rattle.serving.specs.Lookups.{IsLookedUp}
+use Rattle.serving.proofs.Lookups.{lookups-all, lookups-end, lookups-next, lookups-none, lookups-on, lookups-step}
 use Rattle.serving.proofs.closing.tell_lookups.Goals as goal
 use Rattle.serving.proofs.closing.tell_lookups.Goals.{in-Some+in_ok-tell+in-Value-1, in-Some+in_ok-tell+in-Map-1, in_default-looked_up}
 
+pub loop-number-init : goal.loop-number-init
+loop-number-init g c = record { parts = refl; lines = lookups-none _ _ c.args.told.now.has_refused _ }
+
 pub loop-number-preserved : goal.loop-number-preserved
 loop-number-preserved g c = elim c.match-looked_up.branch [
-  | in-Some+in_ok-tell+in-Value-1 w ↦ rw (w.told-is, w.writer-is) (
-      told-answer c.args.commands.now c.loop-number.number c.in-Apply.event 0 w.in-Some.reply c.index-commands-number.result
-      c.args.told.now.has_refused c.loop-number.told.has_refused w.tell.new.self.has_refused
-      (g.W.Write.contents c.args.writer.now) (g.W.Write.contents c.loop-number.writer) (g.W.Write.contents w.tell.new.writer)
-      c.loop-number-test.true c.index-commands-number.is (rw c.in-Apply.is refl) c.loop-number.invariant w.in_ok-tell.ensures.refused w.in_ok-tell.ensures.written)
-  | in-Some+in_ok-tell+in-Map-1 w ↦ rw (w.told-is, w.writer-is) (
-      told-answer c.args.commands.now c.loop-number.number c.in-Apply.event 0 w.in-Some.reply c.index-commands-number.result
-      c.args.told.now.has_refused c.loop-number.told.has_refused w.tell.new.self.has_refused
-      (g.W.Write.contents c.args.writer.now) (g.W.Write.contents c.loop-number.writer) (g.W.Write.contents w.tell.new.writer)
-      c.loop-number-test.true c.index-commands-number.is (rw c.in-Apply.is refl) c.loop-number.invariant w.in_ok-tell.ensures.refused w.in_ok-tell.ensures.written)
-  | in_default-looked_up w ↦ rw (w.told-is, w.writer-is) c.loop-number.invariant
+  | in-Some+in_ok-tell+in-Value-1 w ↦ rw (w.told-is, w.writer-is) (record {
+    parts = c.looked_up.ensures.parts ∙ c.loop-number.invariant.parts;
+    lines = lookups-next _ _ _ _ c.in-Apply.event w.in-Some.reply _ _ _ _ _ _
+        (lookups-step c.args.commands.now c.loop-number.number c.index-commands-number.result (Apply c.in-Apply.event) (c.in-Apply.event ∷ [])
+        c.loop-number-test.true c.index-commands-number.is c.in-Apply.is w.in-Some.ensures.answers.0)
+        (subst (λ parts. IsLookedUp parts c.in-Apply.event w.in-Some.reply) c.loop-number.invariant.parts w.in-Some.ensures.answers.1)
+        w.in_ok-tell.ensures.refused w.in_ok-tell.ensures.written c.loop-number.invariant.lines;
+  })
+  | in-Some+in_ok-tell+in-Map-1 w ↦ rw (w.told-is, w.writer-is) (record {
+    parts = c.looked_up.ensures.parts ∙ c.loop-number.invariant.parts;
+    lines = lookups-next _ _ _ _ c.in-Apply.event w.in-Some.reply _ _ _ _ _ _
+        (lookups-step c.args.commands.now c.loop-number.number c.index-commands-number.result (Apply c.in-Apply.event) (c.in-Apply.event ∷ [])
+        c.loop-number-test.true c.index-commands-number.is c.in-Apply.is w.in-Some.ensures.answers.0)
+        (subst (λ parts. IsLookedUp parts c.in-Apply.event w.in-Some.reply) c.loop-number.invariant.parts w.in-Some.ensures.answers.1)
+        w.in_ok-tell.ensures.refused w.in_ok-tell.ensures.written c.loop-number.invariant.lines;
+  })
+  | in_default-looked_up w ↦ rw (w.told-is, w.writer-is) (record {
+    parts = c.looked_up.ensures.parts ∙ c.loop-number.invariant.parts;
+    lines = lookups-on _ _ _ _ _ _ _ _
+        (lookups-step c.args.commands.now c.loop-number.number c.index-commands-number.result (Apply c.in-Apply.event) []
+        c.loop-number-test.true c.index-commands-number.is c.in-Apply.is w.in_default-looked_up.ensures.answers)
+        c.loop-number.invariant.lines;
+  })
 ]
+
+pub returns-clause-told : goal.returns-clause-told
+returns-clause-told g c =
+    lookups-all _ _ _ _ _ _ _ (lookups-end c.args.commands.now c.loop-number.number (omega (arith, c.loop-number-test.false))) c.loop-number.invariant.lines

@@ -1,6 +1,13 @@
-use Rattle.serving.specs.Told.{HasWritten}
+use Rattle.std.proofs.Common.{◌≡◌, drop, map}
+use Rattle.turn.specs.Seats.{own_part}
+use Rattle.serving.specs.Lookups.{lookups_in}
+use Rattle.serving.proofs.Lookups.{AreToldUpTo}
 use Rattle.serving.proofs.closing.tell_lookups.Given as goal
 
--- the lines so far were told
+-- the lines so far were told, and those of the lookups that are left are to follow; the tenants' parts stay
 abbrev pub invariant-loop-number : goal.invariant-loop-number
-invariant-loop-number g l = HasWritten l.commands l.fn.told.has_refused l.told.has_refused (g.W.Write.contents l.fn.writer) (g.W.Write.contents l.writer)
+invariant-loop-number g l = record {
+  parts : map (λ plan. own_part plan.seat) l.plans ≡ map (λ plan. own_part plan.seat) l.fn.plans;
+  lines : AreToldUpTo (map (λ plan. own_part plan.seat) l.fn.plans) (lookups_in l.commands) (lookups_in (drop l.number l.commands))
+      l.fn.told.has_refused l.told.has_refused (g.W.Write.contents l.fn.writer) (g.W.Write.contents l.writer);
+}

@@ -1,8 +1,19 @@
-use Rattle.serving.proofs.Tellings.{told-join}
+use Rattle.std.proofs.Common.{arith, refl}
+use Rattle.serving.proofs.RunLines.{tenants-end, tenants-more}
+use Rattle.serving.proofs.Tellings.{upto-all, upto-more, upto-none}
 use Rattle.serving.proofs.closing.tell_runs.Goals as goal
 
-pub loop-plan-preserved : goal.loop-plan-preserved
-loop-plan-preserved g c =
-    told-join c.args.commands.now c.args.told.now.has_refused c.loop-plan.told.has_refused c.tell_tenant.new.told.has_refused
-    (g.W.Write.contents c.args.writer.now) (g.W.Write.contents c.loop-plan.writer) (g.W.Write.contents c.tell_tenant.new.writer)
-    c.loop-plan.invariant c.in_ok-tell_tenant.ensures.told
+pub loop-tenant-init : goal.loop-tenant-init
+loop-tenant-init g c = upto-none _ _ c.args.told.now.has_refused _ refl
+
+pub loop-tenant-preserved : goal.loop-tenant-preserved
+loop-tenant-preserved g c =
+    upto-more _ _ _ _ _ _ _ _ _ _
+    (tenants-more (λ plan. plan.replies.items) c.args.commands.now c.loop-tenant.tenant c.args.plans.now c.loop-tenant.tenant c.index-plans-tenant.result c.deref.result.now
+    c.loop-tenant-test.true c.index-plans-tenant.is c.deref.ensures.value)
+    c.in_ok-tell_tenant.ensures.told c.loop-tenant.invariant
+
+pub returns-clause-told : goal.returns-clause-told
+returns-clause-told g c =
+    upto-all _ _ _ _ _ _ (tenants-end (λ plan. plan.replies.items) c.args.commands.now c.loop-tenant.tenant c.args.plans.now c.loop-tenant.tenant (omega (arith, c.loop-tenant-test.false)))
+    c.loop-tenant.invariant

@@ -1,6 +1,10 @@
-use Rattle.serving.specs.Told.{HasWritten}
+use Rattle.std.proofs.Common.{drop, map}
+use Rattle.serving.specs.RunLines.{all_run_tellings}
+use Rattle.serving.proofs.Tellings.{IsToldUpTo}
 use Rattle.serving.proofs.closing.tell_runs.Given as goal
 
--- the lines so far were told
-abbrev pub invariant-loop-plan : goal.invariant-loop-plan
-invariant-loop-plan g l = HasWritten l.commands l.fn.told.has_refused l.told.has_refused (g.W.Write.contents l.fn.writer) (g.W.Write.contents l.writer)
+-- the lines of the tenants so far were told, and those of the others are to follow
+abbrev pub invariant-loop-tenant : goal.invariant-loop-tenant
+invariant-loop-tenant g l =
+    IsToldUpTo (all_run_tellings l.commands 0 (map (λ plan. plan.replies.items) l.plans)) (all_run_tellings l.commands l.tenant (map (λ plan. plan.replies.items) (drop l.tenant l.plans)))
+    l.fn.told.has_refused l.told.has_refused (g.W.Write.contents l.fn.writer) (g.W.Write.contents l.writer)

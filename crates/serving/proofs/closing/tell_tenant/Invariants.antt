@@ -1,6 +1,13 @@
-use Rattle.serving.specs.Told.{HasWritten}
+use Rattle.std.proofs.Common.{◌≤◌, drop}
+use Rattle.std.specs.Slice.Iter.{iter_rest}
+use Rattle.serving.specs.RunLines.{beginnings_for, run_tellings}
+use Rattle.serving.proofs.Tellings.{IsToldUpTo}
 use Rattle.serving.proofs.closing.tell_tenant.Given as goal
 
--- the lines so far were told
+-- the lines so far were told, and those of the runs that are left are to follow
 abbrev pub invariant-loop-number : goal.invariant-loop-number
-invariant-loop-number g l = HasWritten l.commands l.fn.told.has_refused l.told.has_refused (g.W.Write.contents l.fn.writer) (g.W.Write.contents l.writer)
+invariant-loop-number g l = record {
+  few : l.begun ≤ l.number;
+  lines : IsToldUpTo (run_tellings (beginnings_for l.tenant l.commands) l.fn.replies 0) (run_tellings (beginnings_for l.tenant (drop l.number l.commands)) (iter_rest l.replies) l.begun)
+      l.fn.told.has_refused l.told.has_refused (g.W.Write.contents l.fn.writer) (g.W.Write.contents l.writer);
+}

@@ -1,20 +1,28 @@
-use Rattle.serving.proofs.Tellings.{told-unserved, told-join, told-join-if_ok}
+use Rattle.std.proofs.Common.{◌∙◌, ap, length, refl, subst, subst₂, sym}
+use Rattle.page_table.specs.Changes.{RefusesMemory}
+use Rattle.serving.specs.Opened.{IsStopped}
+use Rattle.serving.specs.Served.{unserved}
+use Rattle.serving.proofs.Served.{of-no_err, served-through, stopped-so}
 use Rattle.serving.proofs.file.serve_plan.Goals as goal
 
-pub returns-in-Err-clause-told : goal.returns-in-Err-clause-told
-returns-in-Err-clause-told g c =
-    told-unserved c.refuse.result c.args.file.now.commands c.in-Err.fault c.args.told.now.has_refused c.open_all.new.told.has_refused
-    (g.W.Write.contents c.args.writer.now) (g.W.Write.contents c.open_all.new.writer) (g.W.Write.contents c.refuse.new.writer)
-    (rw c.as_slice-commands.ensures at c.in_ok-open_all.ensures.told) c.refuse.ensures.line
+pub returns-in-Err-clause-served : goal.returns-in-Err-clause-served
+returns-in-Err-clause-served g c =
+    let many = ap length c.deref_mut.ensures.value ∙ c.requires.count in
+    stopped-so c.tell_stop.result c.args.file.now c.in-Err.stop.event.now c.in-Err.stop.fault (g.W.Write.contents c.args.writer.now) (g.W.Write.contents c.tell_stop.new.writer)
+    (subst₂ (λ count commands. IsStopped count commands c.in-Err.stop.event.now c.in-Err.stop.fault) many c.as_slice-commands.ensures c.in-Err.ensures.stopped)
+    c.tell_stop.ensures.status c.tell_stop.ensures.written
 
-pub returns-clause-told : goal.returns-clause-told
-returns-clause-told g c =
-    let was = g.W.Write.contents c.args.writer.now in
-    let opened = g.W.Write.contents c.open_all.new.writer in
-    let half = g.W.Write.contents c.tell_runs.new.writer in
-    let is = g.W.Write.contents c.tell_lookups.new.writer in
-    let first = rw c.as_slice-commands.ensures at c.in_ok-open_all.ensures.told in
-    let runs = rw c.as_slice-commands.ensures at c.in_ok-tell_runs.ensures.told in
-    told-join-if_ok c.tell_lookups.result c.args.file.now.commands c.args.told.now.has_refused c.tell_runs.new.told.has_refused c.tell_lookups.new.told.has_refused was half is
-    (told-join c.args.file.now.commands c.args.told.now.has_refused c.open_all.new.told.has_refused c.tell_runs.new.told.has_refused was opened half first runs)
-    (rw c.as_slice-commands.ensures at c.tell_lookups.ensures.told)
+pub returns-in-Err-serve-clause-served : goal.returns-in-Err-serve-clause-served
+returns-in-Err-serve-clause-served g c =
+    let file = c.args.file.now in
+    unserved c.in-Err-serve.fault (subst (RefusesMemory file.frames file.tenants file.options) (sym c.in-Err-serve.ensures.refused) c.requires.limits) refl c.in_ok-refuse.ensures.line
+
+pub returns-clause-served : goal.returns-clause-served
+returns-clause-served g c =
+    served-through c.tell_served.result c.args.file.now c.as_slice-commands.result.now c.args.plan.now.tenants.items c.deref_mut.result.now c.open_all.new.plans c.deref_mut-2.result.now
+    c.add_runs.new.plans c.serve.new.plan.tenants.items c.deref_mut-3.result.now _ _ c.args.plan.now.tenants.len
+    (g.W.Write.contents c.args.writer.now) (g.W.Write.contents c.tell_served.new.writer)
+    c.as_slice-commands.ensures c.requires.count c.requires.new c.deref_mut.ensures.value c.deref_mut.ensures.len
+    c.in_default.ensures.opened c.deref_mut-2.ensures.value
+    (of-no_err c.add_runs.result (sym c.is_err.ensures.value ∙ c.if-is_err.false) c.add_runs.ensures.planned)
+    c.in_default-serve.ensures.served c.deref_mut-3.ensures.value c.tell_served.ensures.told

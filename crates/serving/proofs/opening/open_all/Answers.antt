@@ -1,14 +1,32 @@
-use Rattle.std.proofs.Common.{refl}
-use Rattle.host_core.specs.declared.event.Reply.TheVariants.{Refused}
-use Rattle.serving.proofs.Tellings.{told-none, told-if-ok}
+use Rattle.std.proofs.Common.{arith}
+use Rattle.serving.proofs.Opened.{opened-else, opened-none, opened-upto, opened-whole, stopped-at}
 use Rattle.serving.proofs.opening.open_all.Goals as goal
 
-pub returns-in-Err-clause-told : goal.returns-in-Err-clause-told
-returns-in-Err-clause-told g c =
-    let was = g.W.Write.contents c.args.writer.now in
-    told-if-ok c.tell.result c.args.commands.now c.loop-number.number c.in-Apply.event 0 (Refused c.in-Err.fault) c.index-commands-number.result
-    c.args.told.now.has_refused c.args.told.now.has_refused c.tell.new.self.has_refused
-    was was (g.W.Write.contents c.tell.new.writer)
-    c.loop-number-test.true c.index-commands-number.is (rw c.in-Apply.is refl)
-    (told-none c.args.commands.now c.args.told.now.has_refused was)
-    (rw (c.loop-number.invariant.2) at c.tell.ensures.refused) (rw (c.loop-number.invariant.3) at c.tell.ensures.written)
+pub loop-number-init : goal.loop-number-init
+loop-number-init g c = record { idle = c.requires.host; own = c.requires.own; opened = opened-none c.args.plans.now }
+
+pub loop-number-preserved : goal.loop-number-preserved
+loop-number-preserved g c = record {
+  idle = c.apply.ensures.host;
+  own = c.apply.ensures.own;
+  opened = opened-upto c.args.commands.now c.loop-number.number c.index-commands-number.result _ _ _
+      c.loop-number-test.true c.index-commands-number.is c.loop-number.invariant.opened (rw c.in-Apply.is c.in_default-apply.ensures.opened);
+}
+
+pub loop-number-preserved-in_default : goal.loop-number-preserved-in_default
+loop-number-preserved-in_default g c = record {
+  idle = c.loop-number.invariant.idle;
+  own = c.loop-number.invariant.own;
+  opened = opened-upto c.args.commands.now c.loop-number.number c.index-commands-number.result _ _ _
+      c.loop-number-test.true c.index-commands-number.is c.loop-number.invariant.opened
+      (opened-else c.index-commands-number.result c.loop-number.plans c.in_default.not-Apply);
+}
+
+pub returns-in-Err-clause-stopped : goal.returns-in-Err-clause-stopped
+returns-in-Err-clause-stopped g c =
+    stopped-at c.args.commands.now c.loop-number.number c.index-commands-number.result c.in-Apply.event c.in-Err.fault c.args.plans.now c.loop-number.plans
+    c.loop-number-test.true c.index-commands-number.is c.in-Apply.is c.requires.new c.loop-number.invariant.opened c.in-Err.ensures.refused
+
+pub returns-clause-opened : goal.returns-clause-opened
+returns-clause-opened g c =
+    opened-whole c.args.commands.now c.loop-number.number c.args.plans.now c.loop-number.plans (omega (arith, c.loop-number-test.false)) c.loop-number.invariant.opened

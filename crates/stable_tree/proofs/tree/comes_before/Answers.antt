@@ -19,8 +19,8 @@ not_less Greater e = refl
 itself : (page : List ℕ) → false ≡ is_lt (order page page)
 itself page = not_less (order page page) (is_eq-slice_cmp page page ∙ (bytes_eq-Decides page page).1 refl)
 
-pub returns-else-a-b : goal.returns-else-a-b
-returns-else-a-b c =
+pub returns-else-a-b-clause-told : goal.returns-else-a-b-clause-told
+returns-else-a-b-clause-told c =
     let same : (c.args.a == c.args.b) ≡ true = let equal = c.if-a-b.false in grind (arith, nat_tests) in
-    ap not same ∙ itself (page_at c.args.arena.now c.args.a)
-    ∙ ap (λ (n : ℕ). is_lt (order (page_at c.args.arena.now c.args.a) (page_at c.args.arena.now n))) c.if-a-b.false
+    ap not same ∙ itself (page_at c.args.arena.now.pages c.args.a)
+    ∙ ap (λ (n : ℕ). is_lt (order (page_at c.args.arena.now.pages c.args.a) (page_at c.args.arena.now.pages n))) c.if-a-b.false

@@ -3,6 +3,7 @@ use Rattle.verifier.specs.Reserve.{reserve_from}
 use Rattle.interp.specs.declared.need.Need.{Need}
 use Rattle.interp.specs.StandsFor.{FollowsSteps}
 use Rattle.page_table.specs.State.{MemoryState, part}
+use Rattle.tenant_runs.proofs.Roomy.{asking_roomy}
 use Rattle.host_core.specs.Stretches.{IsUnderWayAt, HasAdvanced}
 use Rattle.host_core.proofs.Advances.{program_is, private_advanced, private_lowers, ended_advanced, asked_advanced, asked_at, asking_at}
 use Rattle.host_core.proofs.tenant.OpenRun.advance.Goals as goal
@@ -23,7 +24,7 @@ answer-requires c =
     let here = subst (λ p. IsUnderWayAt c.args.programs.now c.args.self.now p s (part c.args.memory.now c.args.number)) (sym same) under in
     let (n, follows, made) = c.advance.ensures.follows s here.stands in
     let asked = asked_at c.in-Some.program s n c.advance.result c.advance.new.self c.in_default-advance.not-Private c.in_default-advance.not-Ended follows in
-    record { asks = (asked.here, asking_at c.args.programs.now c.args.self.now c.in-Some.program s n c.advance.result c.advance.new.self (part c.args.memory.now c.args.number) here asked) }
+    record { asks = (asked.here, asking_roomy c.in-Some.program asked.here c.advance.result c.advance.new.self c.args.memory.now c.args.number (asking_at c.args.programs.now c.args.self.now c.in-Some.program s n c.advance.result c.advance.new.self (part c.args.memory.now c.args.number) here asked)) }
 
 pub returns-in-Private-clause-advanced : goal.returns-in-Private-clause-advanced
 returns-in-Private-clause-advanced c v s under =
@@ -62,7 +63,7 @@ returns-in_default-advance c = record {
       subst (λ p. HasAdvanced p s c.args.number c.args.limit c.args.self.now.run c.args.memory.now None c.answer.new.run c.answer.new.memory) same
       (asked_advanced c.args.programs.now c.args.self.now c.in-Some.program s c.args.number c.args.limit c.lesser.result c.advance.result c.advance.new.self c.answer.new.run c.args.memory.now c.answer.new.memory
       here many c.in_default-advance.not-Private c.in_default-advance.not-Ended (c.advance.ensures.follows s here.stands) c.advance.ensures.limit
-      c.answer.ensures.goes_on c.answer.ensures.reserve c.answer.ensures.steps c.answer.ensures.sharing);
+      (λ at asking. c.answer.ensures.goes_on at (asking_roomy c.in-Some.program at c.advance.result c.advance.new.self c.args.memory.now c.args.number asking)) c.answer.ensures.reserve c.answer.ensures.steps c.answer.ensures.sharing);
   others = c.answer.ensures.others;
   sizes = c.answer.ensures.sizes;
 }

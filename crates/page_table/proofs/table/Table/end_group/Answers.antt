@@ -1,4 +1,5 @@
 use Rattle.std.proofs.Common.{◌≡◌, ◌+◌, Some, ap, arith}
+use Rattle.frame_arena.specs.Counted.{CountedPages}
 use Rattle.page_table.specs.Table.{TableState, GroupsState, entry_at, pages_on, one_if_zero}
 use Rattle.page_table.proofs.Ending.{but, one_group, contents-ended, sharing-ended, used-ended, sound-ended}
 use Rattle.page_table.proofs.Entries.{frames-kept, kept-shared}
@@ -24,7 +25,7 @@ invariant_of-self c = (
       c.self.inside.counts c.broken.ensures.protected c.self.invariant.0.counted),
   rw c.remove.ensures c.self.invariant.1,
   rw (left c)
-      (tree-removed c.self.inside.arena c.self.inside.groups.listed c.self.inside.tree c.remove-2.new.self c.args.entry.frame c.self.invariant.2 c.remove-2.ensures.sorted c.remove-2.ensures.room c.remove-2.ensures.removed),
+      (tree-removed c.self.inside.arena c.self.inside.groups.listed c.self.inside.tree c.remove-2.new.self c.args.entry.frame c.self.invariant.2 (rw (ap (λ (counted : CountedPages). counted.pages) c.new.ensures) at c.remove-2.ensures.sorted) c.remove-2.ensures.room c.remove-2.ensures.removed),
 )
 
 pub returns-clause-contents : goal.returns-clause-contents

@@ -1,6 +1,7 @@
 use Rattle.std.proofs.Common.{◌∙◌, ℕ, nat_lt, List, [], find, slice_index_or, ap}
 use Rattle.frame_arena.specs.Pages.{page_at}
 use Rattle.stable_tree.specs.Groups.{groups_at}
+use Rattle.frame_arena.specs.Counted.{CountedPages}
 use Rattle.page_table.specs.Table.{TableState}
 use Rattle.page_table.proofs.Trees.{found-open}
 use Rattle.page_table.proofs.table.Table.open_group.Goals as goal
@@ -10,7 +11,7 @@ returns-in_err-spot c =
     let table : TableState = record { arena = c.self.inside.arena; entries = c.self.inside.entries; groups = c.self.inside.groups.listed } in
     rw (← c.self.view_is)
     (c.from_residual.ensures
-    ∙ found-open table c.self.inside.counts c.self.inside.tree c.self.invariant.0 c.self.invariant.2 (page_at c.self.inside.arena c.args.frame) c.args.limit [] c.in_err-spot.ensures.found)
+    ∙ found-open table c.self.inside.counts c.self.inside.tree c.self.invariant.0 c.self.invariant.2 (page_at c.self.inside.arena c.args.frame) c.args.limit [] (rw (ap (λ (counted : CountedPages). counted.pages) c.new.ensures) at c.in_err-spot.ensures.found))
 
 pub returns : goal.returns
 returns c =
@@ -18,4 +19,4 @@ returns c =
     rw (← c.self.view_is)
     (c.first_open.ensures
     ∙ ap (λ (counts : List ℕ). find (λ f. nat_lt (slice_index_or counts f 0) c.args.limit) (groups_at c.self.inside.tree c.in_ok-spot.spot)) c.all.ensures
-    ∙ found-open table c.self.inside.counts c.self.inside.tree c.self.invariant.0 c.self.invariant.2 (page_at c.self.inside.arena c.args.frame) c.args.limit (groups_at c.self.inside.tree c.in_ok-spot.spot) c.in_ok-spot.ensures.found)
+    ∙ found-open table c.self.inside.counts c.self.inside.tree c.self.invariant.0 c.self.invariant.2 (page_at c.self.inside.arena c.args.frame) c.args.limit (groups_at c.self.inside.tree c.in_ok-spot.spot) (rw (ap (λ (counted : CountedPages). counted.pages) c.new.ensures) at c.in_ok-spot.ensures.found))

@@ -1,5 +1,6 @@
 use Rattle.std.proofs.Common.{◌≡◌, ◌∙◌, ◌∷◌, ◌++◌, [], false, ℕ, slice_set, Option, Some, None, IfSome, sym, ap, subst, ◌<◌, length, arith}
 use Rattle.host_types.specs.Sharing.{is_shared}
+use Rattle.frame_arena.specs.Counted.{CountedPages}
 use Rattle.page_table.specs.declared.entry.Entry.{Entry}
 use Rattle.page_table.specs.Table.{TableState, GroupsState, IsAlone, IsOwnAt, entry_at}
 use Rattle.page_table.proofs.Pairing.{IsPairing, IsGroupEntry, pairing-from, contents-pair, used-pair, sound-pair, sharing-pair}
@@ -69,7 +70,7 @@ invariant_of-self c = (
       c.self.inside.counts c.share.new.self c.release.new.self c.self.invariant.0.counted c.share.ensures.counts c.share.ensures.unused c.release.ensures.counts c.release.ensures.unused),
   rw c.push.ensures c.self.invariant.1,
   rw (pushed c, c.merged.ensures.frame)
-      (tree-pushed c.self.inside.arena c.self.inside.groups.listed c.self.inside.tree c.insert.new.self c.page-one.result.frame c.self.invariant.2 c.insert.ensures.sorted c.insert.ensures.room c.insert.ensures.inserted),
+      (tree-pushed c.self.inside.arena c.self.inside.groups.listed c.self.inside.tree c.insert.new.self c.page-one.result.frame c.self.invariant.2 (rw (ap (λ (counted : CountedPages). counted.pages) c.new.ensures) at c.insert.ensures.sorted) c.insert.ensures.room (rw (ap (λ (counted : CountedPages). counted.pages) c.new.ensures) at c.insert.ensures.inserted)),
 )
 
 pub returns-clause-contents : goal.returns-clause-contents

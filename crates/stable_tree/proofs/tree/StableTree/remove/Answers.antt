@@ -7,6 +7,7 @@ use Rattle.frame_arena.specs.Pages.{page_at}
 use Rattle.stable_tree.specs.Groups.{Groups, IsSorted, has}
 use Rattle.stable_tree.proofs.Sorting.{filter-there, filter-not_there, cut-there}
 use Rattle.stable_tree.proofs.Removing.{absent, has-itself, filter-absent, shortened, taken_out, sorted-shortened, sorted-taken_out}
+use Rattle.stable_tree.proofs.Digits.{looked-twice}
 use Rattle.stable_tree.proofs.tree.StableTree.remove.Goals as goal
 
 -- a frame that isn't among those of its content is nowhere
@@ -46,41 +47,53 @@ only-sorted arena old new f k sorted there one e =
 
 pub returns-then-not-is_there-clause-removed : goal.returns-then-not-is_there-clause-removed
 returns-then-not-is_there-clause-removed c =
-    let missing = filter-not_there c.args.arena.now (page_at c.args.arena.now c.args.frame) c.args.self.now.chains c.lower_bound-chain.result c.requires.sorted c.lower_bound-chain.ensures (sym c.is_there.ensures ∙ c.if-not-is_there.true) in
-    nowhere c.args.arena.now c.args.self.now.chains c.args.frame (rw missing (All-nil (λ g. g ≢ c.args.frame)))
+    let missing = filter-not_there c.args.arena.now.pages (page_at c.args.arena.now.pages c.args.frame) c.args.self.now.chains c.lower_bound-chain.result c.requires.sorted c.lower_bound-chain.ensures.place (sym (rw c.lower_bound-chain.ensures.pages at c.is_there.ensures.told) ∙ c.if-not-is_there.true) in
+    nowhere c.args.arena.now.pages c.args.self.now.chains c.args.frame (rw missing (All-nil (λ g. g ≢ c.args.frame)))
 
 pub returns-in_default-clause-removed : goal.returns-in_default-clause-removed
 returns-in_default-clause-removed c =
-    let found = filter-there c.args.arena.now (page_at c.args.arena.now c.args.frame) c.args.self.now.chains c.lower_bound-chain.result c.requires.sorted c.lower_bound-chain.ensures (sym c.is_there.ensures ∙ c.if-not-is_there.false) in
+    let found = filter-there c.args.arena.now.pages (page_at c.args.arena.now.pages c.args.frame) c.args.self.now.chains c.lower_bound-chain.result c.requires.sorted c.lower_bound-chain.ensures.place (sym (rw c.lower_bound-chain.ensures.pages at c.is_there.ensures.told) ∙ c.if-not-is_there.false) in
     let others : All (λ g. g ≢ c.args.frame) c.chain.result.now = c.in_default.ensures in
-    nowhere c.args.arena.now c.args.self.now.chains c.args.frame (rw (found, ← c.chain.ensures) others)
+    nowhere c.args.arena.now.pages c.args.self.now.chains c.args.frame (rw (found, ← c.chain.ensures) others)
 
 pub returns-then-size-eq1-clause-removed : goal.returns-then-size-eq1-clause-removed
 returns-then-size-eq1-clause-removed c =
-    let there = cut-there c.args.arena.now (page_at c.args.arena.now c.args.frame) c.args.self.now.chains c.lower_bound-chain.result (sym c.is_there.ensures ∙ c.if-not-is_there.false) in
-    let found = filter-there c.args.arena.now (page_at c.args.arena.now c.args.frame) c.args.self.now.chains c.lower_bound-chain.result c.requires.sorted c.lower_bound-chain.ensures (sym c.is_there.ensures ∙ c.if-not-is_there.false) in
+    let there = cut-there c.args.arena.now.pages (page_at c.args.arena.now.pages c.args.frame) c.args.self.now.chains c.lower_bound-chain.result (sym (rw c.lower_bound-chain.ensures.pages at c.is_there.ensures.told) ∙ c.if-not-is_there.false) in
+    let found = filter-there c.args.arena.now.pages (page_at c.args.arena.now.pages c.args.frame) c.args.self.now.chains c.lower_bound-chain.result c.requires.sorted c.lower_bound-chain.ensures.place (sym (rw c.lower_bound-chain.ensures.pages at c.is_there.ensures.told) ∙ c.if-not-is_there.false) in
     let one : length (slice_index_or c.args.self.now.chains c.lower_bound-chain.result []) ≡ 1 = sym c.size.ensures ∙ c.if-size-eq1.true in
-    only-removed c.args.arena.now c.args.self.now c.take_out_only.new.self c.args.frame c.lower_bound-chain.result c.requires.sorted there one found c.take_out_only.ensures
+    only-removed c.args.arena.now.pages c.args.self.now c.take_out_only.new.self c.args.frame c.lower_bound-chain.result c.requires.sorted there one found c.take_out_only.ensures
 
 pub returns-then-size-eq1-clause-sorted : goal.returns-then-size-eq1-clause-sorted
 returns-then-size-eq1-clause-sorted c =
-    let there = cut-there c.args.arena.now (page_at c.args.arena.now c.args.frame) c.args.self.now.chains c.lower_bound-chain.result (sym c.is_there.ensures ∙ c.if-not-is_there.false) in
+    let there = cut-there c.args.arena.now.pages (page_at c.args.arena.now.pages c.args.frame) c.args.self.now.chains c.lower_bound-chain.result (sym (rw c.lower_bound-chain.ensures.pages at c.is_there.ensures.told) ∙ c.if-not-is_there.false) in
     let one : length (slice_index_or c.args.self.now.chains c.lower_bound-chain.result []) ≡ 1 = sym c.size.ensures ∙ c.if-size-eq1.true in
-    only-sorted c.args.arena.now c.args.self.now c.take_out_only.new.self c.args.frame c.lower_bound-chain.result c.requires.sorted there one c.take_out_only.ensures
+    only-sorted c.args.arena.now.pages c.args.self.now c.take_out_only.new.self c.args.frame c.lower_bound-chain.result c.requires.sorted there one c.take_out_only.ensures
 
 pub returns-clause-removed : goal.returns-clause-removed
 returns-clause-removed c =
-    let there = cut-there c.args.arena.now (page_at c.args.arena.now c.args.frame) c.args.self.now.chains c.lower_bound-chain.result (sym c.is_there.ensures ∙ c.if-not-is_there.false) in
+    let there = cut-there c.args.arena.now.pages (page_at c.args.arena.now.pages c.args.frame) c.args.self.now.chains c.lower_bound-chain.result (sym (rw c.lower_bound-chain.ensures.pages at c.is_there.ensures.told) ∙ c.if-not-is_there.false) in
     let at = c.in-Some.ensures in
     let place : c.in-Some.place < length (slice_index_or c.args.self.now.chains c.lower_bound-chain.result []) = rw (← c.chain.ensures) at.0 in
     let is : slice_index_or (slice_index_or c.args.self.now.chains c.lower_bound-chain.result []) c.in-Some.place 0 ≡ c.args.frame = rw (← c.chain.ensures) at.1 in
-    rw c.shorten.ensures (shortened c.args.arena.now c.args.self.now.chains c.args.frame c.lower_bound-chain.result c.in-Some.place c.requires.sorted there place is)
+    rw c.shorten.ensures (shortened c.args.arena.now.pages c.args.self.now.chains c.args.frame c.lower_bound-chain.result c.in-Some.place c.requires.sorted there place is)
 
 pub returns-clause-sorted : goal.returns-clause-sorted
 returns-clause-sorted c =
-    let there = cut-there c.args.arena.now (page_at c.args.arena.now c.args.frame) c.args.self.now.chains c.lower_bound-chain.result (sym c.is_there.ensures ∙ c.if-not-is_there.false) in
+    let there = cut-there c.args.arena.now.pages (page_at c.args.arena.now.pages c.args.frame) c.args.self.now.chains c.lower_bound-chain.result (sym (rw c.lower_bound-chain.ensures.pages at c.is_there.ensures.told) ∙ c.if-not-is_there.false) in
     let at = c.in-Some.ensures in
     let place : c.in-Some.place < length (slice_index_or c.args.self.now.chains c.lower_bound-chain.result []) = rw (← c.chain.ensures) at.0 in
     let is : slice_index_or (slice_index_or c.args.self.now.chains c.lower_bound-chain.result []) c.in-Some.place 0 ≡ c.args.frame = rw (← c.chain.ensures) at.1 in
     let more = c.if-size-eq1.false in
-    rw c.shorten.ensures (sorted-shortened c.args.arena.now c.args.self.now.chains c.args.frame c.lower_bound-chain.result c.in-Some.place c.requires.sorted there place is (omega (arith, place, c.size.ensures, more)))
+    rw c.shorten.ensures (sorted-shortened c.args.arena.now.pages c.args.self.now.chains c.args.frame c.lower_bound-chain.result c.in-Some.place c.requires.sorted there place is (omega (arith, place, c.size.ensures, more)))
+
+pub returns-then-not-is_there-clause-few : goal.returns-then-not-is_there-clause-few
+returns-then-not-is_there-clause-few c = looked-twice (length c.args.self.now.chains) c.lower_bound-chain.result c.args.arena.now.steps c.lower_bound-chain.new.arena.steps c.is_there.new.arena.steps c.lower_bound-chain.ensures.few c.is_there.ensures.few c.is_there.ensures.none c.lower_bound-chain.ensures.place.inside
+
+pub returns-then-size-eq1-clause-few : goal.returns-then-size-eq1-clause-few
+returns-then-size-eq1-clause-few c = looked-twice (length c.args.self.now.chains) c.lower_bound-chain.result c.args.arena.now.steps c.lower_bound-chain.new.arena.steps c.is_there.new.arena.steps c.lower_bound-chain.ensures.few c.is_there.ensures.few c.is_there.ensures.none c.lower_bound-chain.ensures.place.inside
+
+pub returns-in_default-clause-few : goal.returns-in_default-clause-few
+returns-in_default-clause-few c = looked-twice (length c.args.self.now.chains) c.lower_bound-chain.result c.args.arena.now.steps c.lower_bound-chain.new.arena.steps c.is_there.new.arena.steps c.lower_bound-chain.ensures.few c.is_there.ensures.few c.is_there.ensures.none c.lower_bound-chain.ensures.place.inside
+
+pub returns-clause-few : goal.returns-clause-few
+returns-clause-few c = looked-twice (length c.args.self.now.chains) c.lower_bound-chain.result c.args.arena.now.steps c.lower_bound-chain.new.arena.steps c.is_there.new.arena.steps c.lower_bound-chain.ensures.few c.is_there.ensures.few c.is_there.ensures.none c.lower_bound-chain.ensures.place.inside

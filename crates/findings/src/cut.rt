@@ -1,0 +1,52 @@
+use crate::Judged;
+use bpf_decode::decode;
+use host_types::limits::MAX_MAPS;
+use std::alloc::{AllocError, Global};
+use verifier::{Verified, is_context_size, verify};
+
+/// `r0 = 0`.
+pub const CLEAR: [u8; 8] = [0xb7, 0, 0, 0, 0, 0, 0, 0];
+
+const EXIT: [u8; 8] = [0x95, 0, 0, 0, 0, 0, 0, 0];
+
+/// A refused text, of which all that stands before the refused slot breaks no rule.
+#[derive(Clone, Copy, Debug)]
+pub struct Cut<'a> {
+    pub alloc: Global,
+    pub judged: Judged<'a>,
+    pub slot: usize,
+}
+
+impl<'a> Cut<'a> {
+    /// The text with another instruction at the slot, where that is accepted. What was known at the slot is known
+    /// of it too.
+    pub fn with(&self, there: [u8; 8]) -> Option<Verified> {
+        let shapes = self.judged.shapes;
+        let context_size = self.judged.context_size;
+        if shapes.len() > MAX_MAPS
+            || !shapes.iter().all(|shape| shape.is_valid())
+            || !is_context_size(context_size)
+        {
+            return None;
+        }
+        let text = self.text(there).ok()?;
+        let program = decode(self.alloc, text.as_slice()).ok()?;
+        verify(self.alloc, program, shapes, context_size).ok()
+    }
+
+    /// The slots before the refused one, this instruction, and behind it as many as there were that break no rule,
+    /// so that each jump finds its target.
+    fn text(&self, there: [u8; 8]) -> Result<Vec<u8>, AllocError> {
+        let mut text = Vec::new(self.alloc);
+        let before = self.judged.text.chunks(8).take(self.slot);
+        for slot in before {
+            text.extend_from_slice(slot)?;
+        }
+        text.extend_from_slice(&there)?;
+        for _ in self.slot..self.judged.text.len() / 8 {
+            text.extend_from_slice(&CLEAR)?;
+        }
+        text.extend_from_slice(&EXIT)?;
+        Ok(text)
+    }
+}

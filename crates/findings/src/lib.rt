@@ -1,0 +1,81 @@
+//! What the verifier knew where it refuses a text: of the registers that the refused instruction reads, and which
+//! bytes a helper would read that weren't stored. For words alone: no answer depends on it.
+#![tactic(auto)]
+
+mod access;
+mod cut;
+mod known;
+mod limit;
+mod operands;
+mod place;
+mod unset;
+
+use bpf_decode::{FRAME_POINTER, Insn};
+use cut::Cut;
+use host_types::rule::{NULL_NOT_CHECKED, POINTER_LEAKS, UNSET_REGISTER};
+use host_types::{Refused, Shape};
+use known::Known;
+use limit::Limit;
+use operands::registers_read;
+use place::Place;
+use std::alloc::Global;
+use std::io;
+use std::io::Write;
+use unset::write_unset_bytes;
+
+/// What a text was judged for: maps of these shapes, by number, and a context of so many bytes.
+#[derive(Clone, Copy, Debug)]
+pub struct Judged<'a> {
+    pub text: &'a [u8],
+    pub shapes: &'a [Shape],
+    pub context_size: u32,
+}
+
+/// Writes what was known at the slot of a refusal, each finding behind a `; `. Of a refusal that goes by no
+/// register, and where there is no memory, nothing is written.
+pub fn write_findings<W: Write>(
+    alloc: Global,
+    words: &mut W,
+    judged: &Judged<'_>,
+    refused: Refused,
+) -> io::Result<()> {
+    let is_of_values = UNSET_REGISTER <= refused.number && refused.number <= NULL_NOT_CHECKED;
+    if !is_of_values && refused.number != POINTER_LEAKS {
+        return Ok(());
+    }
+    let slot = refused.slot as usize;
+    let Some(insn) = Insn::at(judged.text, slot) else {
+        return Ok(());
+    };
+    let cut = Cut {
+        alloc,
+        judged: *judged,
+        slot,
+    };
+    let Some(verified) = cut.with(cut::CLEAR) else {
+        return Ok(());
+    };
+    let place = Place {
+        judged: *judged,
+        refused,
+        insn,
+        verified: &verified,
+    };
+    for register in registers_read(&insn) {
+        // R10 is what it always is, and numbers above are no register's.
+        if register < FRAME_POINTER {
+            write_known(words, &place, register)?;
+        }
+    }
+    write_unset_bytes(words, &cut, &place)
+}
+
+/// Writes what was known of a register, and what may stand there.
+fn write_known<W: Write>(words: &mut W, place: &Place<'_>, register: u8) -> io::Result<()> {
+    let kind = place.kind(register);
+    write!(words, "; {}", Known { register, kind })?;
+    match kind.and_then(|kind| Limit::of(place, register, kind)) {
+        Some(limit) => write!(words, "{limit}"),
+        None => Ok(()),
+    }
+}

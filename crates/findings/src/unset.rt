@@ -1,0 +1,71 @@
+use crate::cut::Cut;
+use crate::place::Place;
+use bpf_decode::Operation;
+use host_types::MapHelper;
+use host_types::rule::UNSET_STACK;
+use std::io;
+use std::io::Write;
+use verifier_kinds::Kind;
+
+/// Writes which bytes of the stack a refused helper would read that weren't stored.
+pub fn write_unset_bytes<W: Write>(
+    words: &mut W,
+    cut: &Cut<'_>,
+    place: &Place<'_>,
+) -> io::Result<()> {
+    let Some(Operation::Call) = Operation::of(place.insn.opcode) else {
+        return Ok(());
+    };
+    if place.refused.number != UNSET_STACK {
+        return Ok(());
+    }
+    write_unset_of(words, cut, "the key", place.kind(2), 4)?;
+    match (
+        MapHelper::of(place.insn.immediate()),
+        place.named_value_size(),
+    ) {
+        (Some(MapHelper::Update), Some(size)) => {
+            write_unset_of(words, cut, "the value", place.kind(3), size)
+        }
+        _ => Ok(()),
+    }
+}
+
+/// Writes which of so many bytes from an address of the stack on weren't stored: the first, and up to which
+/// none is.
+fn write_unset_of<W: Write>(
+    words: &mut W,
+    cut: &Cut<'_>,
+    what: &str,
+    kind: Option<Kind>,
+    bytes: u32,
+) -> io::Result<()> {
+    let Some(Kind::Stack(from)) = kind else {
+        return Ok(());
+    };
+    let Some(first) = (0..bytes).find(|byte| !is_stored(cut, from, *byte)) else {
+        return Ok(());
+    };
+    let last = (first..bytes)
+        .take_while(|byte| !is_stored(cut, from, *byte))
+        .last();
+    match last {
+        Some(last) if first < last => write!(
+            words,
+            "; bytes {first} to {last} of {what} aren't stored"
+        ),
+        _ => write!(words, "; byte {first} of {what} isn't stored"),
+    }
+}
+
+/// Whether a byte of the stack, that many above an address, is known to be stored: a program that loads it is
+/// accepted.
+fn is_stored(cut: &Cut<'_>, from: i32, byte: u32) -> bool {
+    let place = i64::from(from) + i64::from(byte);
+    let Ok(offset) = i16::try_from(place) else {
+        return false;
+    };
+    let [low, high] = offset.to_le_bytes();
+    // `r0 = *(u8 *)(r10 + offset)`
+    cut.with([0x71, 0xa0, low, high, 0, 0, 0, 0]).is_some()
+}

@@ -1,0 +1,177 @@
+-- What is opened, one command after the other.
+use Rattle.std.proofs.Common.{◌≡◌, ◌≢◌, ◌⊎◌, inl, inr, ◌∙◌, ◌<◌, ◌≤◌, ◌+◌, ℕ, zero, suc, List, [], ◌∷◌, ◌++◌, length, get_or, take, drop, map, All, ap, refl, subst, subst₂, sym, Some, None, Result, Ok, Err, IfErr, unwrap_or, arith}
+use Rattle.std.specs.Prelude.{IfSome, slice_get}
+use Rattle.std.proofs.Math.ListN.{set}
+use Rattle.std.proofs.lemmas.List.{get_or-set_other, length-map, length-set, take_all, take_more}
+use Rattle.std.proofs.lemmas.Grind.{get_or-set_at}
+use Rattle.std.proofs.lemmas.Bool.Decides.{eqb_tells}
+use Rattle.std.proofs.lemmas.List.Elements.{All-push}
+use Rattle.host_types.specs.declared.fault.Fault.{Fault}
+use Rattle.host_types.specs.declared.fault.Fault.TheVariants.{BadTenant}
+use Rattle.host_types.specs.declared.options.Opt.{Opt}
+use Rattle.host_types.specs.Sharing.{Sharing}
+use Rattle.host_types.specs.Unmerging.{RefusesSet}
+use Rattle.host_types.specs.Tenant.{TenantPart}
+use Rattle.verifier.specs.Verified.{Accepted}
+use Rattle.turn.specs.Seats.{own_part}
+use Rattle.tenant_workers.specs.declared.plans.TenantPlan.{TenantPlan}
+use Rattle.host_core.specs.declared.event.Event.{Event}
+use Rattle.host_core.specs.declared.event.Event.TheVariants.{Set}
+use Rattle.host_core.specs.HostView.{tenant_of}
+use Rattle.host_file.specs.declared.command.Command.TheVariants.{Apply, Finish, Run, Step, Visit}
+use Rattle.host_file.specs.declared.command.Command.{Command}
+use Rattle.serving.specs.AtFirst.{first_part}
+use Rattle.serving.specs.Opened.{AreOpenedFor, HaveOpened, Home, IsGiven, IsNewPlan, IsOpenedFor, IsStopped, RefusesGift, RefusesOpening, first_home, home_of}
+use Rattle.serving.proofs.Places.{at-mapped, each-at, past-mapped, split-at}
+
+-- one more command
+opened-more : (t : ℕ) (commands : List Command) (command : Command) (old half new : Home) → AreOpenedFor t commands old half → IsOpenedFor t command half new
+    → AreOpenedFor t (commands ++ command ∷ []) old new
+opened-more t [] command old half new first one = (new, subst (λ home. IsOpenedFor t command home new) first one, refl)
+opened-more t (c ∷ commands) command old half new (between, here, rest) one = (between, here, opened-more t commands command between half new rest one)
+
+-- a place that is there needs no default
+within-any : {X : Type 0} (xs : List X) (place : ℕ) (a b : X) → place < length xs → get_or xs place a ≡ get_or xs place b
+within-any [] place a b within = absurd (omega (arith, within))
+within-any (x ∷ xs) zero a b within = refl
+within-any (x ∷ xs) (suc place) a b within = within-any xs place a b (omega (arith, within))
+
+-- what an event does for the tenant at a place, and for the others
+opened-one : (event : Event) (plans : List TenantPlan) (place : ℕ) (old plan : TenantPlan) (t : ℕ) (other : TenantPlan) → place < length plans → tenant_of event ≡ Some place
+    → IsGiven event (home_of (get_or plans place old)) (home_of plan) → ((t ≡ place) ⊎ (t ≢ place))
+    → IsOpenedFor t (Apply event) (home_of (get_or plans t other)) (home_of (get_or (set plans place plan) t other))
+opened-one event plans place old plan t other within named given (inl same) =
+    let was = ap home_of (within-any plans place old other within ∙ ap (λ i. get_or plans i other) (sym same)) in
+    let is = ap home_of (sym (get_or-set_at plans place t plan other same within)) in
+    ((λ names. subst₂ (IsGiven event) was is given), (λ others. absurd (others (named ∙ ap (λ i. Some i) (sym same)))))
+opened-one event plans place old plan t other within named given (inr differs) =
+    ((λ names. absurd (differs (ap (λ o. unwrap_or o 0) (sym names ∙ named)))), (λ others. ap home_of (get_or-set_other plans place t plan other differs)))
+
+runs-one : (plans : List TenantPlan) (place : ℕ) (old plan : TenantPlan) (t : ℕ) (other : TenantPlan) → place < length plans
+    → plan.runs.items ≡ (get_or plans place old).runs.items → ((t ≡ place) ⊎ (t ≢ place)) → (get_or (set plans place plan) t other).runs.items ≡ (get_or plans t other).runs.items
+runs-one plans place old plan t other within kept (inl same) =
+    ap (λ p. p.runs.items) (get_or-set_at plans place t plan other same within) ∙ kept
+    ∙ ap (λ p. p.runs.items) (within-any plans place old other within ∙ ap (λ i. get_or plans i other) (sym same))
+runs-one plans place old plan t other within kept (inr differs) = ap (λ p. p.runs.items) (get_or-set_other plans place t plan other differs)
+
+chosen : {A B C D : Type 0} → (A × C) ⊎ (B × D) → C ⊎ D
+chosen (inl both) = inl both.1
+chosen (inr both) = inr both.1
+
+same-or-other : (t place : ℕ) → (t ≡ place) ⊎ (t ≢ place)
+same-or-other t place = chosen (eqb_tells t place)
+
+none-some : (t : ℕ) → None ≡ Some t → ⊥
+none-some t same = absurd (omega (arith, ap (λ o. unwrap_or o (suc t)) same))
+
+-- an event was done for its tenant
+pub opened_given : (event : Event) (plans : List TenantPlan) (place : ℕ) (old plan : TenantPlan) → place < length plans → tenant_of event ≡ Some place
+    → plan.runs.items ≡ (get_or plans place old).runs.items → IsGiven event (home_of (get_or plans place old)) (home_of plan)
+    → HaveOpened (Apply event ∷ []) plans (set plans place plan)
+opened_given event plans place old plan within named kept given = record {
+  as_many = length-set plans place plan;
+  homes = λ t other there. (home_of (get_or (set plans place plan) t other), opened-one event plans place old plan t other within named given (same-or-other t place), refl);
+  runs = λ t other there. runs-one plans place old plan t other within kept (same-or-other t place);
+}
+
+-- an event that names no tenant
+pub opened_nobody : (event : Event) (plans : List TenantPlan) → tenant_of event ≡ None → HaveOpened (Apply event ∷ []) plans plans
+opened_nobody event plans nobody = record {
+  as_many = refl;
+  homes = λ t other there. (home_of (get_or plans t other), ((λ names. absurd (none-some t (sym nobody ∙ names))), (λ others. refl)), refl);
+  runs = λ t other there. refl;
+}
+
+-- no command
+pub opened-none : (plans : List TenantPlan) → HaveOpened [] plans plans
+opened-none plans = record { as_many = refl; homes = λ t plan there. refl; runs = λ t plan there. refl }
+
+-- commands, and one behind them
+pub opened-next : (commands : List Command) (command : Command) (old half new : List TenantPlan) → HaveOpened commands old half → HaveOpened (command ∷ []) half new
+    → HaveOpened (commands ++ command ∷ []) old new
+opened-next commands command old half new first one = record {
+  as_many = one.as_many ∙ first.as_many;
+  homes = λ t plan there.
+      let (between, given, same) = one.homes t plan (omega (arith, there, first.as_many)) in
+      opened-more t commands command (home_of (get_or old t plan)) (home_of (get_or half t plan)) (home_of (get_or new t plan)) (first.homes t plan there)
+      (subst (IsOpenedFor t command (home_of (get_or half t plan))) (sym same) given);
+  runs = λ t plan there. one.runs t plan (omega (arith, there, first.as_many)) ∙ first.runs t plan there;
+}
+
+-- a command that gives nobody anything
+pub opened-nothing : (command : Command) (plans : List TenantPlan) → ((t : ℕ) (home : Home) → IsOpenedFor t command home home) → HaveOpened (command ∷ []) plans plans
+opened-nothing command plans none = record {
+  as_many = refl;
+  homes = λ t plan there. (home_of (get_or plans t plan), none t (home_of (get_or plans t plan)), refl);
+  runs = λ t plan there. refl;
+}
+
+-- one more of the commands
+pub opened-upto : (commands : List Command) (place : ℕ) (command : Command) (old half new : List TenantPlan) → place < length commands → command ≡ get_or commands place command
+    → HaveOpened (take place commands) old half → HaveOpened (command ∷ []) half new → HaveOpened (take (place + 1) commands) old new
+opened-upto commands place command old half new within is first one =
+    subst (λ front. HaveOpened front old new) (ap (λ c. take place commands ++ c ∷ []) is ∙ sym (take_more commands place command within))
+    (opened-next (take place commands) command old half new first one)
+
+abbrev home-by : TenantPart → List Accepted → Home
+home-by owned programs = record { part = owned; programs = programs }
+
+-- what a new plan's tenant has
+pub new-home : (plan : TenantPlan) → IsNewPlan plan → home_of plan ≡ first_home
+new-home plan new = ap (λ owned. home-by owned plan.programs.items) new.part ∙ ap (home-by first_part) new.programs
+
+-- what each tenant has when commands were opened, from nothing
+pub opened-homes : (commands : List Command) (old new : List TenantPlan) → All IsNewPlan old → HaveOpened commands old new
+    → (t : ℕ) → IfSome (slice_get (map home_of new) t) (AreOpenedFor t commands first_home)
+opened-homes commands old new fresh opened =
+    each-at home_of (λ t. AreOpenedFor t commands first_home) new (λ t plan there.
+    let was : t < length old = omega (arith, there, opened.as_many) in
+    subst (λ home. AreOpenedFor t commands home (home_of (get_or new t plan))) (new-home (get_or old t plan) (fresh t plan was)) (opened.homes t plan was))
+
+-- the command at a place was refused
+pub stopped-at : (commands : List Command) (place : ℕ) (command : Command) (event : Event) (fault : Fault) (old half : List TenantPlan)
+    → place < length commands → command ≡ get_or commands place command → command ≡ Apply event → All IsNewPlan old
+    → HaveOpened (take place commands) old half → RefusesOpening (map home_of half) event fault → IsStopped (length old) commands event fault
+stopped-at commands place command event fault old half within is names fresh opened refuses = record {
+  front = take place commands;
+  rest = drop (place + 1) commands;
+  stands = split-at commands place command within ∙ ap (λ c. take place commands ++ c ∷ drop (place + 1) commands) (sym is ∙ names);
+  homes = map home_of half;
+  as_many = length-map half home_of ∙ opened.as_many;
+  opened = opened-homes (take place commands) old half fresh opened;
+  refused = refuses;
+}
+
+-- why an option isn't set
+pub refused_set : {A : Type 0} (result : Result A Fault) (homes : List Home) (opt : Opt) (value : ℕ) (sharing : Sharing) → IfErr result (RefusesSet sharing opt value)
+    → IfErr result (RefusesOpening homes (Set opt value))
+refused_set (Ok a) homes opt value sharing refuses = tt
+refused_set (Err fault) homes opt value sharing refuses = (sharing, refuses)
+
+-- why an event isn't done for its tenant
+pub refused_gift : {A : Type 0} (result : Result A Fault) (event : Event) (plans : List TenantPlan) (place : ℕ) (plan : TenantPlan) → place < length plans → tenant_of event ≡ Some place
+    → IfErr result (RefusesGift event (home_of (get_or plans place plan))) → IfErr result (RefusesOpening (map home_of plans) event)
+refused_gift (Ok a) event plans place plan within named refuses = tt
+refused_gift (Err fault) event plans place plan within named refuses = rw (named, at-mapped home_of plans place plan within) refuses
+
+-- there is no such tenant
+pub refused_nobody : (event : Event) (plans : List TenantPlan) (place : ℕ) → length plans ≤ place → tenant_of event ≡ Some place → RefusesOpening (map home_of plans) event BadTenant
+refused_nobody event plans place past named = rw (named, past-mapped home_of plans place past) refl
+
+-- all of the commands
+pub opened-whole : (commands : List Command) (place : ℕ) (old new : List TenantPlan) → length commands ≤ place → HaveOpened (take place commands) old new → HaveOpened commands old new
+opened-whole commands place old new past opened = subst (λ front. HaveOpened front old new) (take_all place commands past) opened
+
+-- a command that applies no event
+pub opened-else : (command : Command) (plans : List TenantPlan) → ((event : Event) → command ≡ Apply event → ⊥) → HaveOpened (command ∷ []) plans plans
+opened-else (Apply event) plans differs = absurd (differs event refl)
+opened-else (Step tenant count) plans differs = opened-nothing (Step tenant count) plans (λ t home. refl)
+opened-else (Finish tenant) plans differs = opened-nothing (Finish tenant) plans (λ t home. refl)
+opened-else (Run event) plans differs = opened-nothing (Run event) plans (λ t home. refl)
+opened-else (Visit count) plans differs = opened-nothing (Visit count) plans (λ t home. refl)
+
+-- one more new plan
+pub pushed-new : (before after : List TenantPlan) (plan : TenantPlan) → after ≡ before ++ plan ∷ [] → All IsNewPlan before
+    → own_part plan.seat ≡ first_part → plan.programs.items ≡ [] → plan.runs.items ≡ [] → All IsNewPlan after
+pushed-new before after plan same fresh first none nothing =
+    subst (All IsNewPlan) (sym same) (All-push IsNewPlan before plan fresh record { part = first; programs = none; runs = nothing })

@@ -1,0 +1,103 @@
+-- What each tenant has when no thread has started yet (docs/HOST.md): a function of the file's commands, but for the
+-- programs, which are those that were accepted.
+use Rattle.std.specs.Prelude.{◌≡◌, ◌≢◌, ◌⊎◌, ◌++◌, ◌<◌, ℕ, List, [], ◌∷◌, length, get_or, slice_get, IfSome, IsSomeAnd, MatchOption, Some}
+use Rattle.host_types.specs.declared.fault.Fault.{Fault}
+use Rattle.host_types.specs.declared.fault.Fault.TheVariants.{OutOfMemory, BadTenant}
+use Rattle.host_types.specs.Sharing.{Sharing}
+use Rattle.host_types.specs.Tenant.{TenantPart}
+use Rattle.host_types.specs.Unmerging.{with_option, RefusesSet}
+use Rattle.bpf_decode.specs.Text.{IsWellFormed}
+use Rattle.verifier.specs.Verified.{Accepted, IsVerified}
+use Rattle.page_table.specs.Changes.{part_created}
+use Rattle.page_table.specs.Limits.{shape_of}
+use Rattle.page_table.specs.State.{MemoryState, free_number}
+use Rattle.map_helpers.specs.Updates.{part_updated}
+use Rattle.host_calls.specs.Calls.{FitsNewMap, FitsValue, RefusesNewMap, RefusesUpdate}
+use Rattle.host_calls.specs.Programs.{RefusesProgram, subject_of}
+use Rattle.turn.specs.Seats.{own_part}
+use Rattle.tenant_workers.specs.declared.plans.TenantPlan.{TenantPlan}
+use Rattle.host_core.specs.declared.event.Event.{Event}
+use Rattle.host_core.specs.declared.event.Event.TheVariants.{CreateMap, Load, HostUpdate, Set}
+use Rattle.host_core.specs.HostView.{tenant_of}
+use Rattle.host_file.specs.declared.command.Command.{Command}
+use Rattle.host_file.specs.declared.command.Command.TheVariants.{Apply}
+use Rattle.serving.specs.AtFirst.{first_part}
+
+-- what a tenant has: its part, and its programs by number
+pub record Home : Type 0 where
+  pub part : TenantPart
+  pub programs : List Accepted
+
+abbrev pub home_of : TenantPlan → Home
+home_of plan = record { part = own_part plan.seat; programs = plan.programs.items }
+
+-- what it has at first: no map, and no program
+abbrev pub first_home : Home
+first_home = record { part = first_part; programs = [] }
+
+-- the tenant has that, and nothing is to be run
+pub record IsNewPlan (plan : TenantPlan) : Type 0 where
+  pub part : own_part plan.seat ≡ first_part
+  pub programs : plan.programs.items ≡ []
+  pub runs : plan.runs.items ≡ []
+
+-- what an event gives the tenant that it names: a map of zeros at its first free number, a program at the next
+-- number, a value in a map; other events give nothing
+abbrev pub IsGiven : Event → Home → Home → Type 0
+IsGiven (CreateMap tenant value_size entries mergeable) old new =
+    FitsNewMap old.part (shape_of value_size entries)
+    × IsSomeAnd (free_number old.part) (λ m. new ≡ record old { part = part_created old.part m (shape_of value_size entries) })
+IsGiven (Load tenant text context_size) old new =
+    (v : Accepted) × (v.subject ≡ subject_of old.part text context_size) × IsVerified v × IsWellFormed text
+    × (new ≡ record old { programs = old.programs ++ v ∷ [] })
+IsGiven (HostUpdate tenant map key value) old new =
+    FitsValue old.part map key value × (new ≡ record old { part = part_updated old.part map key value 0 })
+IsGiven event old new = new ≡ old
+
+-- what a command of the file does for a tenant before a thread starts
+abbrev pub IsOpenedFor : ℕ → Command → Home → Home → Type 0
+IsOpenedFor t (Apply event) old new = (tenant_of event ≡ Some t → IsGiven event old new) × (tenant_of event ≢ Some t → new ≡ old)
+IsOpenedFor t command old new = new ≡ old
+
+-- what all of them do, in the file's order
+abbrev pub AreOpenedFor : ℕ → List Command → Home → Home → Type 0
+AreOpenedFor t [] old new = new ≡ old
+AreOpenedFor t (command ∷ commands) old new = (between : Home) × IsOpenedFor t command old between × AreOpenedFor t commands between new
+
+-- the tenants' plans after these commands: each tenant has what they give it, and the runs that it had
+pub record HaveOpened (commands : List Command) (old new : List TenantPlan) : Type 0 where
+  pub as_many : length new ≡ length old
+  pub homes : (t : ℕ) (plan : TenantPlan) → t < length old → AreOpenedFor t commands (home_of (get_or old t plan)) (home_of (get_or new t plan))
+  pub runs : (t : ℕ) (plan : TenantPlan) → t < length old → (get_or new t plan).runs.items ≡ (get_or old t plan).runs.items
+
+-- why an event isn't done for its tenant
+abbrev pub RefusesGift : Event → Home → Fault → Type 0
+RefusesGift (CreateMap tenant value_size entries mergeable) old fault = RefusesNewMap old.part (shape_of value_size entries) fault
+RefusesGift (Load tenant text context_size) old fault = RefusesProgram (subject_of old.part text context_size) fault ⊎ (fault ≡ OutOfMemory)
+RefusesGift (HostUpdate tenant map key value) old fault = RefusesUpdate old.part map key value fault
+RefusesGift event old fault = ⊥
+
+-- why an option isn't set, whatever pages share frames
+abbrev pub RefusesSetting : Event → Fault → Type 0
+RefusesSetting (Set option value) fault = (sharing : Sharing) × RefusesSet sharing option value fault
+RefusesSetting event fault = ⊥
+
+-- why an event isn't done, where the tenants have this
+abbrev pub RefusesOpening : List Home → Event → Fault → Type 0
+RefusesOpening homes event fault =
+    MatchOption (tenant_of event) (RefusesSetting event fault) (λ t. MatchOption (slice_get homes t) (fault ≡ BadTenant) (λ home. RefusesGift event home fault))
+
+-- Of so many tenants' commands an event was refused, when each tenant had just what the commands before it gave it.
+pub record IsStopped (tenants : ℕ) (commands : List Command) (event : Event) (fault : Fault) : Type 0 where
+  pub front : List Command
+  pub rest : List Command
+  pub stands : commands ≡ front ++ Apply event ∷ rest
+  pub homes : List Home
+  pub as_many : length homes ≡ tenants
+  pub opened : (t : ℕ) → IfSome (slice_get homes t) (AreOpenedFor t front first_home)
+  pub refused : RefusesOpening homes event fault
+
+-- the memory has the option's value that an event sets
+abbrev pub IsSetIn : MemoryState → Event → Type 0
+IsSetIn memory (Set option value) = memory.sharing.options ≡ with_option memory.sharing.options option value
+IsSetIn memory event = Unit {0}

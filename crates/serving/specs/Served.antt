@@ -1,0 +1,60 @@
+-- What `serve` does with a host file, and prints of it (docs/HOST.md).
+use Rattle.std.specs.Prelude.{◌≡◌, ℕ, List, ◌++◌, length, map, slice_get, IfSome, Option, Result, if◌then◌else◌}
+use Rattle.std.specs.Io.KnownBytes.{Appends}
+use Rattle.host_types.specs.declared.fault.Fault.{Fault}
+use Rattle.host_types.specs.Refusals.{refusal_text}
+use Rattle.host_types.specs.Tenant.{TenantPart}
+use Rattle.page_table.specs.Changes.{RefusesMemory}
+use Rattle.turn.specs.Seats.{own_part}
+use Rattle.tenant_runs.specs.declared.driving.RunReply.{RunReply}
+use Rattle.tenant_workers.specs.Plans.{AreAnswered}
+use Rattle.tenant_workers.specs.declared.plans.TenantPlan.{TenantPlan}
+use Rattle.host_core.specs.declared.event.Event.{Event}
+use Rattle.host_core.specs.declared.event.Reply.{Reply}
+use Rattle.host_core.specs.declared.event.Reply.TheVariants.{Refused}
+use Rattle.host_file.specs.declared.command.Command.{Command}
+use Rattle.host_file.specs.declared.file.HostFile.{HostFile}
+use Rattle.engines.specs.Lines.{line_of, reply_lines}
+use Rattle.serving.specs.Lookups.{AreLookedUp, lookup_tellings, lookups_in}
+use Rattle.serving.specs.Opened.{AreOpenedFor, Home, IsStopped, first_home}
+use Rattle.serving.specs.Prepared.{runs_for}
+use Rattle.serving.specs.RunLines.{all_run_tellings}
+use Rattle.serving.specs.Told.{Telling, all_told, tell_refusal}
+
+-- what came of a tenant: what its runs were answered, and its part after them
+pub record Outcome : Type 0 where
+  pub replies : List (Result RunReply Fault)
+  pub part : TenantPart
+
+abbrev pub outcome_of : TenantPlan → Outcome
+outcome_of plan = record { replies = plan.replies.items; part = own_part plan.seat }
+
+-- The runs that the file asks of a tenant were answered, in the file's order, from what the file gave the tenant
+-- before a thread started.
+pub record IsServedTenant (commands : List Command) (t : ℕ) (outcome : Outcome) : Type 0 where
+  pub home : Home
+  pub opened : AreOpenedFor t commands first_home home
+  pub answered : AreAnswered home.programs (runs_for t commands) home.part outcome.replies outcome.part
+
+-- what is told of them: of each run by tenant and in order, then of each lookup in the file's order
+abbrev pub tellings_of : List Command → List Outcome → List Reply → List Telling
+tellings_of commands outcomes answers =
+    all_run_tellings commands 0 (map (λ outcome. outcome.replies) outcomes) ++ lookup_tellings (lookups_in commands) answers
+
+-- The lookups were answered from the tenants' parts, all was written, and the status says whether a refusal is
+-- among it.
+pub record AreTold (commands : List Command) (outcomes : List Outcome) (status : ℕ) (old new : Option (List ℕ)) : Type 0 where
+  pub answers : List Reply
+  pub looked_up : AreLookedUp (map (λ outcome. outcome.part) outcomes) (lookups_in commands) answers
+  pub noted : status ≡ if tell_refusal (tellings_of commands outcomes answers) then 1 else 0
+  pub written : Appends old new (all_told (tellings_of commands outcomes answers))
+
+-- A status and what an output took tell how a file was served: the refusal of the memory, or of its threads where
+-- memory ran out; the first refusal before a thread starts; or what came of each tenant.
+pub data IsServedSo (file : HostFile) (status : ℕ) (old new : Option (List ℕ)) : Type 0 where
+  unserved : (fault : Fault) → RefusesMemory file.frames file.tenants file.options fault → status ≡ 1
+      → Appends old new (line_of (refusal_text fault)) → IsServedSo file status old new
+  stopped : (event : Event) (fault : Fault) → IsStopped file.tenants file.commands event fault → status ≡ 1
+      → Appends old new (reply_lines event 0 (Refused fault)) → IsServedSo file status old new
+  served : (outcomes : List Outcome) → length outcomes ≡ file.tenants → ((t : ℕ) → IfSome (slice_get outcomes t) (IsServedTenant file.commands t))
+      → AreTold file.commands outcomes status old new → IsServedSo file status old new
