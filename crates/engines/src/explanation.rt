@@ -15,7 +15,7 @@ use findings::{Judged, write_findings};
 use host_core::Event;
 use host_file::HostFile;
 use host_types::rule::{BAD_LENGTH, CUT_WIDE};
-use host_types::{Fault, Opt, Options, Refused};
+use host_types::{Fault, Opt, Options, Refused, Shape};
 use std::alloc::Global;
 use std::io;
 use std::io::Write;
@@ -38,29 +38,57 @@ pub fn explain_check<W: Write>(
     writeln!(words)
 }
 
-/// Writes the refusal of a text that was to be checked, and what was known there.
+/// Writes the refusal of a text that was to be checked.
 fn explain_checked<W: Write>(
     alloc: Global,
     words: &mut W,
     asked: &Question,
     refused: Refused,
 ) -> io::Result<()> {
-    let text = asked.text.as_slice();
-    explain_program(words, text, refused)?;
     let judged = Judged {
-        text,
+        text: asked.text.as_slice(),
         shapes: asked.shapes.as_slice(),
         context_size: asked.context_size,
     };
-    write_findings(alloc, words, &judged, refused)?;
+    explain_judged(alloc, words, &judged, refused)?;
     writeln!(words)
 }
 
-/// Writes what the refusal of an event means.
-pub fn explain_event<W: Write>(words: &mut W, event: &Event, fault: Fault) -> io::Result<()> {
+/// Writes the refusal of a text, and what was known there.
+fn explain_judged<W: Write>(
+    alloc: Global,
+    words: &mut W,
+    judged: &Judged<'_>,
+    refused: Refused,
+) -> io::Result<()> {
+    explain_program(words, judged.text, refused)?;
+    write_findings(alloc, words, judged, refused)
+}
+
+/// Writes what the refusal of an event means. Of a program that was to be loaded, the maps of its tenant have these
+/// shapes.
+pub fn explain_event<W: Write>(
+    alloc: Global,
+    words: &mut W,
+    event: &Event,
+    fault: Fault,
+    shapes: &[Shape],
+) -> io::Result<()> {
     match (event, fault) {
-        (Event::Load { text, .. }, Fault::Program(refused)) => {
-            explain_program(words, text.as_slice(), refused)?;
+        (
+            Event::Load {
+                text,
+                context_size,
+                ..
+            },
+            Fault::Program(refused),
+        ) => {
+            let judged = Judged {
+                text: text.as_slice(),
+                shapes,
+                context_size: *context_size,
+            };
+            explain_judged(alloc, words, &judged, refused)?;
         }
         _ => write_advice(words, fault, advice_on_event(event, fault))?,
     }

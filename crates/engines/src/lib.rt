@@ -13,5 +13,5 @@ mod watch;
 pub use fault::{status_of, write_fault, written};
 pub use lines::write_reply;
 pub use replay::{file_from, refuse};
-pub use session::explain_reply;
+pub use session::explain_at;
 pub use watch::{Unwatched, Watch};

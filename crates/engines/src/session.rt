@@ -14,14 +14,15 @@ use crate::lines::write_reply;
 use crate::watch::Watch;
 use host_core::{Event, Host, Reply};
 use host_file::{Command, FileFault, HostFile};
-use host_types::{Fault, Opt};
-use std::alloc::Global;
-use std::io;
+use host_types::limits::MAX_MAPS;
+use host_types::{Fault, MapNo, Opt, Shape};
+use std::alloc::{AllocError, Global};
 use std::io::Write;
 
 /// A host at work, and what its output and its visits need to know.
 #[derive(Drop)]
 pub struct Session {
+    alloc: Global,
     host: Host,
     /// How many runs each tenant has begun.
     begun: Vec<u64>,
@@ -41,6 +42,7 @@ impl Session {
     {
         match vec![in alloc; 0; file.tenants as usize] {
             Ok(begun) => Ok(Session {
+                alloc,
                 host,
                 begun,
                 pages_to_scan: file.options.pages_to_scan,
@@ -173,7 +175,7 @@ impl Session {
     {
         let reply = self.host.apply(event);
         self.tell(event, &reply, writer)?;
-        explain_reply(words, number, event, &reply);
+        self.explain(words, number, event, &reply);
         Ok(reply)
     }
 
@@ -208,7 +210,7 @@ impl Session {
         };
         let event = Event::Step { tenant };
         self.tell(&event, &reply, writer)?;
-        explain_reply(words, number, &event, &reply);
+        self.explain(words, number, &event, &reply);
         Ok(())
     }
 
@@ -284,6 +286,32 @@ impl Session {
     }
 }
 
+impl Session {
+    /// Writes, of a refusal, which event of the file was refused, and what that means.
+    fn explain<E: Write>(&self, words: &mut E, number: usize, event: &Event, reply: &Reply) {
+        if let Reply::Refused(fault) = reply {
+            match self.shapes_for(event) {
+                Ok(shapes) => explain_at(self.alloc, words, number, event, *fault, &shapes),
+                Err(AllocError) => explain_at(self.alloc, words, number, event, *fault, &[]),
+            }
+        }
+    }
+
+    /// The shapes of the maps that a program may use which an event loads.
+    fn shapes_for(&self, event: &Event) -> Result<Vec<Shape>, AllocError> {
+        let mut shapes = Vec::new(self.alloc);
+        let Event::Load { tenant, .. } = event else {
+            return Ok(shapes);
+        };
+        for map in 0..MAX_MAPS as MapNo {
+            if let Some(shape) = self.host.shape(*tenant, map) {
+                shapes.push(shape)?;
+            }
+        }
+        Ok(shapes)
+    }
+}
+
 /// Whether a run is open now that wasn't.
 fn is_begun(reply: &Reply) -> bool
     ensures { IsTrue result ↔ (reply.now ≡ Begun) }
@@ -291,21 +319,16 @@ fn is_begun(reply: &Reply) -> bool
     matches!(reply, Reply::Begun)
 }
 
-/// Writes, of a refusal, which event of the file was refused, and what that means. The line is written: the
-/// words may be lost.
-pub fn explain_reply<W: Write>(words: &mut W, number: usize, event: &Event, reply: &Reply) {
-    if let Reply::Refused(fault) = reply {
-        let _ = explain_refusal(words, number, event, *fault);
-    }
-}
-
-/// Writes which event of the file was refused, and what that means.
-fn explain_refusal<W: Write>(
+/// Writes which event of the file was refused, and what that means. Of a program that was to be loaded, the maps of
+/// its tenant have these shapes. The line of the refusal is written: the words may be lost.
+pub fn explain_at<W: Write>(
+    alloc: Global,
     words: &mut W,
     number: usize,
     event: &Event,
     fault: Fault,
-) -> io::Result<()> {
-    write!(words, "event {number}: ")?;
-    explain_event(words, event, fault)
+    shapes: &[Shape],
+) {
+    let _ = write!(words, "event {number}: ");
+    let _ = explain_event(alloc, words, event, fault, shapes);
 }

@@ -1,4 +1,6 @@
-ghost use Rattle.std.specs.Prelude.{◌≡◌, ◌≤◌, ◌↔◌, ◌⊎◌, ◌*◌, IsSome, IsTrue, None, IfOk, OnOk, IfErr, OnErr};
+ghost use Rattle.std.specs.Prelude.{◌≡◌, ◌≤◌, ◌↔◌, ◌⊎◌, ◌*◌, IsSome, IsTrue, None, IfOk, OnOk, IfErr, OnErr, option_map};
+ghost use Rattle.host_types.specs.Memory.{map_at};
+ghost use Rattle.page_table.specs.State.{part};
 ghost use Rattle.host_types.specs.OptionTable.{AreOptions};
 ghost use Rattle.page_table.specs.Changes.{RefusesMemory};
 ghost use Rattle.page_table.specs.Limits.{AreLimits};
@@ -9,7 +11,7 @@ ghost use Rattle.host_core.specs.HostView.{StandsForSystem, tenant_of, reply_of}
 use crate::event::{Event, Reply};
 use crate::tenant::Tenant;
 use host_calls::{host_set, host_unmerge};
-use host_types::{Fault, Opt, Options};
+use host_types::{Fault, MapNo, Opt, Options, Shape};
 use ksm_counters::counters;
 use page_table::Memory;
 use scanner::visit;
@@ -108,6 +110,13 @@ impl Host {
             return Some(Reply::Refused(Fault::BadTenant));
         }
         self.tenants[place].make_steps(&mut self.memory, tenant, limit)
+    }
+
+    /// The shape of a tenant's map, if it has one of this number.
+    pub fn shape(&self, tenant: u32, map: MapNo) -> Option<Shape>
+        ensures { result ≡ option_map (λ flat. flat.shape) (map_at (part self.now.memory tenant).maps map) }
+    {
+        self.memory.shape(tenant, map)
     }
 
     /// Lets an event of a tenant happen.

@@ -24,7 +24,7 @@ use std::alloc::{AllocError, Global};
 use std::io::{Read, Write};
 use std::sync::Wait;
 use std::thread::Threads;
-use tenant_workers::{Open, Plan, ScanPlan, Shared, serve};
+use tenant_workers::{Gate, Open, Plan, ScanPlan, Shared, serve};
 use turn::HostSeat;
 
 /// Serves the host file that the reader gives. Its maps, programs, values and options are made, loaded,
@@ -33,7 +33,6 @@ use turn::HostSeat;
 /// When they have ended each run or its refusal is one line, by tenant and in order, and then each value
 /// that is looked up. What a refusal means goes to `words`. Answers the status: 0, or 1 if a refusal was
 /// written. A bad file applies nothing.
-#[tactic(auto, using(crate::proofs::Served::status_few))]
 pub fn serve_file<T: Threads + Wait + Sync, R: Read, W: Write, E: Write>(
     rt: &T,
     alloc: Global,
@@ -47,9 +46,28 @@ pub fn serve_file<T: Threads + Wait + Sync, R: Read, W: Write, E: Write>(
         × IsServedSo file status (W.contents writer.old) (W.contents writer.new)))) }
     ensures bad { IfErr result (λ fault. IsBad fault → (writer.new ≡ writer.old) × (words.new ≡ words.old)) }
 {
+    serve_watched(rt, alloc, reader, writer, words, &Open)
+}
+
+/// Serves as `serve_file` does, and tells a gate how far the threads are.
+#[tactic(auto, using(crate::proofs::Served::status_few))]
+pub fn serve_watched<T: Threads + Wait + Sync, R: Read, W: Write, E: Write, G: Gate + Sync>(
+    rt: &T,
+    alloc: Global,
+    reader: &mut R,
+    writer: &mut W,
+    words: &mut E,
+    gate: &G,
+) -> Result<u8, FileFault>
+    ensures status { IfOk result (λ status. status ≤ 1) }
+    ensures served { IfOk result (λ status. IfSome (R.remaining reader.old) (λ bytes.
+        (length bytes ≤ max_bytes) × ((file : HostFile) × IsFileText bytes file × All (IsServedCommand file.tenants) file.commands
+        × IsServedSo file status (W.contents writer.old) (W.contents writer.new)))) }
+    ensures bad { IfErr result (λ fault. IsBad fault → (writer.new ≡ writer.old) × (words.new ≡ words.old)) }
+{
     let file = file_from(alloc, reader)?;
     require_served(&file)?;
-    let status = serve_document(rt, alloc, &file, writer, words);
+    let status = serve_document(rt, alloc, &file, writer, words, gate);
     let flushed = writer.flush();
     let status = status?;
     written(flushed)?;
@@ -57,18 +75,19 @@ pub fn serve_file<T: Threads + Wait + Sync, R: Read, W: Write, E: Write>(
 }
 
 /// Serves a host file that may be served.
-fn serve_document<T: Threads + Wait + Sync, W: Write, E: Write>(
+fn serve_document<T: Threads + Wait + Sync, W: Write, E: Write, G: Gate + Sync>(
     rt: &T,
     alloc: Global,
     file: &HostFile,
     writer: &mut W,
     words: &mut E,
+    gate: &G,
 ) -> Result<u8, FileFault>
     ensures served { IfOk result (λ status. IsServedSo file.now status (W.contents writer.old) (W.contents writer.new)) }
     ensures bad { IfErr result (λ fault. ¬ IsBad fault) }
 {
     match open_house(alloc, file) {
-        Ok(house) => serve_house(rt, alloc, house, file, writer, words),
+        Ok(house) => serve_house(rt, alloc, house, file, writer, words, gate),
         Err(fault) => {
             refuse(file, fault, writer, words)?;
             Ok(1)
@@ -77,13 +96,14 @@ fn serve_document<T: Threads + Wait + Sync, W: Write, E: Write>(
 }
 
 /// Serves a host file by a new memory.
-fn serve_house<T: Threads + Wait + Sync, W: Write, E: Write>(
+fn serve_house<T: Threads + Wait + Sync, W: Write, E: Write, G: Gate + Sync>(
     rt: &T,
     alloc: Global,
     house: House,
     file: &HostFile,
     writer: &mut W,
     words: &mut E,
+    gate: &G,
 ) -> Result<u8, FileFault>
     requires count { length house.seats.items ≡ file.now.tenants }
     requires limits { AreLimits file.now.frames file.now.tenants × AreOptions file.now.options }
@@ -108,12 +128,12 @@ fn serve_house<T: Threads + Wait + Sync, W: Write, E: Write>(
         },
     };
     serve_plan(
-        rt, alloc, &shared, &mut host, &mut plan, file, writer, words,
+        rt, alloc, &shared, &mut host, &mut plan, file, writer, words, gate,
     )
 }
 
 /// Serves a host file by the plans of its tenants.
-fn serve_plan<T: Threads + Wait + Sync, W: Write, E: Write>(
+fn serve_plan<T: Threads + Wait + Sync, W: Write, E: Write, G: Gate + Sync>(
     rt: &T,
     alloc: Global,
     shared: &Shared,
@@ -122,6 +142,7 @@ fn serve_plan<T: Threads + Wait + Sync, W: Write, E: Write>(
     file: &HostFile,
     writer: &mut W,
     words: &mut E,
+    gate: &G,
 ) -> Result<u8, FileFault>
     requires host { IsIdle shared.now host.old }
     requires own { All (IsFor shared.now) plan.old.tenants.items }
@@ -135,12 +156,12 @@ fn serve_plan<T: Threads + Wait + Sync, W: Write, E: Write>(
 {
     let commands = file.commands.as_slice();
     if let Err(stop) = open_all(rt, alloc, shared, host, &mut plan.tenants, commands) {
-        return tell_stop(stop.number, stop.event, stop.fault, writer, words);
+        return tell_stop(alloc, &stop, commands, writer, words);
     }
     if add_runs(alloc, shared, &mut plan.tenants, commands).is_err() {
         return Err(FileFault::OutOfMemory(AllocError));
     }
-    if let Err(fault) = serve(rt, alloc, shared, plan, &Open) {
+    if let Err(fault) = serve(rt, alloc, shared, plan, gate) {
         refuse(file, fault, writer, words)?;
         return Ok(1);
     }

@@ -1,25 +1,38 @@
 //! What is written of a served file's events.
 
-ghost use Rattle.std.specs.Prelude.{◌≡◌, ◌||◌, IfErr, IfOk, OnOk};
+ghost use Rattle.std.specs.Prelude.{◌≡◌, ◌||◌, false, IfErr, IfOk, OnOk};
 ghost use Rattle.host_core.specs.declared.event.Reply.TheVariants.{Refused};
 ghost use Rattle.std.specs.Io.KnownBytes.{Appends};
 ghost use Rattle.host_file.specs.Faults.{IsBad};
 ghost use Rattle.engines.specs.Lines.{reply_lines};
 ghost use Rattle.engines.specs.Replay.{is_refusal};
 
-use engines::{explain_reply, write_reply};
+use crate::opening::Stop;
+use engines::{explain_at, write_reply};
 use host_core::{Event, Reply};
-use host_file::FileFault;
-use host_types::Fault;
+use host_file::{Command, FileFault};
+use host_types::Shape;
+use std::alloc::{AllocError, Global};
 use std::io::Write;
 
 /// Whether a refusal was written.
 #[derive(Clone, Copy, Debug)]
 pub(crate) struct Told {
+    alloc: Global,
     pub(crate) has_refused: bool,
 }
 
 impl Told {
+    /// Nothing was written.
+    pub(crate) fn new(alloc: Global) -> Told
+        ensures { result.has_refused ≡ false }
+    {
+        Told {
+            alloc,
+            has_refused: false,
+        }
+    }
+
     /// Writes the line of what the file's event of this number was answered, and what a refusal means. A run
     /// has a number among those that its tenant began.
     pub(crate) fn tell<W: Write, E: Write>(
@@ -36,8 +49,8 @@ impl Told {
         ensures bad { IfErr result (λ fault. ¬ IsBad fault) }
     {
         write_reply(writer, event, run, reply)?;
-        explain_reply(words, number, event, reply);
-        if matches!(reply, Reply::Refused(_)) {
+        if let Reply::Refused(fault) = reply {
+            explain_at(self.alloc, words, number, event, *fault, &[]);
             self.has_refused = true;
         }
         Ok(())
@@ -46,17 +59,49 @@ impl Told {
 
 /// Writes the refusal at which the opening of a file stopped. Answers the status.
 pub(crate) fn tell_stop<W: Write, E: Write>(
-    number: usize,
-    event: &Event,
-    fault: Fault,
+    alloc: Global,
+    stop: &Stop<'_>,
+    commands: &[Command],
     writer: &mut W,
     words: &mut E,
 ) -> Result<u8, FileFault>
     ensures status { IfOk result (λ status. status ≡ 1) }
-    ensures written { OnOk result (Appends (W.contents writer.old) (W.contents writer.new) (reply_lines event.now 0 (Refused fault))) }
+    ensures written { OnOk result (Appends (W.contents writer.old) (W.contents writer.new) (reply_lines stop.now.event.now 0 (Refused stop.now.fault))) }
     ensures bad { IfErr result (λ fault. ¬ IsBad fault) }
 {
-    let mut told = Told { has_refused: false };
-    told.tell(writer, words, number, event, 0, &Reply::Refused(fault))?;
+    write_reply(writer, stop.event, 0, &Reply::Refused(stop.fault))?;
+    let before = commands.get(..stop.number).unwrap_or(commands);
+    match shapes_for(alloc, stop.event, before) {
+        Ok(shapes) => explain_at(alloc, words, stop.number, stop.event, stop.fault, &shapes),
+        Err(AllocError) => explain_at(alloc, words, stop.number, stop.event, stop.fault, &[]),
+    }
     Ok(1)
+}
+
+/// The shapes of the maps that an event's tenant has behind these commands, of which none was refused.
+fn shapes_for(
+    alloc: Global,
+    event: &Event,
+    commands: &[Command],
+) -> Result<Vec<Shape>, AllocError> {
+    let mut shapes = Vec::new(alloc);
+    for command in commands {
+        if let Command::Apply(
+            Event::CreateMap {
+                tenant,
+                value_size,
+                entries,
+                ..
+            },
+        ) = command
+        {
+            if event.tenant() == Some(*tenant) {
+                shapes.push(Shape {
+                    value_size: *value_size,
+                    entries: *entries,
+                })?;
+            }
+        }
+    }
+    Ok(shapes)
 }

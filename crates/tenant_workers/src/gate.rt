@@ -1,9 +1,26 @@
 use std::sync::Wait;
 
-/// What is called before each instruction of a run, with the tenant's number and the slot, while no turn is
-/// held: so it may take turns of its own.
+/// What is called while runs are made and pages are visited, always while no turn is held: so it may take turns of
+/// its own.
 pub trait Gate {
+    /// Comes before each instruction of a run, with the tenant's number and the slot.
     fn at<R: Wait>(&self, rt: &R, tenant: u32, slot: u32);
+
+    /// Comes when a plan's threads have passed something, for those who wait. It changes no answer.
+    fn pass<R: Wait>(&self, _rt: &R, _passed: Passed) {}
+}
+
+/// What the threads of a plan have passed.
+#[derive(Clone, Copy, Debug)]
+pub enum Passed {
+    /// Nothing yet: they are to make so many runs and visits.
+    Start { runs: u64, visits: u32 },
+    /// A run, which has its reply.
+    Run,
+    /// A visit of the scanner.
+    Visit,
+    /// All: they have ended.
+    End,
 }
 
 /// A gate that returns at once.

@@ -15,7 +15,7 @@ mod serving;
 mod shared;
 mod threads;
 
-pub use gate::{Gate, Open};
+pub use gate::{Gate, Open, Passed};
 pub use plans::{Plan, ScanPlan, TenantPlan};
 pub use serving::serve;
 pub use shared::Shared;

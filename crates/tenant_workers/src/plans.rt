@@ -3,6 +3,7 @@ ghost use Rattle.turn.specs.Seats.{IsIdle, own_part};
 ghost use Rattle.tenant_workers.specs.Calls.{IsSameSeat, HasVisited};
 ghost use Rattle.tenant_workers.specs.Runs.{IsResting};
 
+use crate::gate::Gate;
 use crate::shared::Shared;
 use host_types::Fault;
 use std::sync::Wait;
@@ -44,14 +45,14 @@ pub struct Plan<'a> {
 }
 
 impl<'a> ScanPlan<'a> {
-    /// The plan's visits, one turn a visit. No tenant's part changes.
-    pub fn scan(&mut self, rt: &impl Wait)
+    /// The plan's visits, one turn a visit, after each of which the gate is told. No tenant's part changes.
+    pub fn scan(&mut self, rt: &impl Wait, gate: &impl Gate)
         ensures shared { self.new.shared.now ≡ self.old.shared.now }
         ensures visits { self.new.visits ≡ self.old.visits }
         ensures same { IsSameSeat self.old.seat self.new.seat }
         ensures made { HasVisited self.old.visits self.old.seat self.new.seat }
     {
         let shared = self.shared;
-        shared.scan_batch(rt, &mut self.seat, self.visits);
+        shared.scan_told(rt, &mut self.seat, self.visits, gate);
     }
 }

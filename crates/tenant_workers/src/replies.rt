@@ -4,7 +4,7 @@ ghost use Rattle.tenant_workers.specs.Calls.{IsSameSeat};
 ghost use Rattle.tenant_workers.specs.Replies.{AllReply, RepliesBy};
 ghost use Rattle.tenant_workers.specs.Runs.{IsResting};
 
-use crate::gate::Gate;
+use crate::gate::{Gate, Passed};
 use crate::plans::TenantPlan;
 use crate::shared::Shared;
 use host_types::Fault;
@@ -41,6 +41,7 @@ impl Shared {
                 gate,
             );
             plan.replies[place] = reply;
+            gate.pass(rt, Passed::Run);
         }
     }
 

@@ -2,6 +2,7 @@ ghost use Rattle.std.specs.Prelude.{◌≡◌, ◌<◌};
 ghost use Rattle.turn.specs.Seats.{IsIdle};
 ghost use Rattle.tenant_workers.specs.Calls.{IsSameSeat, IsVisit, IsVisited, HasChanged, HasVisited, memory_left};
 
+use crate::gate::{Gate, Open, Passed};
 use crate::shared::Shared;
 use scanner::visit;
 use std::sync::Wait;
@@ -16,8 +17,26 @@ impl Shared {
         ensures visits { HasVisited visits seat.old seat.new }
         ensures visited { 0 < visits → IsVisited (memory_left seat.new) }
     {
+        self.scan_told(rt, seat, visits, &Open);
+    }
+
+    /// So many visits of the scanner, after each of which the gate is told.
+    pub(crate) fn scan_told(
+        &self,
+        rt: &impl Wait,
+        seat: &mut ScanSeat,
+        visits: u32,
+        gate: &impl Gate,
+    )
+        requires idle { IsIdle self.now seat.old }
+        ensures idle { IsIdle self.now seat.new }
+        ensures same { IsSameSeat seat.old seat.new }
+        ensures visits { HasVisited visits seat.old seat.new }
+        ensures visited { 0 < visits → IsVisited (memory_left seat.new) }
+    {
         for _visit in 0..visits {
             self.scan(rt, seat);
+            gate.pass(rt, Passed::Visit);
         }
     }
 

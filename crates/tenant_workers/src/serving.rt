@@ -2,7 +2,7 @@ ghost use Rattle.std.specs.Prelude.{◌≡◌, ◌≤◌, IfErr, OnErr, OnOk, Al
 ghost use Rattle.host_types.specs.declared.fault.Fault.TheVariants.{OutOfMemory};
 ghost use Rattle.tenant_workers.specs.Plans.{AreSamePlans, AreServed, HasRoom, IsFor, IsServed, planned_by};
 
-use crate::gate::Gate;
+use crate::gate::{Gate, Passed};
 use crate::plans::{Plan, ScanPlan, TenantPlan};
 use crate::shared::Shared;
 use crate::threads::{Job, Room, Scan, run_jobs};
@@ -42,12 +42,27 @@ pub fn serve<R: Threads + Wait + Sync, G: Gate + Sync>(
     if reserve_all(&mut plan.tenants).is_err() {
         return Err(Fault::OutOfMemory);
     }
+    let start = Passed::Start {
+        runs: runs_in(&plan.tenants),
+        visits: plan.scan.visits,
+    };
+    gate.pass(rt, start);
     let tenants = mem::replace(&mut plan.tenants, Vec::new(alloc));
     let scanning = Mutex::new(Scanning {
         plan: &mut plan.scan,
     });
     plan.tenants = run_jobs(rt, alloc, tenants, room, &scanning, gate);
+    gate.pass(rt, Passed::End);
     Ok(())
+}
+
+/// How many runs plans have in all.
+fn runs_in(tenants: &[TenantPlan]) -> u64 {
+    let mut runs = 0u64;
+    for tenant in tenants {
+        runs = runs.saturating_add(tenant.runs.len() as u64);
+    }
+    runs
 }
 
 /// Makes room in each plan for as many replies as it has runs.
@@ -107,7 +122,7 @@ struct Scanning<'x, 'a> {
 }
 
 impl<'x, 'a> Scan for Scanning<'x, 'a> {
-    fn scan<R: Wait>(&mut self, rt: &R) {
-        self.plan.scan(rt);
+    fn scan<R: Wait>(&mut self, rt: &R, gate: &impl Gate) {
+        self.plan.scan(rt, gate);
     }
 }

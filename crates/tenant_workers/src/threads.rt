@@ -32,7 +32,7 @@ pub(crate) trait Job {
 
 /// What is done beside the jobs.
 pub(crate) trait Scan {
-    fn scan<R: Wait>(&mut self, rt: &R);
+    fn scan<R: Wait>(&mut self, rt: &R, gate: &impl Gate);
 }
 
 /// A thread's promise, that it gives back what may come of its job.
@@ -98,7 +98,7 @@ where
             requires room_done { vec_len jobs ≤ vec_capacity done }
             ensures { AreEach T.becomes jobs.items result.items }
         {
-            let _scanner = scope.spawn(move || scanning.lock(rt).scan(rt));
+            let _scanner = scope.spawn(move || scanning.lock(rt).scan(rt, gate));
             let mut begun = begun;
             let mut done = done;
             begin_all(scope, rt, alloc, jobs, &mut begun, gate, refused);

@@ -24,7 +24,7 @@ struct Scanned<'a> {
 
 impl<'a> Gate for Scanned<'a> {
     fn at<R: Wait>(&self, rt: &R, _tenant: u32, _slot: u32) {
-        self.plan.lock(rt).scan(rt);
+        self.plan.lock(rt).scan(rt, &Open);
     }
 }
 
