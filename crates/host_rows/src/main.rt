@@ -37,13 +37,13 @@ const MARKED: &str = "$ marked ";
 
 /// An output with a line where it was asked to pass on what it took, if it took anything since the last one.
 #[derive(Drop)]
-struct Marked<'a> {
-    taken: &'a mut Vec<u8>,
+struct Marked {
+    taken: Vec<u8>,
     /// How many bytes were passed on, the mark among them.
     passed: usize,
 }
 
-impl<'a> Write for Marked<'a> {
+impl Write for Marked {
     fn write(&mut self, buf: &[u8]) -> io::Result<usize> {
         self.taken.extend_from_slice(buf)?;
         Ok(buf.len())
@@ -121,14 +121,16 @@ impl Told {
         let mut file = below.as_bytes();
         if let Some(head) = head.strip_prefix(MARKED) {
             let mut output = Marked {
-                taken: &mut self.output,
+                taken: Vec::new(alloc),
                 passed: 0,
             };
-            return if head.starts_with("serve") {
+            let answer = if head.starts_with("serve") {
                 serve_file(rt, alloc, &mut file, &mut output, &mut self.words)
             } else {
                 replay(alloc, &mut file, &mut output, &mut self.words)
             };
+            self.output = output.taken;
+            return answer;
         }
         if head.starts_with(SERVE) {
             return serve_file(rt, alloc, &mut file, &mut self.output, &mut self.words);
