@@ -1,5 +1,5 @@
 -- What came of the tenants of a served file.
-use Rattle.std.proofs.Common.{◌≡◌, ◌∙◌, ◌<◌, ◌≤◌, ℕ, zero, suc, Bool, true, false, if◌then◌else◌, List, [], ◌∷◌, ◌++◌, length, get_or, map, take, take_at, All, Option, Some, None, Result, Ok, Err, IfOk, OnOk, is_err, true≢false, ap, refl, subst, subst₂, sym, arith}
+use Rattle.std.proofs.Common.{◌≡◌, ◌∙◌, ◌<◌, ◌≤◌, inl, inr, Any, ℕ, zero, suc, Bool, true, false, if◌then◌else◌, List, [], ◌∷◌, ◌++◌, length, get_or, map, take, take_at, All, Option, Some, None, Result, Ok, Err, IfOk, OnOk, is_err, true≢false, ap, refl, subst, subst₂, sym, arith}
 use Rattle.std.specs.Prelude.{IfSome, slice_get}
 use Rattle.std.specs.Io.KnownBytes.{Appends, Keeps}
 use Rattle.std.proofs.lemmas.List.{length-map}
@@ -15,12 +15,13 @@ use Rattle.turn.specs.Seats.{own_part}
 use Rattle.tenant_workers.specs.declared.plans.TenantPlan.{TenantPlan}
 use Rattle.tenant_workers.specs.Jobs.{AreEach}
 use Rattle.tenant_workers.specs.Plans.{AreAnswered, AreServed, IsServed, Planned, planned_by}
+use Rattle.engines.specs.Input.{AreNoFile}
 use Rattle.engines.specs.Lines.{reply_lines}
 use Rattle.serving.specs.Lookups.{AreLookedUp, lookup_tellings, lookups_in}
 use Rattle.serving.specs.Opened.{AreOpenedFor, HaveOpened, IsNewPlan, IsStopped, home_of}
 use Rattle.serving.specs.Prepared.{HaveRuns, runs_for, with_runs}
 use Rattle.serving.specs.RunLines.{all_run_tellings}
-use Rattle.serving.specs.Served.{AreTold, IsServedSo, IsServedTenant, outcome_of, served, stopped, tellings_of, unserved}
+use Rattle.serving.specs.Served.{AreNotServed, AreTold, IsServedSo, IsServedTenant, outcome_of, served, stopped, tellings_of, unserved}
 use Rattle.serving.specs.Told.{HasWritten, tell_refusal}
 use Rattle.serving.proofs.Opened.{new-home}
 use Rattle.serving.proofs.Places.{each-at, mapped-twice}
@@ -152,3 +153,14 @@ pub served-read : (read : Option (List ℕ)) (file : HostFile) (was half is : Op
     → IfSome read (λ bytes. (length bytes ≤ max_bytes) × ((f : HostFile) × IsFileText bytes f × All (IsServedCommand f.tenants) f.commands × IsServedSo f status was is))
 served-read None file was half is status text may kept so = tt
 served-read (Some bytes) file was half is status text may kept so = (text.0, (file, text.1, may, served-kept file was half is status kept so))
+
+-- bytes that are no file aren't served
+pub none_served : (bytes : Option (List ℕ)) → IfSome bytes AreNoFile → IfSome bytes AreNotServed
+none_served None none = tt
+none_served (Some bytes) none = inl none
+
+-- nor those of a file with a command that isn't served
+pub some_unserved : (bytes : Option (List ℕ)) (file : HostFile) → IfSome bytes (λ bytes. (length bytes ≤ max_bytes) × IsFileText bytes file)
+    → Any (λ command. ¬ IsServedCommand file.tenants command) file.commands → IfSome bytes AreNotServed
+some_unserved None file text some = tt
+some_unserved (Some bytes) file text some = inr (file, text.1, some)

@@ -1,5 +1,5 @@
 -- What `serve` does with a host file, and prints of it (docs/HOST.md).
-use Rattle.std.specs.Prelude.{◌≡◌, ℕ, List, ◌++◌, length, map, slice_get, IfSome, Option, Result, if◌then◌else◌}
+use Rattle.std.specs.Prelude.{◌≡◌, ◌⊎◌, ℕ, List, Any, ◌++◌, length, map, slice_get, IfSome, Option, Result, if◌then◌else◌}
 use Rattle.std.specs.Io.KnownBytes.{Appends}
 use Rattle.host_types.specs.declared.fault.Fault.{Fault}
 use Rattle.host_types.specs.Refusals.{refusal_text}
@@ -14,12 +14,19 @@ use Rattle.host_core.specs.declared.event.Reply.{Reply}
 use Rattle.host_core.specs.declared.event.Reply.TheVariants.{Refused}
 use Rattle.host_file.specs.declared.command.Command.{Command}
 use Rattle.host_file.specs.declared.file.HostFile.{HostFile}
+use Rattle.host_file.specs.HostFile.{IsFileText}
+use Rattle.host_file.specs.Served.{IsServedCommand}
+use Rattle.engines.specs.Input.{AreNoFile}
 use Rattle.engines.specs.Lines.{line_of, reply_lines}
 use Rattle.serving.specs.Lookups.{AreLookedUp, lookup_tellings, lookups_in}
 use Rattle.serving.specs.Opened.{AreOpenedFor, Home, IsStopped, first_home}
 use Rattle.serving.specs.Prepared.{runs_for}
 use Rattle.serving.specs.RunLines.{all_run_tellings}
 use Rattle.serving.specs.Told.{Telling, all_told, tell_refusal}
+
+-- the bytes are no host file, or one that asks for what isn't served
+abbrev pub AreNotServed : List ℕ → Type 0
+AreNotServed bytes = AreNoFile bytes ⊎ ((file : HostFile) × IsFileText bytes file × Any (λ command. ¬ IsServedCommand file.tenants command) file.commands)
 
 -- what came of a tenant: what its runs were answered, and its part after them
 pub record Outcome : Type 0 where

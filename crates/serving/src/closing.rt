@@ -34,7 +34,10 @@ pub(crate) fn tell_served<W: Write, E: Write>(
     ensures told { IfOk result (λ status. AreTold commands.now (map outcome_of plans.old) status (W.contents writer.old) (W.contents writer.new)) }
     ensures bad { IfErr result (λ fault. ¬ IsBad fault) }
 {
-    let mut told = Told::new(alloc);
+    let mut told = Told {
+        alloc,
+        has_refused: false,
+    };
     tell_runs(plans, commands, &mut told, writer, words)?;
     tell_lookups(rt, alloc, plans, commands, &mut told, writer, words)?;
     Ok(u8::from(told.has_refused))

@@ -11,7 +11,7 @@ ghost use Rattle.turn.specs.Seats.{IsIdle};
 ghost use Rattle.tenant_workers.specs.Plans.{IsFor};
 ghost use Rattle.serving.specs.Prepared.{visits_in};
 ghost use Rattle.serving.specs.Opened.{IsNewPlan};
-ghost use Rattle.serving.specs.Served.{IsServedSo};
+ghost use Rattle.serving.specs.Served.{AreNotServed, IsServedSo};
 
 use crate::closing::tell_served;
 use crate::house::{House, open_house, plans_of};
@@ -45,12 +45,13 @@ pub fn serve_file<T: Threads + Wait + Sync, R: Read, W: Write, E: Write>(
         (length bytes ≤ max_bytes) × ((file : HostFile) × IsFileText bytes file × All (IsServedCommand file.tenants) file.commands
         × IsServedSo file status (W.contents writer.old) (W.contents writer.new)))) }
     ensures bad { IfErr result (λ fault. IsBad fault → (writer.new ≡ writer.old) × (words.new ≡ words.old)) }
+    ensures no_file { IfErr result (λ fault. IsBad fault → IfSome (R.remaining reader.old) AreNotServed) }
 {
     serve_watched(rt, alloc, reader, writer, words, &Open)
 }
 
 /// Serves as `serve_file` does, and tells a gate how far the threads are.
-#[tactic(auto, using(crate::proofs::Served::status_few))]
+#[tactic(auto, using(crate::proofs::Served::status_few, crate::proofs::Served::none_served, crate::proofs::Served::some_unserved))]
 pub fn serve_watched<T: Threads + Wait + Sync, R: Read, W: Write, E: Write, G: Gate + Sync>(
     rt: &T,
     alloc: Global,
@@ -64,6 +65,7 @@ pub fn serve_watched<T: Threads + Wait + Sync, R: Read, W: Write, E: Write, G: G
         (length bytes ≤ max_bytes) × ((file : HostFile) × IsFileText bytes file × All (IsServedCommand file.tenants) file.commands
         × IsServedSo file status (W.contents writer.old) (W.contents writer.new)))) }
     ensures bad { IfErr result (λ fault. IsBad fault → (writer.new ≡ writer.old) × (words.new ≡ words.old)) }
+    ensures no_file { IfErr result (λ fault. IsBad fault → IfSome (R.remaining reader.old) AreNotServed) }
 {
     let file = file_from(alloc, reader)?;
     require_served(&file)?;

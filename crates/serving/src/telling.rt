@@ -1,6 +1,6 @@
 //! What is written of a served file's events.
 
-ghost use Rattle.std.specs.Prelude.{◌≡◌, ◌||◌, false, IfErr, IfOk, OnOk};
+ghost use Rattle.std.specs.Prelude.{◌≡◌, ◌||◌, IfErr, IfOk, OnOk};
 ghost use Rattle.host_core.specs.declared.event.Reply.TheVariants.{Refused};
 ghost use Rattle.std.specs.Io.KnownBytes.{Appends};
 ghost use Rattle.host_file.specs.Faults.{IsBad};
@@ -18,21 +18,11 @@ use std::io::Write;
 /// Whether a refusal was written.
 #[derive(Clone, Copy, Debug)]
 pub(crate) struct Told {
-    alloc: Global,
+    pub(crate) alloc: Global,
     pub(crate) has_refused: bool,
 }
 
 impl Told {
-    /// Nothing was written.
-    pub(crate) fn new(alloc: Global) -> Told
-        ensures { result.has_refused ≡ false }
-    {
-        Told {
-            alloc,
-            has_refused: false,
-        }
-    }
-
     /// Writes the line of what the file's event of this number was answered, and what a refusal means. A run
     /// has a number among those that its tenant began.
     pub(crate) fn tell<W: Write, E: Write>(
