@@ -1,5 +1,5 @@
 -- Steps of a tenant's open run, one and many, and the Step events of a system that they are.
-use Rattle.std.proofs.Common.{◌≡◌, ℕ, zero, suc, ◌+◌, ◌<◌, ◌≤◌, nat_lt, ◌==◌, ◌&&◌, Bool, true, false, if◌then◌else◌, List, [], ◌∷◌, ◌++◌, replicate, set, sum_by, get_or, Option, Some, None, IfSome, IsSomeAnd, MatchOption, sym, ap, refl, ◌∙◌, subst, arith, add-one, add-zero, add-suc}
+use Rattle.std.proofs.Common.{◌≡◌, ℕ, zero, suc, ◌+◌, ◌<◌, ◌≤◌, ◌==◌, Bool, true, false, if◌then◌else◌, List, [], ◌∷◌, ◌++◌, replicate, set, sum_by, get_or, Option, Some, None, IfSome, IsSomeAnd, MatchOption, sym, ap, refl, ◌∙◌, subst, arith, add-one, add-zero, add-suc}
 use Rattle.std.specs.List.{slice_get}
 use Rattle.std.specs.Option.{option_map}
 use Rattle.std.proofs.lemmas.List.{replicate_more}
@@ -14,8 +14,7 @@ use Rattle.host_types.specs.Sharing.{Sharing, frames_free}
 use Rattle.host_types.specs.Tenant.{TenantPart, AreFlatMaps}
 use Rattle.bpf_decode.specs.declared.operation.Operation.{Operation}
 use Rattle.bpf_decode.specs.declared.operation.Operation.TheVariants.{Alu, Load, Store, LoadImmediate, Jump, Branch, Call, Exit}
-use Rattle.bpf_decode.specs.Opcodes.{operation_of}
-use Rattle.bpf_decode.specs.Text.{instructions_of, instructions_before, insn_at, is_instruction, slots_of}
+use Rattle.bpf_decode.specs.Text.{instructions_of, instructions_before, insn_at}
 use Rattle.page_table.specs.Changes.{IsKeptBut}
 use Rattle.page_table.specs.Reads.{ReadsAs}
 use Rattle.page_table.specs.State.{MemoryState, part}
@@ -24,7 +23,7 @@ use Rattle.verifier.specs.Verified.{Accepted, IsVerified}
 use Rattle.interp.specs.declared.need.Need.{Need}
 use Rattle.interp.specs.declared.need.Need.TheVariants.{Private, Ended as NeedEnded, Load as AskLoad, Store as AskStore, Lookup as AskLookup, Update as AskUpdate, Delete as AskDelete}
 use Rattle.interp.specs.Fits.{HaveShapes}
-use Rattle.interp.specs.Machine.{MachineState, Outcome, Next, Exits, step, step_by, step_store, step_call, fallen}
+use Rattle.interp.specs.Machine.{MachineState, Outcome, Next, Exits, operation_at, step, step_by, step_store, step_call, fallen}
 use Rattle.interp.specs.Needs.{map_stored, maps_after}
 use Rattle.interp.specs.StandsFor.{Running, StandsFor, IsNoMore, ReachesQuietly}
 use Rattle.interp.specs.Written.{written, written_by_operation}
@@ -62,7 +61,7 @@ verified-at programs k v all found = all-at IsVerified programs k v all found
 -- an exit writes to no map
 exit_writes : (text : List ℕ) (s : MachineState) (number : ℕ) (maps : FlatMaps) → step text s ≡ Some (Exits number maps) → written text s ≡ None
 unfolding step written step_by written_by_operation
-exit_writes text s number maps e = chosen (nat_lt s.slot (slots_of text) && is_instruction text s.slot) e
+exit_writes text s number maps e = found (operation_at text s.slot) e
   where
     goes_on : (o : Option MachineState) → (o >>= λ t. Some (fallen text t)) ≡ Some (Exits number maps) → ⊥
     goes_on None e = cc
@@ -81,11 +80,6 @@ exit_writes text s number maps e = chosen (nat_lt s.slot (slots_of text) && is_i
     found : (o : Option Operation) → (o >>= λ operation. step_by text operation s) ≡ Some (Exits number maps) → (o >>= λ operation. written_by_operation text operation s) ≡ None
     found None e = refl
     found (Some operation) e = by operation e
-
-    chosen : (b : Bool) → (if b then (operation_of (insn_at text s.slot).opcode >>= λ operation. step_by text operation s) else None) ≡ Some (Exits number maps)
-        → (if b then (operation_of (insn_at text s.slot).opcode >>= λ operation. written_by_operation text operation s) else None) ≡ None
-    chosen false e = refl
-    chosen true e = found (operation_of (insn_at text s.slot).opcode) e
 
 -- the shape of a map, if it is there
 abbrev shape_in : FlatMaps → ℕ → Option Shape

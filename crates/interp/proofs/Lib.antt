@@ -24,6 +24,7 @@ pub mod Calling
 pub mod Soundness
 pub mod InTable
 pub mod Writing
+pub mod Naming
 pub mod Quiet
 pub mod Starts
 pub mod Covering

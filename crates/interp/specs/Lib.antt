@@ -1,5 +1,6 @@
 pub mod Machine
 pub mod Written
+pub mod Asked
 pub mod Runs
 pub mod Fits
 pub mod Needs
