@@ -2,3 +2,4 @@ pub mod Elements
 pub mod NewMaps
 pub mod Answers
 pub mod Begins
+pub mod Faults

@@ -27,10 +27,10 @@ subject_for shapes text size = record { text = text; shapes = all_there shapes; 
 abbrev pub subject_of : TenantPart → List ℕ → ℕ → Subject
 subject_of owned text size = subject_for (shapes_of owned.maps) text size
 
--- Why a text isn't accepted: by its first fault, or else by the first rule that it breaks; or for want of
--- memory.
+-- Why a text isn't accepted: by its first fault, or else by the first rule that it breaks; or, where it has no
+-- fault, for want of memory.
 abbrev pub IsJudgement : Subject → Fault → Type 0
-IsJudgement p fault = (fault ≡ OutOfMemory)
+IsJudgement p fault = ((fault ≡ OutOfMemory) × IsWellFormed p.text)
     ⊎ ((refusal : Refused) × (fault ≡ Program refusal) × (IsFirstFault p.text refusal ⊎ (IsWellFormed p.text × IsRefusal p refusal)))
 
 -- why a program isn't loaded: its context is out of limits, or else its text isn't accepted

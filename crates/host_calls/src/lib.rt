@@ -7,12 +7,14 @@ mod beginning;
 mod creating;
 mod loading;
 mod looking;
+mod shapes;
 mod sharing;
 mod updating;
 
 pub use beginning::host_begin;
 pub use creating::host_create_map;
-pub use loading::{host_shapes, judge};
+pub use loading::judge;
 pub use looking::host_lookup;
+pub use shapes::{Shapes, host_shapes};
 pub use sharing::{host_set, host_unmerge};
 pub use updating::host_update;

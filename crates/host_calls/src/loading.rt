@@ -1,40 +1,19 @@
-ghost use Rattle.std.specs.Prelude.{◌≡◌, length, IfOk, IfErr};
-ghost use Rattle.page_table.specs.State.{part};
+ghost use Rattle.std.specs.Prelude.{◌≡◌, IfOk, IfErr};
 ghost use Rattle.bpf_decode.specs.Text.{IsWellFormed};
 ghost use Rattle.verifier.specs.Subject.{IsContextSize};
 ghost use Rattle.verifier.specs.Verified.{AreShapes, IsVerified};
-ghost use Rattle.host_calls.specs.Calls.{IsThere};
-ghost use Rattle.host_calls.specs.Programs.{IsJudgement, shapes_of, subject_for};
+ghost use Rattle.host_calls.specs.Programs.{IsJudgement, subject_for};
 
 use bpf_decode::decode;
-use host_types::limits::MAX_MAPS;
-use host_types::{Fault, MapNo, Shape};
-use page_table::Memory;
-use std::alloc::{AllocError, Global};
+use host_types::{Fault, Shape};
+use std::alloc::Global;
 use verifier::{Verified, verify};
-
-/// The shapes of a tenant's maps by number, up to the first number that no map has. It fails where memory
-/// ran out.
-pub fn host_shapes(alloc: Global, memory: &Memory, tenant: u32) -> Result<Vec<Shape>, AllocError>
-    requires { IsThere (part memory.now tenant) }
-    ensures shapes { IfOk result (λ shapes. shapes.items ≡ shapes_of (part memory.now tenant).maps) }
-    ensures valid { IfOk result (λ shapes. AreShapes shapes.items) }
-{
-    let mut shapes = Vec::with_capacity(alloc, MAX_MAPS)?;
-    for map in 0..MAX_MAPS as MapNo {
-        let Some(shape) = memory.shape(tenant, map) else {
-            return Ok(shapes);
-        };
-        shapes.push_reserved(shape);
-    }
-    Ok(shapes)
-}
 
 /// Judges a text as a program that may use maps of these shapes by number, and whose context has so many
 /// bytes: it is accepted if it is well formed and breaks no rule.
 ///
 /// A refusal is the text's first fault, 1 to 5, or else the first rule that it breaks, 11 to 25; or 41 where
-/// memory ran out.
+/// memory ran out, and only of a text without a fault.
 pub fn judge(alloc: Global, shapes: &[Shape], text: &[u8], ctx_size: u32) -> Result<Verified, Fault>
     requires shapes { AreShapes shapes.now }
     requires context { IsContextSize ctx_size }

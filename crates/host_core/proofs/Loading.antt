@@ -7,7 +7,7 @@ use Rattle.std.proofs.lemmas.Bool.Decides.{nat_tests}
 use Rattle.std.proofs.lemmas.List.{length-set}
 use Rattle.std.proofs.lemmas.List.Elements.{All-set}
 use Rattle.host_types.specs.declared.fault.Fault.{Fault}
-use Rattle.host_types.specs.declared.fault.Fault.TheVariants.{Busy, TooManyPrograms, BadContext, OutOfMemory}
+use Rattle.host_types.specs.declared.fault.Fault.TheVariants.{Busy, TooManyPrograms, BadContext}
 use Rattle.host_types.specs.Memory.{FlatMaps}
 use Rattle.bpf_decode.specs.Text.{IsWellFormed}
 use Rattle.page_table.specs.Reads.{ReadsAs}
@@ -22,7 +22,7 @@ use Rattle.host_core.specs.declared.event.Event.TheVariants.{Load}
 use Rattle.host_core.specs.declared.event.Reply.TheVariants.{Program, Refused}
 use Rattle.host_core.specs.declared.tenant.OpenRun.{OpenRun as KeptRun}
 use Rattle.host_core.specs.World.{OpenRun, Tenant, System, free_place, owned_by}
-use Rattle.host_core.specs.Happens.{MayLackMemory, LoadHappens, load_refusal, is_context_size, changed_system}
+use Rattle.host_core.specs.Happens.{LoadHappens, load_refusal, is_context_size, changed_system}
 use Rattle.host_core.specs.HostView.{TenantView, StandsForAnyRun, StandsForTenant, IsServed}
 use Rattle.host_core.proofs.Places.{first_free-map, map-set}
 use Rattle.host_core.proofs.Worlds.{OfTenant-there, RefusedOr-refused, RefusedOr-else}
@@ -126,23 +126,19 @@ module _ (t : ℕ) (old : TenantView) (memory : MemoryState) (text : List ℕ) (
 
         -- a load that changes nothing, and that nothing forbids
         load-tried : (f : Fault) → ((x : System) (tenant : Tenant) → part memory t ≡ owned_by tenant
-            → MayLackMemory x (Refused f) x (LoadHappens x t tenant (subject_of (owned_by tenant) text size) (Refused f) x))
+            → LoadHappens x t tenant (subject_of (owned_by tenant) text size) (Refused f) x)
             → IsServed t old memory (Load t text size) (Refused f) old memory
         load-tried f happens =
             served-same t old memory (Load t text size) (Refused f) (λ x tenant there stands holds.
             let owned = part_stands memory x t tenant holds there in
             (OfTenant-there x t (Refused f) x _ tenant there (RefusedOr-else (load_refusal tenant size) x (Refused f) x _ (allowed tenant stands) (happens x tenant owned)), tt))
 
-        -- a load for which there is no memory
-        pub load-lacks_memory : IsServed t old memory (Load t text size) (Refused OutOfMemory) old memory
-        load-lacks_memory = load-tried OutOfMemory (λ x tenant owned. inl (refl, refl))
-
         -- a text that isn't accepted
         pub load-judged : (f : Fault) → IsJudgement (subject_of (part memory t) text size) f → IsServed t old memory (Load t text size) (Refused f) old memory
-        load-judged f (inl lacks) = load-tried f (λ x tenant owned. inl (ap Refused lacks, refl))
-        load-judged f (inr (refusal, is, inl malformed)) = load-tried f (λ x tenant owned. inr (LoadHappens.malformed refusal malformed (ap Refused is, refl)))
+        load-judged f (inl (lacks, well)) = load-tried f (λ x tenant owned. LoadHappens.lacking well (ap Refused lacks, refl))
+        load-judged f (inr (refusal, is, inl malformed)) = load-tried f (λ x tenant owned. LoadHappens.malformed refusal malformed (ap Refused is, refl))
         load-judged f (inr (refusal, is, inr (well, unlawful))) =
-            load-tried f (λ x tenant owned. inr (LoadHappens.unlawful well refusal (subst (λ o. IsRefusal (subject_of o text size) refusal) owned unlawful) (ap Refused is, refl)))
+            load-tried f (λ x tenant owned. LoadHappens.unlawful well refusal (subst (λ o. IsRefusal (subject_of o text size) refusal) owned unlawful) (ap Refused is, refl))
 
         -- a tenant with one more program
         loaded_stands : (v : Accepted) (tenant : Tenant) → part memory t ≡ owned_by tenant → v.subject ≡ subject_of (part memory t) text size → IsVerified v → StandsForTenant old tenant
@@ -179,6 +175,6 @@ module _ (t : ℕ) (old : TenantView) (memory : MemoryState) (text : List ℕ) (
               x.sharing,
               loaded_stands v tenant owned is verified stands,
               changed_stands memory memory x t tenant next x.sharing holds there refl refl reads stands.meets.maps.eight owned (λ j other. refl) holds.sharing,
-              OfTenant-there x t reply x' _ tenant there (RefusedOr-else (load_refusal tenant size) x reply x' _ (allowed tenant stands) (inr happens)),
+              OfTenant-there x t reply x' _ tenant there (RefusedOr-else (load_refusal tenant size) x reply x' _ (allowed tenant stands) happens),
               tt,
             )

@@ -1,7 +1,6 @@
 -- What the beginning of a run does to a tenant and to each system that it stands in.
-use Rattle.std.proofs.Common.{◌≡◌, ◌≢◌, ℕ, ◌<◌, ◌≤◌, ◌==◌, ◌⊎◌, true, false, List, length, slice_index_or, inl, inr, Option, Some, None, is_some, IsNone, sym, ap, refl, ◌∙◌, subst, eq-eqb, ne_eqb, arith}
+use Rattle.std.proofs.Common.{◌≡◌, ◌≢◌, ℕ, ◌<◌, ◌≤◌, ◌==◌, true, false, List, length, slice_index_or, inl, inr, Option, Some, None, is_some, IsNone, sym, ap, refl, ◌∙◌, subst, eq-eqb, ne_eqb, arith}
 use Rattle.std.specs.Option.{option_map}
-use Rattle.std.proofs.lemmas.Bool.Decides.{eqb_tells}
 use Rattle.std.proofs.lemmas.List.{ext_get_or}
 use Rattle.host_types.specs.declared.fault.Fault.{Fault}
 use Rattle.host_types.specs.declared.fault.Fault.TheVariants.{Program, NoFrames, TooManyMaps, BadShape, NoMap, NoElement, Busy, NoRun, NoProgram, BadContext, BadOption, OutOfMemory, BadTenant, PagesShared, TooManyPrograms}
@@ -17,13 +16,12 @@ use Rattle.verifier.proofs.Tables.{tables_agree}
 use Rattle.verifier.proofs.Tight.{length-tight, tight_is_tight}
 use Rattle.interp.specs.Fits.{HaveShapes}
 use Rattle.interp.specs.StandsFor.{Running, IsBegun}
+use Rattle.tenant_runs.specs.UnderWay.{RefusesOpen}
 use Rattle.tenant_runs.proofs.Rooms.{record_keeps}
-use Rattle.host_calls.specs.Calls.{TellsHave}
-use Rattle.host_calls.specs.Programs.{RefusesBegin}
 use Rattle.host_core.specs.declared.event.Event.TheVariants.{Begin}
 use Rattle.host_core.specs.declared.event.Reply.TheVariants.{Begun, Refused}
 use Rattle.host_core.specs.World.{OpenRun, Tenant, System, program_at, begun_run, accepted_of, owned_by, reserve_of, have_in}
-use Rattle.host_core.specs.Happens.{BeginHappens, begin_refusal, changed_system}
+use Rattle.host_core.specs.Happens.{BeginHappens, Leaves, MayLackFrames, MayLackMemory, begin_refusal, changed_system}
 use Rattle.host_core.specs.HostView.{TenantView, EachProgram, StandsForTenant, IsKept, IsServed}
 use Rattle.host_core.proofs.Places.{get_or-there, slice_get-there, all-at}
 use Rattle.host_core.proofs.Worlds.{OfTenant-there, RefusedOr-refused, RefusedOr-else}
@@ -121,55 +119,55 @@ module _ (t k : ℕ) (old : TenantView) (context : List ℕ) (v : Accepted) (idl
       begin-refused t k old memory context BadContext (λ tenant stands.
       begin_refusal-context tenant k context v.subject (none-open tenant stands) (numbered tenant stands) other)
 
-  -- a run for which there is no memory
-  begin-lacks_memory : (memory : MemoryState) → length context ≡ v.subject.context_size → IsServed t old memory (Begin t k context) (Refused OutOfMemory) old memory
-  begin-lacks_memory memory fits =
-      served-same t old memory (Begin t k context) (Refused OutOfMemory) (λ x tenant there stands holds.
-      let none = begin_refusal-none tenant k context v.subject (none-open tenant stands) (numbered tenant stands) fits in
-      (OfTenant-there x t (Refused OutOfMemory) x _ tenant there (RefusedOr-else (begin_refusal tenant k context) x (Refused OutOfMemory) x _ none (inl (refl, refl))), tt))
+  -- what frames the run needs, as the system's tenant has it
+  charged : (tenant : Tenant) → StandsForTenant old tenant → reserve_from v 0 ≡ reserve_from (accepted_of v.subject) 0
+  charged tenant stands = ap (λ a. reserve_from a 0) (sym (accepted-tight v (each-at IsVerified old k v stands.verified found)))
 
-  -- a run that isn't opened
-  pub begin-failed : (memory : MemoryState) (f : Fault) → (f ≡ BadContext) ⊎ (f ≡ OutOfMemory) → (f ≡ BadContext → length context ≢ v.subject.context_size)
-      → (length context ≢ v.subject.context_size → f ≡ BadContext) → IsServed t old memory (Begin t k context) (Refused f) old memory
-  begin-failed memory f (inl bad) only always =
-      subst (λ fault. IsServed t old memory (Begin t k context) (Refused fault) old memory) (sym bad) (begin-context memory (only bad))
-  begin-failed memory f (inr lacks) only always =
-      let fits : length context ≡ v.subject.context_size =
-      elim (eqb_tells (length context) v.subject.context_size) [ inl same ↦ same.1 | inr differs ↦ absurd (let bad = always differs.1 in cc) ] in
-      subst (λ fault. IsServed t old memory (Begin t k context) (Refused fault) old memory) (sym lacks) (begin-lacks_memory memory fits)
+  -- a run that nothing forbids, and that isn't opened
+  begin-tried : (memory : MemoryState) (f : Fault) → length context ≡ v.subject.context_size
+      → ((x : System) (tenant : Tenant) → reserve_from v 0 ≡ reserve_from (accepted_of v.subject) 0 → have_of memory ≡ have_in x
+      → MayLackFrames x (reserve_from (accepted_of v.subject) 0) (Refused f) x (MayLackMemory x (Refused f) x (Leaves x t (record tenant { run = Some (begun_run v.subject context tenant.maps) }) x.sharing Begun (Refused f) x)))
+      → IsServed t old memory (Begin t k context) (Refused f) old memory
+  begin-tried memory f fits lacks =
+      served-same t old memory (Begin t k context) (Refused f) (λ x tenant there stands holds.
+      let none = begin_refusal-none tenant k context v.subject (none-open tenant stands) (numbered tenant stands) fits in
+      let happens : BeginHappens x t tenant k context (Refused f) x = (v.subject, numbered tenant stands, lacks x tenant (charged tenant stands) (have_stands memory x holds)) in
+      (OfTenant-there x t (Refused f) x _ tenant there (RefusedOr-else (begin_refusal tenant k context) x (Refused f) x _ none happens), tt))
+
+  -- a run for which there is no memory
+  begin-lacks_memory : (memory : MemoryState) → length context ≡ v.subject.context_size → reserve_from v 0 ≤ have_of memory → IsServed t old memory (Begin t k context) (Refused OutOfMemory) old memory
+  begin-lacks_memory memory fits enough =
+      begin-tried memory OutOfMemory fits (λ x tenant charge had.
+      inr (subst (λ n. n ≤ have_in x) charge (subst (λ n. reserve_from v 0 ≤ n) had enough), inl (refl, refl)))
 
   -- a run for which frames are missing
-  begin-lacks_frames : (memory : MemoryState) (need have : ℕ) → length context ≡ v.subject.context_size → RefusesBegin v (NoFrames need have) → TellsHave memory (NoFrames need have)
+  begin-lacks_frames : (memory : MemoryState) (need have : ℕ) → length context ≡ v.subject.context_size → need ≡ reserve_from v 0 → have ≡ have_of memory → have < need
       → IsServed t old memory (Begin t k context) (Refused (NoFrames need have)) old memory
-  begin-lacks_frames memory need have fits refuses tells =
-      served-same t old memory (Begin t k context) (Refused (NoFrames need have)) (λ x tenant there stands holds.
-      let none = begin_refusal-none tenant k context v.subject (none-open tenant stands) (numbered tenant stands) fits in
-      let tight : accepted_of v.subject ≡ v = accepted-tight v (each-at IsVerified old k v stands.verified found) in
-      let charge : need ≡ reserve_from (accepted_of v.subject) 0 = refuses.0 ∙ ap (λ a. reserve_from a 0) (sym tight) in
-      let had : have ≡ have_in x = tells ∙ have_stands memory x holds in
-      let less : have_in x < reserve_from (accepted_of v.subject) 0 = subst (λ n. have_in x < n) charge (subst (λ n. n < need) had refuses.1) in
+  begin-lacks_frames memory need have fits needs has less =
+      begin-tried memory (NoFrames need have) fits (λ x tenant charge had.
+      let needed = needs ∙ charge in
+      let there = has ∙ had in
       let reply : Refused (NoFrames need have) ≡ Refused (NoFrames (reserve_from (accepted_of v.subject) 0) (have_in x)) =
-      ap (λ n. Refused (NoFrames n have)) charge ∙ ap (λ n. Refused (NoFrames (reserve_from (accepted_of v.subject) 0) n)) had in
-      let happens : BeginHappens x t tenant k context (Refused (NoFrames need have)) x = (v.subject, numbered tenant stands, inl (less, (reply, refl))) in
-      (OfTenant-there x t (Refused (NoFrames need have)) x _ tenant there (RefusedOr-else (begin_refusal tenant k context) x (Refused (NoFrames need have)) x _ none (inr happens)), tt))
+      ap (λ n. Refused (NoFrames n have)) needed ∙ ap (λ n. Refused (NoFrames (reserve_from (accepted_of v.subject) 0) n)) there in
+      inl (subst (λ n. have_in x < n) needed (subst (λ n. n < need) there less), (reply, refl)))
 
-  -- a run that isn't admitted
-  pub begin-not_admitted : (memory : MemoryState) (f : Fault) → length context ≡ v.subject.context_size → RefusesBegin v f → TellsHave memory f → IsServed t old memory (Begin t k context) (Refused f) old memory
-  begin-not_admitted memory (Program refused) fits refuses tells = absurd refuses
-  begin-not_admitted memory (NoFrames need have) fits refuses tells = begin-lacks_frames memory need have fits refuses tells
-  begin-not_admitted memory TooManyMaps fits refuses tells = absurd refuses
-  begin-not_admitted memory BadShape fits refuses tells = absurd refuses
-  begin-not_admitted memory NoMap fits refuses tells = absurd refuses
-  begin-not_admitted memory NoElement fits refuses tells = absurd refuses
-  begin-not_admitted memory Busy fits refuses tells = absurd refuses
-  begin-not_admitted memory NoRun fits refuses tells = absurd refuses
-  begin-not_admitted memory NoProgram fits refuses tells = absurd refuses
-  begin-not_admitted memory BadContext fits refuses tells = absurd refuses
-  begin-not_admitted memory BadOption fits refuses tells = absurd refuses
-  begin-not_admitted memory OutOfMemory fits refuses tells = absurd refuses
-  begin-not_admitted memory BadTenant fits refuses tells = absurd refuses
-  begin-not_admitted memory PagesShared fits refuses tells = absurd refuses
-  begin-not_admitted memory TooManyPrograms fits refuses tells = absurd refuses
+  -- a run that isn't opened
+  pub begin-not_opened : (memory : MemoryState) (f : Fault) → RefusesOpen v context memory f → IsServed t old memory (Begin t k context) (Refused f) old memory
+  begin-not_opened memory (Program refused) refuses = absurd refuses
+  begin-not_opened memory (NoFrames need have) (fits, needs, has, less) = begin-lacks_frames memory need have fits needs has less
+  begin-not_opened memory TooManyMaps refuses = absurd refuses
+  begin-not_opened memory BadShape refuses = absurd refuses
+  begin-not_opened memory NoMap refuses = absurd refuses
+  begin-not_opened memory NoElement refuses = absurd refuses
+  begin-not_opened memory Busy refuses = absurd refuses
+  begin-not_opened memory NoRun refuses = absurd refuses
+  begin-not_opened memory NoProgram refuses = absurd refuses
+  begin-not_opened memory BadContext other = begin-context memory other
+  begin-not_opened memory BadOption refuses = absurd refuses
+  begin-not_opened memory OutOfMemory (fits, enough) = begin-lacks_memory memory fits enough
+  begin-not_opened memory BadTenant refuses = absurd refuses
+  begin-not_opened memory PagesShared refuses = absurd refuses
+  begin-not_opened memory TooManyPrograms refuses = absurd refuses
 
 -- what is known once a run was admitted
 pub record HasAdmitted (t : ℕ) (before after : MemoryState) (v : Accepted) : Type 0 where
@@ -211,11 +209,11 @@ begin-begun t k old before after context run v idle found fits begun none_made a
     let shares : after.sharing ≡ x.sharing = ap (λ (memory : MemoryState). memory.sharing) admits.all ∙ holds.sharing in
     let none = begin_refusal-none tenant k context v.subject (none-open t k old context v idle found tenant stands) (numbered t k old context v idle found tenant stands) fits in
     let x' : System = changed_system x t next x.sharing in
-    let happens : BeginHappens x t tenant k context Begun x' = (v.subject, numbered t k old context v idle found tenant stands, inr (enough, (refl, refl))) in (
+    let happens : BeginHappens x t tenant k context Begun x' = (v.subject, numbered t k old context v idle found tenant stands, inr (enough, inr (refl, refl))) in (
       next,
       x.sharing,
       begun_stands k old tenant context run v found begun none_made stands,
       changed_stands before after x t tenant next x.sharing holds there sizes.tenants sizes.frames admits.reads stands.meets.maps.eight is admits.others shares,
-      OfTenant-there x t Begun x' _ tenant there (RefusedOr-else (begin_refusal tenant k context) x Begun x' _ none (inr happens)),
+      OfTenant-there x t Begun x' _ tenant there (RefusedOr-else (begin_refusal tenant k context) x Begun x' _ none happens),
       tt,
     )

@@ -94,10 +94,11 @@ load_refusal tenant size = first_refusal (
     ∷ (not (is_context_size size), fault.BadContext) ∷ [])
 
 -- A text is loaded to the tenant's first free place if it is well formed and has a tight table in which no
--- rule is broken. Else the refusal is that of the text.
+-- rule is broken. Else the refusal is that of the text. Memory may run out only for a text that is well formed.
 pub data LoadHappens (x : System) (t : ℕ) (tenant : Tenant) (p : Subject) (reply : Reply) (x' : System) : Type 0 where
   malformed : (refusal : Refusal) → IsFirstFault p.text refusal → Answers x (Refused (fault.Program refusal)) reply x' → LoadHappens x t tenant p reply x'
   unlawful : IsWellFormed p.text → (refusal : Refusal) → IsRefusal p refusal → Answers x (Refused (fault.Program refusal)) reply x' → LoadHappens x t tenant p reply x'
+  lacking : IsWellFormed p.text → Answers x (Refused fault.OutOfMemory) reply x' → LoadHappens x t tenant p reply x'
   loaded : IsWellFormed p.text → (table : Table) → IsTightTable p table → (k : ℕ) → free_place tenant ≡ Some k
       → Leaves x t (record tenant { programs = slice_set tenant.programs k (Some p) }) x.sharing (Program k) reply x' → LoadHappens x t tenant p reply x'
 
@@ -112,12 +113,13 @@ begin_refusal tenant k context = first_refusal (
     has_size (Some p) = length context == p.context_size
     has_size None = false
 
--- a run begins on a context and the tenant's maps, where there are frames for all that it may need
+-- a run begins on a context and the tenant's maps, where there are frames for all that it may need; only there
+-- memory may run out
 abbrev pub BeginHappens : System → ℕ → Tenant → ℕ → List ℕ → Reply → System → Type 0
 BeginHappens x t tenant k context reply x' =
     (p : Subject) × (program_at tenant k ≡ Some p)
-    × MayLackFrames x (reserve_from (accepted_of p) 0) reply x' (
-    Leaves x t (record tenant { run = Some (begun_run p context tenant.maps) }) x.sharing Begun reply x')
+    × MayLackFrames x (reserve_from (accepted_of p) 0) reply x' (MayLackMemory x reply x' (
+    Leaves x t (record tenant { run = Some (begun_run p context tenant.maps) }) x.sharing Begun reply x'))
 
 -- the pages that share frames once bytes of a tenant's map are written: each page that one of them lies in is broken
 abbrev pub sharing_after : Sharing → ℕ → Option Written → Sharing
@@ -188,11 +190,9 @@ Happens x (CreateMap t value_size entries mergeable) reply x' = OfTenant x t rep
     RefusesOr (RefusesCreate x tenant (shape_of value_size entries)) x reply x' (
     CreateHappens x t tenant (shape_of value_size entries) mergeable reply x'))
 Happens x (Load t text size) reply x' = OfTenant x t reply x' (λ tenant.
-    RefusedOr (load_refusal tenant size) x reply x' (
-    MayLackMemory x reply x' (LoadHappens x t tenant (subject_of (owned_by tenant) text size) reply x')))
+    RefusedOr (load_refusal tenant size) x reply x' (LoadHappens x t tenant (subject_of (owned_by tenant) text size) reply x'))
 Happens x (Begin t k context) reply x' = OfTenant x t reply x' (λ tenant.
-    RefusedOr (begin_refusal tenant k context) x reply x' (
-    MayLackMemory x reply x' (BeginHappens x t tenant k context reply x')))
+    RefusedOr (begin_refusal tenant k context) x reply x' (BeginHappens x t tenant k context reply x'))
 Happens x (Step t) reply x' = OfTenant x t reply x' (λ tenant.
     MatchOption tenant.run (Answers x (Refused fault.NoRun) reply x') (λ r. StepHappens x t tenant r reply x'))
 Happens x Visit reply x' = VisitHappens x reply x'

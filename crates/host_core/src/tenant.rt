@@ -5,14 +5,14 @@ ghost use Rattle.host_core.specs.HostView.{steps_of};
 use crate::event::{Event, Reply};
 use crate::host::told;
 use admission::{lower, release};
-use host_calls::{host_begin, host_create_map, host_lookup, host_shapes, host_update, judge};
+use host_calls::{host_create_map, host_lookup, host_shapes, host_update, judge};
 use host_types::limits::MAX_PROGRAMS;
 use host_types::{Fault, MapNo};
 use interp::{Need, Run};
 use page_table::Memory;
 use std::alloc::Global;
 use std::marker::Model;
-use tenant_runs::answer;
+use tenant_runs::{answer, open_run};
 use verifier::{Verified, is_context_size};
 
 /// A tenant: its eight places for programs, and its open run, if it has one. Its maps are the memory's.
@@ -158,9 +158,7 @@ impl Tenant {
         if !is_context_size(context_size) {
             return Err(Fault::BadContext);
         }
-        let Ok(shapes) = host_shapes(alloc, memory, number) else {
-            return Err(Fault::OutOfMemory);
-        };
+        let shapes = host_shapes(memory, number);
         let program = judge(alloc, shapes.as_slice(), text, context_size)?;
         memory.facts();
         self.programs[place] = Some(program);
@@ -185,8 +183,7 @@ impl Tenant {
         let Some(verified) = program_of(self.programs.as_slice(), program) else {
             return Err(Fault::NoProgram);
         };
-        let run = Run::begin(alloc, verified, context)?;
-        host_begin(memory, number, verified)?;
+        let run = open_run(alloc, memory, number, verified, context)?;
         memory.facts();
         self.run = Some(OpenRun { program, run });
         Ok(Reply::Begun)

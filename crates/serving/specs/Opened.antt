@@ -1,8 +1,8 @@
 -- What each tenant has when no thread has started yet (docs/HOST.md): a function of the file's commands, but for the
 -- programs, which are those that were accepted.
-use Rattle.std.specs.Prelude.{◌≡◌, ◌≢◌, ◌⊎◌, ◌++◌, ◌<◌, ℕ, List, [], ◌∷◌, length, get_or, slice_get, IfSome, IsSomeAnd, MatchOption, Some}
+use Rattle.std.specs.Prelude.{◌≡◌, ◌≢◌, ◌++◌, ◌<◌, ℕ, List, [], ◌∷◌, length, get_or, slice_get, IfSome, IsSomeAnd, MatchOption, Some}
 use Rattle.host_types.specs.declared.fault.Fault.{Fault}
-use Rattle.host_types.specs.declared.fault.Fault.TheVariants.{OutOfMemory, BadTenant}
+use Rattle.host_types.specs.declared.fault.Fault.TheVariants.{BadTenant}
 use Rattle.host_types.specs.Sharing.{Sharing}
 use Rattle.host_types.specs.Tenant.{TenantPart}
 use Rattle.host_types.specs.Unmerging.{with_option, RefusesSet}
@@ -73,7 +73,7 @@ pub record HaveOpened (commands : List Command) (old new : List TenantPlan) : Ty
 -- why an event isn't done for its tenant
 abbrev pub RefusesGift : Event → Home → Fault → Type 0
 RefusesGift (CreateMap tenant value_size entries mergeable) old fault = RefusesNewMap old.part (shape_of value_size entries) fault
-RefusesGift (Load tenant text context_size) old fault = RefusesProgram (subject_of old.part text context_size) fault ⊎ (fault ≡ OutOfMemory)
+RefusesGift (Load tenant text context_size) old fault = RefusesProgram (subject_of old.part text context_size) fault
 RefusesGift (HostUpdate tenant map key value) old fault = RefusesUpdate old.part map key value fault
 RefusesGift event old fault = ⊥
 

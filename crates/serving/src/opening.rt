@@ -1,8 +1,7 @@
 //! What is done before a thread starts, in the file's order.
 
-ghost use Rattle.std.specs.Prelude.{◌≡◌, ◌⊎◌, ◌++◌, [], ◌∷◌, All, IfErr, OnOk, length, map};
+ghost use Rattle.std.specs.Prelude.{◌≡◌, ◌++◌, [], ◌∷◌, All, IfErr, OnOk, length, map};
 ghost use Rattle.bpf_decode.specs.Text.{IsWellFormed};
-ghost use Rattle.host_types.specs.declared.fault.Fault.TheVariants.{OutOfMemory};
 ghost use Rattle.verifier.specs.Verified.{Accepted, IsVerified};
 ghost use Rattle.host_calls.specs.Programs.{RefusesProgram, subject_of};
 ghost use Rattle.turn.specs.Seats.{IsIdle, own_part};
@@ -144,7 +143,7 @@ fn load(
     ensures part { own_part plan.new.seat ≡ own_part plan.old.seat }
     ensures loaded { OnOk result ((v : Accepted) × (v.subject ≡ subject_of (own_part plan.old.seat) text.now context_size)
         × IsVerified v × IsWellFormed text.now × (plan.new.programs.items ≡ plan.old.programs.items ++ v ∷ [])) }
-    ensures refused { IfErr result (λ fault. RefusesProgram (subject_of (own_part plan.old.seat) text.now context_size) fault ⊎ (fault ≡ OutOfMemory)) }
+    ensures refused { IfErr result (RefusesProgram (subject_of (own_part plan.old.seat) text.now context_size)) }
 {
     let program = plan
         .shared

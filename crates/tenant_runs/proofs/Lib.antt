@@ -3,3 +3,4 @@ pub mod Shapes
 pub mod Finishing
 pub mod WholeRuns
 pub mod Roomy
+pub mod Undone

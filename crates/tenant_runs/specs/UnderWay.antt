@@ -48,13 +48,16 @@ pub record MayRun (v : Accepted) (memory : MemoryState) (tenant : ℕ) : Type 0 
   pub there : tenant < length memory.tenants
   pub shapes : HaveShapes v.subject.shapes (part memory tenant).maps
 
+-- when a run isn't opened: the first refusal, in this order, whose condition holds
+abbrev pub RefusesOpen : Accepted → List ℕ → MemoryState → Fault → Type 0
+RefusesOpen v context memory BadContext = length context ≢ v.subject.context_size
+RefusesOpen v context memory (NoFrames need have) =
+    (length context ≡ v.subject.context_size) × (need ≡ reserve_from v 0) × (have ≡ have_of memory) × (have < need)
+RefusesOpen v context memory OutOfMemory = (length context ≡ v.subject.context_size) × (reserve_from v 0 ≤ have_of memory)
+RefusesOpen v context memory _ = ⊥
+
 -- when a program isn't run: the first refusal, in this order, whose condition holds
 abbrev pub RefusesRun : Accepted → List ℕ → MemoryState → ℕ → Fault → Type 0
 RefusesRun v context memory tenant BadTenant = length memory.tenants ≤ tenant
 RefusesRun v context memory tenant NoProgram = (tenant < length memory.tenants) × ¬ (HaveShapes v.subject.shapes (part memory tenant).maps)
-RefusesRun v context memory tenant BadContext = MayRun v memory tenant × (length context ≢ v.subject.context_size)
-RefusesRun v context memory tenant (NoFrames need have) =
-    MayRun v memory tenant × (length context ≡ v.subject.context_size)
-    × (need ≡ reserve_from v 0) × (have ≡ have_of memory) × (have < need)
-RefusesRun v context memory tenant OutOfMemory = MayRun v memory tenant × (length context ≡ v.subject.context_size)
-RefusesRun v context memory tenant _ = ⊥
+RefusesRun v context memory tenant fault = MayRun v memory tenant × RefusesOpen v context memory fault

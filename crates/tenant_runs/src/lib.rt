@@ -5,8 +5,10 @@
 
 mod driving;
 mod meeting;
+mod opening;
 mod running;
 
 pub use driving::{RunReply, answer, finish};
 pub use meeting::meet;
+pub use opening::open_run;
 pub use running::{has_shapes, run};

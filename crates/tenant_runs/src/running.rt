@@ -8,9 +8,9 @@ ghost use Rattle.tenant_runs.specs.Meeting.{KeepsSizes};
 ghost use Rattle.tenant_runs.specs.UnderWay.{HasRun, MayRun, RefusesRun};
 
 use crate::driving::{RunReply, finish};
-use admission::{admit, release};
+use crate::opening::open_run;
+use admission::release;
 use host_types::{Fault, MapNo, Shape};
-use interp::Run;
 use page_table::Memory;
 use std::alloc::Global;
 use verifier::Verified;
@@ -46,8 +46,8 @@ fn has_shape(memory: &Memory, tenant: u32, map: MapNo, shape: Shape) -> bool
 ///
 /// Refusals in their order: 42 where there is no such tenant, 38 where the program's shapes are not a
 /// beginning of the tenant's, 39 where the context hasn't the program's size, 31 just where the reserve of
-/// the program is above `have()`, with both numbers; and 41 for want of memory. A refusal changes nothing.
-/// The tenant has no other open run.
+/// the program is above `have()`, with both numbers; and 41 where memory ran out and none of these holds. A
+/// refusal changes nothing. The tenant has no other open run.
 pub fn run(
     alloc: Global,
     memory: &mut Memory,
@@ -71,9 +71,8 @@ pub fn run(
     if !has_shapes(memory, tenant, program) {
         return Err(Fault::NoProgram);
     }
-    let mut open = Run::begin(alloc, program, context)?;
-    admit(memory, tenant, program.reserve(0))?;
-    let reply = finish(memory, tenant, program, &mut open);
+    let mut run = open_run(alloc, memory, tenant, program, context)?;
+    let reply = finish(memory, tenant, program, &mut run);
     memory.maps_are_flat();
     release(memory, tenant);
     Ok(reply)

@@ -1,8 +1,10 @@
 -- Runs of a seat's tenant: how they are handed over, and when they aren't made.
-use Rattle.std.specs.Prelude.{◌≡◌, ◌≢◌, ◌⊎◌, ℕ, List, length}
+use Rattle.std.specs.Prelude.{◌≡◌, ◌≢◌, ◌⊎◌, ℕ, ◌≤◌, List, length}
 use Rattle.host_types.specs.declared.fault.Fault.{Fault}
 use Rattle.host_types.specs.declared.fault.Fault.TheVariants.{NoProgram, BadContext, OutOfMemory}
 use Rattle.host_types.specs.Tenant.{TenantPart}
+use Rattle.page_table.specs.State.{MemoryState, have_of}
+use Rattle.verifier.specs.Reserve.{reserve_from}
 use Rattle.verifier.specs.Verified.{Accepted}
 use Rattle.interp.specs.Fits.{HaveShapes}
 use Rattle.interp.specs.StandsFor.{Running, IsBegun}
@@ -23,8 +25,17 @@ abbrev pub RefusesRunOfTenant : Accepted → TenantPart → Fault → Type 0
 RefusesRunOfTenant v owned fault =
     ((fault ≡ NoProgram) × ¬ (HaveShapes v.subject.shapes owned.maps)) ⊎ (HaveShapes v.subject.shapes owned.maps × RefusesBegin v fault)
 
--- why a run of a program isn't made on a context: the context hasn't the program's size; or it has, and memory
--- ran out, or the run itself isn't made
+-- where memory ran out, the tenant has the program's maps
+abbrev pub LacksMemory : Accepted → TenantPart → Fault → Type 0
+LacksMemory v owned fault = (fault ≡ OutOfMemory) × HaveShapes v.subject.shapes owned.maps
+
+-- why a run of a program isn't made on a context: the context hasn't the program's size; or it has, and the run
+-- itself isn't made, or else memory ran out
 abbrev pub RefusesRunOnContext : Accepted → List ℕ → TenantPart → Fault → Type 0
 RefusesRunOnContext v context owned fault =
-    ((fault ≡ BadContext) × (length context ≢ v.subject.context_size)) ⊎ ((length context ≡ v.subject.context_size) × ((fault ≡ OutOfMemory) ⊎ RefusesRunOfTenant v owned fault))
+    ((fault ≡ BadContext) × (length context ≢ v.subject.context_size))
+    ⊎ ((length context ≡ v.subject.context_size) × (RefusesRunOfTenant v owned fault ⊎ LacksMemory v owned fault))
+
+-- where memory ran out, frames were not missing
+abbrev pub HasFramesForRun : Accepted → MemoryState → Fault → Type 0
+HasFramesForRun v memory fault = fault ≡ OutOfMemory → reserve_from v 0 ≤ have_of memory

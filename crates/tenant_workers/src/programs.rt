@@ -6,9 +6,9 @@ ghost use Rattle.turn.specs.Seats.{IsIdle, own_part};
 ghost use Rattle.tenant_workers.specs.Calls.{IsSameSeat};
 
 use crate::shared::Shared;
-use host_calls::{host_shapes, judge};
-use host_types::{Fault, Shape};
-use std::alloc::{AllocError, Global};
+use host_calls::{Shapes, host_shapes, judge};
+use host_types::Fault;
+use std::alloc::Global;
 use std::sync::Wait;
 use turn::Seat;
 use verifier::{Verified, is_context_size};
@@ -18,7 +18,8 @@ impl Shared {
     /// bytes. The seat's part stays, and no turn is held while the text is judged.
     ///
     /// Refusals in their order: 39 where the context's size is above 256 or no multiple of 8, the text's
-    /// first fault, 1 to 5, or else the first rule that it breaks, 11 to 25; 41 where memory ran out.
+    /// first fault, 1 to 5, or else the first rule that it breaks, 11 to 25; 41 where memory ran out, and only
+    /// of a text without a fault.
     pub fn load_program(
         &self,
         rt: &impl Wait,
@@ -39,30 +40,23 @@ impl Shared {
         if !is_context_size(ctx_size) {
             return Err(Fault::BadContext);
         }
-        let Ok(shapes) = self.shapes(rt, alloc, seat) else {
-            return Err(Fault::OutOfMemory);
-        };
+        let shapes = self.shapes(rt, seat);
         judge(alloc, shapes.as_slice(), text, ctx_size)
     }
 
     /// The shapes of the maps of the seat's tenant by number.
-    fn shapes(
-        &self,
-        rt: &impl Wait,
-        alloc: Global,
-        seat: &mut Seat,
-    ) -> Result<Vec<Shape>, AllocError>
+    fn shapes(&self, rt: &impl Wait, seat: &mut Seat) -> Shapes
         requires idle { IsIdle self.now seat.old }
         ensures idle { IsIdle self.now seat.new }
         ensures same { IsSameSeat seat.old seat.new }
         ensures kept { own_part seat.new ≡ own_part seat.old }
-        ensures shapes { IfOk result (λ shapes. shapes.items ≡ shapes_of (own_part seat.old).maps) }
-        ensures valid { IfOk result (λ shapes. AreShapes shapes.items) }
+        ensures shapes { result ≡ shapes_of (own_part seat.old).maps }
+        ensures valid { AreShapes result }
     {
         let tenant = seat.tenant();
         let held = self.turn.take(rt, seat);
-        let answer = host_shapes(alloc, held.memory(), tenant);
+        let shapes = host_shapes(held.memory(), tenant);
         self.turn.give(seat, held);
-        answer
+        shapes
     }
 }

@@ -1,13 +1,13 @@
-ghost use Rattle.std.specs.Prelude.{◌≡◌, IfOk, OnOk, IfErr, OnErr};
+ghost use Rattle.std.specs.Prelude.{◌≡◌, ◌≤◌, ◌⊎◌, IfOk, OnOk, IfErr, OnErr};
 ghost use Rattle.interp.specs.Fits.{HaveShapes};
-ghost use Rattle.page_table.specs.State.{part};
+ghost use Rattle.page_table.specs.State.{part, have_of};
 ghost use Rattle.page_table.specs.Changes.{IsKeptBut, with_reserve};
 ghost use Rattle.verifier.specs.Reserve.{reserve_from};
 ghost use Rattle.host_calls.specs.Calls.{IsThere, TellsHave};
 ghost use Rattle.tenant_runs.specs.UnderWay.{HasRun};
 ghost use Rattle.turn.specs.Seats.{IsIdle, own_part};
 ghost use Rattle.tenant_workers.specs.Calls.{IsSameSeat, memory_left};
-ghost use Rattle.tenant_workers.specs.Runs.{IsFresh, IsResting, RefusesRunOnContext, RefusesRunOfTenant};
+ghost use Rattle.tenant_workers.specs.Runs.{HasFramesForRun, IsFresh, IsResting, LacksMemory, RefusesRunOnContext, RefusesRunOfTenant};
 
 use crate::driving::drive;
 use crate::gate::Gate;
@@ -61,8 +61,8 @@ impl Shared {
 
     /// Makes a whole run of a program on a context, from its beginning.
     ///
-    /// Refusals in their order: 39 where the context hasn't the program's size, 41 where memory ran out, and
-    /// those of `run`. A refusal leaves the seat's part.
+    /// Refusals in their order: 39 where the context hasn't the program's size, those of `run`, and 41 where
+    /// memory ran out and none of these held in the turn in which it was asked. A refusal leaves the seat's part.
     pub fn run_program(
         &self,
         rt: &impl Wait,
@@ -79,10 +79,35 @@ impl Shared {
         ensures resting { IsResting (own_part seat.new) }
         ensures ran { IfOk result (HasRun program.now context.now (own_part seat.old) (own_part seat.new)) }
         ensures refused { IfErr result (RefusesRunOnContext program.now context.now (own_part seat.old)) }
+        ensures told { IfErr result (TellsHave (memory_left seat.new)) }
+        ensures enough { IfErr result (HasFramesForRun program.now (memory_left seat.new)) }
         ensures kept { OnErr result (own_part seat.new ≡ own_part seat.old) }
     {
-        let run = Run::begin(alloc, program, context)?;
-        self.run(rt, seat, program, run, gate)
+        match Run::begin(alloc, program, context) {
+            Ok(run) => self.run(rt, seat, program, run, gate),
+            Err(Fault::OutOfMemory) => Err(self.lacking(rt, seat, program)),
+            Err(fault) => Err(fault),
+        }
+    }
+
+    /// Why a run isn't made where memory ran out: what refuses it whatever memory there is, or else that.
+    fn lacking(&self, rt: &impl Wait, seat: &mut Seat, program: &Verified) -> Fault
+        requires idle { IsIdle self.now seat.old }
+        requires resting { IsResting (own_part seat.old) }
+        ensures idle { IsIdle self.now seat.new }
+        ensures same { IsSameSeat seat.old seat.new }
+        ensures refused { RefusesRunOfTenant program.now (own_part seat.old) result ⊎ LacksMemory program.now (own_part seat.old) result }
+        ensures told { TellsHave (memory_left seat.new) result }
+        ensures enough { HasFramesForRun program.now (memory_left seat.new) result }
+        ensures kept { own_part seat.new ≡ own_part seat.old }
+    {
+        match self.begin(rt, seat, program) {
+            Ok(()) => {
+                self.end(rt, seat);
+                Fault::OutOfMemory
+            }
+            Err(fault) => fault,
+        }
     }
 
     /// The turn in which a run begins: its frames are reserved.
@@ -111,6 +136,7 @@ impl Shared {
         ensures idle { IsIdle self.now seat.new }
         ensures same { IsSameSeat seat.old seat.new }
         ensures released { own_part seat.new ≡ with_reserve 0 (own_part seat.old) }
+        ensures had { (own_part seat.old).reserve ≤ have_of (memory_left seat.new) }
     {
         let tenant = seat.tenant();
         let mut held = self.turn.take(rt, seat);

@@ -5,7 +5,7 @@ use Rattle.host_core.specs.declared.event.Event.TheVariants.{Begin}
 use Rattle.host_core.specs.declared.event.Reply.TheVariants.{Begun, Refused}
 use Rattle.host_core.specs.HostView.{TenantView, IsServed}
 use Rattle.host_core.proofs.Serving.{kept-there}
-use Rattle.host_core.proofs.Opening.{accepted_at, lent-at, begin-busy, begin-no_program, begin-failed, begin-not_admitted, begin-begun, kept-idle}
+use Rattle.host_core.proofs.Opening.{accepted_at, lent-at, begin-busy, begin-no_program, begin-not_opened, begin-begun, kept-idle}
 use Rattle.host_core.proofs.tenant.Tenant.begin.Goals as goal
 
 pub returns-then-is_some : goal.returns-then-is_some
@@ -21,38 +21,25 @@ returns-in_default c =
     subst (λ seen. IsServed c.args.number seen c.args.memory.now (Begin c.args.number c.args.program c.args.context.now) (Refused NoProgram) seen c.args.memory.now) c.self.view_is
     (begin-no_program c.args.number c.args.program kept c.args.memory.now c.args.context.now idle missing)
 
+pub open_run-requires-clause-there : goal.open_run-requires-clause-there
+open_run-requires-clause-there c = kept-there c.args.number c.args.self.now c.args.memory.now c.requires.kept
+
+pub open_run-requires-clause-none : goal.open_run-requires-clause-none
+open_run-requires-clause-none c =
+    let idle : is_some c.args.self.now.run ≡ false = sym (ap (λ (kept : TenantView). is_some kept.run) c.self.view_is) ∙ sym c.is_some.ensures ∙ c.if-is_some.false in
+    kept-idle c.args.number c.args.self.now c.args.memory.now c.requires.kept idle
+
 pub returns-in_err-run : goal.returns-in_err-run
 returns-in_err-run c =
     let kept : TenantView = record { programs = c.self.inside.programs; run = c.self.inside.run } in
     let idle : is_some c.self.inside.run ≡ false = sym c.is_some.ensures ∙ c.if-is_some.false in
-    let found : accepted_at kept c.args.program ≡ Some c.in-Some.verified.now = lent-at kept c.as_slice.result.now c.args.program c.as_slice.ensures c.program_of.ensures ∙ ap option_copied c.in-Some.is in
-    let served = begin-failed c.args.number c.args.program kept c.args.context.now c.in-Some.verified.now idle found c.args.memory.now c.in_err-run.field-0.0
-    c.in_err-run.ensures.refused
-    (λ bad. c.in_err-run.ensures.bad_context.0 (cc))
-    (λ other. let e = c.in_err-run.ensures.bad_context.1 other in cc) in
-    let told = subst (λ seen. IsServed c.args.number seen c.args.memory.now (Begin c.args.number c.args.program c.args.context.now) (Refused c.in_err-run.field-0.0) seen c.args.memory.now) c.self.view_is served in
-    let p = err_from_is_err_and c.from_residual.result c.from_residual.ensures.1 in
-    rw (p.1, p.2) told
-
-pub host_begin-requires-clause-there : goal.host_begin-requires-clause-there
-host_begin-requires-clause-there c = kept-there c.args.number c.args.self.now c.args.memory.now c.requires.kept
-
-pub host_begin-requires-clause-none : goal.host_begin-requires-clause-none
-host_begin-requires-clause-none c =
-    let idle : is_some c.args.self.now.run ≡ false = sym (ap (λ (kept : TenantView). is_some kept.run) c.self.view_is) ∙ sym c.is_some.ensures ∙ c.if-is_some.false in
-    kept-idle c.args.number c.args.self.now c.args.memory.now c.requires.kept idle
-
-pub returns-in_err-host_begin : goal.returns-in_err-host_begin
-returns-in_err-host_begin c =
-    let kept : TenantView = record { programs = c.self.inside.programs; run = c.self.inside.run } in
-    let idle : is_some c.self.inside.run ≡ false = sym c.is_some.ensures ∙ c.if-is_some.false in
     let event = Begin c.args.number c.args.program c.args.context.now in
-    let call = c.in_err-host_begin.ensures in
+    let call = c.in_err-run.ensures in
     let found : accepted_at kept c.args.program ≡ Some c.in-Some.verified.now = lent-at kept c.as_slice.result.now c.args.program c.as_slice.ensures c.program_of.ensures ∙ ap option_copied c.in-Some.is in
-    let served = begin-not_admitted c.args.number c.args.program kept c.args.context.now c.in-Some.verified.now idle found c.args.memory.now c.in_err-host_begin.field-0.0 c.in_ok-run.ensures.sized call.refused call.told in
-    let unchanged = subst (λ after. IsServed c.args.number kept c.args.memory.now event (Refused c.in_err-host_begin.field-0.0) kept after) (sym call.unchanged) served in
-    let told = subst (λ seen. IsServed c.args.number seen c.args.memory.now event (Refused c.in_err-host_begin.field-0.0) seen c.host_begin.new.memory) c.self.view_is unchanged in
-    let p = err_from_is_err_and c.from_residual-in_err-host_begin.result c.from_residual-in_err-host_begin.ensures.1 in
+    let served = begin-not_opened c.args.number c.args.program kept c.args.context.now c.in-Some.verified.now idle found c.args.memory.now c.in_err-run.field-0.0 call.refused in
+    let unchanged = subst (λ after. IsServed c.args.number kept c.args.memory.now event (Refused c.in_err-run.field-0.0) kept after) (sym call.unchanged) served in
+    let told = subst (λ seen. IsServed c.args.number seen c.args.memory.now event (Refused c.in_err-run.field-0.0) seen c.open_run.new.memory) c.self.view_is unchanged in
+    let p = err_from_is_err_and c.from_residual.result c.from_residual.ensures.1 in
     rw (p.1, p.2) told
 
 pub returns : goal.returns
@@ -61,13 +48,13 @@ returns c =
     let idle : is_some c.self.inside.run ≡ false = sym c.is_some.ensures ∙ c.if-is_some.false in
     let new : TenantView = record { programs = c.self.inside.programs; run = Some (record { program = c.args.program; run = c.in_ok-run.run' }) } in
     let event = Begin c.args.number c.args.program c.args.context.now in
-    let call = c.in_ok-host_begin.ensures in
+    let call = c.in_ok-run.ensures in
     let found : accepted_at kept c.args.program ≡ Some c.in-Some.verified.now = lent-at kept c.as_slice.result.now c.args.program c.as_slice.ensures c.program_of.ensures ∙ ap option_copied c.in-Some.is in
-    let served = begin-begun c.args.number c.args.program kept c.args.memory.now c.host_begin.new.memory c.args.context.now c.in_ok-run.run' c.in-Some.verified.now idle found c.in_ok-run.ensures.sized c.in_ok-run.ensures.begun c.in_ok-run.ensures.steps (record {
+    let served = begin-begun c.args.number c.args.program kept c.args.memory.now c.open_run.new.memory c.args.context.now c.in_ok-run.run' c.in-Some.verified.now idle found call.sized call.begun call.steps (record {
       enough = call.enough;
       recorded = call.recorded;
       all = call.all;
       others = call.others;
       reads = c.facts.ensures;
     }) in
-    subst (λ seen. IsServed c.args.number seen c.args.memory.now event Begun new c.host_begin.new.memory) c.self.view_is served
+    subst (λ seen. IsServed c.args.number seen c.args.memory.now event Begun new c.open_run.new.memory) c.self.view_is served

@@ -1,6 +1,6 @@
 use Rattle.std.proofs.Common.{◌≡◌, List, set, Option, Some, None, is_some, true, false, ◌∙◌, sym, ap, subst}
 use Rattle.std.proofs.lemmas.Result.{err_from_is_err_and}
-use Rattle.host_types.specs.declared.fault.Fault.TheVariants.{TooManyPrograms, BadContext, OutOfMemory}
+use Rattle.host_types.specs.declared.fault.Fault.TheVariants.{TooManyPrograms, BadContext}
 use Rattle.page_table.specs.State.{part}
 use Rattle.verifier.specs.Subject.{IsContextSize}
 use Rattle.verifier.specs.Verified.{Accepted}
@@ -9,7 +9,7 @@ use Rattle.host_core.specs.declared.event.Event.TheVariants.{Load}
 use Rattle.host_core.specs.declared.event.Reply.TheVariants.{Program, Refused}
 use Rattle.host_core.specs.HostView.{TenantView, IsServed}
 use Rattle.host_core.proofs.Serving.{kept-there}
-use Rattle.host_core.proofs.Loading.{first_free_of, lent-free, load-busy, load-full, load-size, load-lacks_memory, load-judged, load-accepted}
+use Rattle.host_core.proofs.Loading.{first_free_of, lent-free, load-busy, load-full, load-size, load-judged, load-accepted}
 use Rattle.host_core.proofs.tenant.Tenant.load.Goals as goal
 
 pub returns-then-is_some : goal.returns-then-is_some
@@ -34,17 +34,8 @@ returns-then-not-is_context_size c =
     subst (λ seen. IsServed c.args.number seen c.args.memory.now (Load c.args.number c.args.text.now c.args.context_size) (Refused BadContext) seen c.args.memory.now) c.self.view_is
     (load-size c.args.number kept c.args.memory.now c.args.text.now c.args.context_size idle c.in-Some.place room odd)
 
-pub host_shapes-requires : goal.host_shapes-requires
-host_shapes-requires c = kept-there c.args.number c.args.self.now c.args.memory.now c.requires.kept
-
-pub returns-in_default-host_shapes : goal.returns-in_default-host_shapes
-returns-in_default-host_shapes c =
-    let kept : TenantView = record { programs = c.self.inside.programs; run = c.self.inside.run } in
-    let idle : is_some c.self.inside.run ≡ false = sym c.is_some.ensures ∙ c.if-is_some.false in
-    let room : first_free_of kept ≡ Some c.in-Some.place = lent-free kept c.as_slice.result.now c.first_free.result c.as_slice.ensures c.first_free.ensures.first ∙ c.in-Some.is in
-    let fits : IsContextSize c.args.context_size = c.is_context_size.ensures.0 (c.if-not-is_context_size.false) in
-    subst (λ seen. IsServed c.args.number seen c.args.memory.now (Load c.args.number c.args.text.now c.args.context_size) (Refused OutOfMemory) seen c.args.memory.now) c.self.view_is
-    (load-lacks_memory c.args.number kept c.args.memory.now c.args.text.now c.args.context_size idle c.in-Some.place room fits)
+pub host_shapes-shapes-requires : goal.host_shapes-shapes-requires
+host_shapes-shapes-requires c = kept-there c.args.number c.args.self.now c.args.memory.now c.requires.kept
 
 pub returns-in_err-program : goal.returns-in_err-program
 returns-in_err-program c =
@@ -52,7 +43,7 @@ returns-in_err-program c =
     let idle : is_some c.self.inside.run ≡ false = sym c.is_some.ensures ∙ c.if-is_some.false in
     let room : first_free_of kept ≡ Some c.in-Some.place = lent-free kept c.as_slice.result.now c.first_free.result c.as_slice.ensures c.first_free.ensures.first ∙ c.in-Some.is in
     let fits : IsContextSize c.args.context_size = c.is_context_size.ensures.0 (c.if-not-is_context_size.false) in
-    let shapes = c.as_slice-2.ensures.value ∙ c.in-Ok.ensures.shapes in
+    let shapes = c.as_slice-2.ensures ∙ c.host_shapes-shapes.ensures.shapes in
     let judged : IsJudgement (subject_of (part c.args.memory.now c.args.number) c.args.text.now c.args.context_size) c.in_err-program.field-0.0 =
     subst (λ listed. IsJudgement (subject_for listed c.args.text.now c.args.context_size) c.in_err-program.field-0.0) shapes c.in_err-program.ensures.refused in
     let served = load-judged c.args.number kept c.args.memory.now c.args.text.now c.args.context_size idle c.in-Some.place room fits c.in_err-program.field-0.0 judged in
@@ -68,7 +59,7 @@ returns c =
     let room : first_free_of kept ≡ Some c.in-Some.place = lent-free kept c.as_slice.result.now c.first_free.result c.as_slice.ensures c.first_free.ensures.first ∙ c.in-Some.is in
     let fits : IsContextSize c.args.context_size = c.is_context_size.ensures.0 (c.if-not-is_context_size.false) in
     let event = Load c.args.number c.args.text.now c.args.context_size in
-    let shapes = c.as_slice-2.ensures.value ∙ c.in-Ok.ensures.shapes in
+    let shapes = c.as_slice-2.ensures ∙ c.host_shapes-shapes.ensures.shapes in
     let v = c.in_ok-program.program in
     let is : v.subject ≡ subject_of (part c.args.memory.now c.args.number) c.args.text.now c.args.context_size =
     c.in_ok-program.ensures.subject ∙ ap (λ listed. subject_for listed c.args.text.now c.args.context_size) shapes in
