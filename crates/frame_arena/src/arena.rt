@@ -7,6 +7,7 @@ ghost use Rattle.frame_arena.specs.Pages.{IsPage, IsAccessSize, page_at};
 
 use crate::block;
 use crate::bytes::Bytes;
+use crate::lanes;
 use crate::number::read_number;
 use host_types::limits::PAGE_SIZE;
 use std::alloc::{AllocError, Global};
@@ -121,7 +122,7 @@ impl FrameArena {
         requires b { b < length self.now }
         ensures { IsTrue result ↔ (page_at self.now a ≡ page_at self.now b) }
     {
-        self.page(a) == self.page(b)
+        lanes::same(self.page(a), self.page(b))
     }
 
     /// How two pages compare, byte by byte from the first.
@@ -130,7 +131,7 @@ impl FrameArena {
         requires b { b < length self.now }
         ensures { result ≡ slice_cmp nat_cmp (page_at self.now a) (page_at self.now b) }
     {
-        self.page(a).cmp(self.page(b))
+        lanes::order(self.page(a), self.page(b))
     }
 
     /// Whether all bytes of a page are zero.
@@ -138,7 +139,7 @@ impl FrameArena {
         requires { frame < length self.now }
         ensures { IsTrue result ↔ (page_at self.now frame ≡ zero_page) }
     {
-        block::is_zero(self.page(frame))
+        lanes::is_zero(self.page(frame))
     }
 
     /// The fingerprint of a page: `31 * f + byte` modulo `2^64`, folded over its bytes from 0 on.
