@@ -34,7 +34,7 @@ zeros-xor (suc n) (x ∷ xs) (y ∷ ys) p q =
     let rest = zeros-xor n xs ys (omega (arith, p)) (omega (arith, q)) in (
       λ e. let first : x ≡ y = same_from_xor x y (ap head_of e) in let later : xs ≡ ys = rest.0 (ap (drop 1) e) in rw (first, later) refl,
       λ e. let first : x ≡ y = ap head_of e in let later : xs ≡ ys = ap (drop 1) e in
-      let none : bit_xor x y ≡ 0 = rw first (xor_self y) in rw (none, rest.1 later) refl,
+          let none : bit_xor x y ≡ 0 = rw first (xor_self y) in rw (none, rest.1 later) refl,
     )
 
 -- bits of two numbers together are none where both have none
@@ -51,13 +51,13 @@ zeros-or (suc n) (x ∷ xs) (y ∷ ys) p q =
     let rest = zeros-or n xs ys (omega (arith, p)) (omega (arith, q)) in (
       λ e. let first = zero_from_or x y (ap head_of e) in let later = rest.0 (ap (drop 1) e) in (rw (first.0, later.0) refl, rw (first.1, later.1) refl),
       λ e. let x_none : x ≡ 0 = ap head_of e.0 in let y_none : y ≡ 0 = ap head_of e.1 in
-      rw (x_none, y_none, rest.1 (ap (drop 1) e.0, ap (drop 1) e.1)) refl,
+          rw (x_none, y_none, rest.1 (ap (drop 1) e.0, ap (drop 1) e.1)) refl,
     )
 
 -- four vectors
 pub zeros-or_four : (n : ℕ) (first second third fourth : List ℕ) → length first ≡ n → length second ≡ n → length third ≡ n → length fourth ≡ n
     → (zip2 bit_or (zip2 bit_or first second) (zip2 bit_or third fourth) ≡ replicate n 0)
-      ↔ ((first ≡ replicate n 0) × (second ≡ replicate n 0) × (third ≡ replicate n 0) × (fourth ≡ replicate n 0))
+    ↔ ((first ≡ replicate n 0) × (second ≡ replicate n 0) × (third ≡ replicate n 0) × (fourth ≡ replicate n 0))
 zeros-or_four n first second third fourth a b c d =
     let left = zeros-or n first second a b in
     let right = zeros-or n third fourth c d in
@@ -101,13 +101,13 @@ same_parts xs ys at bt m n after behind p q =
         ap (take n) there ∙ sym (drop-take m n (drop at xs)) ∙ ap (drop m) e ∙ drop-take m n (drop bt ys) ∙ sym (ap (take n) here),
       ),
       λ e. let second : take n (drop m (drop at xs)) ≡ take n (drop m (drop bt ys)) = sym (ap (take n) there) ∙ e.1 ∙ ap (take n) here in
-      take-add m n (drop at xs) ∙ ap (λ l. l ++ take n (drop m (drop at xs))) e.0 ∙ ap (λ l. take m (drop bt ys) ++ l) second ∙ sym (take-add m n (drop bt ys)),
+          take-add m n (drop at xs) ∙ ap (λ l. l ++ take n (drop m (drop at xs))) e.0 ∙ ap (λ l. take m (drop bt ys) ++ l) second ∙ sym (take-add m n (drop bt ys)),
     )
 
 -- 256 elements by four vectors of 64
 pub by_vectors : (xs ys : List ℕ) (at bt : ℕ)
     → (part_of xs at 256 ≡ part_of ys bt 256)
-      ↔ ((part_of xs at 64 ≡ part_of ys bt 64) × (part_of xs (at + 64) 64 ≡ part_of ys (bt + 64) 64) × (part_of xs (at + 128) 64 ≡ part_of ys (bt + 128) 64) × (part_of xs (at + 192) 64 ≡ part_of ys (bt + 192) 64))
+    ↔ ((part_of xs at 64 ≡ part_of ys bt 64) × (part_of xs (at + 64) 64 ≡ part_of ys (bt + 64) 64) × (part_of xs (at + 128) 64 ≡ part_of ys (bt + 128) 64) × (part_of xs (at + 192) 64 ≡ part_of ys (bt + 192) 64))
 by_vectors xs ys at bt =
     let first = same_parts xs ys at bt 64 192 (at + 64) (bt + 64) refl refl in
     let second = same_parts xs ys (at + 64) (bt + 64) 64 128 (at + 128) (bt + 128) (omega arith) (omega arith) in
@@ -124,7 +124,7 @@ part_of-zeros n at size h = ap (take size) (drop-replicate at n 0) ∙ take-repl
 -- 256 zeros by four vectors of 64
 pub zeros_by_vectors : (xs : List ℕ) (at : ℕ)
     → (part_of xs at 256 ≡ replicate 256 0)
-      ↔ ((part_of xs at 64 ≡ replicate 64 0) × (part_of xs (at + 64) 64 ≡ replicate 64 0) × (part_of xs (at + 128) 64 ≡ replicate 64 0) × (part_of xs (at + 192) 64 ≡ replicate 64 0))
+    ↔ ((part_of xs at 64 ≡ replicate 64 0) × (part_of xs (at + 64) 64 ≡ replicate 64 0) × (part_of xs (at + 128) 64 ≡ replicate 64 0) × (part_of xs (at + 192) 64 ≡ replicate 64 0))
 zeros_by_vectors xs at =
     let parts = by_vectors xs (replicate 256 0) at 0 in
     let whole = part_of-zeros 256 0 256 (omega arith) in

@@ -5,10 +5,9 @@ ghost use Rattle.host_types.specs.Bytes.{number_of, bytes_of, part_of, with_part
 ghost use Rattle.host_types.specs.Pages.{zero_page, fingerprint_of};
 ghost use Rattle.frame_arena.specs.Pages.{IsPage, IsAccessSize, page_at};
 
-use crate::block;
 use crate::bytes::Bytes;
-use crate::lanes;
 use crate::number::read_number;
+use crate::{block, lanes};
 use host_types::limits::PAGE_SIZE;
 use std::alloc::{AllocError, Global};
 use std::cmp::Ordering;

@@ -1,4 +1,4 @@
-use Rattle.std.proofs.Common.{◌≡◌, ◌+◌, ◌≤◌, length, arith}
+use Rattle.std.proofs.Common.{◌+◌, ◌≤◌, length, arith}
 use Rattle.frame_arena.proofs.Vectors.{same_further}
 use Rattle.frame_arena.proofs.lanes.alike.Goals as goal
 

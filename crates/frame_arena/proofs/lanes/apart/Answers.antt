@@ -1,4 +1,3 @@
-use Rattle.std.proofs.Common.{◌∙◌, ap, length}
 use Rattle.host_types.proofs.Lists.{length-part_of}
 use Rattle.frame_arena.proofs.Vectors.{zeros-xor}
 use Rattle.frame_arena.proofs.lanes.apart.Goals as goal
