@@ -24,11 +24,22 @@ enum Told {
     Differs(u32),
 }
 
+/// Both forms of the same pages. Where memory is refused, nothing stays of what was made till then, and they
+/// are made at a second try (README.md).
+fn made(alloc: Global, frames: u32) -> Result<Both, AllocError>
+    requires { 0 < frames }
+{
+    match Both::new(alloc, frames) {
+        Ok(both) => Ok(both),
+        Err(AllocError) => Both::new(alloc, frames),
+    }
+}
+
 /// Draws the calls, and makes each on both.
 fn compared(alloc: Global, frames: u32) -> Result<Told, AllocError>
     requires { 0 < frames }
 {
-    let mut both = Both::new(alloc, frames)?;
+    let mut both = made(alloc, frames)?;
     let mut sum = 0u64;
     for number in 0..CALLS {
         match both.call() {

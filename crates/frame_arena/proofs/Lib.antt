@@ -2,6 +2,7 @@ pub mod Numbers
 pub mod Parts
 pub mod Pages
 pub mod Fingerprints
+pub mod Vectors
 pub mod Walking
 pub mod Sharing
 pub mod Crosses

@@ -5,9 +5,9 @@ ghost use Rattle.host_types.specs.Bytes.{number_of, bytes_of, part_of, with_part
 ghost use Rattle.host_types.specs.Pages.{zero_page, fingerprint_of};
 ghost use Rattle.frame_arena.specs.Pages.{IsPage, IsAccessSize, page_at};
 
-use crate::block;
 use crate::bytes::Bytes;
 use crate::number::read_number;
+use crate::{block, lanes};
 use host_types::limits::PAGE_SIZE;
 use std::alloc::{AllocError, Global};
 use std::cmp::Ordering;
@@ -121,7 +121,7 @@ impl FrameArena {
         requires b { b < length self.now }
         ensures { IsTrue result ↔ (page_at self.now a ≡ page_at self.now b) }
     {
-        self.page(a) == self.page(b)
+        lanes::same(self.page(a), self.page(b))
     }
 
     /// How two pages compare, byte by byte from the first.
@@ -130,7 +130,7 @@ impl FrameArena {
         requires b { b < length self.now }
         ensures { result ≡ slice_cmp nat_cmp (page_at self.now a) (page_at self.now b) }
     {
-        self.page(a).cmp(self.page(b))
+        lanes::order(self.page(a), self.page(b))
     }
 
     /// Whether all bytes of a page are zero.
@@ -138,7 +138,7 @@ impl FrameArena {
         requires { frame < length self.now }
         ensures { IsTrue result ↔ (page_at self.now frame ≡ zero_page) }
     {
-        block::is_zero(self.page(frame))
+        lanes::is_zero(self.page(frame))
     }
 
     /// The fingerprint of a page: `31 * f + byte` modulo `2^64`, folded over its bytes from 0 on.

@@ -1,5 +1,5 @@
 //! Bytes of a block by their place, and pages of a block by the place of their first byte.
-ghost use Rattle.std.specs.Prelude.{◌≡◌, ◌+◌, ◌<◌, ◌≤◌, ◌↔◌, ◌⊎◌, IsTrue, All, fold, length, replicate};
+ghost use Rattle.std.specs.Prelude.{◌≡◌, ◌+◌, ◌<◌, ◌≤◌, ◌⊎◌, All, fold, length, replicate};
 ghost use Rattle.host_types.specs.Bytes.{bytes_of, part_of, with_part};
 ghost use Rattle.host_types.specs.Pages.{zero_page, folded, fingerprint_of};
 ghost use Rattle.frame_arena.specs.Pages.{IsAccessSize};
@@ -62,13 +62,6 @@ pub(crate) fn copy(block: &mut [u8], from: usize, to: usize)
         let (low, high) = block.split_at_mut(from);
         put(low, to, part(high, 0, size));
     }
-}
-
-/// Whether all bytes of a page are zero.
-pub(crate) fn is_zero(page: &[u8]) -> bool
-    ensures { IsTrue result ↔ (page.now ≡ zero_page) }
-{
-    page == [0; PAGE_SIZE as usize].as_slice()
 }
 
 /// The fingerprint of a page's bytes. Sixteen bytes are folded in at once.

@@ -6,6 +6,7 @@ mod arena;
 mod block;
 mod bytes;
 mod counted;
+mod lanes;
 mod memory;
 mod number;
 mod sixteen;
