@@ -5,4 +5,5 @@ pub mod Opened
 pub mod Places
 pub mod RunLines
 pub mod Served
+pub mod Settings
 pub mod Tellings

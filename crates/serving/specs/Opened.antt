@@ -5,16 +5,17 @@ use Rattle.host_types.specs.declared.fault.Fault.{Fault}
 use Rattle.host_types.specs.declared.fault.Fault.TheVariants.{BadTenant}
 use Rattle.host_types.specs.Sharing.{Sharing}
 use Rattle.host_types.specs.Tenant.{TenantPart}
-use Rattle.host_types.specs.Unmerging.{with_option, RefusesSet}
+use Rattle.host_types.specs.Unmerging.{RefusesSet}
 use Rattle.bpf_decode.specs.Text.{IsWellFormed}
 use Rattle.verifier.specs.Verified.{Accepted, IsVerified}
 use Rattle.page_table.specs.Changes.{part_created}
 use Rattle.page_table.specs.Limits.{shape_of}
-use Rattle.page_table.specs.State.{MemoryState, free_number}
+use Rattle.page_table.specs.State.{free_number}
 use Rattle.map_helpers.specs.Updates.{part_updated}
 use Rattle.host_calls.specs.Calls.{FitsNewMap, FitsValue, RefusesNewMap, RefusesUpdate}
 use Rattle.host_calls.specs.Programs.{RefusesProgram, subject_of}
-use Rattle.turn.specs.Seats.{own_part}
+use Rattle.turn.specs.Seats.{SeatState, own_part}
+use Rattle.tenant_workers.specs.Calls.{HasChanged, HasMap, HasSet}
 use Rattle.tenant_workers.specs.declared.plans.TenantPlan.{TenantPlan}
 use Rattle.host_core.specs.declared.event.Event.{Event}
 use Rattle.host_core.specs.declared.event.Event.TheVariants.{CreateMap, Load, HostUpdate, Set}
@@ -97,7 +98,19 @@ pub record IsStopped (tenants : ℕ) (commands : List Command) (event : Event) (
   pub opened : (t : ℕ) → IfSome (slice_get homes t) (AreOpenedFor t front first_home)
   pub refused : RefusesOpening homes event fault
 
--- the memory has the option's value that an event sets
-abbrev pub IsSetIn : MemoryState → Event → Type 0
-IsSetIn memory (Set option value) = memory.sharing.options ≡ with_option memory.sharing.options option value
-IsSetIn memory event = Unit {0}
+-- What a command sets: the host's seat made one turn for it, which set the option and changed nothing else. Other
+-- commands take no turn of that seat.
+abbrev pub IsSetBy : Command → SeatState → SeatState → Type 0
+IsSetBy (Apply (Set option value)) old new = HasChanged (HasSet option value) old new
+IsSetBy command old new = new ≡ old
+
+-- what all of them set, in the file's order
+abbrev pub AreSetBy : List Command → SeatState → SeatState → Type 0
+AreSetBy [] old new = new ≡ old
+AreSetBy (command ∷ commands) old new = (between : SeatState) × IsSetBy command old between × AreSetBy commands between new
+
+-- the map that an event makes may be merged, or not, as the event says: its tenant's seat made one turn for it
+abbrev pub IsMadeBy : Event → SeatState → SeatState → Type 0
+IsMadeBy (CreateMap tenant value_size entries mergeable) old new =
+    (m : ℕ) × HasChanged (HasMap old.view.first m (shape_of value_size entries) mergeable) old new
+IsMadeBy event old new = Unit {0}

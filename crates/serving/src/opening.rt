@@ -5,10 +5,9 @@ ghost use Rattle.bpf_decode.specs.Text.{IsWellFormed};
 ghost use Rattle.verifier.specs.Verified.{Accepted, IsVerified};
 ghost use Rattle.host_calls.specs.Programs.{RefusesProgram, subject_of};
 ghost use Rattle.turn.specs.Seats.{IsIdle, own_part};
-ghost use Rattle.tenant_workers.specs.Calls.{memory_left};
 ghost use Rattle.tenant_workers.specs.Plans.{IsFor};
 ghost use Rattle.host_file.specs.declared.command.Command.TheVariants.{Apply};
-ghost use Rattle.serving.specs.Opened.{HaveOpened, IsGiven, IsNewPlan, IsSetIn, IsStopped, RefusesGift, RefusesOpening, home_of};
+ghost use Rattle.serving.specs.Opened.{AreSetBy, HaveOpened, IsGiven, IsMadeBy, IsNewPlan, IsSetBy, IsStopped, RefusesGift, RefusesOpening, home_of};
 
 use host_core::Event;
 use host_file::Command;
@@ -41,6 +40,7 @@ pub(crate) fn open_all<'c>(
     ensures host { IsIdle shared.now host.new }
     ensures own { All (IsFor shared.now) plans.new }
     ensures opened { OnOk result (HaveOpened commands.now plans.old plans.new) }
+    ensures set { OnOk result (AreSetBy commands.now host.old host.new) }
     ensures stopped { IfErr result (λ stop. IsStopped (length plans.old) commands.now stop.event.now stop.fault) }
 {
     for (number, command) in commands.iter().enumerate() {
@@ -59,7 +59,7 @@ pub(crate) fn open_all<'c>(
 }
 
 /// Does what an event asks for before a thread starts.
-#[tactic(auto, using(crate::proofs::Kept::own_set, crate::proofs::Opened::opened_given, crate::proofs::Opened::opened_nobody, crate::proofs::Opened::refused_set, crate::proofs::Opened::refused_gift, crate::proofs::Opened::refused_nobody))]
+#[tactic(auto, using(crate::proofs::Kept::own_set, crate::proofs::Opened::opened_given, crate::proofs::Opened::opened_nobody, crate::proofs::Settings::set_done, crate::proofs::Settings::set_none, crate::proofs::Settings::set_for, crate::proofs::Opened::refused_set, crate::proofs::Opened::refused_gift, crate::proofs::Opened::refused_nobody))]
 fn apply(
     rt: &impl Wait,
     alloc: Global,
@@ -73,7 +73,7 @@ fn apply(
     ensures host { IsIdle shared.now host.new }
     ensures own { All (IsFor shared.now) plans.new }
     ensures opened { OnOk result (HaveOpened (Apply event.now ∷ []) plans.old plans.new) }
-    ensures set { OnOk result (IsSetIn (memory_left host.new) event.now) }
+    ensures set { OnOk result (IsSetBy (Apply event.now) host.old host.new) }
     ensures refused { IfErr result (RefusesOpening (map home_of plans.old) event.now) }
 {
     if let Event::Set { option, value } = event {
@@ -99,6 +99,7 @@ fn apply_for(
     ensures own { plan.new.shared.now ≡ plan.old.shared.now }
     ensures runs { plan.new.runs.items ≡ plan.old.runs.items }
     ensures given { OnOk result (IsGiven event.now (home_of plan.old) (home_of plan.new)) }
+    ensures made { OnOk result (IsMadeBy event.now plan.old.seat plan.new.seat) }
     ensures refused { IfErr result (RefusesGift event.now (home_of plan.old)) }
 {
     match event {
