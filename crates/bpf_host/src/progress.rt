@@ -117,14 +117,14 @@ impl Tally {
 
     /// Counts one more, and tells how many there were.
     fn add(&self) -> u64 {
-        self.made.fetch_add(1, Ordering::Relaxed).saturating_add(1)
+        self.made.fetch_add(1, Ordering::SeqCst).saturating_add(1)
     }
 }
 
 impl fmt::Display for Tally {
     fn fmt<W: fmt::Write>(&self, f: &mut fmt::Formatter<W>) -> fmt::Result {
-        let made = self.made.load(Ordering::Relaxed);
-        let count = self.count.load(Ordering::Relaxed);
+        let made = self.made.load(Ordering::SeqCst);
+        let count = self.count.load(Ordering::SeqCst);
         write!(f, "{made} of {count}")
     }
 }
@@ -171,10 +171,8 @@ impl<'a, R: Clock, E: Write> Gate for Plans<'a, R, E> {
         }
         match passed {
             Passed::Start { runs, visits } => {
-                self.runs.count.store(runs, Ordering::Relaxed);
-                self.visits
-                    .count
-                    .store(u64::from(visits), Ordering::Relaxed);
+                self.runs.count.store(runs, Ordering::SeqCst);
+                self.visits.count.store(u64::from(visits), Ordering::SeqCst);
             }
             Passed::Run => {
                 self.runs.add();

@@ -1,5 +1,6 @@
 use crate::Judged;
 use bpf_decode::decode;
+use host_types::Refused;
 use host_types::limits::MAX_MAPS;
 use std::alloc::{AllocError, Global};
 use verifier::{Verified, is_context_size, verify};
@@ -21,6 +22,19 @@ impl<'a> Cut<'a> {
     /// The text with another instruction at the slot, where that is accepted. What was known at the slot is known
     /// of it too.
     pub fn with(&self, there: [u8; 8]) -> Option<Verified> {
+        self.judge(there)?.ok()
+    }
+
+    /// Whether the text with another instruction at the slot breaks this rule.
+    pub fn is_refused(&self, there: [u8; 8], rule: u32) -> bool {
+        match self.judge(there) {
+            Some(Err(refused)) => refused.number == rule,
+            Some(Ok(_)) | None => false,
+        }
+    }
+
+    /// What the verifier says of the text with another instruction at the slot, where there is memory for it.
+    fn judge(&self, there: [u8; 8]) -> Option<Result<Verified, Refused>> {
         let shapes = self.judged.shapes;
         let context_size = self.judged.context_size;
         if shapes.len() > MAX_MAPS
@@ -31,19 +45,17 @@ impl<'a> Cut<'a> {
         }
         let text = self.text(there).ok()?;
         let program = decode(self.alloc, text.as_slice()).ok()?;
-        verify(self.alloc, program, shapes, context_size).ok()
+        Some(verify(self.alloc, program, shapes, context_size))
     }
 
     /// The slots before the refused one, this instruction, and behind it as many as there were that break no rule,
     /// so that each jump finds its target.
     fn text(&self, there: [u8; 8]) -> Result<Vec<u8>, AllocError> {
+        let whole = self.judged.text;
         let mut text = Vec::new(self.alloc);
-        let before = self.judged.text.chunks(8).take(self.slot);
-        for slot in before {
-            text.extend_from_slice(slot)?;
-        }
+        text.extend_from_slice(whole.get(..self.slot.saturating_mul(8)).unwrap_or(whole))?;
         text.extend_from_slice(&there)?;
-        for _ in self.slot..self.judged.text.len() / 8 {
+        for _behind in (self.slot..whole.len() / 8).skip(1) {
             text.extend_from_slice(&CLEAR)?;
         }
         text.extend_from_slice(&EXIT)?;

@@ -43,11 +43,11 @@ fn write_unset_of<W: Write>(
     let Some(Kind::Stack(from)) = kind else {
         return Ok(());
     };
-    let Some(first) = (0..bytes).find(|byte| !is_stored(cut, from, *byte)) else {
+    let Some(first) = (0..bytes).find(|byte| is_unset(cut, from, *byte)) else {
         return Ok(());
     };
     let last = (first..bytes)
-        .take_while(|byte| !is_stored(cut, from, *byte))
+        .take_while(|byte| is_unset(cut, from, *byte))
         .last();
     match last {
         Some(last) if first < last => write!(
@@ -58,14 +58,14 @@ fn write_unset_of<W: Write>(
     }
 }
 
-/// Whether a byte of the stack, that many above an address, is known to be stored: a program that loads it is
-/// accepted.
-fn is_stored(cut: &Cut<'_>, from: i32, byte: u32) -> bool {
+/// Whether a byte of the stack, that many above an address, isn't known to be stored: a program that loads it
+/// breaks that rule. A byte of an address that was stored breaks another one.
+fn is_unset(cut: &Cut<'_>, from: i32, byte: u32) -> bool {
     let place = i64::from(from) + i64::from(byte);
     let Ok(offset) = i16::try_from(place) else {
         return false;
     };
     let [low, high] = offset.to_le_bytes();
     // `r0 = *(u8 *)(r10 + offset)`
-    cut.with([0x71, 0xa0, low, high, 0, 0, 0, 0]).is_some()
+    cut.is_refused([0x71, 0xa0, low, high, 0, 0, 0, 0], UNSET_STACK)
 }

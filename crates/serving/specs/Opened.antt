@@ -112,5 +112,5 @@ AreSetBy (command ∷ commands) old new = (between : SeatState) × IsSetBy comma
 -- the map that an event makes may be merged, or not, as the event says: its tenant's seat made one turn for it
 abbrev pub IsMadeBy : Event → SeatState → SeatState → Type 0
 IsMadeBy (CreateMap tenant value_size entries mergeable) old new =
-    (m : ℕ) × HasChanged (HasMap old.view.first m (shape_of value_size entries) mergeable) old new
+    IsSomeAnd (free_number (own_part old)) (λ m. HasChanged (HasMap old.view.first m (shape_of value_size entries) mergeable) old new)
 IsMadeBy event old new = Unit {0}

@@ -15,7 +15,7 @@ use host_types::Shape;
 use std::alloc::{AllocError, Global};
 use std::io::Write;
 
-/// Whether a refusal was written.
+/// Where memory comes from for words, and whether a refusal was written.
 #[derive(Clone, Copy, Debug)]
 pub(crate) struct Told {
     pub(crate) alloc: Global,

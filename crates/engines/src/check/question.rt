@@ -11,7 +11,7 @@ use hex::FromHexError;
 use host_core::Bytes;
 use host_file::FileFault;
 use host_types::Shape;
-use plain_text::quoted;
+use plain_text::{is_plain, quoted};
 use std::alloc::{AllocError, Global};
 
 /// A program to judge: its text, the shapes of its maps by number, and the bytes of its context.
@@ -84,7 +84,14 @@ fn no_hex(alloc: Global, hex: &str) -> FileFault
     ensures { IsOfWords result }
 {
     usage(match wrong_character(hex) {
+        Some((place, c)) if is_plain(c) => {
+            format!(in alloc;
+                "HEX has `{c}` at character {place}, counted from 0, which is no hex digit"
+            )
+        }
+        // A line break too is told by its number.
         Some((place, c)) => {
+            let c = c.escape_unicode();
             format!(in alloc;
                 "HEX has `{c}` at character {place}, counted from 0, which is no hex digit"
             )
