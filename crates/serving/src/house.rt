@@ -4,7 +4,9 @@ ghost use Rattle.std.specs.Prelude.{◌≡◌, All, IfErr, IfOk, OnOk, length};
 ghost use Rattle.host_types.specs.OptionTable.{AreOptions};
 ghost use Rattle.page_table.specs.Changes.{RefusesMemory};
 ghost use Rattle.page_table.specs.Limits.{AreLimits};
+ghost use Rattle.page_table.specs.State.{new_memory};
 ghost use Rattle.turn.specs.Seats.{IsIdle};
+ghost use Rattle.tenant_workers.specs.Calls.{memory_left};
 ghost use Rattle.tenant_workers.specs.Plans.{IsFor};
 ghost use Rattle.serving.specs.AtFirst.{IsAtFirst};
 ghost use Rattle.serving.specs.Opened.{IsNewPlan};
@@ -28,9 +30,10 @@ pub(crate) struct House {
     ghost host_idle: { IsIdle shared host },
 }
 
-/// A new memory as a host file wants it, lent. Refusals are those of a new memory.
+/// A new memory of a host file's frames, tenants and options, lent. Refusals are those of a new memory.
 pub(crate) fn open_house(alloc: Global, file: &HostFile) -> Result<House, Fault>
     ensures count { IfOk result (λ house. length house.seats.items ≡ file.now.tenants) }
+    ensures opened { IfOk result (λ house. memory_left house.host ≡ new_memory file.now.frames file.now.tenants file.now.options) }
     ensures limits { OnOk result (AreLimits file.now.frames file.now.tenants × AreOptions file.now.options) }
     ensures refused { IfErr result (RefusesMemory file.now.frames file.now.tenants file.now.options) }
 {
