@@ -1,0 +1,148 @@
+-- What hangs at a link after nodes were turned.
+use Rattle.std.proofs.Common.{◌≢◌, ℕ, List, slice_index_or, slice_set, sym, arith}
+use Rattle.std.proofs.lemmas.List.{length-set}
+use Rattle.tree_shape.specs.declared.Node.{Node}
+use Rattle.tree_shape.specs.Shape.{Tree, leaf, fork, Holds, IsAway, AreApart, IsOnce, AreSides, blank, with_sides}
+use Rattle.tree_shape.proofs.Holding.{holds-kept, holds-joined}
+
+away-fork : (place at : ℕ) (l r : Tree) → at ≢ place → IsAway place l → IsAway place r → IsAway place (fork at l r)
+unfolding IsAway
+away-fork place at l r ne left right = (ne, left, right)
+
+-- a tree has not the first place of another that is apart from it
+apart-away : (t : Tree) (at : ℕ) (l r : Tree) → AreApart t (fork at l r) → IsAway at t
+unfolding IsAway AreApart
+apart-away leaf at l r apart = tt
+apart-away (fork place x y) at l r apart = (λ e. apart.0.0 (sym e), apart-away x at l r apart.1, apart-away y at l r apart.2)
+
+module _ (nodes : List Node) (left at right : ℕ) (a b r : Tree) (are : AreSides nodes left at right (fork left a b) r) where
+  abbrev side : Node
+  side = slice_index_or nodes left blank
+
+  abbrev lowered : List Node
+  lowered = slice_set nodes at (with_sides nodes side.right right)
+
+  -- the left side comes up, and its right side goes below
+  pub turned-once : Holds (slice_set lowered left (with_sides lowered side.left at)) left (fork left a (fork at b r))
+  unfolding Holds IsAway AreApart IsOnce
+  turned-once =
+      let away = are.once.0 in
+      let other = are.once.1 in
+      let apart = are.once.2 in
+      let under = are.once.3 in
+      let held = are.lefts in
+      let size = length-set nodes at (with_sides nodes side.right right) in
+      let inside = held.2 in
+      holds-joined lowered side.left left at a (fork at b r) (omega (arith, size, inside)) held.1 under.0
+      (away-fork left at b r (λ same. away.0 (sym same)) under.1 apart.0)
+      (holds-kept nodes at (with_sides nodes side.right right) side.left a away.1 held.4)
+      (holds-joined nodes side.right at right b r are.inside are.some away.2 other held.5 are.rights)
+
+module _ (nodes : List Node) (left at right top : ℕ) (a b c r : Tree) (are : AreSides nodes left at right (fork left a (fork top b c)) r) where
+  abbrev outer : Node
+  outer = slice_index_or nodes left blank
+
+  abbrev middle : Node
+  middle = slice_index_or nodes top blank
+
+  abbrev first : List Node
+  first = slice_set nodes left (with_sides nodes outer.left middle.left)
+
+  abbrev second : List Node
+  second = slice_set first at (with_sides first middle.right right)
+
+  -- the node between comes up
+  pub turned-twice : Holds (slice_set second top (with_sides second left at)) top (fork top (fork left a b) (fork at c r))
+  unfolding Holds IsAway AreApart IsOnce
+  turned-twice =
+      let away = are.once.0 in
+      let other = are.once.1 in
+      let apart = are.once.2 in
+      let under = are.once.3 in
+      let within = under.4 in
+      let held = are.lefts in
+      let deep = held.5 in
+      let one = length-set nodes left (with_sides nodes outer.left middle.left) in
+      let two = length-set first at (with_sides first middle.right right) in
+      let inside = held.2 in
+      let there = are.inside in
+      let high = deep.2 in
+      let lefts : Holds first left (fork left a b) = holds-joined nodes outer.left left middle.left a b inside held.1 under.0 under.1.1 held.4 deep.4 in
+      let low : Holds first middle.right c = holds-kept nodes left (with_sides nodes outer.left middle.left) middle.right c under.1.2 deep.5 in
+      let far : Holds first right r = holds-kept nodes left (with_sides nodes outer.left middle.left) right r apart.0 are.rights in
+      holds-joined second left top at (fork left a b) (fork at c r) (omega (arith, one, two, high)) deep.1
+      (away-fork top left a b (λ e. under.1.0 (sym e)) (apart-away a top b c under.2) within.0)
+      (away-fork top at c r (λ e. away.2.0 (sym e)) within.1 apart.2.0)
+      (holds-kept first at (with_sides first middle.right right) left (fork left a b) (away-fork at left a b away.0 away.1 away.2.1) lefts)
+      (holds-joined first middle.right at right c r (omega (arith, one, there)) are.some away.2.2 other low far)
+
+-- a tree that is apart from another is apart from its sides
+apart-sides : (t : Tree) (at : ℕ) (l r : Tree) → AreApart t (fork at l r) → AreApart t l × AreApart t r
+unfolding IsAway AreApart
+apart-sides leaf at l r apart = (tt, tt)
+apart-sides (fork place x y) at l r apart =
+    let left = apart-sides x at l r apart.1 in
+    let right = apart-sides y at l r apart.2 in
+    ((apart.0.1, left.0, right.0), (apart.0.2, left.1, right.1))
+
+module _ (nodes : List Node) (left at right : ℕ) (l b d : Tree) (are : AreSides nodes left at right l (fork right b d)) where
+  abbrev other : Node
+  other = slice_index_or nodes right blank
+
+  abbrev leaned : List Node
+  leaned = slice_set nodes at (with_sides nodes left other.left)
+
+  -- the right side comes up, and its left side goes below
+  pub turned-back : Holds (slice_set leaned right (with_sides leaned at other.right)) right (fork right (fork at l b) d)
+  unfolding Holds IsAway AreApart IsOnce
+  turned-back =
+      let near = are.once.0 in
+      let away = are.once.1 in
+      let apart = are.once.2 in
+      let under = are.once.4 in
+      let held = are.rights in
+      let size = length-set nodes at (with_sides nodes left other.left) in
+      let inside = held.2 in
+      holds-joined leaned at right other.right (fork at l b) d (omega (arith, size, inside)) held.1
+      (away-fork right at l b (λ same. away.0 (sym same)) (apart-away l right b d apart) under.0) under.1
+      (holds-joined nodes left at other.left l b are.inside are.some near away.1 are.lefts held.4)
+      (holds-kept nodes at (with_sides nodes left other.left) other.right d away.2 held.5)
+
+module _ (nodes : List Node) (left at right top : ℕ) (l b c d : Tree) (are : AreSides nodes left at right l (fork right (fork top b c) d)) where
+  abbrev far : Node
+  far = slice_index_or nodes right blank
+
+  abbrev between : Node
+  between = slice_index_or nodes top blank
+
+  abbrev one : List Node
+  one = slice_set nodes right (with_sides nodes between.right far.right)
+
+  abbrev two : List Node
+  two = slice_set one at (with_sides one left between.left)
+
+  -- the node between comes up
+  pub turned-back-twice : Holds (slice_set two top (with_sides two at right)) top (fork top (fork at l b) (fork right c d))
+  unfolding Holds IsAway AreApart IsOnce
+  turned-back-twice =
+      let near = are.once.0 in
+      let away = are.once.1 in
+      let apart = are.once.2 in
+      let under = are.once.4 in
+      let within = under.3 in
+      let held = are.rights in
+      let deep = held.4 in
+      let size = length-set nodes right (with_sides nodes between.right far.right) in
+      let wide = length-set one at (with_sides one left between.left) in
+      let inside = held.2 in
+      let there = are.inside in
+      let high = deep.2 in
+      let sides = apart-sides l right (fork top b c) d apart in
+      let rights : Holds one right (fork right c d) = holds-joined nodes between.right right far.right c d inside held.1 under.0.2 under.1 deep.5 held.5 in
+      let low : Holds one between.left b = holds-kept nodes right (with_sides nodes between.right far.right) between.left b under.0.1 deep.4 in
+      let first : Holds one left l = holds-kept nodes right (with_sides nodes between.right far.right) left l (apart-away l right (fork top b c) d apart) are.lefts in
+      holds-joined two at top right (fork at l b) (fork right c d) (omega (arith, size, wide, high)) deep.1
+      (away-fork top at l b (λ e. away.1.0 (sym e)) (apart-away l top b c sides.0) within.0)
+      (away-fork top right c d (λ e. under.0.0 (sym e)) within.1 under.2.0)
+      (holds-joined one left at between.left l b (omega (arith, size, there)) are.some near away.1.1 first low)
+      (holds-kept one at (with_sides one left between.left) right (fork right c d) (away-fork at right c d away.0 away.1.2 away.2) rights)
