@@ -3,3 +3,6 @@ pub mod Turning
 pub mod Changing
 pub mod Holding
 pub mod Rotating
+pub mod Opening
+pub mod LeftUp
+pub mod LeftHung

@@ -1,5 +1,5 @@
 -- What hangs at a link after nodes were turned.
-use Rattle.std.proofs.Common.{◌≢◌, ℕ, List, slice_index_or, slice_set, sym, arith}
+use Rattle.std.proofs.Common.{◌≢◌, ℕ, ◌<◌, List, length, slice_index_or, slice_set, sym, arith}
 use Rattle.std.proofs.lemmas.List.{length-set}
 use Rattle.tree_shape.specs.declared.Node.{Node}
 use Rattle.tree_shape.specs.Shape.{Tree, leaf, fork, Holds, IsAway, AreApart, IsOnce, AreSides, blank, with_sides}
@@ -22,21 +22,29 @@ module _ (nodes : List Node) (left at right : ℕ) (a b r : Tree) (are : AreSide
   abbrev lowered : List Node
   lowered = slice_set nodes at (with_sides nodes side.right right)
 
+  -- the node that goes below
+  pub once-inner : Holds lowered at (fork at b r)
+  unfolding Holds IsAway AreApart IsOnce
+  once-inner = holds-joined nodes side.right at right b r are.inside are.some are.once.0.2 are.once.1 are.lefts.5 are.rights
+
+  -- the other side of the node that comes up
+  pub once-outer : Holds lowered side.left a
+  unfolding Holds IsAway AreApart IsOnce
+  once-outer = holds-kept nodes at (with_sides nodes side.right right) side.left a are.once.0.1 are.lefts.4
+
+  -- where the node that comes up stands
+  pub once-inside : left < length lowered
+  unfolding Holds
+  once-inside = let size = length-set nodes at (with_sides nodes side.right right) in let inside = are.lefts.2 in omega (arith, size, inside)
+
   -- the left side comes up, and its right side goes below
   pub turned-once : Holds (slice_set lowered left (with_sides lowered side.left at)) left (fork left a (fork at b r))
   unfolding Holds IsAway AreApart IsOnce
   turned-once =
       let away = are.once.0 in
-      let other = are.once.1 in
-      let apart = are.once.2 in
       let under = are.once.3 in
-      let held = are.lefts in
-      let size = length-set nodes at (with_sides nodes side.right right) in
-      let inside = held.2 in
-      holds-joined lowered side.left left at a (fork at b r) (omega (arith, size, inside)) held.1 under.0
-      (away-fork left at b r (λ same. away.0 (sym same)) under.1 apart.0)
-      (holds-kept nodes at (with_sides nodes side.right right) side.left a away.1 held.4)
-      (holds-joined nodes side.right at right b r are.inside are.some away.2 other held.5 are.rights)
+      holds-joined lowered side.left left at a (fork at b r) once-inside are.lefts.1 under.0
+      (away-fork left at b r (λ same. away.0 (sym same)) under.1 are.once.2.0) once-outer once-inner
 
 module _ (nodes : List Node) (left at right top : ℕ) (a b c r : Tree) (are : AreSides nodes left at right (fork left a (fork top b c)) r) where
   abbrev outer : Node
@@ -51,30 +59,52 @@ module _ (nodes : List Node) (left at right top : ℕ) (a b c r : Tree) (are : A
   abbrev second : List Node
   second = slice_set first at (with_sides first middle.right right)
 
+  pub twice-inside : at < length first
+  twice-inside = let size = length-set nodes left (with_sides nodes outer.left middle.left) in let inside = are.inside in omega (arith, size, inside)
+
+  pub twice-above : top < length second
+  unfolding Holds
+  twice-above =
+      let one = length-set nodes left (with_sides nodes outer.left middle.left) in
+      let two = length-set first at (with_sides first middle.right right) in
+      let inside = are.lefts.5.2 in
+      omega (arith, one, two, inside)
+
+  -- the sides of the node that goes down on the right
+  pub twice-near : Holds first middle.right c
+  unfolding Holds IsAway IsOnce
+  twice-near = holds-kept nodes left (with_sides nodes outer.left middle.left) middle.right c are.once.3.1.2 are.lefts.5.5
+
+  pub twice-far : Holds first right r
+  unfolding Holds IsAway AreApart IsOnce
+  twice-far = holds-kept nodes left (with_sides nodes outer.left middle.left) right r are.once.2.0 are.rights
+
+  -- the nodes that go down
+  pub twice-left : Holds second left (fork left a b)
+  unfolding Holds IsAway AreApart IsOnce
+  twice-left =
+      let away = are.once.0 in
+      let under = are.once.3 in
+      let held = are.lefts in
+      let lefts : Holds first left (fork left a b) = holds-joined nodes outer.left left middle.left a b held.2 held.1 under.0 under.1.1 held.4 held.5.4 in
+      holds-kept first at (with_sides first middle.right right) left (fork left a b) (away-fork at left a b away.0 away.1 away.2.1) lefts
+
+  pub twice-right : Holds second at (fork at c r)
+  unfolding Holds IsAway AreApart IsOnce
+  twice-right = holds-joined first middle.right at right c r twice-inside are.some are.once.0.2.2 are.once.1 twice-near twice-far
+
   -- the node between comes up
   pub turned-twice : Holds (slice_set second top (with_sides second left at)) top (fork top (fork left a b) (fork at c r))
   unfolding Holds IsAway AreApart IsOnce
   turned-twice =
       let away = are.once.0 in
-      let other = are.once.1 in
       let apart = are.once.2 in
       let under = are.once.3 in
       let within = under.4 in
-      let held = are.lefts in
-      let deep = held.5 in
-      let one = length-set nodes left (with_sides nodes outer.left middle.left) in
-      let two = length-set first at (with_sides first middle.right right) in
-      let inside = held.2 in
-      let there = are.inside in
-      let high = deep.2 in
-      let lefts : Holds first left (fork left a b) = holds-joined nodes outer.left left middle.left a b inside held.1 under.0 under.1.1 held.4 deep.4 in
-      let low : Holds first middle.right c = holds-kept nodes left (with_sides nodes outer.left middle.left) middle.right c under.1.2 deep.5 in
-      let far : Holds first right r = holds-kept nodes left (with_sides nodes outer.left middle.left) right r apart.0 are.rights in
-      holds-joined second left top at (fork left a b) (fork at c r) (omega (arith, one, two, high)) deep.1
+      holds-joined second left top at (fork left a b) (fork at c r) twice-above are.lefts.5.1
       (away-fork top left a b (λ e. under.1.0 (sym e)) (apart-away a top b c under.2) within.0)
       (away-fork top at c r (λ e. away.2.0 (sym e)) within.1 apart.2.0)
-      (holds-kept first at (with_sides first middle.right right) left (fork left a b) (away-fork at left a b away.0 away.1 away.2.1) lefts)
-      (holds-joined first middle.right at right c r (omega (arith, one, there)) are.some away.2.2 other low far)
+      twice-left twice-right
 
 -- a tree that is apart from another is apart from its sides
 apart-sides : (t : Tree) (at : ℕ) (l r : Tree) → AreApart t (fork at l r) → AreApart t l × AreApart t r

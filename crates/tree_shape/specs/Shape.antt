@@ -26,7 +26,7 @@ abbrev pub none : ℕ
 none = 4294967295
 
 abbrev pub blank : Node
-blank = record { left = none; right = none; height = 0 }
+blank = record { left = 0; right = 0; height = 0 }
 
 -- what hangs at a link is the tree, and each node knows its levels
 unfoldable pub Holds : List Node → ℕ → Tree → Type 0
@@ -69,3 +69,29 @@ pub record AreSides (nodes : List Node) (left at right : ℕ) (l r : Tree) : Typ
   pub inside : at < length nodes
   pub some : at ≢ none
   pub once : IsOnce (fork at l r)
+
+-- What stands at two links and the place between them, where no side has as many levels as a link can tell.
+pub record AreReady (nodes : List Node) (left at right : ℕ) : Type 0 where
+  pub l : Tree
+  pub r : Tree
+  pub are : AreSides nodes left at right l r
+  pub low_left : levels l < none
+  pub low_right : levels r < none
+
+-- what a node can be made of
+pub record IsJoinable (nodes : List Node) (left at right : ℕ) : Type 0 where
+  pub inside : at < length nodes
+  pub lefts : IsLink nodes left
+  pub rights : IsLink nodes right
+  pub low_left : height_at nodes left < none
+  pub low_right : height_at nodes right < none
+
+-- only places of a tree are written, and none comes or goes
+pub record IsKept (old new : List Node) (t : Tree) : Type 0 where
+  pub size : length new ≡ length old
+  pub others : (place : ℕ) → IsAway place t → slice_index_or new place blank ≡ slice_index_or old place blank
+
+-- what hangs at a link is a tree, where only places of another were written
+pub record IsHung (old new : List Node) (link : ℕ) (t written : Tree) : Type 0 where
+  pub holds : Holds new link t
+  pub kept : IsKept old new written

@@ -2,7 +2,8 @@
 #![tactic(auto)]
 
 ghost use Rattle.std.specs.Prelude.{◌≡◌, ◌<◌, length, slice_set};
-ghost use Rattle.tree_shape.specs.Shape.{IsLink, height_at, with_sides};
+ghost use Rattle.tree_shape.specs.Shape.{Tree, fork, IsLink, AreSides, AreReady, IsJoinable, IsHung, height_at, with_sides};
+ghost use Rattle.tree_shape.specs.Turns.{left_up, right_up, settled};
 
 /// The link of an empty side.
 pub const NONE: u32 = u32::MAX;
@@ -29,11 +30,7 @@ pub fn height(nodes: &[Node], link: u32) -> u32
 
 /// Makes a place a node between two sides.
 pub fn join(nodes: &mut [Node], left: u32, at: u32, right: u32)
-    requires at { at < length nodes.old }
-    requires left { IsLink nodes.old left }
-    requires right { IsLink nodes.old right }
-    requires low_left { height_at nodes.old left < 1000 }
-    requires low_right { height_at nodes.old right < 1000 }
+    requires { IsJoinable nodes.old left at right }
     ensures { nodes.new ≡ slice_set nodes.old at (with_sides nodes.old left right) }
 {
     let height = height(nodes, left).max(height(nodes, right)) + 1;
@@ -42,4 +39,27 @@ pub fn join(nodes: &mut [Node], left: u32, at: u32, right: u32)
         right,
         height,
     };
+}
+
+/// Brings up the left side, whose right side goes below, or the node between them.
+fn left_up(nodes: &mut [Node], left: u32, at: u32, right: u32) -> u32
+    requires ready { AreReady nodes.old left at right }
+    requires higher { height_at nodes.old right < height_at nodes.old left }
+    ensures { (l r : Tree) → AreSides nodes.old left at right l r
+        → IsHung nodes.old nodes.new result (left_up at l r) (fork at l r) }
+{
+    let side = nodes[left as usize];
+    let inner = height(nodes, side.right);
+    let outer = height(nodes, side.left);
+    if inner <= outer {
+        join(nodes, side.right, at, right);
+        join(nodes, side.left, left, at);
+        return left;
+    }
+    let top = side.right;
+    let middle = nodes[top as usize];
+    join(nodes, side.left, left, middle.left);
+    join(nodes, middle.right, at, right);
+    join(nodes, left, top, at);
+    top
 }
