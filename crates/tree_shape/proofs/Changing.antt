@@ -9,7 +9,7 @@ use Rattle.tree_shape.specs.Changes.{by_order, entered, least, without_least, me
 use Rattle.tree_shape.proofs.Turning.{levels-fork, levels-none, even-fork, even-sides, in_order-settled, settled-level}
 
 -- sides that are even already
-settled-flat : (at : ℕ) (l r : Tree) → levels l ≤ levels r + 1 → levels r ≤ levels l + 1 → settled at l r ≡ fork at l r
+pub settled-flat : (at : ℕ) (l r : Tree) → levels l ≤ levels r + 1 → levels r ≤ levels l + 1 → settled at l r ≡ fork at l r
 unfolding settled
 settled-flat at l r left right = by_test (nat_lt (levels r + 1) (levels l)) (nat_lt (levels l + 1) (levels r)) refl refl
   where

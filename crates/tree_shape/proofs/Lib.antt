@@ -6,3 +6,6 @@ pub mod Rotating
 pub mod Opening
 pub mod LeftUp
 pub mod LeftHung
+pub mod RightUp
+pub mod RightHung
+pub mod Settling

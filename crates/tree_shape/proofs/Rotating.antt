@@ -122,21 +122,29 @@ module _ (nodes : List Node) (left at right : ℕ) (l b d : Tree) (are : AreSide
   abbrev leaned : List Node
   leaned = slice_set nodes at (with_sides nodes left other.left)
 
+  -- the node that goes below
+  pub back-inner : Holds leaned at (fork at l b)
+  unfolding Holds IsAway AreApart IsOnce
+  back-inner = holds-joined nodes left at other.left l b are.inside are.some are.once.0 are.once.1.1 are.lefts are.rights.4
+
+  -- the other side of the node that comes up
+  pub back-outer : Holds leaned other.right d
+  unfolding Holds IsAway AreApart IsOnce
+  back-outer = holds-kept nodes at (with_sides nodes left other.left) other.right d are.once.1.2 are.rights.5
+
+  -- where the node that comes up stands
+  pub back-inside : right < length leaned
+  unfolding Holds
+  back-inside = let size = length-set nodes at (with_sides nodes left other.left) in let inside = are.rights.2 in omega (arith, size, inside)
+
   -- the right side comes up, and its left side goes below
   pub turned-back : Holds (slice_set leaned right (with_sides leaned at other.right)) right (fork right (fork at l b) d)
   unfolding Holds IsAway AreApart IsOnce
   turned-back =
-      let near = are.once.0 in
       let away = are.once.1 in
-      let apart = are.once.2 in
       let under = are.once.4 in
-      let held = are.rights in
-      let size = length-set nodes at (with_sides nodes left other.left) in
-      let inside = held.2 in
-      holds-joined leaned at right other.right (fork at l b) d (omega (arith, size, inside)) held.1
-      (away-fork right at l b (λ same. away.0 (sym same)) (apart-away l right b d apart) under.0) under.1
-      (holds-joined nodes left at other.left l b are.inside are.some near away.1 are.lefts held.4)
-      (holds-kept nodes at (with_sides nodes left other.left) other.right d away.2 held.5)
+      holds-joined leaned at right other.right (fork at l b) d back-inside are.rights.1
+      (away-fork right at l b (λ same. away.0 (sym same)) (apart-away l right b d are.once.2) under.0) under.1 back-inner back-outer
 
 module _ (nodes : List Node) (left at right top : ℕ) (l b c d : Tree) (are : AreSides nodes left at right l (fork right (fork top b c) d)) where
   abbrev far : Node
@@ -151,28 +159,49 @@ module _ (nodes : List Node) (left at right top : ℕ) (l b c d : Tree) (are : A
   abbrev two : List Node
   two = slice_set one at (with_sides one left between.left)
 
+  pub between-inside : at < length one
+  between-inside = let size = length-set nodes right (with_sides nodes between.right far.right) in let inside = are.inside in omega (arith, size, inside)
+
+  pub between-above : top < length two
+  unfolding Holds
+  between-above =
+      let size = length-set nodes right (with_sides nodes between.right far.right) in
+      let wide = length-set one at (with_sides one left between.left) in
+      let inside = are.rights.4.2 in
+      omega (arith, size, wide, inside)
+
+  -- the sides of the node that goes down on the left
+  pub between-near : Holds one between.left b
+  unfolding Holds IsAway IsOnce
+  between-near = holds-kept nodes right (with_sides nodes between.right far.right) between.left b are.once.4.0.1 are.rights.4.4
+
+  pub between-far : Holds one left l
+  unfolding IsOnce
+  between-far = holds-kept nodes right (with_sides nodes between.right far.right) left l (apart-away l right (fork top b c) d are.once.2) are.lefts
+
+  -- the nodes that go down
+  pub between-right : Holds two right (fork right c d)
+  unfolding Holds IsAway AreApart IsOnce
+  between-right =
+      let away = are.once.1 in
+      let under = are.once.4 in
+      let held = are.rights in
+      let rights : Holds one right (fork right c d) = holds-joined nodes between.right right far.right c d held.2 held.1 under.0.2 under.1 held.4.5 held.5 in
+      holds-kept one at (with_sides one left between.left) right (fork right c d) (away-fork at right c d away.0 away.1.2 away.2) rights
+
+  pub between-left : Holds two at (fork at l b)
+  unfolding Holds IsAway AreApart IsOnce
+  between-left = holds-joined one left at between.left l b between-inside are.some are.once.0 are.once.1.1.1 between-far between-near
+
   -- the node between comes up
   pub turned-back-twice : Holds (slice_set two top (with_sides two at right)) top (fork top (fork at l b) (fork right c d))
   unfolding Holds IsAway AreApart IsOnce
   turned-back-twice =
-      let near = are.once.0 in
       let away = are.once.1 in
-      let apart = are.once.2 in
       let under = are.once.4 in
       let within = under.3 in
-      let held = are.rights in
-      let deep = held.4 in
-      let size = length-set nodes right (with_sides nodes between.right far.right) in
-      let wide = length-set one at (with_sides one left between.left) in
-      let inside = held.2 in
-      let there = are.inside in
-      let high = deep.2 in
-      let sides = apart-sides l right (fork top b c) d apart in
-      let rights : Holds one right (fork right c d) = holds-joined nodes between.right right far.right c d inside held.1 under.0.2 under.1 deep.5 held.5 in
-      let low : Holds one between.left b = holds-kept nodes right (with_sides nodes between.right far.right) between.left b under.0.1 deep.4 in
-      let first : Holds one left l = holds-kept nodes right (with_sides nodes between.right far.right) left l (apart-away l right (fork top b c) d apart) are.lefts in
-      holds-joined two at top right (fork at l b) (fork right c d) (omega (arith, size, wide, high)) deep.1
+      let sides = apart-sides l right (fork top b c) d are.once.2 in
+      holds-joined two at top right (fork at l b) (fork right c d) between-above are.rights.4.1
       (away-fork top at l b (λ e. away.1.0 (sym e)) (apart-away l top b c sides.0) within.0)
       (away-fork top right c d (λ e. under.0.0 (sym e)) within.1 under.2.0)
-      (holds-joined one left at between.left l b (omega (arith, size, there)) are.some near away.1.1 first low)
-      (holds-kept one at (with_sides one left between.left) right (fork right c d) (away-fork at right c d away.0 away.1.2 away.2) rights)
+      between-left between-right

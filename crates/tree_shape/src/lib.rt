@@ -63,3 +63,44 @@ fn left_up(nodes: &mut [Node], left: u32, at: u32, right: u32) -> u32
     join(nodes, left, top, at);
     top
 }
+
+/// Brings up the right side, whose left side goes below, or the node between them.
+fn right_up(nodes: &mut [Node], left: u32, at: u32, right: u32) -> u32
+    requires ready { AreReady nodes.old left at right }
+    requires higher { height_at nodes.old left < height_at nodes.old right }
+    ensures { (l r : Tree) → AreSides nodes.old left at right l r
+        → IsHung nodes.old nodes.new result (right_up at l r) (fork at l r) }
+{
+    let side = nodes[right as usize];
+    let inner = height(nodes, side.left);
+    let outer = height(nodes, side.right);
+    if inner <= outer {
+        join(nodes, left, at, side.left);
+        join(nodes, at, right, side.right);
+        return right;
+    }
+    let top = side.left;
+    let middle = nodes[top as usize];
+    join(nodes, middle.right, right, side.right);
+    join(nodes, left, at, middle.left);
+    join(nodes, at, top, right);
+    top
+}
+
+/// Makes a place a node between two sides, and turns it where one is two levels higher. Tells the first node's place.
+fn settle(nodes: &mut [Node], left: u32, at: u32, right: u32) -> u32
+    requires { AreReady nodes.old left at right }
+    ensures { (l r : Tree) → AreSides nodes.old left at right l r
+        → IsHung nodes.old nodes.new result (settled at l r) (fork at l r) }
+{
+    let lefts = height(nodes, left);
+    let rights = height(nodes, right);
+    if rights + 1 < lefts {
+        return left_up(nodes, left, at, right);
+    }
+    if lefts + 1 < rights {
+        return right_up(nodes, left, at, right);
+    }
+    join(nodes, left, at, right);
+    at
+}
