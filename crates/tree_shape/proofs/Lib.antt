@@ -9,3 +9,6 @@ pub mod LeftHung
 pub mod RightUp
 pub mod RightHung
 pub mod Settling
+pub mod Times
+pub mod Keeping
+pub mod Searching

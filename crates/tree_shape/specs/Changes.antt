@@ -1,14 +1,19 @@
 -- What a tree is after a place was put in or taken out, where it is looked for from the top down.
-use Rattle.std.specs.Prelude.{ℕ}
+use Rattle.std.specs.Prelude.{ℕ, Option, None, Some}
 use Rattle.std.specs.declared.cmp.Ordering.{Ordering}
 use Rattle.std.specs.declared.cmp.Ordering.TheVariants.{Less, Equal, Greater}
 use Rattle.tree_shape.specs.Shape.{Tree, leaf, fork}
 use Rattle.tree_shape.specs.Turns.{settled}
 
-abbrev pub by_order : Ordering → Tree → Tree → Tree → Tree
+abbrev pub by_order : {A : Type 0} → Ordering → A → A → A → A
 by_order Less less equal greater = less
 by_order Equal less equal greater = equal
 by_order Greater less equal greater = greater
+
+-- where an equal content is, if the way down leads to one
+unfoldable pub found : (ℕ → Ordering) → Tree → Option ℕ
+found order leaf = None
+found order (fork at l r) = by_order (order at) (found order r) (Some at) (found order l)
 
 -- a place that is put in; the order tells of each place how its content stands to the new one, and where it is equal nothing changes
 unfoldable pub entered : (ℕ → Ordering) → ℕ → Tree → Tree

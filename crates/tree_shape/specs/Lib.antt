@@ -1,3 +1,4 @@
 pub mod Shape
 pub mod Turns
 pub mod Changes
+pub mod Searches
