@@ -12,3 +12,5 @@ pub mod Settling
 pub mod Times
 pub mod Keeping
 pub mod Searching
+pub mod Entering
+pub mod Entries

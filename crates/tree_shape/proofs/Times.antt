@@ -2,7 +2,7 @@
 use Rattle.std.proofs.Common.{◌≡◌, ◌≢◌, ℕ, zero, suc, ◌+◌, ◌<◌, ◌≤◌, ◌==◌, Bool, true, false, if◌then◌else◌, List, [], ◌∷◌, ◌++◌, ◌⊎◌, inl, inr, refl, sym, ap, ◌∙◌, subst, arith}
 use Rattle.std.specs.List.{sum_by}
 use Rattle.std.proofs.lemmas.Bool.Decides.{nat_tests}
-use Rattle.std.proofs.lemmas.List.Sums.{sum_by-append}
+use Rattle.std.proofs.lemmas.List.Sums.{sum_by-append, sum_by-cons}
 use Rattle.std.specs.declared.cmp.Ordering.{Ordering}
 use Rattle.tree_shape.specs.Shape.{Tree, leaf, fork, in_order, IsAway, AreApart, IsOnce}
 use Rattle.tree_shape.specs.Turns.{settled}
@@ -27,7 +27,7 @@ unfolding times in_order
 times-leaf i = refl
 
 pub times-row : (i at : ℕ) (xs ys : List ℕ) → sum_by (here i) (xs ++ at ∷ ys) ≡ sum_by (here i) xs + here i at + sum_by (here i) ys
-times-row i at xs ys = let e = sum_by-append (here i) xs (at ∷ ys) in omega (arith, e)
+times-row i at xs ys = let e = sum_by-append (here i) xs (at ∷ ys) in let f = sum_by-cons (here i) at ys in omega (arith, e, f)
 
 pub times-fork : (i at : ℕ) (l r : Tree) → times i (fork at l r) ≡ times i l + here i at + times i r
 unfolding times in_order
@@ -43,9 +43,9 @@ unfolding IsAway
 times-away i leaf e = tt
 times-away i (fork at l r) e =
     let all = times-fork i at l r in
-    let no : here i at ≡ 0 = omega (arith, all, e) in
+    let nought : here i at ≡ 0 = omega (arith, all, e) in
     let same = here-same i in
-    (λ (is : at ≡ i). let one : here i at ≡ 1 = subst (λ (n : ℕ). here i n ≡ 1) (sym is) same in absurd (omega (arith, one, no)),
+    (λ (is : at ≡ i). let one : here i at ≡ 1 = subst (λ (n : ℕ). here i n ≡ 1) (sym is) same in absurd (omega (arith, one, nought)),
      times-away i l (omega (arith, all, e)), times-away i r (omega (arith, all, e)))
 
 pub away-times : (i : ℕ) (t : Tree) → IsAway i t → times i t ≡ 0
@@ -75,11 +75,11 @@ apart-none i (fork at a b) r apart = by_test (i == at) refl (apart-none i a r ap
     by_test : (t : Bool) → (i == at) ≡ t → (times i a ≡ 0) ⊎ (times i r ≡ 0) → (times i b ≡ 0) ⊎ (times i r ≡ 0) → (times i (fork at a b) ≡ 0) ⊎ (times i r ≡ 0)
     by_test true test left right = let is : i ≡ at = grind (arith, nat_tests, test) in inr (subst (λ (n : ℕ). times n r ≡ 0) (sym is) (away-times at r apart.0))
     by_test false test (inr none) right = inr none
-    by_test false test (inl none) (inr no) = inr no
-    by_test false test (inl none) (inl no) =
+    by_test false test (inl none) (inr other) = inr other
+    by_test false test (inl none) (inl other) =
         let all = times-fork i at a b in
-        let zero : here i at ≡ 0 = rw test refl in
-        inl (omega (arith, all, zero, none, no))
+        let blank : here i at ≡ 0 = rw test refl in
+        inl (omega (arith, all, blank, none, other))
 
 -- once
 pub times-once : (t : Tree) → ((i : ℕ) → times i t ≤ 1) → IsOnce t
@@ -109,12 +109,12 @@ once-times (fork at l r) once i = by_test (i == at) refl (apart-none i l r once.
         omega (arith, all, one, lefts, rights)
     by_test false test (inl none) left right =
         let all = times-fork i at l r in
-        let zero : here i at ≡ 0 = rw test refl in
-        omega (arith, all, zero, none, right)
+        let blank : here i at ≡ 0 = rw test refl in
+        omega (arith, all, blank, none, right)
     by_test false test (inr none) left right =
         let all = times-fork i at l r in
-        let zero : here i at ≡ 0 = rw test refl in
-        omega (arith, all, zero, none, left)
+        let blank : here i at ≡ 0 = rw test refl in
+        omega (arith, all, blank, none, left)
 
 -- a place that is put in stands once more at most, and no place less
 entered-list : (order : ℕ → Ordering) (new i : ℕ) (old now : List ℕ) → IsEntered order new old now → (sum_by (here i) old ≤ sum_by (here i) now) × (sum_by (here i) now ≤ sum_by (here i) old + here i new)

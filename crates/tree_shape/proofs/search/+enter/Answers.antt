@@ -1,77 +1,100 @@
-use Rattle.std.proofs.Common.{rules, ◌≡◌, ◌+◌, ◌<◌, ◌≤◌, ℕ, length, slice_index_or, ◌-◌, ◌*◌, ◌/◌, ◌%◌, Bool, true, false, nat_eq, nat_lt, List, [], ◌∷◌, ◌++◌, slice_set, bit_and, bit_or, Fits, w8, w32, w64, Bor, MutBor}
-use Rattle.tree_shape.specs.Shape.{Tree, height_at}
-use Rattle.tree_shape.specs.Changes.{found}
-use Rattle.tree_shape.specs.Searches.{order_to, IsSearched, IsGrowing, IsEntry}
+use Rattle.std.proofs.Common.{◌≡◌, ◌+◌, ◌<◌, ◌≤◌, ℕ, slice_index_or, sym, arith}
+use Rattle.tree_shape.specs.Shape.{Tree, fork, height_at}
+use Rattle.tree_shape.specs.Searches.{order_to, IsGrowing, IsEntry}
+use Rattle.tree_shape.proofs.Searching.{falls-left, falls-right, node-inside, framed-inside, framed-page}
+use Rattle.tree_shape.proofs.Entering.{enter-none, enter-joinable, grower, growing-searched, growing-left, growing-right}
+use Rattle.tree_shape.proofs.Entries.{here-there, right-there, left-there, right-ready, left-ready, right-root, left-root}
 use Rattle.tree_shape.proofs.search.+enter.Goals as goal
 
--- src/search.rt:64:9
 pub returns-then-link-eq-NONE-clause-entry : goal.returns-then-link-eq-NONE-clause-entry
-returns-then-link-eq-NONE-clause-entry t c = ?
+returns-then-link-eq-NONE-clause-entry t c =
+    rw c.join.ensures (enter-none c.args.nodes.now c.args.frames.now c.args.arena.now.pages c.args.link c.args.new (order_to c.args.arena.now.pages c.args.frames.now (slice_index_or c.args.frames.now c.args.new 0)) c.if-link-eq-NONE.true)
 
--- src/search.rt:66:16
 pub slice_copy_out-node : goal.slice_copy_out-node
-slice_copy_out-node t c = ?
+slice_copy_out-node t c =
+    let o = grower c.args.nodes.now c.args.frames.now c.args.arena.now.pages c.args.link c.args.new c.if-link-eq-NONE.false c.requires.tree.0 c.requires.tree.1 in
+    node-inside c.args.nodes.now c.args.link o.l o.r o.is.sound.holds
 
--- src/search.rt:67:11
 pub order_at-requires-clause-inside : goal.order_at-requires-clause-inside
-order_at-requires-clause-inside t c = ?
+order_at-requires-clause-inside t c =
+    let o = grower c.args.nodes.now c.args.frames.now c.args.arena.now.pages c.args.link c.args.new c.if-link-eq-NONE.false c.requires.tree.0 c.requires.tree.1 in
+    let s = growing-searched c.args.nodes.now c.args.frames.now c.args.arena.now.pages c.args.link c.args.new (fork c.args.link o.l o.r) o.is in
+    framed-inside c.args.nodes.now c.args.frames.now c.args.arena.now.pages c.args.link o.l o.r s
 
--- src/search.rt:67:11
 pub order_at-requires-clause-framed : goal.order_at-requires-clause-framed
-order_at-requires-clause-framed t c = ?
+order_at-requires-clause-framed t c =
+    let o = grower c.args.nodes.now c.args.frames.now c.args.arena.now.pages c.args.link c.args.new c.if-link-eq-NONE.false c.requires.tree.0 c.requires.tree.1 in
+    let s = growing-searched c.args.nodes.now c.args.frames.now c.args.arena.now.pages c.args.link c.args.new (fork c.args.link o.l o.r) o.is in
+    framed-page c.args.nodes.now c.args.frames.now c.args.arena.now.pages c.args.link o.l o.r s
 
--- src/search.rt:68:33
 pub enter-requires : goal.enter-requires
-enter-requires t c = ?
+enter-requires t c =
+    let o = grower c.args.nodes.now c.args.frames.now c.args.arena.now.pages c.args.link c.args.new c.if-link-eq-NONE.false c.requires.tree.0 c.requires.tree.1 in
+    let less = falls-right c.args.nodes.now c.args.link o.l o.r o.is.sound.holds in
+    (omega (arith, less, c.decreases), ((o.r, rw c.order_at.ensures.pages (growing-right c.args.nodes.now c.args.frames.now c.args.arena.now.pages c.args.link c.args.new o.l o.r o.is)), (c.requires.inside, rw c.order_at.ensures.pages c.requires.framed)))
 
--- src/search.rt:70:51
-pub settle-requires : goal.settle-requires
-settle-requires t c = ?
-
--- src/search.rt:73:36
 pub enter-requires-in-Greater : goal.enter-requires-in-Greater
-enter-requires-in-Greater t c = ?
+enter-requires-in-Greater t c =
+    let o = grower c.args.nodes.now c.args.frames.now c.args.arena.now.pages c.args.link c.args.new c.if-link-eq-NONE.false c.requires.tree.0 c.requires.tree.1 in
+    let less = falls-left c.args.nodes.now c.args.link o.l o.r o.is.sound.holds in
+    (omega (arith, less, c.decreases), ((o.l, rw c.order_at.ensures.pages (growing-left c.args.nodes.now c.args.frames.now c.args.arena.now.pages c.args.link c.args.new o.l o.r o.is)), (c.requires.inside, rw c.order_at.ensures.pages c.requires.framed)))
 
--- src/search.rt:75:50
+pub settle-requires : goal.settle-requires
+settle-requires t c =
+    let o = grower c.args.nodes.now c.args.frames.now c.args.arena.now.pages c.args.link c.args.new c.if-link-eq-NONE.false c.requires.tree.0 c.requires.tree.1 in
+    right-ready c.args.nodes.now c.args.frames.now c.args.arena.now.pages c.args.link c.args.new (order_to c.args.arena.now.pages c.args.frames.now (slice_index_or c.args.frames.now c.args.new 0)) c.if-link-eq-NONE.false o c.enter.new.nodes c.in-Root.right (rw c.order_at.ensures.pages at c.in-Root.ensures.entry)
+
 pub settle-requires-in-Root-enter : goal.settle-requires-in-Root-enter
-settle-requires-in-Root-enter t c = ?
+settle-requires-in-Root-enter t c =
+    let o = grower c.args.nodes.now c.args.frames.now c.args.arena.now.pages c.args.link c.args.new c.if-link-eq-NONE.false c.requires.tree.0 c.requires.tree.1 in
+    left-ready c.args.nodes.now c.args.frames.now c.args.arena.now.pages c.args.link c.args.new (order_to c.args.arena.now.pages c.args.frames.now (slice_index_or c.args.frames.now c.args.new 0)) c.if-link-eq-NONE.false o c.enter-in-Greater.new.nodes c.in-Root-enter.left (rw c.order_at.ensures.pages at c.in-Root-enter.ensures.entry)
 
--- src/search.rt:53:1
 pub returns-in-There-clause-entry : goal.returns-in-There-clause-entry
-returns-in-There-clause-entry t c = ?
+returns-in-There-clause-entry t c =
+    right-there c.args.nodes.now c.args.frames.now c.args.arena.now.pages c.args.link c.args.new (order_to c.args.arena.now.pages c.args.frames.now (slice_index_or c.args.frames.now c.args.new 0)) c.if-link-eq-NONE.false (sym c.in-Less.ensures.told) c.enter.new.nodes c.in-There.at (rw c.order_at.ensures.pages at c.in-There.ensures.entry)
 
--- src/search.rt:53:1
-pub returns-in-There-clause-few : goal.returns-in-There-clause-few
-returns-in-There-clause-few t c = ?
-
--- src/search.rt:53:1
-pub returns-in-Root-clause-entry : goal.returns-in-Root-clause-entry
-returns-in-Root-clause-entry t c = ?
-
--- src/search.rt:53:1
-pub returns-in-Root-clause-few : goal.returns-in-Root-clause-few
-returns-in-Root-clause-few t c = ?
-
--- src/search.rt:53:1
-pub returns-in-Equal-clause-entry : goal.returns-in-Equal-clause-entry
-returns-in-Equal-clause-entry t c = ?
-
--- src/search.rt:53:1
-pub returns-in-Equal-clause-few : goal.returns-in-Equal-clause-few
-returns-in-Equal-clause-few t c = ?
-
--- src/search.rt:53:1
 pub returns-in-There-enter-clause-entry : goal.returns-in-There-enter-clause-entry
-returns-in-There-enter-clause-entry t c = ?
+returns-in-There-enter-clause-entry t c =
+    left-there c.args.nodes.now c.args.frames.now c.args.arena.now.pages c.args.link c.args.new (order_to c.args.arena.now.pages c.args.frames.now (slice_index_or c.args.frames.now c.args.new 0)) c.if-link-eq-NONE.false (sym c.in-Greater.ensures.told) c.enter-in-Greater.new.nodes c.in-There-enter.at (rw c.order_at.ensures.pages at c.in-There-enter.ensures.entry)
 
--- src/search.rt:53:1
-pub returns-in-There-enter-clause-few : goal.returns-in-There-enter-clause-few
-returns-in-There-enter-clause-few t c = ?
+pub returns-in-Equal-clause-entry : goal.returns-in-Equal-clause-entry
+returns-in-Equal-clause-entry t c =
+    here-there c.args.nodes.now c.args.frames.now c.args.arena.now.pages c.args.link c.args.new (order_to c.args.arena.now.pages c.args.frames.now (slice_index_or c.args.frames.now c.args.new 0)) c.if-link-eq-NONE.false (sym c.in-Equal.ensures.told)
 
--- src/search.rt:53:1
+pub returns-in-Root-clause-entry : goal.returns-in-Root-clause-entry
+returns-in-Root-clause-entry t c =
+    right-root c.args.nodes.now c.args.frames.now c.args.arena.now.pages c.args.link c.args.new (order_to c.args.arena.now.pages c.args.frames.now (slice_index_or c.args.frames.now c.args.new 0)) c.if-link-eq-NONE.false (sym c.in-Less.ensures.told) c.enter.new.nodes c.settle.new.nodes c.in-Root.right c.settle.result (rw c.order_at.ensures.pages at c.in-Root.ensures.entry) c.settle.ensures
+
 pub returns-in-Root-enter-clause-entry : goal.returns-in-Root-enter-clause-entry
-returns-in-Root-enter-clause-entry t c = ?
+returns-in-Root-enter-clause-entry t c =
+    left-root c.args.nodes.now c.args.frames.now c.args.arena.now.pages c.args.link c.args.new (order_to c.args.arena.now.pages c.args.frames.now (slice_index_or c.args.frames.now c.args.new 0)) c.if-link-eq-NONE.false (sym c.in-Greater.ensures.told) c.enter-in-Greater.new.nodes c.settle-in-Root-enter.new.nodes c.in-Root-enter.left c.settle-in-Root-enter.result (rw c.order_at.ensures.pages at c.in-Root-enter.ensures.entry) c.settle-in-Root-enter.ensures
 
--- src/search.rt:53:1
+pub returns-in-There-clause-few : goal.returns-in-There-clause-few
+returns-in-There-clause-few t c =
+    let o = grower c.args.nodes.now c.args.frames.now c.args.arena.now.pages c.args.link c.args.new c.if-link-eq-NONE.false c.requires.tree.0 c.requires.tree.1 in
+    let less = falls-right c.args.nodes.now c.args.link o.l o.r o.is.sound.holds in
+    omega (arith, less, c.order_at.ensures.steps, c.enter.ensures.few)
+
+pub returns-in-Root-clause-few : goal.returns-in-Root-clause-few
+returns-in-Root-clause-few t c =
+    let o = grower c.args.nodes.now c.args.frames.now c.args.arena.now.pages c.args.link c.args.new c.if-link-eq-NONE.false c.requires.tree.0 c.requires.tree.1 in
+    let less = falls-right c.args.nodes.now c.args.link o.l o.r o.is.sound.holds in
+    omega (arith, less, c.order_at.ensures.steps, c.enter.ensures.few)
+
+pub returns-in-Equal-clause-few : goal.returns-in-Equal-clause-few
+returns-in-Equal-clause-few t c =
+    let o = grower c.args.nodes.now c.args.frames.now c.args.arena.now.pages c.args.link c.args.new c.if-link-eq-NONE.false c.requires.tree.0 c.requires.tree.1 in
+    let less = falls-right c.args.nodes.now c.args.link o.l o.r o.is.sound.holds in
+    omega (arith, less, c.order_at.ensures.steps)
+
+pub returns-in-There-enter-clause-few : goal.returns-in-There-enter-clause-few
+returns-in-There-enter-clause-few t c =
+    let o = grower c.args.nodes.now c.args.frames.now c.args.arena.now.pages c.args.link c.args.new c.if-link-eq-NONE.false c.requires.tree.0 c.requires.tree.1 in
+    let less = falls-left c.args.nodes.now c.args.link o.l o.r o.is.sound.holds in
+    omega (arith, less, c.order_at.ensures.steps, c.enter-in-Greater.ensures.few)
+
 pub returns-in-Root-enter-clause-few : goal.returns-in-Root-enter-clause-few
-returns-in-Root-enter-clause-few t c = ?
+returns-in-Root-enter-clause-few t c =
+    let o = grower c.args.nodes.now c.args.frames.now c.args.arena.now.pages c.args.link c.args.new c.if-link-eq-NONE.false c.requires.tree.0 c.requires.tree.1 in
+    let less = falls-left c.args.nodes.now c.args.link o.l o.r o.is.sound.holds in
+    omega (arith, less, c.order_at.ensures.steps, c.enter-in-Greater.ensures.few)
