@@ -14,3 +14,8 @@ pub mod Keeping
 pub mod Searching
 pub mod Entering
 pub mod Entries
+pub mod Places
+pub mod Shrinking
+pub mod Popping
+pub mod Merging
+pub mod Taking

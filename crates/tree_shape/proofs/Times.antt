@@ -1,5 +1,5 @@
 -- How often a place stands in a tree, as numbers: whether it is away, whether places stand once, and whether trees are apart.
-use Rattle.std.proofs.Common.{◌≡◌, ◌≢◌, ℕ, zero, suc, ◌+◌, ◌<◌, ◌≤◌, ◌==◌, Bool, true, false, if◌then◌else◌, List, [], ◌∷◌, ◌++◌, ◌⊎◌, inl, inr, refl, sym, ap, ◌∙◌, subst, arith}
+use Rattle.std.proofs.Common.{◌≡◌, ◌≢◌, ℕ, zero, suc, ◌+◌, ◌<◌, ◌≤◌, ◌==◌, Bool, true, false, if◌then◌else◌, List, [], ◌∷◌, ◌++◌, ◌⊎◌, inl, inr, ⊎_elim, refl, sym, ap, ◌∙◌, subst, arith}
 use Rattle.std.specs.List.{sum_by}
 use Rattle.std.proofs.lemmas.Bool.Decides.{nat_tests}
 use Rattle.std.proofs.lemmas.List.Sums.{sum_by-append, sum_by-cons}
@@ -115,6 +115,13 @@ once-times (fork at l r) once i = by_test (i == at) refl (apart-none i l r once.
         let all = times-fork i at l r in
         let blank : here i at ≡ 0 = rw test refl in
         omega (arith, all, blank, none, left)
+
+-- in two trees that are apart
+pub apart-times : (l r : Tree) → AreApart l r → IsOnce l → IsOnce r → (i : ℕ) → times i l + times i r ≤ 1
+apart-times l r apart left right i =
+    let one = once-times l left i in
+    let two = once-times r right i in
+    ⊎_elim (λ (e : times i l ≡ 0). omega (arith, e, two)) (λ (e : times i r ≡ 0). omega (arith, e, one)) (apart-none i l r apart)
 
 -- a place that is put in stands once more at most, and no place less
 entered-list : (order : ℕ → Ordering) (new i : ℕ) (old now : List ℕ) → IsEntered order new old now → (sum_by (here i) old ≤ sum_by (here i) now) × (sum_by (here i) now ≤ sum_by (here i) old + here i new)

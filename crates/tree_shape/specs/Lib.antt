@@ -2,3 +2,4 @@ pub mod Shape
 pub mod Turns
 pub mod Changes
 pub mod Searches
+pub mod Removals

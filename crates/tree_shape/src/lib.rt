@@ -5,6 +5,7 @@ ghost use Rattle.std.specs.Prelude.{◌≡◌, ◌<◌, length, slice_set};
 ghost use Rattle.tree_shape.specs.Shape.{Tree, fork, IsLink, AreSides, AreReady, IsJoinable, IsHung, height_at, with_sides};
 ghost use Rattle.tree_shape.specs.Turns.{left_up, right_up, settled};
 
+pub mod removal;
 pub mod search;
 
 /// The link of an empty side.

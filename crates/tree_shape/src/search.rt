@@ -18,7 +18,7 @@ pub enum Entered {
 }
 
 /// How the content of a place stands to a frame's, as one step.
-fn order_at(frames: &[u32], arena: &mut Counted, at: u32, frame: u32) -> Ordering
+pub(crate) fn order_at(frames: &[u32], arena: &mut Counted, at: u32, frame: u32) -> Ordering
     requires inside { at < length frames.now }
     requires framed { slice_index_or frames.now at 0 < length arena.old.pages }
     requires frame { frame < length arena.old.pages }
