@@ -1,21 +1,20 @@
 -- A place is put in at a node: what may be settled then, and what hangs in the end.
-use Rattle.std.proofs.Common.{◌≡◌, ◌≢◌, ℕ, ◌+◌, ◌<◌, ◌≤◌, List, length, slice_index_or, slice_set, Option, None, Some, refl, sym, subst, arith}
+use Rattle.std.proofs.Common.{◌≡◌, ◌≢◌, ℕ, ◌+◌, ◌<◌, ◌≤◌, List, length, slice_index_or, slice_set, None, refl, sym, arith}
 use Rattle.std.specs.declared.cmp.Ordering.{Ordering}
-use Rattle.std.specs.declared.cmp.Ordering.TheVariants.{Less, Equal, Greater}
+use Rattle.std.specs.declared.cmp.Ordering.TheVariants.{Less, Greater}
 use Rattle.tree_shape.specs.declared.Node.{Node}
-use Rattle.tree_shape.specs.declared.search.Entered.{Entered}
-use Rattle.tree_shape.specs.declared.search.Entered.TheVariants.{There, Root}
-use Rattle.tree_shape.specs.Shape.{Tree, leaf, fork, levels, IsEven, Holds, IsAway, IsOnce, AreSides, AreReady, IsJoinable, IsHung, none, blank, with_sides}
+use Rattle.tree_shape.specs.declared.search.Entered.TheVariants.{Root}
+use Rattle.tree_shape.specs.Shape.{Tree, leaf, fork, Holds, IsAway, IsOnce, AreSides, AreReady, IsJoinable, IsHung, none, blank, with_sides}
 use Rattle.tree_shape.specs.Turns.{settled}
 use Rattle.tree_shape.specs.Changes.{found, entered}
-use Rattle.tree_shape.specs.Searches.{AreFramed, IsSearched, IsSound, IsGrowing, IsEntry}
+use Rattle.tree_shape.specs.Searches.{AreFramed, IsSearched, IsGrowing, IsEntry}
 use Rattle.tree_shape.proofs.Holding.{holds-joined}
 use Rattle.tree_shape.proofs.Turning.{levels-fork, levels-none, even-sides}
 use Rattle.tree_shape.proofs.Changing.{entered-grown}
 use Rattle.tree_shape.proofs.Opening.{with-node, joinable, kept-write, kept-same}
 use Rattle.tree_shape.proofs.Times.{here, times, times-leaf, times-fork, times-once, once-times, times-apart, times-entered}
 use Rattle.tree_shape.proofs.Keeping.{holds-frame, away-within, kept-after}
-use Rattle.tree_shape.proofs.Searching.{found-leaf, found-right, found-here, found-left}
+use Rattle.tree_shape.proofs.Searching.{found-leaf, found-right, found-left}
 
 entered-leaf : (order : ℕ → Ordering) (new : ℕ) → entered order new leaf ≡ fork new leaf leaf
 unfolding entered
@@ -110,8 +109,8 @@ module _ (nodes : List Node) (frames : List ℕ) (pages : List (List ℕ)) (link
         let inside = is.sound.holds.2 in
         record {
           lefts = holds-frame nodes mid (fork new r leaf) node.left l hung.kept
-          (times-apart l (fork new r leaf) (λ i. let one = times-fork i new r leaf in let no = times-leaf i in let most = all-once i in omega (arith, one, no, most)))
-          is.sound.holds.4;
+              (times-apart l (fork new r leaf) (λ i. let one = times-fork i new r leaf in let no = times-leaf i in let most = all-once i in omega (arith, one, no, most)))
+              is.sound.holds.4;
           rights = hung.holds;
           inside = omega (arith, size, inside);
           some = is.sound.holds.1;
@@ -132,8 +131,8 @@ module _ (nodes : List Node) (frames : List ℕ) (pages : List (List ℕ)) (link
       record {
         holds = rw (entered-right order new link l r less) turned.holds;
         kept = kept-after nodes mid last (fork new r leaf) (fork link l (entered order new r)) (fork new (fork link l r) leaf) hung.kept turned.kept
-        (λ i. away-within i (fork new (fork link l r) leaf) (fork new r leaf) (let one = times-fork i new r leaf in let two = times-fork i new (fork link l r) leaf in let three = times-fork i link l r in omega (arith, one, two, three)))
-        (λ i. away-within i (fork new (fork link l r) leaf) (fork link l (entered order new r)) (let one = times-fork i link l (entered order new r) in let two = times-fork i new (fork link l r) leaf in let three = times-fork i link l r in let grown = times-entered order new i r in omega (arith, one, two, three, grown)));
+            (λ i. away-within i (fork new (fork link l r) leaf) (fork new r leaf) (let one = times-fork i new r leaf in let two = times-fork i new (fork link l r) leaf in let three = times-fork i link l r in omega (arith, one, two, three)))
+            (λ i. away-within i (fork new (fork link l r) leaf) (fork link l (entered order new r)) (let one = times-fork i link l (entered order new r) in let two = times-fork i new (fork link l r) leaf in let three = times-fork i link l r in let grown = times-entered order new i r in omega (arith, one, two, three, grown)));
       },
     )
 
@@ -147,8 +146,8 @@ module _ (nodes : List Node) (frames : List ℕ) (pages : List (List ℕ)) (link
         record {
           lefts = hung.holds;
           rights = holds-frame nodes mid (fork new l leaf) node.right r hung.kept
-          (times-apart r (fork new l leaf) (λ i. let one = times-fork i new l leaf in let no = times-leaf i in let most = all-once i in omega (arith, one, no, most)))
-          is.sound.holds.5;
+              (times-apart r (fork new l leaf) (λ i. let one = times-fork i new l leaf in let no = times-leaf i in let most = all-once i in omega (arith, one, no, most)))
+              is.sound.holds.5;
           inside = omega (arith, size, inside);
           some = is.sound.holds.1;
           once = times-once (fork link (entered order new l) r) (λ i. let one = times-fork i link (entered order new l) r in let grown = times-entered order new i l in let most = all-once i in omega (arith, one, grown, most));
@@ -168,7 +167,7 @@ module _ (nodes : List Node) (frames : List ℕ) (pages : List (List ℕ)) (link
       record {
         holds = rw (entered-left order new link l r greater) turned.holds;
         kept = kept-after nodes mid last (fork new l leaf) (fork link (entered order new l) r) (fork new (fork link l r) leaf) hung.kept turned.kept
-        (λ i. away-within i (fork new (fork link l r) leaf) (fork new l leaf) (let one = times-fork i new l leaf in let two = times-fork i new (fork link l r) leaf in let three = times-fork i link l r in omega (arith, one, two, three)))
-        (λ i. away-within i (fork new (fork link l r) leaf) (fork link (entered order new l) r) (let one = times-fork i link (entered order new l) r in let two = times-fork i new (fork link l r) leaf in let three = times-fork i link l r in let grown = times-entered order new i l in omega (arith, one, two, three, grown)));
+            (λ i. away-within i (fork new (fork link l r) leaf) (fork new l leaf) (let one = times-fork i new l leaf in let two = times-fork i new (fork link l r) leaf in let three = times-fork i link l r in omega (arith, one, two, three)))
+            (λ i. away-within i (fork new (fork link l r) leaf) (fork link (entered order new l) r) (let one = times-fork i link (entered order new l) r in let two = times-fork i new (fork link l r) leaf in let three = times-fork i link l r in let grown = times-entered order new i l in omega (arith, one, two, three, grown)));
       },
     )

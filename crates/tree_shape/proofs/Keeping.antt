@@ -1,7 +1,7 @@
 -- What stays where only the places of some tree are written.
-use Rattle.std.proofs.Common.{◌≡◌, ◌≢◌, ℕ, ◌+◌, ◌<◌, ◌≤◌, List, length, slice_index_or, slice_set, refl, sym, ap, ◌∙◌, arith}
+use Rattle.std.proofs.Common.{ℕ, ◌≤◌, List, slice_index_or, ◌∙◌, arith}
 use Rattle.tree_shape.specs.declared.Node.{Node}
-use Rattle.tree_shape.specs.Shape.{Tree, leaf, fork, Holds, IsAway, AreApart, IsKept, IsHung, none, blank}
+use Rattle.tree_shape.specs.Shape.{Tree, leaf, fork, Holds, IsAway, AreApart, IsKept, blank}
 use Rattle.tree_shape.proofs.Times.{times, away-times, times-away}
 
 -- a tree that is apart stays

@@ -24,8 +24,8 @@ module _ (nodes : List Node) (left at right : ℕ) (a b r : Tree) (are : AreSide
       record {
         holds = subst (λ (t : Tree). Holds (slice_set lowered left (with_sides lowered side.left at)) left t) (sym (left_up-once at left a b r (omega (arith, one, two, few)))) (turned-once nodes left at right a b r are);
         kept = kept-write nodes lowered (fork at (fork left a b) r) left (with_sides lowered side.left at)
-        (kept-write nodes nodes (fork at (fork left a b) r) at (with_sides nodes side.right right) (kept-same nodes (fork at (fork left a b) r)) (λ other away e. away.0 (sym e)))
-        (λ other away e. away.1.0 (sym e));
+            (kept-write nodes nodes (fork at (fork left a b) r) at (with_sides nodes side.right right) (kept-same nodes (fork at (fork left a b) r)) (λ other away e. away.0 (sym e)))
+            (λ other away e. away.1.0 (sym e));
       }
 
 module _ (nodes : List Node) (left at right top : ℕ) (a b c r : Tree) (are : AreSides nodes left at right (fork left a (fork top b c)) r) where
@@ -49,10 +49,10 @@ module _ (nodes : List Node) (left at right top : ℕ) (a b c r : Tree) (are : A
   twice-hung more = record {
     holds = subst (λ (t : Tree). Holds (slice_set second top (with_sides second left at)) top t) (sym (left_up-twice at left top a b c r more)) (turned-twice nodes left at right top a b c r are);
     kept = kept-write nodes second all top (with_sides second left at)
-    (kept-write nodes first all at (with_sides first middle.right right)
-    (kept-write nodes nodes all left (with_sides nodes outer.left middle.left) (kept-same nodes all) (λ other away e. away.1.0 (sym e)))
-    (λ other away e. away.0 (sym e)))
-    (λ other away e. away.1.2.0 (sym e));
+        (kept-write nodes first all at (with_sides first middle.right right)
+        (kept-write nodes nodes all left (with_sides nodes outer.left middle.left) (kept-same nodes all) (λ other away e. away.1.0 (sym e)))
+        (λ other away e. away.0 (sym e)))
+        (λ other away e. away.1.2.0 (sym e));
   }
 
 -- the same for whatever stands at the left

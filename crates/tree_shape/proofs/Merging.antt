@@ -2,7 +2,7 @@
 use Rattle.std.proofs.Common.{◌≡◌, ◌≢◌, ℕ, ◌+◌, ◌<◌, ◌≤◌, List, length, slice_index_or, refl, sym, ap, subst, arith}
 use Rattle.tree_shape.specs.declared.Node.{Node}
 use Rattle.tree_shape.specs.declared.removal.Popped.{Popped}
-use Rattle.tree_shape.specs.Shape.{Tree, leaf, fork, levels, Holds, IsAway, IsOnce, AreApart, AreSides, AreReady, IsHung, none, blank}
+use Rattle.tree_shape.specs.Shape.{Tree, leaf, fork, Holds, AreSides, AreReady, IsHung, none, blank}
 use Rattle.tree_shape.specs.Turns.{settled}
 use Rattle.tree_shape.specs.Changes.{least, without_least, merged}
 use Rattle.tree_shape.specs.Removals.{IsShrinking, AreMerging, IsPopped}
@@ -82,8 +82,8 @@ module _ (nodes mid : List Node) (left right : ℕ) (popped : Popped) (inner : (
         record {
           holds = subst (λ (t : Tree). Holds last result t) (sym (merged-fork l right a b)) held;
           kept = kept-after nodes mid last (fork right a b) (fork popped.first l rest) (merged l (fork right a b)) was.1.kept turned.kept
-          (λ i. away-within i (merged l (fork right a b)) (fork right a b) (let all = times-merged i l (fork right a b) in omega (arith, all)))
-          (λ i. away-within i (merged l (fork right a b)) (fork popped.first l rest) (let all = times-merged i l (fork right a b) in let one = both-once i in omega (arith, all, one)));
+              (λ i. away-within i (merged l (fork right a b)) (fork right a b) (let all = times-merged i l (fork right a b) in omega (arith, all)))
+              (λ i. away-within i (merged l (fork right a b)) (fork popped.first l rest) (let all = times-merged i l (fork right a b) in let one = both-once i in omega (arith, all, one)));
         }
 
   pub merge-ready : IsMerger nodes left right → AreReady mid left popped.first popped.root

@@ -1,15 +1,14 @@
 -- The first place of a tree is taken out, and two sides are merged by it.
-use Rattle.std.proofs.Common.{◌≡◌, ◌≢◌, ℕ, ◌+◌, ◌<◌, ◌≤◌, List, length, slice_index_or, refl, sym, ap, ◌∙◌, subst, arith}
+use Rattle.std.proofs.Common.{◌≡◌, ◌≢◌, ℕ, ◌≤◌, List, slice_index_or, refl, sym, ◌∙◌, subst, arith}
 use Rattle.tree_shape.specs.declared.Node.{Node}
 use Rattle.tree_shape.specs.declared.removal.Popped.{Popped}
-use Rattle.tree_shape.specs.Shape.{Tree, leaf, fork, levels, Holds, IsAway, IsOnce, AreApart, AreSides, AreReady, IsHung, none, blank}
+use Rattle.tree_shape.specs.Shape.{Tree, leaf, fork, Holds, AreSides, AreReady, IsHung, none, blank}
 use Rattle.tree_shape.specs.Turns.{settled}
-use Rattle.tree_shape.specs.Changes.{least, without_least, merged}
-use Rattle.tree_shape.specs.Removals.{IsShrinking, AreMerging, IsPopped}
+use Rattle.tree_shape.specs.Changes.{least, without_least}
+use Rattle.tree_shape.specs.Removals.{IsShrinking, IsPopped}
 use Rattle.tree_shape.proofs.Changing.{without_least-shrunk}
 use Rattle.tree_shape.proofs.Opening.{with-node, kept-same}
-use Rattle.tree_shape.proofs.Times.{here, times, times-fork, times-once, once-times, times-apart}
-use Rattle.tree_shape.proofs.Keeping.{holds-frame, away-within, kept-after}
+use Rattle.tree_shape.proofs.Times.{times}
 use Rattle.tree_shape.proofs.Places.{times-without}
 use Rattle.tree_shape.proofs.Shrinking.{shrinking-left, shrunk-sides-left, shrunk-ready-left, shrunk-hung-left}
 

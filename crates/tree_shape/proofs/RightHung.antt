@@ -27,8 +27,8 @@ module _ (nodes : List Node) (left at right : ℕ) (l b d : Tree) (are : AreSide
       record {
         holds = subst (λ (t : Tree). Holds (slice_set leaned right (with_sides leaned at other.right)) right t) (sym (right_up-once at right l b d (omega (arith, one, two, few)))) (turned-back nodes left at right l b d are);
         kept = kept-write nodes leaned whole right (with_sides leaned at other.right)
-        (kept-write nodes nodes whole at (with_sides nodes left other.left) (kept-same nodes whole) (λ place away e. away.0 (sym e)))
-        (λ place away e. away.2.0 (sym e));
+            (kept-write nodes nodes whole at (with_sides nodes left other.left) (kept-same nodes whole) (λ place away e. away.0 (sym e)))
+            (λ place away e. away.2.0 (sym e));
       }
 
 module _ (nodes : List Node) (left at right top : ℕ) (l b c d : Tree) (are : AreSides nodes left at right l (fork right (fork top b c) d)) where
@@ -52,10 +52,10 @@ module _ (nodes : List Node) (left at right top : ℕ) (l b c d : Tree) (are : A
   twice-hung more = record {
     holds = subst (λ (t : Tree). Holds (slice_set two top (with_sides two at right)) top t) (sym (right_up-twice at right top l b c d more)) (turned-back-twice nodes left at right top l b c d are);
     kept = kept-write nodes two all top (with_sides two at right)
-    (kept-write nodes one all at (with_sides one left between.left)
-    (kept-write nodes nodes all right (with_sides nodes between.right far.right) (kept-same nodes all) (λ place away e. away.2.0 (sym e)))
-    (λ place away e. away.0 (sym e)))
-    (λ place away e. away.2.1.0 (sym e));
+        (kept-write nodes one all at (with_sides one left between.left)
+        (kept-write nodes nodes all right (with_sides nodes between.right far.right) (kept-same nodes all) (λ place away e. away.2.0 (sym e)))
+        (λ place away e. away.0 (sym e)))
+        (λ place away e. away.2.1.0 (sym e));
   }
 
 -- the same for whatever stands at the right

@@ -1,9 +1,9 @@
 -- A node is settled between two sides: which turn is taken, and what hangs in the end.
-use Rattle.std.proofs.Common.{◌≡◌, ◌≢◌, ℕ, ◌+◌, ◌<◌, ◌≤◌, nat_lt, true, false, List, slice_set, refl, sym, subst, arith}
+use Rattle.std.proofs.Common.{◌≡◌, ℕ, ◌+◌, ◌<◌, ◌≤◌, nat_lt, true, false, List, slice_set, refl, sym, subst, arith}
 use Rattle.tree_shape.specs.declared.Node.{Node}
-use Rattle.tree_shape.specs.Shape.{Tree, fork, levels, Holds, IsAway, IsOnce, AreSides, AreReady, IsJoinable, IsHung, none, height_at, with_sides}
+use Rattle.tree_shape.specs.Shape.{Tree, fork, levels, Holds, IsAway, IsOnce, AreSides, AreReady, IsJoinable, IsHung, height_at, with_sides}
 use Rattle.tree_shape.specs.Turns.{left_up, right_up, settled}
-use Rattle.tree_shape.proofs.Holding.{holds-height, holds-link, holds-joined}
+use Rattle.tree_shape.proofs.Holding.{holds-height, holds-joined}
 use Rattle.tree_shape.proofs.Changing.{settled-flat}
 use Rattle.tree_shape.proofs.Opening.{joinable, kept-write, kept-same}
 
@@ -41,6 +41,6 @@ module _ (nodes : List Node) (left at right : ℕ) (l r : Tree) (are : AreSides 
       let two = holds-height nodes right r are.rights in
       record {
         holds = subst (λ (t : Tree). Holds (slice_set nodes at (with_sides nodes left right)) at t) (sym (settled-flat at l r (omega (arith, one, two, few)) (omega (arith, one, two, less))))
-        (holds-joined nodes left at right l r are.inside are.some are.once.0 are.once.1 are.lefts are.rights);
+            (holds-joined nodes left at right l r are.inside are.some are.once.0 are.once.1 are.lefts are.rights);
         kept = kept-write nodes nodes (fork at l r) at (with_sides nodes left right) (kept-same nodes (fork at l r)) (λ place away e. away.0 (sym e));
       }

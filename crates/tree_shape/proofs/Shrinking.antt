@@ -1,9 +1,8 @@
 -- A place is taken out below a node: what may be settled then, and what hangs in the end.
-use Rattle.std.proofs.Common.{◌≡◌, ◌≢◌, ℕ, ◌+◌, ◌<◌, ◌≤◌, List, length, slice_index_or, arith}
+use Rattle.std.proofs.Common.{ℕ, ◌+◌, ◌≤◌, List, slice_index_or, arith}
 use Rattle.tree_shape.specs.declared.Node.{Node}
-use Rattle.tree_shape.specs.Shape.{Tree, leaf, fork, levels, IsEven, Holds, IsAway, IsOnce, AreApart, AreSides, AreReady, IsHung, none, blank}
+use Rattle.tree_shape.specs.Shape.{Tree, fork, levels, Holds, IsOnce, AreSides, AreReady, IsHung, blank}
 use Rattle.tree_shape.specs.Turns.{settled}
-use Rattle.tree_shape.specs.Searches.{IsSound}
 use Rattle.tree_shape.specs.Removals.{IsShrinking}
 use Rattle.tree_shape.proofs.Turning.{levels-fork, even-sides}
 use Rattle.tree_shape.proofs.Times.{here, times, times-fork, times-once, once-times, times-apart}
@@ -55,8 +54,8 @@ module _ (nodes : List Node) (link : ℕ) (l r : Tree) (is : IsShrinking nodes l
     shrunk-hung-left last result turned = record {
       holds = turned.holds;
       kept = kept-after nodes mid last l (fork link m r) (fork link l r) hung.kept turned.kept
-      (λ i. away-within i (fork link l r) l (let one = times-fork i link l r in omega (arith, one)))
-      (λ i. away-within i (fork link l r) (fork link m r) (let one = times-fork i link l r in let two = times-fork i link m r in let le = few i in omega (arith, one, two, le)));
+          (λ i. away-within i (fork link l r) l (let one = times-fork i link l r in omega (arith, one)))
+          (λ i. away-within i (fork link l r) (fork link m r) (let one = times-fork i link l r in let two = times-fork i link m r in let le = few i in omega (arith, one, two, le)));
     }
 
   -- the right side shrank
@@ -84,6 +83,6 @@ module _ (nodes : List Node) (link : ℕ) (l r : Tree) (is : IsShrinking nodes l
     shrunk-hung-right last result turned = record {
       holds = turned.holds;
       kept = kept-after nodes mid last r (fork link l m) (fork link l r) hung.kept turned.kept
-      (λ i. away-within i (fork link l r) r (let one = times-fork i link l r in omega (arith, one)))
-      (λ i. away-within i (fork link l r) (fork link l m) (let one = times-fork i link l r in let two = times-fork i link l m in let le = few i in omega (arith, one, two, le)));
+          (λ i. away-within i (fork link l r) r (let one = times-fork i link l r in omega (arith, one)))
+          (λ i. away-within i (fork link l r) (fork link l m) (let one = times-fork i link l r in let two = times-fork i link l m in let le = few i in omega (arith, one, two, le)));
     }

@@ -1,17 +1,17 @@
 -- What comes of taking out a content at a node, from what came of it at one side.
-use Rattle.std.proofs.Common.{◌≡◌, ◌≢◌, ℕ, ◌+◌, ◌<◌, ◌≤◌, List, slice_index_or, Option, None, Some, refl, sym, subst, arith}
+use Rattle.std.proofs.Common.{◌≡◌, ◌≢◌, ℕ, List, slice_index_or, Option, None, Some, refl, sym, subst, arith}
 use Rattle.std.specs.declared.cmp.Ordering.{Ordering}
 use Rattle.std.specs.declared.cmp.Ordering.TheVariants.{Less, Equal, Greater}
 use Rattle.tree_shape.specs.declared.Node.{Node}
 use Rattle.tree_shape.specs.declared.removal.Taken.{Taken}
-use Rattle.tree_shape.specs.Shape.{Tree, leaf, fork, Holds, IsAway, IsOnce, AreSides, AreReady, IsHung, none, blank}
+use Rattle.tree_shape.specs.Shape.{Tree, leaf, fork, Holds, IsOnce, AreSides, AreReady, IsHung, none, blank}
 use Rattle.tree_shape.specs.Turns.{settled}
-use Rattle.tree_shape.specs.Changes.{found, merged, taken}
+use Rattle.tree_shape.specs.Changes.{merged, taken}
 use Rattle.tree_shape.specs.Searches.{AreFramed, IsSearched}
-use Rattle.tree_shape.specs.Removals.{IsShrinking, IsTaking, AreMerging, IsOut}
+use Rattle.tree_shape.specs.Removals.{IsTaking, AreMerging, IsOut}
 use Rattle.tree_shape.proofs.Changing.{taken-shrunk}
 use Rattle.tree_shape.proofs.Opening.{with-node, kept-same}
-use Rattle.tree_shape.proofs.Times.{here, times, times-fork}
+use Rattle.tree_shape.proofs.Times.{times-fork}
 use Rattle.tree_shape.proofs.Places.{times-merged, times-taken}
 use Rattle.tree_shape.proofs.Keeping.{away-within, kept-after}
 use Rattle.tree_shape.proofs.Searching.{found-leaf, found-right, found-here, found-left}
@@ -76,15 +76,15 @@ module _ (nodes : List Node) (frames : List ℕ) (pages : List (List ℕ)) (link
 
   pub right-none : order link ≡ Less → (mid : List Node) → Told node.right mid None → Told link mid None
   right-none less mid inner = by_node mid None (λ l r is.
-    let was = inner r (taking-right nodes frames pages link l r is) in
-    let e = found-right order link l r less in
-    (rw e was.0, was.1))
+      let was = inner r (taking-right nodes frames pages link l r is) in
+      let e = found-right order link l r less in
+      (rw e was.0, was.1))
 
   pub left-none : order link ≡ Greater → (mid : List Node) → Told node.left mid None → Told link mid None
   left-none greater mid inner = by_node mid None (λ l r is.
-    let was = inner l (taking-left nodes frames pages link l r is) in
-    let e = found-left order link l r greater in
-    (rw e was.0, was.1))
+      let was = inner l (taking-left nodes frames pages link l r is) in
+      let e = found-left order link l r greater in
+      (rw e was.0, was.1))
 
   pub right-ready : IsTaker nodes frames pages link → (mid : List Node) (out : Taken) → Told node.right mid (Some out) → AreReady mid node.left link out.root
   right-ready o mid out inner =
@@ -101,34 +101,40 @@ module _ (nodes : List Node) (frames : List ℕ) (pages : List (List ℕ)) (link
   pub right-some : order link ≡ Less → (mid last : List Node) (out : Taken) (result : ℕ) → Told node.right mid (Some out)
       → ((l r : Tree) → AreSides mid node.left link out.root l r → IsHung mid last result (settled link l r) (fork link l r)) → Told link last (Some (record { place = out.place; root = result }))
   right-some less mid last out result inner turn = by_node last (Some (record { place = out.place; root = result })) (λ l r is.
-    let side = taking-right nodes frames pages link l r is in
-    let was = inner r side in
-    let few = λ (i : ℕ). times-taken order i r in
-    let low = (taken-shrunk order r side.shrinks.sound.even).most in
-    let e = found-right order link l r less in
-    (rw e was.0, subst (λ (t : Tree). IsHung nodes last result t (fork link l r)) (sym (taken-right order link l r less))
-    (shrunk-hung-right nodes link l r is.shrinks mid out.root (taken order r) was.1 few low last result
-    (turn l (taken order r) (shrunk-sides-right nodes link l r is.shrinks mid out.root (taken order r) was.1 few low)))))
+      let side = taking-right nodes frames pages link l r is in
+      let was = inner r side in
+      let few = λ (i : ℕ). times-taken order i r in
+      let low = (taken-shrunk order r side.shrinks.sound.even).most in
+      let e = found-right order link l r less in (
+        rw e was.0,
+        subst (λ (t : Tree). IsHung nodes last result t (fork link l r)) (sym (taken-right order link l r less))
+            (shrunk-hung-right nodes link l r is.shrinks mid out.root (taken order r) was.1 few low last result
+            (turn l (taken order r) (shrunk-sides-right nodes link l r is.shrinks mid out.root (taken order r) was.1 few low))),
+      ))
 
   pub left-some : order link ≡ Greater → (mid last : List Node) (out : Taken) (result : ℕ) → Told node.left mid (Some out)
       → ((l r : Tree) → AreSides mid out.root link node.right l r → IsHung mid last result (settled link l r) (fork link l r)) → Told link last (Some (record { place = out.place; root = result }))
   left-some greater mid last out result inner turn = by_node last (Some (record { place = out.place; root = result })) (λ l r is.
-    let side = taking-left nodes frames pages link l r is in
-    let was = inner l side in
-    let few = λ (i : ℕ). times-taken order i l in
-    let low = (taken-shrunk order l side.shrinks.sound.even).most in
-    let e = found-left order link l r greater in
-    (rw e was.0, subst (λ (t : Tree). IsHung nodes last result t (fork link l r)) (sym (taken-left order link l r greater))
-    (shrunk-hung-left nodes link l r is.shrinks mid out.root (taken order l) was.1 few low last result
-    (turn (taken order l) r (shrunk-sides-left nodes link l r is.shrinks mid out.root (taken order l) was.1 few low)))))
+      let side = taking-left nodes frames pages link l r is in
+      let was = inner l side in
+      let few = λ (i : ℕ). times-taken order i l in
+      let low = (taken-shrunk order l side.shrinks.sound.even).most in
+      let e = found-left order link l r greater in (
+        rw e was.0,
+        subst (λ (t : Tree). IsHung nodes last result t (fork link l r)) (sym (taken-left order link l r greater))
+            (shrunk-hung-left nodes link l r is.shrinks mid out.root (taken order l) was.1 few low last result
+            (turn (taken order l) r (shrunk-sides-left nodes link l r is.shrinks mid out.root (taken order l) was.1 few low))),
+      ))
 
   pub here-some : order link ≡ Equal → (last : List Node) (result : ℕ) → ((l r : Tree) → AreMerging nodes node.left node.right l r → IsHung nodes last result (merged l r) (merged l r))
       → Told link last (Some (record { place = link; root = result }))
   here-some equal last result merge = by_node last (Some (record { place = link; root = result })) (λ l r is.
-    let hung = merge l r (taking-both nodes frames pages link l r is) in
-    (found-here order link l r equal, subst (λ (t : Tree). IsHung nodes last result t (fork link l r)) (sym (taken-here order link l r equal)) (record {
-      holds = hung.holds;
-      kept = kept-after nodes nodes last (merged l r) (merged l r) (fork link l r) (kept-same nodes (merged l r)) hung.kept
-      (λ i. away-within i (fork link l r) (merged l r) (let one = times-merged i l r in let all = times-fork i link l r in omega (arith, one, all)))
-      (λ i. away-within i (fork link l r) (merged l r) (let one = times-merged i l r in let all = times-fork i link l r in omega (arith, one, all)));
-    })))
+      let hung = merge l r (taking-both nodes frames pages link l r is) in (
+        found-here order link l r equal,
+        subst (λ (t : Tree). IsHung nodes last result t (fork link l r)) (sym (taken-here order link l r equal)) (record {
+          holds = hung.holds;
+          kept = kept-after nodes nodes last (merged l r) (merged l r) (fork link l r) (kept-same nodes (merged l r)) hung.kept
+              (λ i. away-within i (fork link l r) (merged l r) (let one = times-merged i l r in let all = times-fork i link l r in omega (arith, one, all)))
+              (λ i. away-within i (fork link l r) (merged l r) (let one = times-merged i l r in let all = times-fork i link l r in omega (arith, one, all)));
+        }),
+      ))

@@ -1,5 +1,5 @@
 -- How often a place stands in a tree, as numbers: whether it is away, whether places stand once, and whether trees are apart.
-use Rattle.std.proofs.Common.{◌≡◌, ◌≢◌, ℕ, zero, suc, ◌+◌, ◌<◌, ◌≤◌, ◌==◌, Bool, true, false, if◌then◌else◌, List, [], ◌∷◌, ◌++◌, ◌⊎◌, inl, inr, ⊎_elim, refl, sym, ap, ◌∙◌, subst, arith}
+use Rattle.std.proofs.Common.{◌≡◌, ◌≢◌, ℕ, ◌+◌, ◌≤◌, ◌==◌, Bool, true, false, if◌then◌else◌, List, ◌∷◌, ◌++◌, ◌⊎◌, inl, inr, ⊎_elim, refl, sym, ap, ◌∙◌, subst, arith}
 use Rattle.std.specs.List.{sum_by}
 use Rattle.std.proofs.lemmas.Bool.Decides.{nat_tests}
 use Rattle.std.proofs.lemmas.List.Sums.{sum_by-append, sum_by-cons}
@@ -44,9 +44,11 @@ times-away i leaf e = tt
 times-away i (fork at l r) e =
     let all = times-fork i at l r in
     let nought : here i at ≡ 0 = omega (arith, all, e) in
-    let same = here-same i in
-    (λ (is : at ≡ i). let one : here i at ≡ 1 = subst (λ (n : ℕ). here i n ≡ 1) (sym is) same in absurd (omega (arith, one, nought)),
-     times-away i l (omega (arith, all, e)), times-away i r (omega (arith, all, e)))
+    let same = here-same i in (
+      λ (is : at ≡ i). let one : here i at ≡ 1 = subst (λ (n : ℕ). here i n ≡ 1) (sym is) same in absurd (omega (arith, one, nought)),
+      times-away i l (omega (arith, all, e)),
+      times-away i r (omega (arith, all, e)),
+    )
 
 pub away-times : (i : ℕ) (t : Tree) → IsAway i t → times i t ≡ 0
 unfolding IsAway
@@ -62,10 +64,11 @@ away-times i (fork at l r) away =
 pub times-apart : (l r : Tree) → ((i : ℕ) → times i l + times i r ≤ 1) → AreApart l r
 unfolding AreApart
 times-apart leaf r most = tt
-times-apart (fork at a b) r most =
-    (times-away at r (let all = times-fork at at a b in let same = here-same at in let e = most at in omega (arith, all, same, e)),
-     times-apart a r (λ i. let all = times-fork i at a b in let e = most i in omega (arith, all, e)),
-     times-apart b r (λ i. let all = times-fork i at a b in let e = most i in omega (arith, all, e)))
+times-apart (fork at a b) r most = (
+  times-away at r (let all = times-fork at at a b in let same = here-same at in let e = most at in omega (arith, all, same, e)),
+  times-apart a r (λ i. let all = times-fork i at a b in let e = most i in omega (arith, all, e)),
+  times-apart b r (λ i. let all = times-fork i at a b in let e = most i in omega (arith, all, e)),
+)
 
 apart-none : (i : ℕ) (l r : Tree) → AreApart l r → (times i l ≡ 0) ⊎ (times i r ≡ 0)
 unfolding AreApart
@@ -88,11 +91,13 @@ times-once leaf most = tt
 times-once (fork at l r) most =
     let all = times-fork at at l r in
     let same = here-same at in
-    let e = most at in
-    (times-away at l (omega (arith, all, same, e)), times-away at r (omega (arith, all, same, e)),
-     times-apart l r (λ i. let whole = times-fork i at l r in let one = most i in omega (arith, whole, one)),
-     times-once l (λ i. let whole = times-fork i at l r in let one = most i in omega (arith, whole, one)),
-     times-once r (λ i. let whole = times-fork i at l r in let one = most i in omega (arith, whole, one)))
+    let e = most at in (
+      times-away at l (omega (arith, all, same, e)),
+      times-away at r (omega (arith, all, same, e)),
+      times-apart l r (λ i. let whole = times-fork i at l r in let one = most i in omega (arith, whole, one)),
+      times-once l (λ i. let whole = times-fork i at l r in let one = most i in omega (arith, whole, one)),
+      times-once r (λ i. let whole = times-fork i at l r in let one = most i in omega (arith, whole, one)),
+    )
 
 pub once-times : (t : Tree) → IsOnce t → (i : ℕ) → times i t ≤ 1
 unfolding IsOnce

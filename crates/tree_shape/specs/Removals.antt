@@ -5,7 +5,7 @@ use Rattle.tree_shape.specs.declared.Node.{Node}
 use Rattle.tree_shape.specs.declared.removal.Popped.{Popped}
 use Rattle.tree_shape.specs.declared.removal.Taken.{Taken}
 use Rattle.tree_shape.specs.Shape.{Tree, fork, IsOnce, AreApart, IsHung}
-use Rattle.tree_shape.specs.Changes.{found, least, without_least, merged, taken}
+use Rattle.tree_shape.specs.Changes.{found, least, without_least, taken}
 use Rattle.tree_shape.specs.Searches.{AreFramed, IsSound}
 
 -- what hangs at a link has each place once

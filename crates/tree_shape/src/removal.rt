@@ -61,7 +61,13 @@ fn merge(nodes: &mut [Node], left: u32, right: u32) -> u32
 }
 
 /// Takes the place of a frame's content out of what hangs at a link, if it is there.
-pub fn take_out(nodes: &mut [Node], frames: &[u32], arena: &mut Counted, link: u32, frame: u32) -> Option<Taken>
+pub fn take_out(
+    nodes: &mut [Node],
+    frames: &[u32],
+    arena: &mut Counted,
+    link: u32,
+    frame: u32,
+) -> Option<Taken>
     requires tree { (t : Tree) × IsTaking nodes.old frames.now arena.old.pages link t }
     requires frame { frame < length arena.old.pages }
     ensures out { (t : Tree) → IsTaking nodes.old frames.now arena.old.pages link t

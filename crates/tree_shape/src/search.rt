@@ -30,7 +30,13 @@ pub(crate) fn order_at(frames: &[u32], arena: &mut Counted, at: u32, frame: u32)
 }
 
 /// The place of a frame's content in what hangs at a link.
-pub fn find(nodes: &[Node], frames: &[u32], arena: &mut Counted, link: u32, frame: u32) -> Option<u32>
+pub fn find(
+    nodes: &[Node],
+    frames: &[u32],
+    arena: &mut Counted,
+    link: u32,
+    frame: u32,
+) -> Option<u32>
     requires tree { (t : Tree) × IsSearched nodes.now frames.now arena.old.pages link t }
     requires frame { frame < length arena.old.pages }
     ensures place { (t : Tree) → IsSearched nodes.now frames.now arena.old.pages link t
@@ -50,7 +56,13 @@ pub fn find(nodes: &[Node], frames: &[u32], arena: &mut Counted, link: u32, fram
 }
 
 /// Puts a place into what hangs at a link, unless the content of its frame is there.
-pub fn enter(nodes: &mut [Node], frames: &[u32], arena: &mut Counted, link: u32, new: u32) -> Entered
+pub fn enter(
+    nodes: &mut [Node],
+    frames: &[u32],
+    arena: &mut Counted,
+    link: u32,
+    new: u32,
+) -> Entered
     requires tree { (t : Tree) × IsGrowing nodes.old frames.now arena.old.pages link new t }
     requires inside { new < length frames.now }
     requires framed { slice_index_or frames.now new 0 < length arena.old.pages }

@@ -1,10 +1,7 @@
-use Rattle.std.proofs.Common.{◌≡◌, ◌<◌, sym, arith}
-use Rattle.tree_shape.specs.declared.Node.{Node}
-use Rattle.tree_shape.specs.Shape.{Tree, fork, IsHung, IsJoinable, none, blank, height_at}
-use Rattle.tree_shape.specs.Turns.{left_up}
+use Rattle.std.proofs.Common.{arith}
 use Rattle.tree_shape.proofs.Holding.{holds-link}
 use Rattle.tree_shape.proofs.Opening.{height-some}
-use Rattle.tree_shape.proofs.LeftUp.{IsOpened, opened, IsOpenedTwice, opened-twice, held-left, held-right, once-first, once-second, twice-first, twice-second, twice-third}
+use Rattle.tree_shape.proofs.LeftUp.{opened, opened-twice, held-left, held-right, once-first, once-second, twice-first, twice-second, twice-third}
 use Rattle.tree_shape.proofs.LeftHung.{left-once, left-twice}
 use Rattle.tree_shape.proofs.left_up.Goals as goal
 

@@ -1,5 +1,4 @@
-use Rattle.std.proofs.Common.{◌+◌, ◌<◌, ◌≤◌, arith}
-use Rattle.tree_shape.specs.Shape.{AreReady, height_at}
+use Rattle.std.proofs.Common.{arith}
 use Rattle.tree_shape.proofs.Settling.{ready-joinable, settle-left, settle-right, settle-flat}
 use Rattle.tree_shape.proofs.settle.Goals as goal
 

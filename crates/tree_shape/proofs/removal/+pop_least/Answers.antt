@@ -1,6 +1,4 @@
-use Rattle.std.proofs.Common.{◌<◌, arith}
-use Rattle.tree_shape.specs.Shape.{Tree, fork, height_at}
-use Rattle.tree_shape.specs.Removals.{IsShrinking, IsPopped}
+use Rattle.std.proofs.Common.{arith}
 use Rattle.tree_shape.proofs.Searching.{falls-left, node-inside}
 use Rattle.tree_shape.proofs.Popping.{pop-here, popper, popped-inner, popped-ready, popped-all}
 use Rattle.tree_shape.proofs.removal.+pop_least.Goals as goal

@@ -1,7 +1,6 @@
-use Rattle.std.proofs.Common.{◌≡◌, ◌+◌, ◌<◌, ◌≤◌, ℕ, sym, arith}
-use Rattle.tree_shape.specs.Shape.{Tree, fork, height_at}
+use Rattle.std.proofs.Common.{sym, arith}
+use Rattle.tree_shape.specs.Shape.{fork}
 use Rattle.tree_shape.specs.Searches.{order_to}
-use Rattle.tree_shape.specs.Removals.{IsTaking, IsOut}
 use Rattle.tree_shape.proofs.Searching.{falls-left, falls-right, node-inside, framed-inside, framed-page}
 use Rattle.tree_shape.proofs.Taking.{take-none, taker, taking-searched, taking-left, taking-right, taking-both, right-none, left-none, right-ready, left-ready, right-some, left-some, here-some}
 use Rattle.tree_shape.proofs.removal.+take_out.Goals as goal

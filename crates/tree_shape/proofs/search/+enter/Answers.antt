@@ -1,8 +1,8 @@
-use Rattle.std.proofs.Common.{◌≡◌, ◌+◌, ◌<◌, ◌≤◌, ℕ, slice_index_or, sym, arith}
-use Rattle.tree_shape.specs.Shape.{Tree, fork, height_at}
-use Rattle.tree_shape.specs.Searches.{order_to, IsGrowing, IsEntry}
+use Rattle.std.proofs.Common.{slice_index_or, sym, arith}
+use Rattle.tree_shape.specs.Shape.{fork}
+use Rattle.tree_shape.specs.Searches.{order_to}
 use Rattle.tree_shape.proofs.Searching.{falls-left, falls-right, node-inside, framed-inside, framed-page}
-use Rattle.tree_shape.proofs.Entering.{enter-none, enter-joinable, grower, growing-searched, growing-left, growing-right}
+use Rattle.tree_shape.proofs.Entering.{enter-none, grower, growing-searched, growing-left, growing-right}
 use Rattle.tree_shape.proofs.Entries.{here-there, right-there, left-there, right-ready, left-ready, right-root, left-root}
 use Rattle.tree_shape.proofs.search.+enter.Goals as goal
 

@@ -1,6 +1,5 @@
-use Rattle.std.proofs.Common.{◌≡◌, ◌+◌, ◌<◌, ◌≤◌, ℕ, sym, arith}
-use Rattle.tree_shape.specs.Shape.{Tree, height_at}
-use Rattle.tree_shape.specs.Searches.{order_to, IsSearched}
+use Rattle.std.proofs.Common.{sym, arith}
+use Rattle.tree_shape.specs.Searches.{order_to}
 use Rattle.tree_shape.proofs.Searching.{falls-left, falls-right, node-inside, searched-node, framed-inside, framed-page, searched-left, searched-right, find-none, find-right, find-here, find-left}
 use Rattle.tree_shape.proofs.search.+find.Goals as goal
 
