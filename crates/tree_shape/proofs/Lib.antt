@@ -19,3 +19,5 @@ pub mod Shrinking
 pub mod Popping
 pub mod Merging
 pub mod Taking
+pub mod Bound
+pub mod Order
