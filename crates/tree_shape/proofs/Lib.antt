@@ -21,3 +21,4 @@ pub mod Merging
 pub mod Taking
 pub mod Bound
 pub mod Order
+pub mod Ascending
