@@ -1,10 +1,10 @@
 -- A tree whose contents ascend is aligned to any content.
-use Rattle.std.proofs.Common.{◌≡◌, ℕ, suc, List, [], ◌∷◌, ◌++◌, All, AllPairs, ap, ◌∙◌, arith}
+use Rattle.std.proofs.Common.{◌≡◌, ℕ, suc, List, [], ◌∷◌, ◌++◌, All, AllPairs, sym, ap, ◌∙◌, arith}
 use Rattle.std.specs.declared.cmp.Ordering.{Ordering}
 use Rattle.std.specs.declared.cmp.Ordering.TheVariants.{Less, Greater}
 use Rattle.std.specs.Ordering.{nat_cmp, ordering_reverse}
 use Rattle.std.specs.Cmp.Lexicographic.{slice_cmp}
-use Rattle.std.proofs.lemmas.Cmp.{nat_list_cmp_total}
+use Rattle.std.proofs.lemmas.Cmp.{nat_list_cmp_total, alike_right}
 use Rattle.std.proofs.lemmas.List.Elements.{All-nil, All-cons, All-head, All-tail, All-weaker}
 use Rattle.std.proofs.lemmas.List.Kept.{AllPairs-cons}
 use Rattle.tree_shape.specs.Shape.{Tree, leaf, fork, in_order}
@@ -69,4 +69,8 @@ module _ (content : ℕ → List ℕ) (bytes : List ℕ) where
             (in_order r) cut.behind),
         ascending-aligned l cut.fronts,
         ascending-aligned r cut.backs,
+        (λ e. All-weaker (λ p. rises p at) (IsBefore order) (λ p less. sym (alike_right nat_list_cmp_total (content at) bytes (content p) e) ∙ less) (in_order l) cut.before),
+        (λ e. All-weaker (rises at) (IsBehind order)
+            (λ q less. nat_list_cmp_total.antisymm (content q) bytes ∙ ap ordering_reverse (sym (nat_list_cmp_total.congr (content at) bytes (content q) e) ∙ less))
+            (in_order r) cut.behind),
       )

@@ -22,3 +22,4 @@ pub mod Taking
 pub mod Bound
 pub mod Order
 pub mod Ascending
+pub mod Leaving

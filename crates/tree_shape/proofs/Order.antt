@@ -16,11 +16,12 @@ IsBefore order at = order at ≡ Less
 abbrev pub IsBehind : (ℕ → Ordering) → ℕ → Type 0
 IsBehind order at = order at ≡ Greater
 
--- what is left of a place that comes before comes before, and what is right of one that comes after comes after
+-- what is left of a place that comes before comes before, and what is right of one that comes after comes after; round an equal one both
 unfoldable pub IsAligned : (ℕ → Ordering) → Tree → Type 0
 IsAligned order leaf = ⊤
 IsAligned order (fork at l r) =
     (order at ≡ Less → All (IsBefore order) (in_order l)) × (order at ≡ Greater → All (IsBehind order) (in_order r)) × IsAligned order l × IsAligned order r
+    × (order at ≡ Equal → All (IsBefore order) (in_order l)) × (order at ≡ Equal → All (IsBehind order) (in_order r))
 
 -- a new place between the earlier ones and the later ones
 pub data IsBetween (order : ℕ → Ordering) (new : ℕ) (old now : List ℕ) : Type 0 where
