@@ -10,13 +10,16 @@ mod operands;
 mod place;
 mod unset;
 
+pub use access::Access;
+pub use cut::{CLEAR, Cut};
+pub use limit::{greatest, least};
+pub use operands::registers_read;
+
 use bpf_decode::{FRAME_POINTER, Insn};
-use cut::Cut;
 use host_types::rule::{NULL_NOT_CHECKED, POINTER_LEAKS, UNSET_REGISTER};
 use host_types::{Refused, Shape};
 use known::Known;
 use limit::Limit;
-use operands::registers_read;
 use place::Place;
 use std::alloc::Global;
 use std::io;
@@ -52,7 +55,7 @@ pub fn write_findings<W: Write>(
         judged: *judged,
         slot,
     };
-    let Some(verified) = cut.with(cut::CLEAR) else {
+    let Some(verified) = cut.with(CLEAR) else {
         return Ok(());
     };
     let place = Place {

@@ -1,0 +1,87 @@
+//! Lines of at most 100 columns.
+
+use std::io;
+use std::io::Write;
+
+/// The most columns of a line.
+const COLUMNS: usize = 100;
+
+/// Where the items of a line begin, if what stands before them leaves the room.
+const ITEMS: usize = 56;
+
+/// Where they begin in the lines below it.
+const BELOW: usize = 24;
+
+/// A line that is being written, and the lines below it that its items need.
+#[derive(Drop)]
+pub struct Line<'a, W> {
+    output: &'a mut W,
+    used: usize,
+    has_items: bool,
+}
+
+impl<'a, W: Write> Line<'a, W> {
+    /// A line that begins with a text.
+    pub fn begin(output: &'a mut W, head: &str) -> io::Result<Line<'a, W>> {
+        write!(output, "{head}")?;
+        Ok(Line {
+            output,
+            used: head.len(),
+            has_items: false,
+        })
+    }
+
+    /// Writes an item behind a `; `, in a line of its own where it finds no room.
+    pub fn item(&mut self, item: &str) -> io::Result<()> {
+        let from = if self.has_items {
+            self.used
+        } else {
+            self.used.saturating_add(1).max(ITEMS)
+        };
+        let end = from.saturating_add(item.len()).saturating_add(2);
+        if end <= COLUMNS {
+            self.write_at(from, item)
+        } else {
+            writeln!(self.output)?;
+            self.used = 0;
+            self.write_at(BELOW, item)
+        }
+    }
+
+    /// Writes an item at a column.
+    fn write_at(&mut self, from: usize, item: &str) -> io::Result<()> {
+        for _ in self.used..from {
+            write!(self.output, " ")?;
+        }
+        write!(self.output, "; {item}")?;
+        self.used = from.saturating_add(item.len()).saturating_add(2);
+        self.has_items = true;
+        Ok(())
+    }
+
+    /// Ends the line.
+    pub fn end(self) -> io::Result<()> {
+        writeln!(self.output)
+    }
+}
+
+/// Writes a text in lines of at most 100 columns, broken between words. A word that is longer has a line of its
+/// own.
+pub fn fold<W: Write>(output: &mut W, text: &str) -> io::Result<()> {
+    let mut used: usize = 0;
+    for word in text.split(' ') {
+        let width = word.chars().count();
+        let end = used.saturating_add(1).saturating_add(width);
+        if used == 0 {
+            used = width;
+        } else if end <= COLUMNS {
+            write!(output, " ")?;
+            used = end;
+        } else {
+            writeln!(output)?;
+            used = width;
+        }
+        write!(output, "{word}")?;
+    }
+    writeln!(output)
+}
