@@ -1,9 +1,12 @@
 //! What is listed of a text.
 
+ghost use Rattle.verifier.specs.Subject.{IsContextSize};
+ghost use Rattle.verifier.specs.Verified.{AreShapes};
+
 use crate::knowledge::{Knowledge, knowledge_of};
 use bpf_decode::decode;
 use findings::{CLEAR, Cut, Judged};
-use host_types::Refused;
+use host_types::{Refused, Shape};
 use host_types::limits::MAX_MAPS;
 use std::alloc::Global;
 use verifier::{Candidate, Verified, is_context_size, verify};
@@ -28,10 +31,11 @@ impl Told {
         {
             return None;
         }
-        let knowledge = knowledge_in(alloc, judged);
-        Some(match outcome_of(alloc, judged) {
+        let text = judged.text;
+        let knowledge = knowledge_in(alloc, text, judged.shapes, judged.context_size);
+        Some(match outcome_of(alloc, text, judged.shapes, judged.context_size) {
             Ok(verified) => Told {
-                slots: judged.text.len() / 8,
+                slots: text.len() / 8,
                 knowledge,
                 verified: Some(verified),
             },
@@ -45,9 +49,17 @@ impl Told {
 }
 
 /// The verifier's judgement.
-fn outcome_of(alloc: Global, judged: &Judged<'_>) -> Result<Verified, Refused> {
-    let program = decode(alloc, judged.text)?;
-    verify(alloc, program, judged.shapes, judged.context_size)
+fn outcome_of(
+    alloc: Global,
+    text: &[u8],
+    shapes: &[Shape],
+    context_size: u32,
+) -> Result<Verified, Refused>
+    requires shapes { AreShapes shapes.now }
+    requires context { IsContextSize context_size }
+{
+    let program = decode(alloc, text)?;
+    verify(alloc, program, shapes, context_size)
 }
 
 /// A program that begins with the slots before a refused one.
@@ -61,8 +73,16 @@ fn verified_before(alloc: Global, judged: &Judged<'_>, refused: Refused) -> Opti
 }
 
 /// What is known at the slots of a text, if it is well formed and there is memory for it.
-fn knowledge_in(alloc: Global, judged: &Judged<'_>) -> Option<Knowledge> {
-    let program = decode(alloc, judged.text).ok()?;
-    let candidate = Candidate::new(alloc, program, judged.shapes, judged.context_size).ok()?;
+fn knowledge_in(
+    alloc: Global,
+    text: &[u8],
+    shapes: &[Shape],
+    context_size: u32,
+) -> Option<Knowledge>
+    requires shapes { AreShapes shapes.now }
+    requires context { IsContextSize context_size }
+{
+    let program = decode(alloc, text).ok()?;
+    let candidate = Candidate::new(alloc, program, shapes, context_size).ok()?;
     knowledge_of(alloc, &candidate).ok()
 }

@@ -9,7 +9,7 @@ const COLUMNS: usize = 100;
 /// Where the items of a line begin, if what stands before them leaves the room.
 const ITEMS: usize = 56;
 
-/// Where they begin in the lines below it.
+/// Where an item begins in a line below it that has no room behind that column.
 const BELOW: usize = 24;
 
 /// A line that is being written, and the lines below it that its items need.
@@ -38,14 +38,12 @@ impl<'a, W: Write> Line<'a, W> {
         } else {
             self.used.saturating_add(1).max(ITEMS)
         };
-        let end = from.saturating_add(item.len()).saturating_add(2);
-        if end <= COLUMNS {
-            self.write_at(from, item)
-        } else {
-            writeln!(self.output)?;
-            self.used = 0;
-            self.write_at(BELOW, item)
+        if fits(from, item) {
+            return self.write_at(from, item);
         }
+        writeln!(self.output)?;
+        self.used = 0;
+        self.write_at(if fits(ITEMS, item) { ITEMS } else { BELOW }, item)
     }
 
     /// Writes an item at a column.
@@ -63,6 +61,11 @@ impl<'a, W: Write> Line<'a, W> {
     pub fn end(self) -> io::Result<()> {
         writeln!(self.output)
     }
+}
+
+/// Whether an item finds room from a column on.
+fn fits(from: usize, item: &str) -> bool {
+    from.saturating_add(item.len()).saturating_add(2) <= COLUMNS
 }
 
 /// Writes a text in lines of at most 100 columns, broken between words. A word that is longer has a line of its

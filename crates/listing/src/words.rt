@@ -55,7 +55,7 @@ fn write_set<W: fmt::Write>(f: &mut fmt::Formatter<W>, set: u8) -> fmt::Result {
         count if first + count == last + 1 => write!(f, "bytes {first}..{last} set"),
         _ => {
             write!(f, "bytes")?;
-            for byte in 0..8 {
+            for byte in 0..8u32 {
                 if set >> byte & 1 == 1 {
                     write!(f, " {byte}")?;
                 }
