@@ -12,16 +12,22 @@ use engines::check::check;
 use engines::replay::replay;
 use engines::{status_of, write_fault};
 use host_file::FileFault;
+use requests::{Progress, answer_words};
 use serving::serve_file;
 use std::alloc::Global;
 use std::io;
 use std::io::{Input, Write};
 use std::process::ExitCode;
+use std::rt::Files;
 use std::sync::Wait;
 use std::thread::Threads;
+use std::time::Clock;
 
 /// What the words of a check stand behind.
 const CHECK: &str = "$ check\t";
+
+/// What stands before the words of a command line, between spaces. Its files are those of the folder `data`.
+const WORDS: &str = "$ words ";
 
 /// What a host file stands below that is to be served.
 const SERVE: &str = "$ serve";
@@ -107,8 +113,30 @@ impl Told {
         )
     }
 
+    /// Does what the words of a command line ask for.
+    fn command<R: AllocGlobal + Clock + Files + Threads + Wait + Sync>(
+        &mut self,
+        rt: &R,
+        line: &str,
+    ) -> Result<u8, FileFault> {
+        let alloc = rt.alloc();
+        let mut words = Vec::new(alloc);
+        words.push(String::from_str(alloc, "bpf_host")?)?;
+        for word in line.split(' ') {
+            words.push(String::from_str(alloc, word)?)?;
+        }
+        let progress = Progress::new(rt, Vec::new(alloc), false);
+        answer_words(
+            rt,
+            words.as_slice(),
+            &mut self.output,
+            &mut self.words,
+            progress,
+        )
+    }
+
     /// Does what a request asks for, whose first line and the lines below are given.
-    fn answer<R: AllocGlobal + Threads + Wait + Sync>(
+    fn answer<R: AllocGlobal + Clock + Files + Threads + Wait + Sync>(
         &mut self,
         rt: &R,
         head: &str,
@@ -117,6 +145,9 @@ impl Told {
         let alloc = rt.alloc();
         if let Some(words) = head.strip_prefix(CHECK) {
             return self.check(alloc, words);
+        }
+        if let Some(words) = head.strip_prefix(WORDS) {
+            return self.command(rt, words);
         }
         let mut file = below.as_bytes();
         if let Some(head) = head.strip_prefix(MARKED) {
@@ -154,7 +185,7 @@ fn print_lines(rt: &impl Print, mark: &str, bytes: &[u8]) -> io::Result<()> {
 }
 
 /// Prints a request and what it is answered. Answers the exit status that it would have.
-fn print_answer<R: AllocGlobal + Print + Threads + Wait + Sync>(
+fn print_answer<R: AllocGlobal + Clock + Files + Print + Threads + Wait + Sync>(
     rt: &R,
     head: &str,
     below: &str,
