@@ -1,0 +1,71 @@
+//! Which maps a program names.
+
+ghost use Rattle.std.specs.Prelude.{◌≡◌, ◌<◌, IsSome};
+ghost use Rattle.bpf_decode.specs.Opcodes.{operation_of};
+ghost use Rattle.bpf_decode.specs.Text.{slots_of};
+ghost use Rattle.verifier.specs.Named.{map_number, named_map, named_at, names, AreNamed};
+
+use crate::candidate::Candidate;
+use bpf_decode::{Insn, Operation};
+use host_types::limits::MAX_MAPS;
+
+/// The map whose number an immediate is.
+fn map_number(imm: i32) -> Option<u32>
+    ensures { result ≡ map_number imm }
+{
+    match u32::try_from(imm) {
+        Ok(map) => Some(map),
+        Err(_) => None,
+    }
+}
+
+/// The map that an instruction names: by its name, or by an address in its first value.
+fn named_map(insn: &Insn) -> Option<u32>
+    requires { IsSome (operation_of insn.now.opcode) }
+    ensures { result ≡ named_map insn.now }
+{
+    match (insn.operation(), insn.src) {
+        (Operation::LoadImmediate, 1 | 2) => map_number(insn.imm),
+        _ => None,
+    }
+}
+
+impl Candidate {
+    /// The map that is named at a slot, reached or not.
+    fn named_at(&self, slot: u32) -> Option<u32>
+        requires { slot < slots_of self.now.text }
+        ensures { result ≡ named_at self.now.text slot }
+    {
+        if self.begins(slot) {
+            named_map(&self.insn(slot))
+        } else {
+            None
+        }
+    }
+
+    /// Whether an instruction, reached or not, names a map.
+    pub(crate) fn names(&self, map: u32) -> bool
+        ensures { result ≡ names self.now.text map }
+    {
+        let mut named = false;
+        for slot in 0..self.slots() {
+            named = named || self.named_at(slot) == Some(map);
+        }
+        named
+    }
+
+    /// Of each of the numbers 0 to 7, whether an instruction, reached or not, names that map.
+    pub(crate) fn named_maps(&self) -> [bool; MAX_MAPS]
+        ensures { AreNamed self.now.text (slots_of self.now.text) result }
+    {
+        let mut named = [false; MAX_MAPS];
+        for slot in 0..self.slots() {
+            if let Some(map) = self.named_at(slot) {
+                if let Some(flag) = named.get_mut(map as usize) {
+                    *flag = true;
+                }
+            }
+        }
+        named
+    }
+}
