@@ -16,7 +16,7 @@ use host_core::{Event, Host, Reply};
 use host_file::{Command, FileFault, HostFile};
 use host_types::limits::MAX_MAPS;
 use host_types::{Fault, MapNo, Opt, Shape};
-use std::alloc::{AllocError, Global};
+use std::alloc::Global;
 use std::io::Write;
 
 /// A host at work, and what its output and its visits need to know.

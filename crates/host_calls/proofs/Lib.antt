@@ -3,4 +3,4 @@ pub mod NewMaps
 pub mod Answers
 pub mod Begins
 pub mod Faults
-pub mod Shapes
+pub mod ShapesRead

@@ -1,5 +1,5 @@
 use Rattle.page_table.specs.State.{part}
-use Rattle.host_calls.proofs.Shapes.{AreRead}
+use Rattle.host_calls.proofs.ShapesRead.{AreRead}
 use Rattle.host_calls.proofs.shapes.host_shapes.Given as goal
 
 abbrev pub invariant-loop-map : goal.invariant-loop-map
