@@ -1,13 +1,16 @@
 -- Which maps the slots before a slot name.
-use Rattle.std.proofs.Common.{◌≡◌, ◌≢◌, ℕ, zero, suc, ◌+◌, ◌<◌, ◌≤◌, nat_lt, ◌==◌, Bool, true, false, ◌||◌, if◌then◌else◌, List, [], ◌∷◌, length, get_or, set, replicate, Option, Some, None, refl, sym, ap, ◌∙◌, inl, inr, arith, add-one}
+use Rattle.std.proofs.Common.{◌≡◌, ◌≢◌, ℕ, zero, suc, ◌+◌, ◌<◌, ◌≤◌, nat_lt, ◌==◌, Bool, true, false, ◌||◌, if◌then◌else◌, List, [], ◌∷◌, length, get_or, set, replicate, All, IfSome, Option, Some, None, refl, sym, ap, ◌∙◌, inl, inr, arith, add-one}
 use Rattle.std.proofs.lemmas.Bool.{cases_eq}
 use Rattle.std.proofs.Math.Bool.{or-false, or-true}
 use Rattle.std.proofs.lemmas.Bool.Decides.{nat_tests}
 use Rattle.std.proofs.lemmas.List.{get_or-set_same, get_or-set_other}
+use Rattle.std.proofs.lemmas.List.Elements.{All-nil, All-cons, All-head, All-tail}
 use Rattle.host_types.specs.declared.shape.Shape.{Shape}
+use Rattle.host_types.specs.Shapes.{IsShape}
 use Rattle.bpf_decode.specs.Text.{slots_of}
 use Rattle.verifier_kinds.specs.Kinds.{shape_at}
 use Rattle.verifier.specs.Subject.{Subject}
+use Rattle.verifier.specs.Verified.{HasShapes}
 use Rattle.verifier.specs.Named.{named_at, is_map, names_before, names, named_from, named_shapes, AreNamed}
 
 -- ---- one slot more
@@ -84,3 +87,27 @@ asked_shape p m shape is = chosen (names p.text m) (shape_at p.shapes m) (sym (n
     chosen : (b : Bool) (there : Option Shape) → (if b then there else None) ≡ Some shape → there ≡ Some shape
     chosen true there e = e
     chosen false there e = absurd cc
+
+-- nothing is asked where there is no shape
+pub nothing_asked : (p : Subject) (m : ℕ) → shape_at p.shapes m ≡ None → shape_at (named_shapes p) m ≡ None
+nothing_asked p m none = named_shape p m ∙ chosen (names p.text m) (shape_at p.shapes m) none
+  where
+    chosen : (b : Bool) (there : Option Shape) → there ≡ None → (if b then there else None) ≡ None
+    chosen true there e = e
+    chosen false there e = refl
+
+named_within : (named : ℕ → Bool) (k : ℕ) (shapes : List (Option Shape)) → All (λ shape. IfSome shape IsShape) shapes → All (λ shape. IfSome shape IsShape) (named_from named k shapes)
+named_within named k [] each = All-nil (λ shape. IfSome shape IsShape)
+named_within named k (shape ∷ shapes) each = All-cons (λ shape. IfSome shape IsShape) _ _ (chosen (named k) shape (All-head (λ shape. IfSome shape IsShape) shape shapes each)) (named_within named (suc k) shapes (All-tail (λ shape. IfSome shape IsShape) shape shapes each))
+  where
+    chosen : (b : Bool) (shape : Option Shape) → IfSome shape IsShape → IfSome (if b then shape else None) IsShape
+    chosen true shape h = h
+    chosen false shape h = tt
+
+length-named : (named : ℕ → Bool) (k : ℕ) (shapes : List (Option Shape)) → length (named_from named k shapes) ≡ length shapes
+length-named named k [] = refl
+length-named named k (shape ∷ shapes) = ap suc (length-named named (suc k) shapes)
+
+-- the shapes that are asked are within the limits
+pub named_have_shapes : (p : Subject) → HasShapes p.shapes → HasShapes (named_shapes p)
+named_have_shapes p h = record { eight = length-named (names p.text) 0 p.shapes ∙ h.eight; each = named_within (names p.text) 0 p.shapes h.each }
