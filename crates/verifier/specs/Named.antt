@@ -20,12 +20,12 @@ map_number (negsuc n) = None
 
 -- the map that an instruction names: it is wide, its src asks for a map's name or for an address in a map's
 -- first value, and its imm is the number
-abbrev pub named_map : Insn → Option ℕ
-named_map insn = if is_wide (operation_of insn.opcode) && (insn.src == 1 || insn.src == 2) then map_number insn.imm else None
+abbrev pub named_by : Insn → Option ℕ
+named_by insn = if is_wide (operation_of insn.opcode) && (insn.src == 1 || insn.src == 2) then map_number insn.imm else None
 
 -- the map that is named at a slot, reached or not, if an instruction stands there and names one
 abbrev pub named_at : List ℕ → ℕ → Option ℕ
-named_at text slot = if is_instruction text slot then named_map (insn_at text slot) else None
+named_at text slot = if is_instruction text slot then named_by (insn_at text slot) else None
 
 -- it is this map
 abbrev pub is_map : Option ℕ → ℕ → Bool

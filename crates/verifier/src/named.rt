@@ -3,11 +3,21 @@
 ghost use Rattle.std.specs.Prelude.{◌≡◌, ◌<◌, IsSome};
 ghost use Rattle.bpf_decode.specs.Opcodes.{operation_of};
 ghost use Rattle.bpf_decode.specs.Text.{slots_of};
-ghost use Rattle.verifier.specs.Named.{map_number, named_map, named_at, names, AreNamed};
+ghost use Rattle.verifier.specs.Named.{map_number, named_by, named_at, is_map, names, AreNamed};
 
 use crate::candidate::Candidate;
 use bpf_decode::{Insn, Operation};
 use host_types::limits::MAX_MAPS;
+
+/// Whether a slot that may name a map names this one.
+fn is_map(named: Option<u32>, map: u32) -> bool
+    ensures { result ≡ is_map named map }
+{
+    match named {
+        Some(named) => named == map,
+        None => false,
+    }
+}
 
 /// The map whose number an immediate is.
 fn map_number(imm: i32) -> Option<u32>
@@ -20,9 +30,9 @@ fn map_number(imm: i32) -> Option<u32>
 }
 
 /// The map that an instruction names: by its name, or by an address in its first value.
-fn named_map(insn: &Insn) -> Option<u32>
+fn named_by(insn: &Insn) -> Option<u32>
     requires { IsSome (operation_of insn.now.opcode) }
-    ensures { result ≡ named_map insn.now }
+    ensures { result ≡ named_by insn.now }
 {
     match (insn.operation(), insn.src) {
         (Operation::LoadImmediate, 1 | 2) => map_number(insn.imm),
@@ -37,7 +47,7 @@ impl Candidate {
         ensures { result ≡ named_at self.now.text slot }
     {
         if self.begins(slot) {
-            named_map(&self.insn(slot))
+            named_by(&self.insn(slot))
         } else {
             None
         }
@@ -49,7 +59,7 @@ impl Candidate {
     {
         let mut named = false;
         for slot in 0..self.slots() {
-            named = named || self.named_at(slot) == Some(map);
+            named = named || is_map(self.named_at(slot), map);
         }
         named
     }

@@ -1,9 +1,9 @@
-use Rattle.verifier.proofs.Shapes.{shapes_all_there}
+use Rattle.verifier.proofs.Shapes.{padded_shapes}
 use Rattle.verifier.proofs.candidate.Candidate.new.Goals as goal
 
 pub invariant_of-result : goal.invariant_of-result
 invariant_of-result c = record {
   text = c.slots-well_formed.ensures.well_formed;
-  shapes = shapes_all_there c.in_ok-shapes.shapes.items (rw c.in_ok-shapes.ensures.items c.requires.shapes);
+  shapes = rw c.by_number padded_shapes c.args.shapes.now c.requires.shapes;
   context = c.requires.context;
 }
