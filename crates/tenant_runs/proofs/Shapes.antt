@@ -1,10 +1,9 @@
 -- Whether a tenant has the maps that a program names.
-use Rattle.std.proofs.Common.{◌≡◌, ◌≤◌, ◌<◌, ◌+◌, inl, inr, ℕ, zero, suc, Bool, true, false, if◌then◌else◌, List, [], ◌∷◌, length, slice_index_or, Option, Some, None, IfSome, IsSomeAnd, refl, ap, ◌∙◌, arith}
+use Rattle.std.proofs.Common.{◌≡◌, ◌<◌, ◌+◌, inl, inr, ℕ, List, length, slice_index_or, Option, None, IfSome, IsSomeAnd, arith}
 use Rattle.std.proofs.lemmas.Bool.{cases_lt}
 use Rattle.std.proofs.lemmas.List.{get_or_past}
 use Rattle.host_types.specs.declared.shape.Shape.{Shape}
 use Rattle.host_types.specs.Memory.{FlatMap, FlatMaps, map_at}
-use Rattle.verifier.specs.Named.{named_from}
 use Rattle.interp.specs.Fits.{HaveShapes}
 
 -- the tenant's map with a number has the shape that a list has there, if it has one
@@ -28,18 +27,3 @@ have_all shapes maps eight first m = elim (cases_lt m 8) [
   | inl less ↦ first m less
   | inr past ↦ rw (get_or_past shapes m None (omega (arith, past, eight))) tt
 ]
-
--- as many as there are
-pub length-named : (named : ℕ → Bool) (k : ℕ) (shapes : List (Option Shape)) → length (named_from named k shapes) ≡ length shapes
-length-named named k [] = refl
-length-named named k (shape ∷ shapes) = ap suc (length-named named (suc k) shapes)
-
--- a shape is among them where its number is named
-pub named_from-at : (named : ℕ → Bool) (k : ℕ) (shapes : List (Option Shape)) (m : ℕ) → slice_index_or (named_from named k shapes) m None ≡ (if named (k + m) then slice_index_or shapes m None else None)
-named_from-at named k [] m = chosen (named (k + m))
-  where
-    chosen : (b : Bool) → None {A = Shape} ≡ (if b then None else None)
-    chosen true = refl
-    chosen false = refl
-named_from-at named k (shape ∷ shapes) zero = let same : k + 0 ≡ k = omega arith in rw same refl
-named_from-at named k (shape ∷ shapes) (suc m) = let same : suc k + m ≡ k + suc m = omega arith in rw (← same) (named_from-at named (suc k) shapes m)

@@ -1,7 +1,8 @@
-use Rattle.std.proofs.Common.{◌≡◌, length, refl, ◌∙◌, arith}
+use Rattle.std.proofs.Common.{◌≡◌, refl, arith}
 use Rattle.page_table.specs.State.{part}
-use Rattle.verifier.specs.Named.{named_shapes, names}
-use Rattle.tenant_runs.proofs.Shapes.{have_all, have_more, length-named}
+use Rattle.verifier.specs.Named.{named_shapes}
+use Rattle.verifier.proofs.NamedMaps.{named_have_shapes}
+use Rattle.tenant_runs.proofs.Shapes.{have_all, have_more}
 use Rattle.tenant_runs.proofs.running.has_shapes.Goals as goal
 
 pub loop-map-init : goal.loop-map-init
@@ -21,5 +22,5 @@ pub returns : goal.returns
 returns c =
     let p = c.args.program.now.subject in
     let all : c.loop-map.map ≡ 8 = omega (arith, c.loop-map-test.false, c.loop-map.auto.map-end) in
-    let eight : length (named_shapes p) ≡ 8 = length-named (names p.text) 0 p.shapes ∙ c.facts.ensures.subject.shapes.eight in
+    let eight = (named_have_shapes p c.facts.ensures.subject.shapes).eight in
     ((λ e. have_all (named_shapes p) (part c.args.memory.now c.args.tenant).maps eight (rw all at c.loop-map.invariant)), λ have. refl)
