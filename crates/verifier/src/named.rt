@@ -42,7 +42,7 @@ fn named_by(insn: &Insn) -> Option<u32>
 
 impl Candidate {
     /// The map that is named at a slot, reached or not.
-    fn named_at(&self, slot: u32) -> Option<u32>
+    pub(crate) fn named_at(&self, slot: u32) -> Option<u32>
         requires { slot < slots_of self.now.text }
         ensures { result ≡ named_at self.now.text slot }
     {
