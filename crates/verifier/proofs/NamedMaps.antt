@@ -33,26 +33,20 @@ no_flag (suc n) (suc m) = no_flag n m
 pub flags_none : (text : List ℕ) → AreNamed text 0 (replicate 8 false)
 flags_none text m less = no_flag 8 m ∙ sym (none_before text m)
 
-flag_set : (flags : List Bool) (n m : ℕ) → n < length flags → get_or (set flags n true) m false ≡ (get_or flags m false || n == m)
+-- a flag that is set
+pub flag_set : (flags : List Bool) (n m : ℕ) → n < length flags → get_or (set flags n true) m false ≡ (get_or flags m false || n == m)
 flag_set flags n m within = elim (cases_eq m n) [
   | inl same ↦ let is : (n == m) ≡ true = grind (arith, nat_tests, same) in rw (is, same) (get_or-set_same flags n true false within ∙ sym (or-true (get_or flags n false)))
   | inr other ↦ let is : (n == m) ≡ false = grind (arith, nat_tests, other) in rw is (get_or-set_other flags n m true false other ∙ sym (or-false (get_or flags m false)))
 ]
 
--- a slot that names a map with a flag
-pub flags_set : (text : List ℕ) (flags : List Bool) (slot n : ℕ) → AreNamed text slot flags → named_at text slot ≡ Some n → n < length flags → AreNamed text (slot + 1) (set flags n true)
-flags_set text flags slot n are is within m less =
-    flag_set flags n m within ∙ ap (λ named. get_or flags m false || is_map named m) (sym is) ∙ one_more text m slot (get_or flags m false) (are m less)
+-- flags as they were, where no number below 8 is named
+pub flag_kept : (flags : List Bool) (named : Option ℕ) (m : ℕ) → is_map named m ≡ false → get_or flags m false ≡ (get_or flags m false || is_map named m)
+flag_kept flags named m other = rw other (sym (or-false (get_or flags m false)))
 
--- a slot that names no map with a flag
-pub flags_kept : (text : List ℕ) (flags : List Bool) (slot n : ℕ) → AreNamed text slot flags → named_at text slot ≡ Some n → 8 ≤ n → AreNamed text (slot + 1) flags
-flags_kept text flags slot n are is past m less =
-    let other : (n == m) ≡ false = grind (arith, nat_tests) in
-    sym (or-false (get_or flags m false)) ∙ ap (λ b. get_or flags m false || b) (sym other) ∙ ap (λ named. get_or flags m false || is_map named m) (sym is) ∙ one_more text m slot (get_or flags m false) (are m less)
-
-pub flags_unnamed : (text : List ℕ) (flags : List Bool) (slot : ℕ) → AreNamed text slot flags → named_at text slot ≡ None → AreNamed text (slot + 1) flags
-flags_unnamed text flags slot are is m less =
-    sym (or-false (get_or flags m false)) ∙ ap (λ named. get_or flags m false || is_map named m) (sym is) ∙ one_more text m slot (get_or flags m false) (are m less)
+-- flags after a slot more
+pub flags_more : (text : List ℕ) (flags more : List Bool) (slot : ℕ) → AreNamed text slot flags → ((m : ℕ) → m < 8 → get_or more m false ≡ (get_or flags m false || is_map (named_at text slot) m)) → AreNamed text (slot + 1) more
+flags_more text flags more slot are h m less = h m less ∙ one_more text m slot (get_or flags m false) (are m less)
 
 -- ---- what is named
 
@@ -67,18 +61,18 @@ names_from text m slot (suc n) less is = elim (cases_eq slot n) [
 
 -- ---- shapes that are named
 
-shape_from : (named : ℕ → Bool) (k m : ℕ) (shapes : List (Option Shape)) → shape_at (named_from named k shapes) m ≡ (if named (k + m) then shape_at shapes m else None)
-shape_from named k m [] = neither (named (k + m))
+shape_from : (named : ℕ → Bool) (k m at : ℕ) (shapes : List (Option Shape)) → at ≡ k + m → shape_at (named_from named k shapes) m ≡ (if named at then shape_at shapes m else None)
+shape_from named k m at [] e = neither (named at)
   where
-    neither : (b : Bool) → None ≡ (if b then None else None)
+    neither : (b : Bool) → ◌≡◌ {A = Option Shape} None (if◌then◌else◌ {A = Option Shape} b None None)
     neither true = refl
     neither false = refl
-shape_from named k zero (shape ∷ shapes) = refl
-shape_from named k (suc m) (shape ∷ shapes) = shape_from named (suc k) m shapes
+shape_from named k zero at (shape ∷ shapes) e = let same : at ≡ k = omega (arith, e) in rw same refl
+shape_from named k (suc m) at (shape ∷ shapes) e = shape_from named (suc k) m at shapes (omega (arith, e))
 
 -- the shape of a number is that of the map if the program names it, and else none is asked
 pub named_shape : (p : Subject) (m : ℕ) → shape_at (named_shapes p) m ≡ (if names p.text m then shape_at p.shapes m else None)
-named_shape p m = shape_from (names p.text) 0 m p.shapes
+named_shape p m = shape_from (names p.text) 0 m m p.shapes (omega arith)
 
 -- a shape that is asked is the map's
 pub asked_shape : (p : Subject) (m : ℕ) (shape : Shape) → shape_at (named_shapes p) m ≡ Some shape → shape_at p.shapes m ≡ Some shape

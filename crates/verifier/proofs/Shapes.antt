@@ -1,9 +1,8 @@
 -- Shapes by number.
-use Rattle.std.proofs.Common.{◌≡◌, ℕ, ◌-◌, ◌≤◌, List, ◌++◌, length, replicate, All, IfSome, Option, Some, None, option_map, unwrap_or, inl, inr, ap, length-append, arith}
+use Rattle.std.proofs.Common.{◌≡◌, ℕ, ◌-◌, ◌≤◌, List, ◌++◌, drop, length, replicate, All, IfSome, Option, Some, None, option_map, unwrap_or, inl, inr, ap, length-append, arith}
 use Rattle.std.proofs.lemmas.Bool.{cases_lt}
 use Rattle.std.proofs.lemmas.List.{drop-replicate, get_or_past, length-replicate}
 use Rattle.std.proofs.lemmas.List.Elements.{All-append, All-get_or, All-replicate}
-use borrow.Rule.Slice.PartMut.{put_mid}
 use Rattle.host_types.specs.declared.shape.Shape.{Shape}
 use Rattle.host_types.specs.Shapes.{IsShape}
 use Rattle.verifier_kinds.specs.Kinds.{shape_at}
@@ -38,5 +37,5 @@ padded_shapes shapes a = record {
 }
 
 -- a list that is written over the first of eight empty places
-pub written_over : (shapes : List (Option Shape)) → put_mid 0 (length shapes) (replicate 8 None) shapes ≡ padded shapes
+pub written_over : (shapes : List (Option Shape)) → shapes ++ drop (length shapes) (replicate 8 None) ≡ padded shapes
 written_over shapes = ap (λ none. shapes ++ none) (drop-replicate (length shapes) 8 None)

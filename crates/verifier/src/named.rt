@@ -1,6 +1,6 @@
 //! Which maps a program names.
 
-ghost use Rattle.std.specs.Prelude.{◌≡◌, ◌<◌, IsSome};
+ghost use Rattle.std.specs.Prelude.{◌≡◌, ℕ, ◌<◌, ◌||◌, false, slice_index_or, IsSome};
 ghost use Rattle.bpf_decode.specs.Opcodes.{operation_of};
 ghost use Rattle.bpf_decode.specs.Text.{slots_of};
 ghost use Rattle.verifier.specs.Named.{map_number, named_by, named_at, is_map, names, AreNamed};
@@ -40,6 +40,17 @@ fn named_by(insn: &Insn) -> Option<u32>
     }
 }
 
+/// Sets the flag of a map that is named, if that is one of the numbers 0 to 7.
+fn set_flag(flags: &mut [bool; MAX_MAPS], named: Option<u32>)
+    ensures { (m : ℕ) → m < 8 → slice_index_or flags.new m false ≡ (slice_index_or flags.old m false || is_map named m) }
+{
+    if let Some(map) = named {
+        if (map as usize) < MAX_MAPS {
+            flags[map as usize] = true;
+        }
+    }
+}
+
 impl Candidate {
     /// The map that is named at a slot, reached or not.
     pub(crate) fn named_at(&self, slot: u32) -> Option<u32>
@@ -59,7 +70,8 @@ impl Candidate {
     {
         let mut named = false;
         for slot in 0..self.slots() {
-            named = named || is_map(self.named_at(slot), map);
+            let here = is_map(self.named_at(slot), map);
+            named |= here;
         }
         named
     }
@@ -70,11 +82,7 @@ impl Candidate {
     {
         let mut named = [false; MAX_MAPS];
         for slot in 0..self.slots() {
-            if let Some(map) = self.named_at(slot) {
-                if let Some(flag) = named.get_mut(map as usize) {
-                    *flag = true;
-                }
-            }
+            set_flag(&mut named, self.named_at(slot));
         }
         named
     }
