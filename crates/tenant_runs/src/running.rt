@@ -47,9 +47,20 @@ fn has_named(memory: &Memory, tenant: u32, program: &Verified, map: MapNo) -> bo
 fn named_shape(program: &Verified, map: MapNo) -> Option<Shape>
     ensures { result ≡ slice_index_or (named_shapes program.now.subject) map None }
 {
-    match program.shapes().get(map as usize) {
-        Some(shape) if program.names(map) => *shape,
-        _ => None,
+    if program.names(map) {
+        shape_at(program.shapes(), map)
+    } else {
+        None
+    }
+}
+
+/// The shape of a number, if there is one.
+fn shape_at(shapes: &[Option<Shape>], map: MapNo) -> Option<Shape>
+    ensures { result ≡ slice_index_or shapes.now map None }
+{
+    match shapes.get(map as usize) {
+        Some(shape) => *shape,
+        None => None,
     }
 }
 
