@@ -53,13 +53,12 @@ shaped (Some flat) shape e = cc
 
 -- a tenant has the maps that a program names which is judged with their shapes
 have_named : (owned : TenantPart) (text : List ℕ) (size : ℕ) → HaveShapes (named_shapes (subject_of owned text size)) owned.maps
-have_named owned text size m = by (slice_index_or (named_shapes p) m None) refl
+have_named owned text size m = by (slice_index_or (named_shapes (subject_of owned text size)) m None) refl
   where
-    p : Subject = subject_of owned text size
-    by : (found : Option Shape) → slice_index_or (named_shapes p) m None ≡ found → IfSome found (λ shape. IsSomeAnd (map_at owned.maps m) (λ (flat : FlatMap). flat.shape ≡ shape))
+    by : (found : Option Shape) → slice_index_or (named_shapes (subject_of owned text size)) m None ≡ found → IfSome found (λ shape. IsSomeAnd (map_at owned.maps m) (λ (flat : FlatMap). flat.shape ≡ shape))
     by None e = tt
     by (Some shape) e =
-        let there : slice_index_or (padded (shapes_of owned.maps)) m None ≡ Some shape = asked_shape p m shape e in
+        let there : slice_index_or (padded (shapes_of owned.maps)) m None ≡ Some shape = asked_shape (subject_of owned text size) m shape e in
         let told : option_map (λ (flat : FlatMap). flat.shape) (map_at owned.maps m) ≡ Some shape = sym (shape_of_map owned.maps m) ∙ sym (padded-at (shapes_of owned.maps) m) ∙ there in
         shaped (map_at owned.maps m) shape told
 
