@@ -4,6 +4,7 @@
 //!     memory FRAMES TENANTS                 a new memory, with the standard options
 //!     map TENANT VALUE_SIZE ENTRIES         a map whose pages may be merged
 //!     fixed TENANT VALUE_SIZE ENTRIES       a map whose pages may not
+//!     drop TENANT MAP                       a map is taken away
 //!     store TENANT VALUE                    eight bytes at the beginning of the tenant's first map
 //!     fill TENANT AT LEN BYTE               bytes of the tenant's first map
 //!     look TENANT AT                        the number in eight bytes of the tenant's first map
@@ -164,6 +165,7 @@ fn obey<W: Write>(
         "memory" => renew(alloc, memory, numbers.first, numbers.second),
         "map" => add_map(memory, &numbers, true),
         "fixed" => add_map(memory, &numbers, false),
+        "drop" => memory.drop_map(numbers.first, numbers.second),
         "visit" => return visits(writer, memory, numbers.first),
         "counters" => return text(&counters(memory), writer),
         "unmerge" => unmerge_all(memory),

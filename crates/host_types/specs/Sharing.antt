@@ -107,6 +107,15 @@ unfoldable pub cost_from : Sharing → ℕ → ℕ → ℕ
 cost_from sharing i zero = 0
 cost_from sharing i (suc n) = break_cost sharing i + cost_from (broken sharing i) (i + 1) n
 
+-- A page that isn't there any more, as its map was dropped: it left its group or the frame of zeros.
+unfoldable pub gone : Sharing → ℕ → Sharing
+gone sharing i = let left = broken sharing i in record left { pages = slice_set left.pages i None }
+
+-- n pages that aren't there any more, one after another in page order
+unfoldable pub gone_from : Sharing → ℕ → ℕ → Sharing
+gone_from sharing i zero = sharing
+gone_from sharing i (suc n) = gone_from (gone sharing i) (i + 1) n
+
 -- two pages of the same bytes become a new last group, and leave the waiting list
 unfoldable pub paired : Sharing → ℕ → ℕ → Sharing
 paired sharing i j =

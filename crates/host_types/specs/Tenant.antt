@@ -1,5 +1,5 @@
 -- What belongs to one tenant.
-use Rattle.std.specs.Prelude.{◌≡◌, ℕ, ◌<◌, length, All, IfSome}
+use Rattle.std.specs.Prelude.{◌≡◌, ℕ, ◌<◌, length, slice_set, All, None, IfSome}
 use Rattle.host_types.specs.Memory.{FlatMap, FlatMaps, map_at}
 use Rattle.host_types.specs.Shapes.{IsShape, byte_len_of}
 
@@ -7,6 +7,10 @@ use Rattle.host_types.specs.Shapes.{IsShape, byte_len_of}
 pub record TenantPart : Type 0 where
   pub maps : FlatMaps
   pub reserve : ℕ
+
+-- a tenant's part without its map m
+abbrev pub part_dropped : TenantPart → ℕ → TenantPart
+part_dropped owned m = record owned { maps = slice_set owned.maps m None }
 
 -- a map of a shape within the limits, with as many bytes as the shape says
 pub record IsFlatMap (flat : FlatMap) : Type 0 where

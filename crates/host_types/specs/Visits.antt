@@ -1,13 +1,13 @@
 -- A visit of the scanner (this project's own rules, in the manner of Linux's KSM): a function of which
--- pages share frames and of the pages' bytes.
-use Rattle.std.specs.Prelude.{ℕ, ◌+◌, ◌/◌, ◌%◌, ◌==◌, ◌&&◌, nat_lt, not, Bool, false, if◌then◌else◌, List, [], ◌∷◌, ◌++◌, length, drop, find, slice_set, Option, Some, None, option_map, unwrap_or, is_some, bytes_eq}
+-- pages share frames and of the pages' bytes. And what becomes of a pass where a map is dropped.
+use Rattle.std.specs.Prelude.{ℕ, ◌+◌, ◌/◌, ◌%◌, ◌==◌, ◌&&◌, nat_le, nat_lt, not, filter, Bool, false, if◌then◌else◌, List, [], ◌∷◌, ◌++◌, length, drop, find, slice_set, Option, Some, None, option_map, unwrap_or, is_some, bytes_eq}
 use Rattle.std.specs.List.{list_any}
 use Rattle.host_types.specs.declared.status.Status.TheVariants.{Volatile, Waiting, Grouped}
 use Rattle.host_types.specs.declared.visited.Visited.{Visited}
 use Rattle.host_types.specs.declared.visited.Visited.TheVariants as visited
 use Rattle.host_types.specs.Memory.{FlatMap, FlatMaps, map_at}
 use Rattle.host_types.specs.Pages.{page_bytes, zero_page, fingerprint_of}
-use Rattle.host_types.specs.Sharing.{Sharing, PageState, state_at, is_shared, with_status, joined_by, paired, zeroed}
+use Rattle.host_types.specs.Sharing.{Sharing, PageState, state_at, is_shared, with_status, gone_from, joined_by, paired, zeroed}
 
 -- the bytes of the page at each place
 abbrev pub Contents : Type 0
@@ -152,3 +152,19 @@ visit_of contents sharing (Some i) = decided contents (begun sharing i) i (state
 unfoldable pub visit : Contents → Sharing → Visit
 visit contents sharing =
     if sharing.options.run == 1 then visit_of contents sharing (page_to_visit sharing) else (visited.Idle, sharing)
+
+-- the waiting list without the n pages from a place on
+abbrev pub waiting_outside : ℕ → ℕ → List (ℕ × ℕ) → List (ℕ × ℕ)
+waiting_outside place n waiting = filter (λ entry. not (nat_le place entry.0 && nat_lt entry.0 (place + n))) waiting
+
+-- A pass where no page behind the cursor may be merged ends, as it does in a visit. At the start of a
+-- pass nothing changes.
+abbrev pub ended_at : Sharing → Option ℕ → Sharing
+ended_at sharing None = sharing
+ended_at sharing (Some c) = moved_on sharing c
+
+-- A map was dropped that had n pages from a place on: they leave their groups, the frame of zeros and
+-- the waiting list, and the pass ends if no page behind the cursor may be merged now.
+unfoldable pub dropped : Sharing → ℕ → ℕ → Sharing
+dropped sharing place n =
+    ended_at (record (gone_from sharing place n) { waiting = waiting_outside place n sharing.waiting }) sharing.cursor

@@ -181,6 +181,32 @@ impl Both {
         Ok(true)
     }
 
+    /// Drops a map. It answers whether that was refused exactly where the tenant or its map isn't there.
+    pub(crate) fn drop_map(&mut self, tenant: u32, map: MapNo) -> bool {
+        let pages = self.memory.byte_len(tenant, map).div_ceil(4096);
+        match self.memory.drop_map(tenant, map) {
+            Ok(()) => {
+                self.forget(first_place(tenant, map), pages);
+                pages > 0
+            }
+            Err(Fault::BadTenant) => tenant >= TENANTS,
+            Err(Fault::NoMap) => tenant < TENANTS && pages == 0,
+            Err(_) => false,
+        }
+    }
+
+    /// Takes a map's pages from the plain program, and their bytes.
+    fn forget(&mut self, first: usize, pages: u32)
+        requires { first ≤ 17592186044416 }
+    {
+        self.plain.drop_pages(first, pages);
+        for number in 0..pages {
+            if let Some(content) = self.contents.get_mut(first + number as usize) {
+                content.clear();
+            }
+        }
+    }
+
     /// Visits a page. It answers whether both did the same.
     pub(crate) fn visit(&mut self, alloc: Global) -> Result<(Visited, bool), AllocError> {
         let told = visit(&mut self.memory);

@@ -1,6 +1,6 @@
 //! The memory beside the plain program of pages that share frames, over operations that a fixed
-//! generator draws: new maps, stores, visits, options and unmergings. After each one both have to tell the
-//! same, the counters too, and all bytes are those of a plain copy. At last the plain program counts passes
+//! generator draws: new maps and dropped ones, stores, visits, options and unmergings. After each one both
+//! have to tell the same, the counters too, and all bytes are those of a plain copy. At last the plain program counts passes
 //! up to the largest number. The file `stdout` says what is wanted.
 #![tactic(auto)]
 
@@ -30,6 +30,13 @@ fn map(alloc: Global, both: &mut Both, draws: &mut Draws, pages: u32) -> Result<
         let entries = draws.below(pages) + 1;
         both.create_map(alloc, tenant, 4096, entries, mergeable)
     }
+}
+
+/// Draws a map, which may not be there, and drops it.
+fn drop_map(both: &mut Both, draws: &mut Draws) -> bool {
+    let tenant = draws.below(TENANTS + 1);
+    let map = draws.below(MAPS);
+    both.drop_map(tenant, map)
 }
 
 /// Draws a store to the first or the last bytes of a page, or over the end of it.
@@ -66,9 +73,10 @@ fn operate(
 {
     match draws.below(64) {
         0 => Ok(both.unmerge()),
-        1..=6 => map(alloc, both, draws, pages),
-        7..=12 => Ok(set(both, draws)),
-        13..=20 => Ok(store(both, draws, pages)),
+        1..=10 => map(alloc, both, draws, pages),
+        11..=18 => Ok(drop_map(both, draws)),
+        19..=23 => Ok(set(both, draws)),
+        24..=31 => Ok(store(both, draws, pages)),
         _ => Ok(both.visit(alloc)?.1),
     }
 }

@@ -1,4 +1,4 @@
--- Unless a pass begins, the page at the cursor and one behind it may be merged: what keeps that.
+-- Unless a pass begins, a page behind the cursor may be merged: what keeps that.
 use Rattle.std.proofs.Common.{◌≡◌, ◌≢◌, ◌∙◌, ℕ, zero, suc, ◌+◌, ◌-◌, Bool, true, false, if◌then◌else◌, List, [], ◌∷◌, drop, slice_index_or, slice_set, Option, Some, None, IsSome, IfSome, is_some, option_map, refl, sym, ap, subst, arith}
 use Rattle.std.proofs.lemmas.List.{get_or-drop, get_or-set_other}
 use Rattle.host_types.specs.declared.status.Status.{Status}
@@ -19,7 +19,7 @@ StayMergeable old new = (j : ℕ) → is_mergeable (slice_index_or old j None) �
 
 pub ahead-kept : (old new : List (Option PageState)) (c : Option ℕ) → StayMergeable old new → IsAhead old c → IsAhead new c
 ahead-kept old new None stay is = tt
-ahead-kept old new (Some c) stay is = (is.0, is.1, stay is.0 is.2, stay c is.3)
+ahead-kept old new (Some c) stay is = (is.0, is.1, stay is.0 is.2)
 
 -- one page changes
 pub stay-put : (pages : List (Option PageState)) (i : ℕ) (x : Option PageState) → (is_mergeable (slice_index_or pages i None) ≡ true → is_mergeable x ≡ true) → StayMergeable pages (slice_set pages i x)
@@ -91,16 +91,12 @@ ahead-more old new pass c kept is = ahead-kept (states_of old.entries) (states_o
         ap is_mergeable (after ∙ sym before) ∙ may
 
 -- the cursor goes on to a page that may be merged where there is a next one
-pub ahead-next : (pages : List (Option PageState)) (i : ℕ) → is_mergeable (slice_index_or pages i None) ≡ true → is_some (first_mergeable (i + 1) (drop (i + 1) pages)) ≡ true → IsAhead pages (Some i)
-ahead-next pages i here more = by_next (first_mergeable (i + 1) (drop (i + 1) pages)) refl more
+pub ahead-next : (pages : List (Option PageState)) (i : ℕ) → is_some (first_mergeable (i + 1) (drop (i + 1) pages)) ≡ true → IsAhead pages (Some i)
+ahead-next pages i more = by_next (first_mergeable (i + 1) (drop (i + 1) pages)) refl more
   where
     by_next : (x : Option ℕ) → first_mergeable (i + 1) (drop (i + 1) pages) ≡ x → is_some x ≡ true → IsAhead pages (Some i)
     by_next None e h = absurd (cc)
-    by_next (Some j) e h = let next = next-is pages (i + 1) j e in (j, omega (arith, next.behind), next.mergeable, here)
-
--- so the page at the cursor may be merged
-pub ahead-here : (pages : List (Option PageState)) (c : ℕ) → IsAhead pages (Some c) → is_mergeable (slice_index_or pages c None) ≡ true
-ahead-here pages c is = is.3
+    by_next (Some j) e h = let next = next-is pages (i + 1) j e in (j, omega (arith, next.behind), next.mergeable)
 
 -- where nothing is found, no page may be merged
 pub none-mergeable : (n : ℕ) (ys : List (Option PageState)) (k : ℕ) → first_mergeable n ys ≡ None → is_mergeable (slice_index_or ys k None) ≡ false

@@ -126,9 +126,33 @@ concat-zeros (page ∷ pages) (suc count) there none =
         let more : n + count * 4096 ≡ suc count * 4096 = omega (arith, e) in
         zeros_joined n (count * 4096) e ∙ ap (λ (m : ℕ). replicate m 0) more
 
-part_of-short : {X : Type 0} (xs : List X) (at size : ℕ) → length (part_of xs at size) ≤ size
+pub part_of-short : {X : Type 0} (xs : List X) (at size : ℕ) → length (part_of xs at size) ≤ size
 unfolding part_of
 part_of-short xs at size = let h = length-take size (drop at xs) in omega arith
+
+-- what is put in place of a map's pages leaves those of other maps
+pub others-filled : (contents : List (List ℕ)) (k n j : ℕ) (page : List ℕ) → n ≤ 256 → k * 256 + 256 ≤ length contents → j ≢ k
+    → part_of (with_part contents (k * 256) (replicate n page)) (j * 256) 256 ≡ part_of contents (j * 256) 256
+others-filled contents k n j page few all ne = ⊎_elim (λ less. before less) (λ more. behind more) (order j k ne)
+  where
+    order : (a b : ℕ) → a ≢ b → (a < b) ⊎ (b < a)
+    order a b ne = grind arith
+
+    before : j < k → part_of (with_part contents (k * 256) (replicate n page)) (j * 256) 256 ≡ part_of contents (j * 256) 256
+    before less =
+        let rest : ℕ = (k - j) * 256 in
+        let place : k * 256 ≡ j * 256 + rest = omega (arith, less) in
+        ap (λ (at : ℕ). part_of (with_part contents at (replicate n page)) (j * 256) 256) place
+        ∙ part-with_part_before contents (replicate n page) (j * 256) 256 rest (omega (arith, less)) (omega (arith, place, all))
+
+    behind : k < j → part_of (with_part contents (k * 256) (replicate n page)) (j * 256) 256 ≡ part_of contents (j * 256) 256
+    behind more =
+        let long = length-replicate n page in
+        let rest : ℕ = j * 256 - (k * 256 + n) in
+        let place : j * 256 ≡ k * 256 + length (replicate n page) + rest = omega (arith, more, long, few) in
+        ap (λ (at : ℕ). part_of (with_part contents (k * 256) (replicate n page)) at 256) place
+        ∙ part-with_part_behind contents (k * 256) (replicate n page) 256 rest (omega (arith, long, all, few))
+        ∙ ap (λ (at : ℕ). part_of contents at 256) (sym place)
 
 -- a map whose pages are new
 module _ (shape : Shape) (pages : List (List ℕ)) (is : IsShape shape) (there : (n : ℕ) → n < page_count shape → slice_index_or pages n [] ≡ zero_page) (none : (n : ℕ) → page_count shape ≤ n → slice_index_or pages n [] ≡ []) where
@@ -213,29 +237,7 @@ module _ (table new : TableState) (shapes : List (Option Shape)) (tenants : List
   old_none = subst (λ s. ArePages s (part_of (contents_of table) (k * 256) 256)) empty (is.maps.each k place_inside)
 
   others_new : (j : ℕ) → j ≢ k → part_of (contents_of new) (j * 256) 256 ≡ part_of (contents_of table) (j * 256) 256
-  others_new j ne = ap (λ l. part_of l (j * 256) 256) contents ∙ ⊎_elim (λ less. before less) (λ more. behind more) (order j k ne)
-    where
-      order : (a b : ℕ) → a ≢ b → (a < b) ⊎ (b < a)
-      order a b ne = grind arith
-
-      before : j < k → part_of (with_part (contents_of table) (k * 256) (replicate (page_count shape) zero_page)) (j * 256) 256 ≡ part_of (contents_of table) (j * 256) 256
-      before less =
-          let rest : ℕ = (k - j) * 256 in
-          let place : k * 256 ≡ j * 256 + rest = omega (arith, less) in
-          let h = all in
-          ap (λ (at : ℕ). part_of (with_part (contents_of table) at (replicate (page_count shape) zero_page)) (j * 256) 256) place
-          ∙ part-with_part_before (contents_of table) (replicate (page_count shape) zero_page) (j * 256) 256 rest (omega (arith, less)) (omega (arith, place, h))
-
-      behind : k < j → part_of (with_part (contents_of table) (k * 256) (replicate (page_count shape) zero_page)) (j * 256) 256 ≡ part_of (contents_of table) (j * 256) 256
-      behind more =
-          let long = length-replicate (page_count shape) zero_page in
-          let rest : ℕ = j * 256 - (k * 256 + page_count shape) in
-          let h = all in
-          let f = few in
-          let place : j * 256 ≡ k * 256 + length (replicate (page_count shape) zero_page) + rest = omega (arith, more, long, f) in
-          ap (λ (at : ℕ). part_of (with_part (contents_of table) (k * 256) (replicate (page_count shape) zero_page)) at 256) place
-          ∙ part-with_part_behind (contents_of table) (k * 256) (replicate (page_count shape) zero_page) 256 rest (omega (arith, long, h, f))
-          ∙ ap (λ (at : ℕ). part_of (contents_of table) at 256) (sym place)
+  others_new j ne = ap (λ l. part_of l (j * 256) 256) contents ∙ others-filled (contents_of table) k (page_count shape) j zero_page few all ne
 
   abbrev pages_new : List (List ℕ)
   pages_new = part_of (contents_of new) (k * 256) 256

@@ -34,3 +34,5 @@ pub mod Trees
 pub mod Nodes
 pub mod Slots
 pub mod Ahead
+pub mod Vacating
+pub mod Dropping

@@ -87,7 +87,7 @@ counts-shared counts f g h = ⊎_elim (λ e. here e.0 e.1) (λ e. other e.0 e.1)
         omega (arith, read, none)
 
 -- the counts after one less holds the frame
-counts-released : (counts : List ℕ) (f g : ℕ) → f < length counts → 1 ≤ slice_index_or counts f 0
+pub counts-released : (counts : List ℕ) (f g : ℕ) → f < length counts → 1 ≤ slice_index_or counts f 0
     → slice_index_or (slice_set counts f (slice_index_or counts f 0 - 1)) g 0 + one_when (f == g) ≡ slice_index_or counts g 0
 counts-released counts f g h k = ⊎_elim (λ e. here e.0 e.1) (λ e. other e.0 e.1) (eqb_tells f g)
   where

@@ -26,7 +26,7 @@ pub waiter-kept : (old new : List (Option Entry)) (c : Option ℕ) (w : Waiter) 
 waiter-kept old new c w h is =
     record { entry = is.entry; here = h is.entry is.here (waiter_own old c w is); frame = is.frame; status = is.status; mergeable = is.mergeable; behind = is.behind }
 
-either : (a b : Bool) → (a || b) ≡ false → (a ≡ false) × (b ≡ false)
+pub either : (a b : Bool) → (a || b) ≡ false → (a ≡ false) × (b ≡ false)
 either true b h = absurd (cc)
 either false b h = (refl, h)
 

@@ -1,7 +1,7 @@
 -- What the calls change, and when they refuse.
-use Rattle.std.specs.Prelude.{◌≡◌, ◌≢◌, ℕ, ◌*◌, ◌<◌, ◌≤◌, Bool, true, false, List, [], ◌∷◌, find, length, replicate, slice_set, Option, None, Some, IsSome, IfSome, IsNone, option_map}
+use Rattle.std.specs.Prelude.{◌≡◌, ◌≢◌, ℕ, ◌*◌, ◌<◌, ◌≤◌, Bool, true, false, List, [], ◌∷◌, find, length, replicate, slice_set, Option, None, Some, IsSome, IfSome, IsNone, option_map, unwrap_or}
 use Rattle.host_types.specs.declared.fault.Fault.{Fault}
-use Rattle.host_types.specs.declared.fault.Fault.TheVariants.{NoFrames, TooManyMaps, BadShape, BadOption, OutOfMemory, BadTenant}
+use Rattle.host_types.specs.declared.fault.Fault.TheVariants.{NoFrames, TooManyMaps, BadShape, NoMap, BadOption, OutOfMemory, BadTenant}
 use Rattle.host_types.specs.declared.options.Options.{Options}
 use Rattle.host_types.specs.declared.shape.Page.{Page}
 use Rattle.host_types.specs.declared.shape.Shape.{Shape}
@@ -31,6 +31,10 @@ part_written owned m at bytes = record owned { maps = slice_set owned.maps m (op
 -- a tenant's part with a new map m of zeros
 abbrev pub part_created : TenantPart → ℕ → Shape → TenantPart
 part_created owned m shape = record owned { maps = slice_set owned.maps m (Some (zero_map shape)) }
+
+-- how many pages a tenant's map has; none where there is no such map
+abbrev pub pages_of_map : TenantPart → ℕ → ℕ
+pages_of_map owned m = unwrap_or (option_map (λ (flat : FlatMap). page_count flat.shape) (map_at owned.maps m)) 0
 
 -- a tenant's part with another number of frames reserved for its open run
 abbrev pub with_reserve : ℕ → TenantPart → TenantPart
@@ -121,6 +125,12 @@ RefusesMap memory tenant shape (NoFrames need have) =
     IsSome (free_number (part memory tenant)) × IsShape shape × (need ≡ page_count shape) × (have ≡ have_of memory) × (have < need)
 RefusesMap memory tenant shape OutOfMemory = FitsMap memory tenant shape
 RefusesMap memory tenant shape _ = ⊥
+
+-- when a map isn't dropped: the first refusal, in this order, whose condition holds
+abbrev pub RefusesDrop : MemoryState → ℕ → ℕ → Fault → Type 0
+RefusesDrop memory tenant m BadTenant = length memory.tenants ≤ tenant
+RefusesDrop memory tenant m NoMap = (tenant < length memory.tenants) × IsNone (map_at (part memory tenant).maps m)
+RefusesDrop memory tenant m _ = ⊥
 
 -- when a new memory is refused: the first refusal, in this order, whose condition holds
 abbrev pub RefusesMemory : ℕ → ℕ → Options → Fault → Type 0

@@ -218,6 +218,11 @@ abbrev pub AreOwnKept : TableState → TableState → Type 0
 AreOwnKept old new =
     (i : ℕ) (entry : Entry) → entry_at old.entries i ≡ Some entry → is_shared entry.status ≡ false → entry_at new.entries i ≡ Some entry
 
+-- every page with a frame of its own stays as it is, but for those at n places from a place on
+abbrev pub AreOwnKeptOutside : ℕ → ℕ → TableState → TableState → Type 0
+AreOwnKeptOutside place n old new =
+    (i : ℕ) (entry : Entry) → (i < place) ⊎ (place + n ≤ i) → entry_at old.entries i ≡ Some entry → is_shared entry.status ≡ false → entry_at new.entries i ≡ Some entry
+
 -- every page but the one at a place stays as it is
 abbrev pub AreOthersKept : ℕ → TableState → TableState → Type 0
 AreOthersKept place old new = (i : ℕ) → i ≢ place → entry_at new.entries i ≡ entry_at old.entries i

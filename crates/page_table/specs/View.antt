@@ -55,11 +55,11 @@ abbrev pub AreWaiters : List (Option Entry) → Option ℕ → List Waiter → T
 AreWaiters entries cursor [] = ⊤
 AreWaiters entries cursor (w ∷ ws) = IsWaiter entries cursor w × (is_listed w.place ws ≡ false) × AreWaiters entries cursor ws
 
--- unless a pass begins, a page behind the cursor may be merged, and so may the page at the cursor
+-- unless a pass begins, a page behind the cursor may be merged
 abbrev pub IsAhead : List (Option PageState) → Option ℕ → Type 0
 IsAhead pages None = ⊤
 IsAhead pages (Some c) =
-    (i : ℕ) × (c < i) × (is_mergeable (slice_index_or pages i None) ≡ true) × (is_mergeable (slice_index_or pages c None) ≡ true)
+    (i : ℕ) × (c < i) × (is_mergeable (slice_index_or pages i None) ≡ true)
 
 -- the pass fits the table
 pub record IsPass (table : TableState) (pass : Pass) : Type 0 where

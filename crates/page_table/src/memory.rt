@@ -1,24 +1,24 @@
-ghost use Rattle.std.specs.Prelude.{◌≡◌, ◌≢◌, ◌+◌, ◌*◌, ◌-◌, ◌/◌, ◌<◌, ◌≤◌, ◌%◌, ◌↔◌, nat_lt, IsTrue, ℕ, [], length, replicate, is_none, position, Option, Some, None, IfOk, OnOk, IfErr, OnErr, IfSome, option_map, slice_index_or, true, is_some};
+ghost use Rattle.std.specs.Prelude.{◌≡◌, ◌≢◌, ◌+◌, ◌*◌, ◌-◌, ◌/◌, ◌<◌, ◌≤◌, ◌%◌, ◌↔◌, nat_lt, IsTrue, ℕ, [], length, replicate, is_none, position, Option, Some, None, IfOk, OnOk, IfErr, OnErr, IsSome, IfSome, option_map, slice_index_or, true, is_some};
 ghost use Rattle.host_types.specs.Bytes.{part_of, with_part};
 ghost use Rattle.host_types.specs.Memory.{FlatMap, map_at};
 ghost use Rattle.host_types.specs.OptionTable.{AreOptions, MayBe};
 ghost use Rattle.host_types.specs.Pages.{map_place, page_place, page_bytes, zero_page};
 ghost use Rattle.host_types.specs.Shapes.{IsShape};
 ghost use Rattle.host_types.specs.Sharing.{new_page, state_at, is_shared, broken, break_cost, cost_from, paired, zeroed};
-ghost use Rattle.host_types.specs.Tenant.{IsFlatMap, AreFlatMaps};
+ghost use Rattle.host_types.specs.Tenant.{IsFlatMap, AreFlatMaps, part_dropped};
 ghost use Rattle.host_types.specs.Unmerging.{with_option, MaySet, unmerged, unmerge_need, SharesNothing};
-ghost use Rattle.host_types.specs.Visits.{page_to_visit, is_mergeable, flushed, moved_on, changed, waits, has_open, joined};
+ghost use Rattle.host_types.specs.Visits.{page_to_visit, is_mergeable, dropped, flushed, moved_on, changed, waits, has_open, joined};
 ghost use Rattle.frame_arena.specs.Pages.{page_at};
 ghost use Rattle.page_table.specs.Limits.{AreLimits, page_count, shape_of};
 ghost use Rattle.page_table.specs.State.{MemoryState, part, map_bytes, bytes_of_map, free_number, new_memory, unreserved_tenant, free_of, have_of, frame_at};
 ghost use Rattle.page_table.specs.Reads.{ReadsAs};
-ghost use Rattle.page_table.specs.Changes.{IsNotWaiting, HadFingerprint, contents_now, open_frame, partner_place, zero_map, part_written, part_created, AreKept, MayMerge, IsKeptBut, AreMapsKeptBut, KeepsSettings, with_reserve, with_record, IsPageOf, IsOwn, with_new_pages, FitsMap, RefusesMap, RefusesMemory};
+ghost use Rattle.page_table.specs.Changes.{IsNotWaiting, HadFingerprint, contents_now, open_frame, partner_place, zero_map, part_written, part_created, AreKept, MayMerge, IsKeptBut, AreMapsKeptBut, KeepsSettings, with_reserve, with_record, IsPageOf, IsOwn, with_new_pages, pages_of_map, FitsMap, RefusesMap, RefusesDrop, RefusesMemory};
 ghost use Rattle.page_table.specs.declared.entry.Entry.{Entry};
 ghost use Rattle.page_table.specs.Table.{state_of, states_of, contents_of, groups_of, used_by, entry_at};
 
 use crate::entry::Entry;
 use crate::pass::Pass;
-use crate::search::next_mergeable;
+use crate::search::{end_if_done, next_mergeable};
 use crate::table::Table;
 use crate::tenant::Tenant;
 use frame_arena::FrameArena;
@@ -329,6 +329,59 @@ impl Memory {
         self.shapes[index] = Some(shape);
     }
 
+    /// Takes a tenant's map away. Its pages leave their groups, the zero frame and the waiting list; a
+    /// frame on which no other page lies is free then, and nothing is copied. If no page behind the
+    /// cursor may be merged now, the pass ends. The call takes no memory, and looks at the map's
+    /// pages, at those that wait, and for the next page that may be merged.
+    ///
+    /// Refusals in their order: 42 where there is no such tenant, 34 where it has no such map. A
+    /// refusal changes nothing.
+    pub fn drop_map(&mut self, tenant: u32, map: MapNo) -> Result<(), Fault>
+        ensures there { OnOk result (IsSome (map_at (part self.old tenant).maps map)) }
+        ensures dropped { OnOk result (part self.new tenant ≡ part_dropped (part self.old tenant) map) }
+        ensures other_maps { AreMapsKeptBut map (part self.old tenant) (part self.new tenant) }
+        ensures others { IsKeptBut tenant self.old self.new }
+        ensures sharing { OnOk result (self.new.sharing ≡ dropped self.old.sharing
+            (map_place tenant map * 256) (pages_of_map (part self.old tenant) map)) }
+        ensures freed { free_of self.old ≤ free_of self.new }
+        ensures have { have_of self.new + free_of self.old ≡ have_of self.old + free_of self.new }
+        ensures settings { KeepsSettings self.old self.new }
+        ensures err { IfErr result (RefusesDrop self.old tenant map) }
+        ensures unchanged { OnErr result (self.new ≡ self.old) }
+    {
+        if tenant >= self.tenants() {
+            return Err(Fault::BadTenant);
+        }
+        let Some(shape) = self.shape(tenant, map) else {
+            return Err(Fault::NoMap);
+        };
+        self.remove_map(tenant, map, shape);
+        Ok(())
+    }
+
+    /// Takes a map away that is there.
+    fn remove_map(&mut self, tenant: u32, map: MapNo, shape: Shape)
+        requires tenant { tenant < length self.old.tenants }
+        requires there { option_map (λ (flat : FlatMap). flat.shape) (map_at (part self.old tenant).maps map) ≡ Some shape }
+        requires shape { IsShape shape }
+        ensures dropped { part self.new tenant ≡ part_dropped (part self.old tenant) map }
+        ensures other_maps { AreMapsKeptBut map (part self.old tenant) (part self.new tenant) }
+        ensures others { IsKeptBut tenant self.old self.new }
+        ensures sharing { self.new.sharing ≡
+            dropped self.old.sharing (map_place tenant map * 256) (page_count shape) }
+        ensures freed { free_of self.old ≤ free_of self.new }
+        ensures have { have_of self.new + free_of self.old ≡ have_of self.old + free_of self.new }
+        ensures settings { KeepsSettings self.old self.new }
+    {
+        let index = map_index(tenant, map);
+        let first = index * MAX_PAGES;
+        let count = pages(&shape);
+        self.table.remove_all(first, count);
+        self.pass.waiting.forget_all(first, first + count as usize);
+        self.shapes[index] = None;
+        end_if_done(&self.table, &self.shapes, &mut self.pass);
+    }
+
     /// Writes bytes into a page that has a frame of its own, from the byte `at` on.
     pub fn put(&mut self, page: Page, at: u32, bytes: &[u8])
         requires there { IsPageOf self.old page }
@@ -433,13 +486,13 @@ impl Memory {
 }
 
 impl Memory {
-    /// The page that was visited last in this pass, none at the start of a pass.
+    /// The page that was visited last in this pass, none at the start of a pass. Its map may have been
+    /// dropped since.
     #[tactic(auto, unfolding(crate::specs::View::view_of))]
     pub fn cursor(&self) -> Option<Page>
         ensures place { option_map page_place result ≡ self.now.sharing.cursor }
-        ensures there { IfSome result (IsPageOf self.now) }
+        ensures named { IfSome result (λ page. (page.map < 8) × (page.number < 256)) }
     {
-        self.table.facts();
         match self.pass.cursor {
             Some(place) => Some(page_at(place)),
             None => None,

@@ -67,9 +67,24 @@ impl PageList {
         requires { place < length self.old }
         ensures { self.new ≡ slice_set self.old place (Some entry) }
     {
+        self.replace(place, Some(entry));
+    }
+
+    /// Takes the page at a place away.
+    pub(crate) fn clear(&mut self, place: usize)
+        requires { place < length self.old }
+        ensures { self.new ≡ slice_set self.old place None }
+    {
+        self.replace(place, None);
+    }
+
+    fn replace(&mut self, place: usize, page: Option<Entry>)
+        requires { place < length self.old }
+        ensures { self.new ≡ slice_set self.old place page }
+    {
         let before = Tally::of(self.pages[place]);
-        self.tally = self.tally.moved(before, Tally::of(Some(entry)));
-        self.pages[place] = Some(entry);
+        self.tally = self.tally.moved(before, Tally::of(page));
+        self.pages[place] = page;
     }
 
     /// What is counted of the pages. The numbers are kept, and no page is looked at.

@@ -2,14 +2,14 @@ ghost use Rattle.std.specs.Prelude.{◌≡◌, ◌≢◌, ◌+◌, ◌-◌, ◌<
 ghost use Rattle.host_types.specs.Bytes.{with_part};
 ghost use Rattle.page_table.specs.declared.pass.Pass.{Pass};
 ghost use Rattle.host_types.specs.declared.status.Status.TheVariants.{Grouped};
-ghost use Rattle.host_types.specs.Sharing.{new_page, is_shared, broken, break_cost, broken_from, cost_from, paired, zeroed, with_status};
+ghost use Rattle.host_types.specs.Sharing.{new_page, is_shared, broken, break_cost, broken_from, cost_from, gone, gone_from, paired, zeroed, with_status};
 ghost use Rattle.host_types.specs.Counters.{repeated_among, seconds_behind};
 ghost use Rattle.host_types.specs.Unmerging.{unmerge_need, SharesNothing};
 ghost use Rattle.host_types.specs.Visits.{first_mergeable, is_mergeable, with_page};
 ghost use Rattle.host_types.specs.Pages.{zero_page};
 ghost use Rattle.frame_arena.specs.Pages.{IsPage, page_at};
 ghost use Rattle.page_table.specs.declared.entry.Entry.{Entry};
-ghost use Rattle.page_table.specs.Table.{TableState, CountsState, AreCounts, IsSound, IsEntry, IsPageAt, IsOwnAt, AreOwnKept, AreOthersKept, entry_at, states_of, contents_of, frames_of, groups_of, sharing_of, forgets, used_by, break_frames, is_on, pages_on, one_if_zero, times, state_of, is_open_frame, joined_on, marked};
+ghost use Rattle.page_table.specs.Table.{TableState, CountsState, AreCounts, IsSound, IsEntry, IsPageAt, IsOwnAt, AreOwnKept, AreOwnKeptOutside, AreOthersKept, entry_at, states_of, contents_of, frames_of, groups_of, sharing_of, forgets, used_by, break_frames, is_on, pages_on, one_if_zero, times, state_of, is_open_frame, joined_on, marked};
 ghost use Rattle.page_table.specs.Tallies.{IsTally};
 
 use crate::counts::FrameCounts;
@@ -503,6 +503,61 @@ impl Table {
         if self.entry(place).is_some() {
             self.take_out(place);
         }
+    }
+}
+
+impl Table {
+    /// Takes away the pages at `count` places, one after another from the first on.
+    pub(crate) fn remove_all(&mut self, first: usize, count: u32)
+        requires inside { first + count ≤ length self.old.entries }
+        requires there { (i : ℕ) → i < count → IsPageAt self.old (first + i) }
+        ensures contents { contents_of self.new ≡ with_part (contents_of self.old) first (replicate count []) }
+        ensures sharing { (pass : Pass) →
+            sharing_of self.new pass ≡ gone_from (sharing_of self.old pass) first count }
+        ensures used { used_by self.new ≤ used_by self.old }
+        ensures arena { length self.new.arena ≡ length self.old.arena }
+        ensures kept { AreOwnKeptOutside first count self.old self.new }
+    {
+        self.facts();
+        for number in 0..count {
+            self.remove(first + number as usize);
+        }
+    }
+
+    /// Takes a page away. Its frame is unused then where no other page lies on it; nothing is copied.
+    fn remove(&mut self, place: usize)
+        requires { IsPageAt self.old place }
+        ensures contents { contents_of self.new ≡ slice_set (contents_of self.old) place [] }
+        ensures sharing { (pass : Pass) →
+            sharing_of self.new pass ≡ gone (sharing_of self.old pass) place }
+        ensures used { used_by self.new ≤ used_by self.old }
+        ensures arena { length self.new.arena ≡ length self.old.arena }
+        ensures kept { AreOwnKeptOutside place 1 self.old self.new }
+    {
+        let entry = self.page(place);
+        if !entry.protected || self.counts.count(entry.frame) > 1 {
+            self.vacate(place, entry);
+            return;
+        }
+        self.end_group(place, entry);
+        let left = self.page(place);
+        self.vacate(place, left);
+    }
+
+    /// Takes a page away that has its own frame, or from a frame on which others lie.
+    fn vacate(&mut self, place: usize, entry: Entry)
+        requires there { entry_at self.old.entries place ≡ Some entry }
+        requires company { is_shared entry.status ≡ true →
+            1 < one_if_zero entry.frame + pages_on entry.frame self.old.entries }
+        ensures contents { contents_of self.new ≡ slice_set (contents_of self.old) place [] }
+        ensures sharing { (pass : Pass) →
+            sharing_of self.new pass ≡ gone (sharing_of self.old pass) place }
+        ensures used { used_by self.new ≤ used_by self.old }
+        ensures arena { length self.new.arena ≡ length self.old.arena }
+        ensures others { AreOthersKept place self.old self.new }
+    {
+        self.entries.clear(place);
+        self.counts.release(entry.frame);
     }
 }
 

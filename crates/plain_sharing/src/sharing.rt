@@ -1,10 +1,10 @@
 ghost use Rattle.std.specs.Prelude.{◌≡◌, ◌+◌, ◌^◌, ◌<◌, ◌≤◌, [], replicate, slice_set, option_map, Some, None, IfOk, OnOk, IfErr, OnErr, ◌↔◌, IsTrue, if◌then◌else◌, ℕ, length, ◌==◌, ◌&&◌, bytes_eq};
 ghost use Rattle.host_types.specs.Pages.{zero_page};
 ghost use Rattle.host_types.specs.OptionTable.{MayBe};
-ghost use Rattle.host_types.specs.Sharing.{new_page, state_at, is_in_company, break_cost, broken, broken_from, cost_from, paired, zeroed, frames_free};
+ghost use Rattle.host_types.specs.Sharing.{new_page, state_at, is_in_company, break_cost, broken, broken_from, cost_from, gone, gone_from, paired, zeroed, frames_free};
 ghost use Rattle.host_types.specs.Counters.{pages_shared, pages_sharing, pages_unshared, pages_volatile, stable_node_chains, stable_node_dups};
 ghost use Rattle.host_types.specs.Unmerging.{zero_pages, unmerged, unmerge_need, with_option, MaySet, RefusesSet};
-ghost use Rattle.host_types.specs.Visits.{visit, page_to_visit, begun, decided, looked_at, had, met, find_partner, changed, waits, joined, has_open};
+ghost use Rattle.host_types.specs.Visits.{visit, page_to_visit, dropped, moved_on, begun, decided, looked_at, had, met, find_partner, changed, waits, joined, has_open};
 ghost use Rattle.plain_sharing.specs.View.{page_of, places_of, plain_contents, sharing_at_rest};
 
 use crate::pages::Sort;
@@ -157,6 +157,43 @@ impl PlainSharing {
         cost
     }
 
+    /// Takes the pages at so many places from one on away, as where their map is dropped: they leave
+    /// their groups, the frame of zeros and the waiting list, and the pass ends if no page behind the
+    /// cursor may be merged then.
+    #[tactic(auto, unfolding(host_types::specs::Visits::dropped))]
+    pub fn drop_pages(&mut self, first: usize, count: u32)
+        requires { first + count < 2 ^ 64 }
+        ensures { self.new ≡ dropped self.old first count }
+    {
+        let cursor = self.cursor;
+        self.remove_pages(first, count);
+        waiting::forget_all(&mut self.waiting, first, count as usize);
+        if let Some(place) = cursor {
+            self.move_on(place);
+        }
+    }
+
+    /// Takes the pages at so many places from one on away, one after another.
+    fn remove_pages(&mut self, first: usize, count: u32)
+        requires { first + count < 2 ^ 64 }
+        ensures gone { self.new ≡ gone_from self.old first count }
+        ensures waiting { self.new.waiting ≡ self.old.waiting }
+    {
+        for number in 0..count {
+            self.remove_page(first + number as usize);
+        }
+    }
+
+    /// Takes a page away, after it left its group or the frame of zeros.
+    #[tactic(auto, unfolding(host_types::specs::Sharing::gone, host_types::specs::Sharing::broken))]
+    fn remove_page(&mut self, place: usize)
+        ensures gone { self.new ≡ gone self.old place }
+        ensures waiting { self.new.waiting ≡ self.old.waiting }
+    {
+        self.break_page(place);
+        pages::put(&mut self.pages, place, None);
+    }
+
     /// Makes two pages of the same bytes a new last group. It is refused only where memory ran out, and
     /// changes nothing then.
     #[tactic(auto, unfolding(host_types::specs::Sharing::paired))]
@@ -251,15 +288,23 @@ impl PlainSharing {
         }
     }
 
-    /// What a visit of the page at a place begins with: a new pass begins without waiting pages, and
-    /// behind the last page that may be merged the pass ends.
-    #[tactic(auto, unfolding(host_types::specs::Visits::begun, host_types::specs::Visits::moved_on))]
+    /// What a visit of the page at a place begins with: a new pass begins without waiting pages.
+    #[tactic(auto, unfolding(host_types::specs::Visits::begun))]
     fn begin(&mut self, place: usize)
         ensures { self.new ≡ begun self.old place }
     {
         if self.cursor.is_none() {
             self.waiting.clear();
         }
+        self.move_on(place);
+    }
+
+    /// Makes the page at a place the one visited last; behind the last page that may be merged the pass
+    /// ends.
+    #[tactic(auto, unfolding(host_types::specs::Visits::moved_on))]
+    fn move_on(&mut self, place: usize)
+        ensures { self.new ≡ moved_on self.old place }
+    {
         if pages::next_behind(&self.pages, place).is_some() {
             self.cursor = Some(place);
         } else {

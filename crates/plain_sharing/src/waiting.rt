@@ -1,7 +1,7 @@
 //! The pages that wait, each by its place and its recorded fingerprint.
-ghost use Rattle.std.specs.Prelude.{◌≡◌, ◌++◌, ◌∷◌, [], find, IfOk};
+ghost use Rattle.std.specs.Prelude.{◌≡◌, ◌+◌, ◌<◌, ◌^◌, ◌++◌, ◌∷◌, [], find, IfOk};
 ghost use Rattle.host_types.specs.Sharing.{waiting_without};
-ghost use Rattle.host_types.specs.Visits.{is_partner};
+ghost use Rattle.host_types.specs.Visits.{is_partner, waiting_outside};
 ghost use Rattle.plain_sharing.specs.View.{plain_contents};
 
 use crate::contents;
@@ -24,6 +24,15 @@ pub(crate) fn forget(waiting: &mut Vec<(usize, u64)>, place: usize)
     ensures { waiting.new.items ≡ waiting_without place waiting.old.items }
 {
     waiting.retain(|entry| entry.0 != place);
+}
+
+/// Takes the pages at so many places from one on off the list.
+pub(crate) fn forget_all(waiting: &mut Vec<(usize, u64)>, first: usize, count: usize)
+    requires { first + count < 2 ^ 64 }
+    ensures { waiting.new.items ≡ waiting_outside first count waiting.old.items }
+{
+    let end = first + count;
+    waiting.retain(|entry| !(first <= entry.0 && entry.0 < end));
 }
 
 /// The page that waits longest of those that had a fingerprint, and have some bytes now.

@@ -1,4 +1,4 @@
-ghost use Rattle.std.specs.Prelude.{◌≡◌, ◌++◌, ◌∷◌, [], ◌==◌, ◌<◌, not, filter, find, length, max, All, OnOk, OnErr};
+ghost use Rattle.std.specs.Prelude.{◌≡◌, ◌++◌, ◌∷◌, [], ◌==◌, ◌<◌, ◌&&◌, nat_le, nat_lt, not, filter, find, length, max, All, OnOk, OnErr};
 ghost use Rattle.frame_arena.specs.Pages.{page_at};
 ghost use Rattle.unstable_tree.specs.WaitingList.{WaitingList, is_match};
 
@@ -104,6 +104,17 @@ impl UnstableTree {
         } }
     {
         self.waiters.retain(|waiter| waiter.place != place);
+    }
+
+    /// Takes out the pages that wait at the places from `first` on and before `end`, in one walk of
+    /// the list.
+    pub fn forget_all(&mut self, first: usize, end: usize)
+        ensures { self.new ≡ record self.old {
+          listed = filter (λ w. not (nat_le first w.place && nat_lt w.place end)) self.old.listed;
+        } }
+    {
+        self.waiters
+            .retain(|waiter| !(first <= waiter.place && waiter.place < end));
     }
 
     /// Takes out all pages.

@@ -1,7 +1,7 @@
-use Rattle.std.proofs.Common.{◌≡◌, ◌∙◌, ◌+◌, ◌<◌, [], true, false, drop, slice_index_or, map, is_some, None, Some, sym, ap, arith, option_map}
+use Rattle.std.proofs.Common.{◌≡◌, ◌∙◌, ◌+◌, ◌<◌, [], false, drop, map, is_some, None, Some, sym, ap, arith, option_map}
 use Rattle.std.proofs.lemmas.List.{length-map}
 use Rattle.host_types.specs.Pages.{page_place}
-use Rattle.host_types.specs.Visits.{first_mergeable, is_mergeable, look_from}
+use Rattle.host_types.specs.Visits.{first_mergeable, look_from}
 use Rattle.page_table.specs.Table.{states_of, state_of, waiting_of}
 use Rattle.page_table.specs.View.{view_of, AreWaiters, is_listed}
 use Rattle.page_table.proofs.Creating.{length-contents}
@@ -23,9 +23,6 @@ gone : (c : After-is_some) → AreWaiters c.self.inside.table.entries (Some (pag
 gone c =
     advanced c.self.inside.table.entries (states_of c.self.inside.table.entries) c.self.inside.pass.cursor c.self.inside.pass.waiting.listed (page_place c.args.page) c.self.invariant.1.waiters (next c) (start c)
 
-here : (c : After-is_some) → is_mergeable (slice_index_or (states_of c.self.inside.table.entries) (page_place c.args.page) None) ≡ true
-here c = (next-is (states_of c.self.inside.table.entries) (look_from c.self.inside.pass.cursor) (page_place c.args.page) (next c)).mergeable
-
 small : (c : After-is_some) → page_place c.args.page < 32768
 small c =
     let inside = (next-is (states_of c.self.inside.table.entries) (look_from c.self.inside.pass.cursor) (page_place c.args.page) (next c)).inside in
@@ -40,7 +37,7 @@ more c = rw (← c.place_of-place.ensures) (ap is_some (sym c.next_mergeable.ens
 pub invariant_of-self : goal.invariant_of-self
 invariant_of-self c =
     let d = (goal.at.invariant_of-self c).After-is_some in
-    (c.self.invariant.0, rw c.place_of-place.ensures (pass-on c.self.inside.table c.self.inside.pass (page_place c.args.page) c.self.invariant.1 (gone d).0 (small d)), rw c.place_of-place.ensures (ahead-next (states_of c.self.inside.table.entries) (page_place c.args.page) (here d) (more d ∙ c.if-is_some.true)))
+    (c.self.invariant.0, rw c.place_of-place.ensures (pass-on c.self.inside.table c.self.inside.pass (page_place c.args.page) c.self.invariant.1 (gone d).0 (small d)), rw c.place_of-place.ensures (ahead-next (states_of c.self.inside.table.entries) (page_place c.args.page) (more d ∙ c.if-is_some.true)))
 
 pub invariant_of-self-else-is_some : goal.invariant_of-self-else-is_some
 invariant_of-self-else-is_some c = (c.self.invariant.0, rw c.end.ensures (pass-ended c.self.inside.table c.self.inside.pass _ c.self.invariant.1), rw c.end.ensures tt)

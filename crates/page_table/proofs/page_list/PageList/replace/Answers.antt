@@ -1,4 +1,4 @@
-use Rattle.std.proofs.Common.{◌≡◌, ◌∙◌, ◌<◌, ◌≤◌, ◌+◌, ◌-◌, ℕ, List, sum_by, length, slice_set, Option, Some, None, option_map, sym, ap, arith, length-set}
+use Rattle.std.proofs.Common.{◌≡◌, ◌∙◌, ◌<◌, ◌≤◌, ◌+◌, ◌-◌, ℕ, List, sum_by, length, slice_set, Option, None, option_map, sym, ap, arith, length-set}
 use Rattle.std.proofs.lemmas.List.{get_or_default}
 use Rattle.host_types.specs.Counters.{unshared_at, volatile_at}
 use Rattle.host_types.specs.Sharing.{PageState}
@@ -6,8 +6,8 @@ use Rattle.page_table.specs.declared.entry.Entry.{Entry}
 use Rattle.page_table.specs.Table.{entry_at, state_of, states_of}
 use Rattle.page_table.specs.Tallies.{shared_at}
 use Rattle.page_table.proofs.Tallying.{counted-set, counted-few, unshared-one, volatile-one, shared-one}
-use Rattle.page_table.proofs.page_list.PageList.set.Goals as goal
-use Rattle.page_table.proofs.page_list.PageList.set.Goals.{After-of}
+use Rattle.page_table.proofs.page_list.PageList.replace.Goals as goal
+use Rattle.page_table.proofs.page_list.PageList.replace.Goals.{After-of}
 
 -- one of the three numbers: what stood at the place is in it, and one more fits
 module _ (f : Option PageState → ℕ) (one : (x : Option PageState) → f x ≤ 1) (pages : List (Option Entry)) (few : length pages ≤ 32768) (i : ℕ) (inside : i < length pages) (x : Option Entry) where
@@ -37,28 +37,28 @@ told f c n e = e ∙ ap (λ x. f (option_map state_of x)) (was c)
 
 pub moved-self-inside-requires-clause-unshared : goal.moved-self-inside-requires-clause-unshared
 moved-self-inside-requires-clause-unshared c =
-    fits unshared_at unshared-one c.self.inside.pages.items c.self.invariant.0 c.args.place (inside c) (Some c.args.entry) c.self.inside.tally.unshared c.of-before.result.unshared c.of.result.unshared
+    fits unshared_at unshared-one c.self.inside.pages.items c.self.invariant.0 c.args.place (inside c) c.args.page c.self.inside.tally.unshared c.of-before.result.unshared c.of.result.unshared
     c.self.invariant.1.waiting (told unshared_at c c.of-before.result.unshared c.of-before.ensures.unshared) c.of.ensures.unshared
 
 pub moved-self-inside-requires-clause-volatile : goal.moved-self-inside-requires-clause-volatile
 moved-self-inside-requires-clause-volatile c =
-    fits volatile_at volatile-one c.self.inside.pages.items c.self.invariant.0 c.args.place (inside c) (Some c.args.entry) c.self.inside.tally.volatile c.of-before.result.volatile c.of.result.volatile
+    fits volatile_at volatile-one c.self.inside.pages.items c.self.invariant.0 c.args.place (inside c) c.args.page c.self.inside.tally.volatile c.of-before.result.volatile c.of.result.volatile
     c.self.invariant.1.changed (told volatile_at c c.of-before.result.volatile c.of-before.ensures.volatile) c.of.ensures.volatile
 
 pub moved-self-inside-requires-clause-shared : goal.moved-self-inside-requires-clause-shared
 moved-self-inside-requires-clause-shared c =
-    fits shared_at shared-one c.self.inside.pages.items c.self.invariant.0 c.args.place (inside c) (Some c.args.entry) c.self.inside.tally.shared c.of-before.result.shared c.of.result.shared
+    fits shared_at shared-one c.self.inside.pages.items c.self.invariant.0 c.args.place (inside c) c.args.page c.self.inside.tally.shared c.of-before.result.shared c.of.result.shared
     c.self.invariant.1.shared (told shared_at c c.of-before.result.shared c.of-before.ensures.shared) c.of.ensures.shared
 
 pub invariant_of-self : goal.invariant_of-self
 invariant_of-self c = (
-  rw (length-set c.self.inside.pages.items c.args.place (Some c.args.entry)) c.self.invariant.0,
+  rw (length-set c.self.inside.pages.items c.args.place c.args.page) c.self.invariant.0,
   rw c.moved-self-inside.ensures (record {
-    waiting = moved unshared_at unshared-one c.self.inside.pages.items c.self.invariant.0 c.args.place (inside (goal.at.invariant_of-self c).After-of) (Some c.args.entry) c.self.inside.tally.unshared c.of-before.result.unshared c.of.result.unshared
+    waiting = moved unshared_at unshared-one c.self.inside.pages.items c.self.invariant.0 c.args.place (inside (goal.at.invariant_of-self c).After-of) c.args.page c.self.inside.tally.unshared c.of-before.result.unshared c.of.result.unshared
         c.self.invariant.1.waiting (told unshared_at (goal.at.invariant_of-self c).After-of c.of-before.result.unshared c.of-before.ensures.unshared) c.of.ensures.unshared;
-    changed = moved volatile_at volatile-one c.self.inside.pages.items c.self.invariant.0 c.args.place (inside (goal.at.invariant_of-self c).After-of) (Some c.args.entry) c.self.inside.tally.volatile c.of-before.result.volatile c.of.result.volatile
+    changed = moved volatile_at volatile-one c.self.inside.pages.items c.self.invariant.0 c.args.place (inside (goal.at.invariant_of-self c).After-of) c.args.page c.self.inside.tally.volatile c.of-before.result.volatile c.of.result.volatile
         c.self.invariant.1.changed (told volatile_at (goal.at.invariant_of-self c).After-of c.of-before.result.volatile c.of-before.ensures.volatile) c.of.ensures.volatile;
-    shared = moved shared_at shared-one c.self.inside.pages.items c.self.invariant.0 c.args.place (inside (goal.at.invariant_of-self c).After-of) (Some c.args.entry) c.self.inside.tally.shared c.of-before.result.shared c.of.result.shared
+    shared = moved shared_at shared-one c.self.inside.pages.items c.self.invariant.0 c.args.place (inside (goal.at.invariant_of-self c).After-of) c.args.page c.self.inside.tally.shared c.of-before.result.shared c.of.result.shared
         c.self.invariant.1.shared (told shared_at (goal.at.invariant_of-self c).After-of c.of-before.result.shared c.of-before.ensures.shared) c.of.ensures.shared;
   }),
 )

@@ -1,0 +1,74 @@
+use Rattle.std.proofs.Common.{◌≡◌, ◌+◌, ◌*◌, [], None, replicate, slice_set, arith}
+use Rattle.host_types.specs.Bytes.{with_part}
+use Rattle.host_types.specs.Pages.{map_place}
+use Rattle.host_types.specs.Sharing.{gone_from}
+use Rattle.host_types.specs.Visits.{ended_at}
+use Rattle.page_table.specs.Limits.{page_count}
+use Rattle.page_table.specs.Table.{contents_of, sharing_of}
+use Rattle.page_table.specs.View.{view_of}
+use Rattle.page_table.proofs.Dropping.{Drops, left_outside, pass-outside, index_inside, places_inside, pages_there, memory_dropped, drops}
+use Rattle.page_table.proofs.memory.Memory.remove_map.Goals as goal
+
+pub remove_all-requires-clause-inside : goal.remove_all-requires-clause-inside
+remove_all-requires-clause-inside c = rw (c.map_index-index.ensures, c.pages-count.ensures) (places_inside c.self.inside.table c.self.inside.shapes.items c.self.inside.tenants.items c.self.inside.pass c.self.inside.reserved c.args.tenant c.args.map c.args.shape c.args.self.now c.self.view_is c.self.invariant.0 c.requires.tenant c.requires.there)
+
+pub remove_all-requires-clause-there : goal.remove_all-requires-clause-there
+remove_all-requires-clause-there c = rw (c.map_index-index.ensures, c.pages-count.ensures) (pages_there c.self.inside.table c.self.inside.shapes.items c.self.inside.tenants.items c.self.inside.pass c.self.inside.reserved c.args.tenant c.args.map c.args.shape c.args.self.now c.self.view_is c.self.invariant.0 c.requires.tenant c.requires.there)
+
+pub index_mut-requires : goal.index_mut-requires
+index_mut-requires c =
+    let told = index_inside c.self.inside.table c.self.inside.shapes.items c.self.inside.tenants.items c.self.inside.pass c.self.inside.reserved c.args.tenant c.args.map c.args.shape c.args.self.now c.self.view_is c.self.invariant.0 c.requires.tenant c.requires.there in
+    omega (arith, told, c.map_index-index.ensures)
+
+pub end_if_done-requires-clause-maps : goal.end_if_done-requires-clause-maps
+end_if_done-requires-clause-maps c =
+    rw (c.deref.ensures.value, c.map_index-index.ensures)
+    (memory_dropped c.self.inside.table c.self.inside.shapes.items c.self.inside.tenants.items c.self.inside.pass c.self.inside.reserved c.args.tenant c.args.map c.args.shape c.args.self.now c.self.view_is c.self.invariant.0 c.requires.tenant c.requires.there
+    c.remove_all.new.self (rw (c.map_index-index.ensures, c.pages-count.ensures) at c.remove_all.ensures.contents) c.remove_all.ensures.used c.remove_all.ensures.arena).maps
+
+contents : (c : goal.After-end_if_done) → contents_of c.remove_all.new.self ≡ with_part (contents_of c.self.inside.table) (map_place c.args.tenant c.args.map * 256) (replicate (page_count c.args.shape) [])
+contents c = rw (c.map_index-index.ensures, c.pages-count.ensures) at c.remove_all.ensures.contents
+
+gone : (c : goal.After-end_if_done) → sharing_of c.remove_all.new.self c.self.inside.pass ≡ gone_from (sharing_of c.self.inside.table c.self.inside.pass) (map_place c.args.tenant c.args.map * 256) (page_count c.args.shape)
+gone c = rw (c.map_index-index.ensures, c.pages-count.ensures) at (c.remove_all.ensures.sharing c.self.inside.pass)
+
+ended : (c : goal.After-end_if_done) → sharing_of c.remove_all.new.self c.end_if_done.new.pass
+    ≡ ended_at (sharing_of c.remove_all.new.self (left_outside (map_place c.args.tenant c.args.map * 256) (map_place c.args.tenant c.args.map * 256 + page_count c.args.shape) c.self.inside.pass)) c.self.inside.pass.cursor
+ended c = rw (c.forget_all.ensures, c.map_index-index.ensures, c.pages-count.ensures) at c.end_if_done.ensures.ended
+
+pub invariant_of-self : goal.invariant_of-self
+invariant_of-self c = (
+  rw c.map_index-index.ensures
+      (memory_dropped c.self.inside.table c.self.inside.shapes.items c.self.inside.tenants.items c.self.inside.pass c.self.inside.reserved c.args.tenant c.args.map c.args.shape c.args.self.now c.self.view_is c.self.invariant.0 c.requires.tenant c.requires.there
+      c.remove_all.new.self (contents c) c.remove_all.ensures.used c.remove_all.ensures.arena),
+  c.end_if_done.ensures.kept
+      (rw c.forget_all.ensures
+      (pass-outside c.self.inside.table c.remove_all.new.self c.self.inside.pass (c.map_index-index.result * 256) c.pages-count.result c.self.invariant.1 c.remove_all.ensures.kept c.remove_all.ensures.arena)),
+  c.end_if_done.ensures.ahead,
+)
+
+told : (c : goal.After-end_if_done) → Drops (view_of c.self.inside.table c.self.inside.shapes.items c.self.inside.tenants.items c.self.inside.pass) (view_of c.remove_all.new.self (slice_set c.self.inside.shapes.items (map_place c.args.tenant c.args.map) None) c.self.inside.tenants.items c.end_if_done.new.pass) c.args.tenant c.args.map c.args.shape
+told c =
+    drops c.self.inside.table c.self.inside.shapes.items c.self.inside.tenants.items c.self.inside.pass c.self.inside.reserved c.args.tenant c.args.map c.args.shape c.args.self.now c.self.view_is c.self.invariant.0 c.requires.tenant c.requires.there
+    c.remove_all.new.self (contents c) c.remove_all.ensures.used c.remove_all.ensures.arena c.end_if_done.new.pass (ended c) (gone c)
+
+pub returns-clause-dropped : goal.returns-clause-dropped
+returns-clause-dropped c = rw (← c.self.view_is, c.map_index-index.ensures) (told c).taken
+
+pub returns-clause-other_maps : goal.returns-clause-other_maps
+returns-clause-other_maps c = rw (← c.self.view_is, c.map_index-index.ensures) (told c).other_maps
+
+pub returns-clause-others : goal.returns-clause-others
+returns-clause-others c = rw (← c.self.view_is, c.map_index-index.ensures) (told c).others
+
+pub returns-clause-sharing : goal.returns-clause-sharing
+returns-clause-sharing c = rw (← c.self.view_is, c.map_index-index.ensures) (told c).sharing
+
+pub returns-clause-freed : goal.returns-clause-freed
+returns-clause-freed c = rw (← c.self.view_is, c.map_index-index.ensures) (told c).freed
+
+pub returns-clause-have : goal.returns-clause-have
+returns-clause-have c = rw (← c.self.view_is, c.map_index-index.ensures) (told c).have
+
+pub returns-clause-settings : goal.returns-clause-settings
+returns-clause-settings c = rw (← c.self.view_is, c.map_index-index.ensures) (told c).settings

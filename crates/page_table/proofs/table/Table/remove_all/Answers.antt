@@ -1,0 +1,42 @@
+use Rattle.std.proofs.Common.{◌∙◌, inl, inr, ⊎_elim, List, [], ℕ, ◌+◌, length, slice_index_or, slice_set, refl, sym, ap, arith}
+use Rattle.host_types.specs.Sharing.{Sharing, gone, gone_from}
+use Rattle.page_table.specs.Table.{contents_of, sharing_of}
+use Rattle.page_table.proofs.Creating.{filled_more, behind_filled, with_part-none, length-contents}
+use Rattle.page_table.proofs.Vacating.{gone_from-last}
+use Rattle.page_table.proofs.table.Table.remove_all.Goals as goal
+
+pub loop-number-init : goal.loop-number-init
+unfolding gone_from
+loop-number-init c =
+    record {
+      contents = with_part-none (contents_of c.args.self.now) c.args.first;
+      sharing = λ pass. refl;
+      used = omega arith;
+      arena = refl;
+      kept = λ i entry out e own. e;
+    }
+
+pub remove-requires : goal.remove-requires
+remove-requires c =
+    let long = length-contents c.args.self.now in
+    ap length
+    (ap (λ (l : List (List ℕ)). slice_index_or l (c.args.first + c.loop-number.number) []) c.loop-number.invariant.contents
+    ∙ behind_filled (contents_of c.args.self.now) c.args.first c.loop-number.number (c.args.first + c.loop-number.number) [] []
+    (omega (arith, long, c.requires.inside, c.loop-number-test.true)) (omega arith))
+    ∙ c.requires.there c.loop-number.number c.loop-number-test.true
+
+pub loop-number-preserved : goal.loop-number-preserved
+loop-number-preserved c =
+    let long = length-contents c.args.self.now in
+    record {
+      contents = c.remove.ensures.contents
+          ∙ ap (λ (l : List (List ℕ)). slice_set l (c.args.first + c.loop-number.number) []) c.loop-number.invariant.contents
+          ∙ filled_more (contents_of c.args.self.now) c.args.first c.loop-number.number [] (omega (arith, long, c.requires.inside, c.loop-number-test.true));
+      sharing = λ pass. c.remove.ensures.sharing pass
+          ∙ ap (λ (s : Sharing). gone s (c.args.first + c.loop-number.number)) (c.loop-number.invariant.sharing pass)
+          ∙ sym (gone_from-last (sharing_of c.args.self.now pass) c.args.first c.loop-number.number);
+      used = omega (arith, c.remove.ensures.used, c.loop-number.invariant.used);
+      arena = c.remove.ensures.arena ∙ c.loop-number.invariant.arena;
+      kept = λ i entry out here own. c.remove.ensures.kept i entry (⊎_elim (λ less. inl (omega (arith, less))) (λ more. inr (omega (arith, more))) out)
+          (c.loop-number.invariant.kept i entry (⊎_elim (λ less. inl less) (λ more. inr (omega (arith, more))) out) here own) own;
+    }

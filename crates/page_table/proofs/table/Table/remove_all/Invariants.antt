@@ -1,0 +1,15 @@
+use Rattle.std.proofs.Common.{◌≡◌, ◌≤◌, [], length, replicate}
+use Rattle.host_types.specs.Bytes.{with_part}
+use Rattle.host_types.specs.Sharing.{gone_from}
+use Rattle.page_table.specs.declared.pass.Pass.{Pass}
+use Rattle.page_table.specs.Table.{AreOwnKeptOutside, contents_of, sharing_of, used_by}
+use Rattle.page_table.proofs.table.Table.remove_all.Given as goal
+
+abbrev pub invariant-loop-number : goal.invariant-loop-number
+invariant-loop-number l = record {
+  contents : contents_of l.self ≡ with_part (contents_of l.fn.self) l.first (replicate l.number []);
+  sharing : (pass : Pass) → sharing_of l.self pass ≡ gone_from (sharing_of l.fn.self pass) l.first l.number;
+  used : used_by l.self ≤ used_by l.fn.self;
+  arena : length l.self.arena ≡ length l.fn.self.arena;
+  kept : AreOwnKeptOutside l.first l.number l.fn.self l.self;
+}
