@@ -1,4 +1,9 @@
-pub mod Cuts
+pub mod Walks
+pub mod Trees
+pub mod Hanging
+pub mod Placing
+pub mod Lengthening
+pub mod Heads
 pub mod Sorting
 pub mod Pairs
 pub mod Inserting

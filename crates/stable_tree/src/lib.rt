@@ -2,8 +2,6 @@
 //! is found by binary search. No call but `StableTree::reserve` takes memory or can fail.
 #![tactic(auto)]
 
-mod chains;
+mod store;
 mod dups;
-mod tree;
 
-pub use tree::{Spot, StableTree};

@@ -1,0 +1,93 @@
+//! Groups at places. Those of one content hang at the place of a node of a balanced tree: the node's place has
+//! the earliest one, and each tells the place of the next. A place that a group leaves is used again.
+ghost use Rattle.std.specs.Prelude.{◌≡◌, ◌+◌, ◌-◌, ◌*◌, ◌<◌, ◌≤◌, ℕ, List, [], ◌∷◌, ◌++◌, All, length};
+ghost use Rattle.std.specs.List.{concat};
+ghost use Rattle.stable_tree.specs.Digits.{digits};
+ghost use Rattle.stable_tree.specs.Groups.{IsSorted};
+ghost use Rattle.stable_tree.specs.Places.{IsStore, IsWhole, IsPlaced, IsHead, IsLengthened, walk, end, heads_in, chains_in};
+ghost use Rattle.stable_tree.specs.Edits.{IsPut};
+
+use frame_arena::Counted;
+use tree_shape::{NONE, Node};
+
+/// The places, by what stands at each.
+#[derive(Drop)]
+pub(crate) struct Store {
+    /// The tree's node, at the place of a content's earliest group.
+    pub nodes: Vec<Node>,
+    /// The group's frame.
+    pub frames: Vec<u32>,
+    /// The place of the next group of the same content.
+    pub nexts: Vec<u32>,
+    /// How many groups the content has, at the place of its earliest group.
+    pub sizes: Vec<u32>,
+    /// The places that no group has.
+    pub free: Vec<u32>,
+    /// The place of the tree's first node.
+    pub root: u32,
+    /// How many places there is memory for.
+    pub room: usize,
+}
+
+/// A node of no tree.
+const BLANK: Node = Node {
+    left: NONE,
+    right: NONE,
+    height: 0,
+};
+
+/// Gives a new group a place of its own, which hangs nowhere yet. It takes no memory.
+pub(crate) fn place(store: &mut Store, frame: u32) -> u32
+    requires whole { IsStore store.old }
+    requires room { length (concat (chains_in store.old)) < store.old.room }
+    ensures { IsPlaced store.old store.new frame result }
+{
+    match store.free.pop() {
+        Some(place) => {
+            store.frames[place as usize] = frame;
+            store.sizes[place as usize] = 1;
+            place
+        }
+        None => {
+            let place = store.nodes.len() as u32;
+            let noded = store.nodes.push(BLANK).is_ok();
+            prove!(noded);
+            let framed = store.frames.push(frame).is_ok();
+            prove!(framed);
+            let linked = store.nexts.push(NONE).is_ok();
+            prove!(linked);
+            let sized = store.sizes.push(1).is_ok();
+            prove!(sized);
+            place
+        }
+    }
+}
+
+/// The place of the last group of a content.
+fn last_of(nexts: &[u32], at: u32, groups: u32) -> u32
+    requires some { 1 ≤ groups }
+    requires within { All (λ place. place < length nexts.now) (walk groups nexts.now at) }
+    ensures { result ≡ end (groups - 1) nexts.now at }
+{
+    let mut last = at;
+    for _passed in 1..groups {
+        last = nexts[last as usize];
+    }
+    last
+}
+
+/// Puts a place behind the groups of a content. Tells how many it had.
+pub(crate) fn lengthen(store: &mut Store, at: u32, place: u32) -> u32
+    requires whole { IsWhole store.old (place ∷ store.old.free.items) }
+    requires head { IsHead store.old at }
+    ensures whole { IsStore store.new }
+    ensures chains { (earlier later : List ℕ) → heads_in store.old ≡ earlier ++ at ∷ later
+        → IsLengthened store.old store.new at place (length earlier) result }
+    ensures room { store.new.room ≡ store.old.room }
+{
+    let groups = store.sizes[at as usize];
+    let last = last_of(&store.nexts, at, groups);
+    store.nexts[last as usize] = place;
+    store.sizes[at as usize] = groups + 1;
+    groups
+}
