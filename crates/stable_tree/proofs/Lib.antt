@@ -4,6 +4,9 @@ pub mod Hanging
 pub mod Placing
 pub mod Lengthening
 pub mod Heads
+pub mod Contents
+pub mod Entering
+pub mod Putting
 pub mod Sorting
 pub mod Pairs
 pub mod Inserting

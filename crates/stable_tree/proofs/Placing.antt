@@ -112,3 +112,10 @@ room-left store whole few none =
     let all = whole.hung.shared.all in
     let long = length-chains store.frames.items store.nexts.items store.sizes.items (heads_in store) in
     omega (arith, all, none, few, long)
+
+-- a spare place is one of the store's
+pub spare-inside : (store : Store) (place : ℕ) (free : List ℕ) → IsWhole store (place ∷ free) → place < length store.nodes.items
+spare-inside store place free whole =
+    let all = times-cons place place free in
+    let one = here-same place in
+    place-inside (used_in store) (place ∷ free) (length store.nodes.items) place whole.hung.shared (omega (arith, all, one))

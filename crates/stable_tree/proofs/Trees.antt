@@ -51,11 +51,11 @@ levels-few (fork at l r) =
     let long = length-append (in_order l) (at ∷ in_order r) in
     omega (arith, left, right, long)
 
-all-front : (P : ℕ → Type 0) (xs ys : List ℕ) → All P (xs ++ ys) → All P xs
+pub all-front : (P : ℕ → Type 0) (xs ys : List ℕ) → All P (xs ++ ys) → All P xs
 all-front P [] ys all = All-nil P
 all-front P (x ∷ xs) ys all = All-cons P x xs (All-head P x (xs ++ ys) all) (all-front P xs ys (All-tail P x (xs ++ ys) all))
 
-all-back : (P : ℕ → Type 0) (xs ys : List ℕ) → All P (xs ++ ys) → All P ys
+pub all-back : (P : ℕ → Type 0) (xs ys : List ℕ) → All P (xs ++ ys) → All P ys
 all-back P [] ys all = all
 all-back P (x ∷ xs) ys all = all-back P xs ys (All-tail P x (xs ++ ys) all)
 

@@ -2,20 +2,27 @@
 use Rattle.std.specs.Prelude.{◌≡◌, ◌≢◌, ℕ, true, false, List, [], ◌∷◌, ◌++◌, ◌<◌, ◌≤◌, length, insert, remove, filter, All, slice_index_or, slice_set, Option, None, Some}
 use Rattle.std.specs.List.{concat}
 use Rattle.frame_arena.specs.Pages.{page_at}
+use Rattle.stable_tree.specs.declared.store.Store.{Store}
 use Rattle.stable_tree.specs.Groups.{IsCutAt, is_there, has}
+use Rattle.stable_tree.specs.Places.{IsHead, chain_at, chains_in}
 
--- a content's chain is found at a cut
-pub record IsFound (arena : List (List ℕ)) (frame : ℕ) (chains : List (List ℕ)) (chain : List ℕ) : Type 0 where
+-- a place at which the chain of a content hangs
+pub record IsFound (arena : List (List ℕ)) (frame : ℕ) (store : Store) (at : ℕ) : Type 0 where
   pub k : ℕ
-  pub at : IsCutAt arena (page_at arena frame) chains k
-  pub there : is_there arena (page_at arena frame) chains k ≡ true
-  pub is : chain ≡ slice_index_or chains k []
+  pub cut : IsCutAt arena (page_at arena frame) (chains_in store) k
+  pub there : is_there arena (page_at arena frame) (chains_in store) k ≡ true
+  pub chain : slice_index_or (chains_in store) k [] ≡ chain_at store.frames.items store.nexts.items store.sizes.items at
+  pub head : IsHead store at
 
 -- no chain has the content
 pub record IsMissing (arena : List (List ℕ)) (frame : ℕ) (chains : List (List ℕ)) : Type 0 where
   pub k : ℕ
-  pub at : IsCutAt arena (page_at arena frame) chains k
+  pub cut : IsCutAt arena (page_at arena frame) chains k
   pub absent : is_there arena (page_at arena frame) chains k ≡ false
+
+abbrev pub IsAnswer : List (List ℕ) → ℕ → Store → Option ℕ → Type 0
+IsAnswer arena frame store None = IsMissing arena frame (chains_in store)
+IsAnswer arena frame store (Some at) = IsFound arena frame store at
 
 -- a group is put in, where its content had so many before
 pub data IsPut (arena : List (List ℕ)) (frame : ℕ) (old new : List (List ℕ)) (before : ℕ) : Type 0 where

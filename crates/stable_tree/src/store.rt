@@ -5,9 +5,10 @@ ghost use Rattle.std.specs.List.{concat};
 ghost use Rattle.stable_tree.specs.Digits.{digits};
 ghost use Rattle.stable_tree.specs.Groups.{IsSorted};
 ghost use Rattle.stable_tree.specs.Places.{IsStore, IsWhole, IsPlaced, IsHead, IsLengthened, walk, end, heads_in, chains_in};
-ghost use Rattle.stable_tree.specs.Edits.{IsPut};
+ghost use Rattle.stable_tree.specs.Edits.{IsAnswer, IsPut};
 
 use frame_arena::Counted;
+use tree_shape::search::{Entered, enter};
 use tree_shape::{NONE, Node};
 
 /// The places, by what stands at each.
@@ -90,4 +91,38 @@ pub(crate) fn lengthen(store: &mut Store, at: u32, place: u32) -> u32
     store.nexts[last as usize] = place;
     store.sizes[at as usize] = groups + 1;
     groups
+}
+
+/// The place at which the groups of a frame's content hang.
+pub(crate) fn find(store: &Store, arena: &mut Counted, frame: u32) -> Option<u32>
+    requires whole { IsStore store.now }
+    requires frame { frame < length arena.old.pages }
+    requires sorted { IsSorted arena.old.pages (chains_in store.now) }
+    ensures found { IsAnswer arena.old.pages frame store.now result }
+    ensures pages { arena.new.pages ≡ arena.old.pages }
+    ensures few { arena.new.steps ≤ arena.old.steps + 2 * digits (length (chains_in store.now)) }
+{
+    tree_shape::search::find(&store.nodes, &store.frames, arena, store.root, frame)
+}
+
+/// Puts a group behind all others that have its bytes. Tells how many these are.
+pub(crate) fn put(store: &mut Store, arena: &mut Counted, frame: u32) -> u32
+    requires whole { IsStore store.old }
+    requires frame { frame < length arena.old.pages }
+    requires sorted { IsSorted arena.old.pages (chains_in store.old) }
+    requires room { length (concat (chains_in store.old)) < store.old.room }
+    ensures whole { IsStore store.new }
+    ensures put { IsPut arena.old.pages frame (chains_in store.old) (chains_in store.new) result }
+    ensures room { store.new.room ≡ store.old.room }
+    ensures pages { arena.new.pages ≡ arena.old.pages }
+    ensures few { arena.new.steps ≤ arena.old.steps + 2 * digits (length (chains_in store.old)) }
+{
+    let place = place(store, frame);
+    match enter(&mut store.nodes, &store.frames, arena, store.root, place) {
+        Entered::There(at) => lengthen(store, at, place),
+        Entered::Root(root) => {
+            store.root = root;
+            0
+        }
+    }
 }
