@@ -7,6 +7,7 @@ pub mod Heads
 pub mod Contents
 pub mod Entering
 pub mod Putting
+pub mod Shortening
 pub mod Sorting
 pub mod Pairs
 pub mod Inserting

@@ -1,5 +1,5 @@
 -- Where groups stand: each has a place, and those of one content hang at the place of a tree's node.
-use Rattle.std.specs.Prelude.{◌≡◌, ◌≢◌, ℕ, zero, suc, ◌+◌, ◌<◌, ◌≤◌, ◌==◌, if◌then◌else◌, List, [], ◌∷◌, ◌++◌, All, length, map, flat_map, sum_by, slice_index_or, slice_set, vec_capacity}
+use Rattle.std.specs.Prelude.{◌≡◌, ◌≢◌, ℕ, zero, suc, ◌+◌, ◌-◌, ◌<◌, ◌≤◌, ◌==◌, if◌then◌else◌, List, [], ◌∷◌, ◌++◌, All, length, map, flat_map, sum_by, slice_index_or, slice_set, remove, vec_capacity}
 use Rattle.tree_shape.specs.declared.Node.{Node}
 use Rattle.tree_shape.specs.Shape.{Tree, leaf, fork, in_order, Holds, IsEven, height_at, none, blank}
 use Rattle.stable_tree.specs.declared.store.Store.{Store}
@@ -108,3 +108,14 @@ pub record IsHead (store : Store) (at : ℕ) : Type 0 where
 pub record IsLengthened (old new : Store) (at place k groups : ℕ) : Type 0 where
   pub chains : chains_in new ≡ slice_set (chains_in old) k (slice_index_or (chains_in old) k [] ++ slice_index_or old.frames.items place 0 ∷ [])
   pub counted : groups ≡ length (slice_index_or (chains_in old) k [])
+
+-- a frame is found at a place, so many before the last
+pub record IsStanding (places frames : List ℕ) (frame place behind : ℕ) : Type 0 where
+  pub inside : behind < length places
+  pub place_is : place ≡ slice_index_or places (length places - 1 - behind) 0
+  pub frame_is : slice_index_or frames place 0 ≡ frame
+
+-- the j-th group of those that hang at a place is gone
+abbrev pub IsWithout : Store → Store → ℕ → ℕ → Type 0
+IsWithout old new at j = (earlier later : List ℕ) → heads_in old ≡ earlier ++ at ∷ later
+    → chains_in new ≡ slice_set (chains_in old) (length earlier) (remove (slice_index_or (chains_in old) (length earlier) []) j)

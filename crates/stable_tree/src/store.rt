@@ -1,10 +1,10 @@
 //! Groups at places. Those of one content hang at the place of a node of a balanced tree: the node's place has
 //! the earliest one, and each tells the place of the next. A place that a group leaves is used again.
-ghost use Rattle.std.specs.Prelude.{◌≡◌, ◌+◌, ◌-◌, ◌*◌, ◌<◌, ◌≤◌, ℕ, List, [], ◌∷◌, ◌++◌, All, length};
+ghost use Rattle.std.specs.Prelude.{◌≡◌, ◌≢◌, ◌+◌, ◌-◌, ◌*◌, ◌<◌, ◌≤◌, ℕ, List, [], ◌∷◌, ◌++◌, All, MatchOption, length, slice_index_or};
 ghost use Rattle.std.specs.List.{concat};
 ghost use Rattle.stable_tree.specs.Digits.{digits};
 ghost use Rattle.stable_tree.specs.Groups.{IsSorted};
-ghost use Rattle.stable_tree.specs.Places.{IsStore, IsWhole, IsPlaced, IsHead, IsLengthened, walk, end, heads_in, chains_in};
+ghost use Rattle.stable_tree.specs.Places.{IsStore, IsWhole, IsPlaced, IsHead, IsLengthened, IsStanding, IsWithout, walk, end, hanging, frames_of, heads_in, chains_in};
 ghost use Rattle.stable_tree.specs.Edits.{IsAnswer, IsPut};
 
 use frame_arena::Counted;
@@ -125,4 +125,77 @@ pub(crate) fn put(store: &mut Store, arena: &mut Counted, frame: u32) -> u32
             0
         }
     }
+}
+
+/// Where a group stands among those of its content.
+#[derive(Clone, Copy, Debug, PartialEq, Eq)]
+struct Standing {
+    pub place: u32,
+    /// How many groups stand behind it.
+    pub behind: u32,
+}
+
+/// Where a frame stands among the groups of a content, `groups` in number from a place on.
+fn place_of(frames: &[u32], nexts: &[u32], at: u32, groups: u32, frame: u32) -> Option<Standing>
+    requires framed { All (λ place. place < length frames.now) (walk groups nexts.now at) }
+    requires linked { length nexts.now ≡ length frames.now }
+    ensures { MatchOption result (All (λ group. group ≢ frame) (frames_of frames.now (walk groups nexts.now at)))
+        (λ standing. IsStanding (walk groups nexts.now at) frames.now frame standing.place standing.behind) }
+{
+    let mut place = at;
+    for passed in 0..groups {
+        if frames[place as usize] == frame {
+            return Some(Standing {
+                place,
+                behind: groups - 1 - passed,
+            });
+        }
+        place = nexts[place as usize];
+    }
+    None
+}
+
+/// Makes a place free that hangs nowhere. It takes no memory.
+fn give_back(store: &mut Store, place: u32)
+    requires { IsWhole store.old (place ∷ store.old.free.items) }
+    ensures whole { IsStore store.new }
+    ensures chains { chains_in store.new ≡ chains_in store.old }
+    ensures room { store.new.room ≡ store.old.room }
+{
+    let kept = store.free.push(place).is_ok();
+    prove!(kept);
+}
+
+/// Takes out the last of two or more groups of a content.
+fn take_last(store: &mut Store, at: u32, place: u32)
+    requires whole { IsStore store.old }
+    requires head { IsHead store.old at }
+    requires more { 2 ≤ slice_index_or store.old.sizes.items at 0 }
+    requires last { place ≡ slice_index_or (hanging store.old.nexts.items store.old.sizes.items at)
+        (slice_index_or store.old.sizes.items at 0 - 1) 0 }
+    ensures whole { IsStore store.new }
+    ensures chains { IsWithout store.old store.new at (slice_index_or store.old.sizes.items at 0 - 1) }
+    ensures room { store.new.room ≡ store.old.room }
+{
+    store.sizes[at as usize] -= 1;
+    give_back(store, place);
+}
+
+/// Takes out a group that others of its content stand behind: the next one takes its place.
+fn take_inner(store: &mut Store, at: u32, standing: Standing)
+    requires whole { IsStore store.old }
+    requires head { IsHead store.old at }
+    requires behind { (1 ≤ standing.behind) × (standing.behind < slice_index_or store.old.sizes.items at 0) }
+    requires place { standing.place ≡ slice_index_or (hanging store.old.nexts.items store.old.sizes.items at)
+        (slice_index_or store.old.sizes.items at 0 - 1 - standing.behind) 0 }
+    ensures whole { IsStore store.new }
+    ensures chains { IsWithout store.old store.new at (slice_index_or store.old.sizes.items at 0 - 1 - standing.behind) }
+    ensures room { store.new.room ≡ store.old.room }
+{
+    let place = standing.place as usize;
+    let next = store.nexts[place];
+    store.frames[place] = store.frames[next as usize];
+    store.nexts[place] = store.nexts[next as usize];
+    store.sizes[at as usize] -= 1;
+    give_back(store, next);
 }
