@@ -249,3 +249,27 @@ walk-grown (suc m) nexts at new some once inside =
 pub end-stands : (g : ℕ) (nexts : List ℕ) (at : ℕ) → 1 ≤ g → 1 ≤ times (end (g - 1) nexts at) (walk g nexts at)
 end-stands zero nexts at some = absurd (omega (arith, some))
 end-stands (suc m) nexts at some = let e : suc m - 1 ≡ m = omega arith in rw e (end-there m nexts at)
+
+-- a walk that goes on, so many places before its end
+pub walk-on : (g k : ℕ) (nexts : List ℕ) (at : ℕ) → k < g → walk (g - k) nexts at ≡ at ∷ walk (g - (k + 1)) nexts (slice_index_or nexts at 0)
+walk-on g k nexts at less = let e : g - k ≡ suc (g - (k + 1)) = omega arith in rw e (walk-more (g - (k + 1)) nexts at)
+
+pub on-inside : (g k bound : ℕ) (nexts : List ℕ) (at : ℕ) → k < g → All (λ place. place < bound) (walk (g - k) nexts at) → at < bound
+on-inside g k bound nexts at less all =
+    All-head (λ (place : ℕ). place < bound) at (walk (g - (k + 1)) nexts (slice_index_or nexts at 0)) (subst (λ (xs : List ℕ). All (λ place. place < bound) xs) (walk-on g k nexts at less) all)
+
+pub on-within : (g k bound : ℕ) (nexts : List ℕ) (at : ℕ) → k < g → All (λ place. place < bound) (walk (g - k) nexts at) → All (λ place. place < bound) (walk (g - (k + 1)) nexts (slice_index_or nexts at 0))
+on-within g k bound nexts at less all =
+    All-tail (λ (place : ℕ). place < bound) at (walk (g - (k + 1)) nexts (slice_index_or nexts at 0)) (subst (λ (xs : List ℕ). All (λ place. place < bound) xs) (walk-on g k nexts at less) all)
+
+-- what was passed and what is ahead
+pub ahead-first : (g k : ℕ) (nexts : List ℕ) (at now : ℕ) → k < g → ((j : ℕ) → slice_index_or (walk g nexts at) (k + j) 0 ≡ slice_index_or (walk (g - k) nexts now) j 0) → slice_index_or (walk g nexts at) k 0 ≡ now
+ahead-first g k nexts at now less ahead =
+    let e : k + 0 ≡ k = omega arith in
+    ap (λ (n : ℕ). slice_index_or (walk g nexts at) n 0) (sym e) ∙ ahead 0 ∙ ap (λ (xs : List ℕ). slice_index_or xs 0 0) (walk-on g k nexts now less)
+
+pub ahead-next : (g k : ℕ) (nexts : List ℕ) (at now : ℕ) → k < g → ((j : ℕ) → slice_index_or (walk g nexts at) (k + j) 0 ≡ slice_index_or (walk (g - k) nexts now) j 0)
+    → (j : ℕ) → slice_index_or (walk g nexts at) (k + 1 + j) 0 ≡ slice_index_or (walk (g - (k + 1)) nexts (slice_index_or nexts now 0)) j 0
+ahead-next g k nexts at now less ahead j =
+    let e : k + 1 + j ≡ k + suc j = omega arith in
+    ap (λ (n : ℕ). slice_index_or (walk g nexts at) n 0) e ∙ ahead (suc j) ∙ ap (λ (xs : List ℕ). slice_index_or xs (suc j) 0) (walk-on g k nexts now less)
