@@ -8,10 +8,12 @@ pub mod Contents
 pub mod Entering
 pub mod Putting
 pub mod Shortening
+pub mod Taking
 pub mod Sorting
 pub mod Pairs
 pub mod Inserting
 pub mod Ordered
 pub mod Removing
 pub mod Counting
+pub mod Told
 pub mod Digits

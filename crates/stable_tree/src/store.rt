@@ -1,13 +1,16 @@
 //! Groups at places. Those of one content hang at the place of a node of a balanced tree: the node's place has
 //! the earliest one, and each tells the place of the next. A place that a group leaves is used again.
-ghost use Rattle.std.specs.Prelude.{◌≡◌, ◌≢◌, ◌+◌, ◌-◌, ◌*◌, ◌<◌, ◌≤◌, ℕ, List, [], ◌∷◌, ◌++◌, All, MatchOption, length, slice_index_or};
+ghost use Rattle.std.specs.Prelude.{◌≡◌, ◌≢◌, ◌+◌, ◌-◌, ◌*◌, ◌<◌, ◌≤◌, ℕ, false, List, [], ◌∷◌, ◌++◌, All, MatchOption, OnOk, OnErr, find, length, max, nat_lt, slice_index_or};
 ghost use Rattle.std.specs.List.{concat};
+ghost use Rattle.tree_shape.specs.Removals.{is_alone};
 ghost use Rattle.stable_tree.specs.Digits.{digits};
 ghost use Rattle.stable_tree.specs.Groups.{IsSorted};
 ghost use Rattle.stable_tree.specs.Places.{IsStore, IsWhole, IsPlaced, IsHead, IsLengthened, IsStanding, IsWithout, walk, end, hanging, frames_of, heads_in, chains_in};
-ghost use Rattle.stable_tree.specs.Edits.{IsAnswer, IsPut};
+ghost use Rattle.stable_tree.specs.Edits.{IsAnswer, IsPut, IsTakenOut, IsShortened};
 
 use frame_arena::Counted;
+use std::alloc::{AllocError, Global};
+use tree_shape::removal::{Removed, take_out};
 use tree_shape::search::{Entered, enter};
 use tree_shape::{NONE, Node};
 
@@ -36,6 +39,49 @@ const BLANK: Node = Node {
     right: NONE,
     height: 0,
 };
+
+/// There are no groups, and there is no room for one.
+pub(crate) fn new(alloc: Global) -> Store
+    ensures whole { IsStore result }
+    ensures chains { chains_in result ≡ [] }
+    ensures room { result.room ≡ 0 }
+{
+    Store {
+        nodes: Vec::new(alloc),
+        frames: Vec::new(alloc),
+        nexts: Vec::new(alloc),
+        sizes: Vec::new(alloc),
+        free: Vec::new(alloc),
+        root: NONE,
+        room: 0,
+    }
+}
+
+/// Makes room for that many groups in all. It is refused where memory ran out, or where a link can't tell that
+/// many places.
+pub(crate) fn reserve(store: &mut Store, groups: usize) -> Result<(), AllocError>
+    requires { IsStore store.old }
+    ensures whole { IsStore store.new }
+    ensures chains { chains_in store.new ≡ chains_in store.old }
+    ensures reserved { OnOk result (store.new.room ≡ max store.old.room groups) }
+    ensures refused { OnErr result (store.new.room ≡ store.old.room) }
+    ensures short { OnErr result (store.old.room < groups) }
+{
+    if groups <= store.room {
+        return Ok(());
+    }
+    if groups >= NONE as usize {
+        return Err(AllocError);
+    }
+    let more = groups - store.nodes.len();
+    store.nodes.reserve_exact(more)?;
+    store.frames.reserve_exact(more)?;
+    store.nexts.reserve_exact(more)?;
+    store.sizes.reserve_exact(more)?;
+    store.free.reserve_exact(groups - store.free.len())?;
+    store.room = groups;
+    Ok(())
+}
 
 /// Gives a new group a place of its own, which hangs nowhere yet. It takes no memory.
 pub(crate) fn place(store: &mut Store, frame: u32) -> u32
@@ -198,4 +244,80 @@ fn take_inner(store: &mut Store, at: u32, standing: Standing)
     store.nexts[place] = store.nexts[next as usize];
     store.sizes[at as usize] -= 1;
     give_back(store, next);
+}
+
+/// Takes a frame out of the groups of a content, if it is there and not alone. Tells how many these were, or 0 where
+/// it isn't there.
+fn shorten(store: &mut Store, at: u32, frame: u32) -> u32
+    requires whole { IsStore store.old }
+    requires head { IsHead store.old at }
+    requires shared { is_alone store.old.frames.items store.old.sizes.items frame at ≡ false }
+    ensures whole { IsStore store.new }
+    ensures chains { IsShortened store.old store.new at frame result }
+    ensures room { store.new.room ≡ store.old.room }
+{
+    let groups = store.sizes[at as usize];
+    let Some(standing) = place_of(&store.frames, &store.nexts, at, groups, frame) else {
+        return 0;
+    };
+    if standing.behind == 0 {
+        take_last(store, at, standing.place);
+    } else {
+        take_inner(store, at, standing);
+    }
+    groups
+}
+
+/// Takes out a group, if it is there. Tells how many its content had, or 0 where it isn't there.
+pub(crate) fn take(store: &mut Store, arena: &mut Counted, frame: u32) -> u32
+    requires whole { IsStore store.old }
+    requires frame { frame < length arena.old.pages }
+    requires sorted { IsSorted arena.old.pages (chains_in store.old) }
+    ensures whole { IsStore store.new }
+    ensures taken { IsTakenOut arena.old.pages frame (chains_in store.old) (chains_in store.new) result }
+    ensures room { store.new.room ≡ store.old.room }
+    ensures pages { arena.new.pages ≡ arena.old.pages }
+    ensures few { arena.new.steps ≤ arena.old.steps + 2 * digits (length (chains_in store.old)) }
+{
+    match take_out(
+        &mut store.nodes,
+        &store.frames,
+        &store.sizes,
+        arena,
+        store.root,
+        frame,
+    ) {
+        Removed::Nowhere => 0,
+        Removed::Stays(at) => shorten(store, at, frame),
+        Removed::Out(taken) => {
+            store.root = taken.root;
+            give_back(store, taken.place);
+            1
+        }
+    }
+}
+
+/// The first of some groups, from a place on, that fewer than `limit` hold.
+pub(crate) fn first_below(
+    frames: &[u32],
+    nexts: &[u32],
+    at: u32,
+    groups: u32,
+    counts: &[u32],
+    limit: u32,
+) -> Option<u32>
+    requires framed { All (λ place. place < length frames.now) (walk groups nexts.now at) }
+    requires linked { length nexts.now ≡ length frames.now }
+    requires counted { All (λ frame. frame < length counts.now) (frames_of frames.now (walk groups nexts.now at)) }
+    ensures { result ≡ find (λ frame. nat_lt (slice_index_or counts.now frame 0) limit) (frames_of frames.now (walk groups nexts.now at)) }
+{
+    let mut place = at;
+    for _passed in 0..groups {
+        let frame = frames[place as usize];
+        if counts[frame as usize] < limit {
+            return Some(frame);
+        }
+        place = nexts[place as usize];
+    }
+    None
 }
