@@ -1,6 +1,7 @@
 -- Places that tell the next, where some are written.
-use Rattle.std.proofs.Common.{◌≡◌, ◌≢◌, ℕ, zero, suc, ◌+◌, ◌-◌, ◌<◌, ◌≤◌, ◌==◌, Bool, true, false, if◌then◌else◌, List, [], ◌∷◌, ◌++◌, length, map, slice_index_or, slice_set, All, refl, sym, ap, subst, ◌∙◌, arith}
+use Rattle.std.proofs.Common.{◌≡◌, ◌≢◌, ℕ, zero, suc, ◌+◌, ◌-◌, ◌<◌, ◌≤◌, ◌==◌, Bool, true, false, if◌then◌else◌, List, [], ◌∷◌, ◌++◌, length, map, slice_index_or, slice_set, nat_lt, find, Option, None, Some, All, refl, sym, ap, subst, ◌∙◌, arith}
 use Rattle.std.specs.List.{remove}
+use borrow.Author.Tests.{lt-ltb}
 use Rattle.std.proofs.lemmas.Bool.Decides.{nat_tests}
 use Rattle.std.proofs.lemmas.List.{get_or-set_same, get_or-set_other}
 use Rattle.std.proofs.lemmas.List.Sums.{sum_by-append, sum_by-cons}
@@ -273,3 +274,34 @@ pub ahead-next : (g k : ℕ) (nexts : List ℕ) (at now : ℕ) → k < g → ((j
 ahead-next g k nexts at now less ahead j =
     let e : k + 1 + j ≡ k + suc j = omega arith in
     ap (λ (n : ℕ). slice_index_or (walk g nexts at) n 0) e ∙ ahead (suc j) ∙ ap (λ (xs : List ℕ). slice_index_or xs (suc j) 0) (walk-on g k nexts now less)
+
+-- whether fewer than a limit hold a frame
+abbrev pub is_open : List ℕ → ℕ → ℕ → Bool
+is_open counts limit frame = nat_lt (slice_index_or counts frame 0) limit
+
+pub open-here : (g k : ℕ) (nexts frames counts : List ℕ) (at limit : ℕ) → k < g → slice_index_or counts (slice_index_or frames at 0) 0 < limit
+    → find (is_open counts limit) (frames_of frames (walk (g - k) nexts at)) ≡ Some (slice_index_or frames at 0)
+open-here g k nexts frames counts at limit less low =
+    let test : nat_lt (slice_index_or counts (slice_index_or frames at 0) 0) limit ≡ true = lt-ltb (slice_index_or counts (slice_index_or frames at 0) 0) limit low in
+    rw (walk-on g k nexts at less) (rw test refl)
+
+pub open-later : (g k : ℕ) (nexts frames counts : List ℕ) (at limit : ℕ) → k < g → limit ≤ slice_index_or counts (slice_index_or frames at 0) 0
+    → find (is_open counts limit) (frames_of frames (walk (g - k) nexts at)) ≡ find (is_open counts limit) (frames_of frames (walk (g - (k + 1)) nexts (slice_index_or nexts at 0)))
+open-later g k nexts frames counts at limit less high =
+    let test : nat_lt (slice_index_or counts (slice_index_or frames at 0) 0) limit ≡ false = grind arith in
+    rw (walk-on g k nexts at less) (rw test refl)
+
+pub counted-first : (g k bound : ℕ) (nexts frames : List ℕ) (at : ℕ) → k < g → All (λ frame. frame < bound) (frames_of frames (walk (g - k) nexts at)) → slice_index_or frames at 0 < bound
+counted-first g k bound nexts frames at less all =
+    All-head (λ (frame : ℕ). frame < bound) (slice_index_or frames at 0) (frames_of frames (walk (g - (k + 1)) nexts (slice_index_or nexts at 0)))
+    (subst (λ (xs : List ℕ). All (λ frame. frame < bound) (frames_of frames xs)) (walk-on g k nexts at less) all)
+
+pub counted-later : (g k bound : ℕ) (nexts frames : List ℕ) (at : ℕ) → k < g → All (λ frame. frame < bound) (frames_of frames (walk (g - k) nexts at))
+    → All (λ frame. frame < bound) (frames_of frames (walk (g - (k + 1)) nexts (slice_index_or nexts at 0)))
+counted-later g k bound nexts frames at less all =
+    All-tail (λ (frame : ℕ). frame < bound) (slice_index_or frames at 0) (frames_of frames (walk (g - (k + 1)) nexts (slice_index_or nexts at 0)))
+    (subst (λ (xs : List ℕ). All (λ frame. frame < bound) (frames_of frames xs)) (walk-on g k nexts at less) all)
+
+pub open-none : (g k : ℕ) (nexts frames counts : List ℕ) (at limit : ℕ) → g ≤ k → find (is_open counts limit) (frames_of frames (walk (g - k) nexts at)) ≡ None
+unfolding walk
+open-none g k nexts frames counts at limit far = let e : g - k ≡ 0 = omega arith in rw e refl

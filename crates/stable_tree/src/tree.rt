@@ -90,7 +90,7 @@ impl StableTree {
     pub fn first_open(&self, spot: Spot, counts: &[u32], limit: u32) -> Option<u32>
         requires spot { IsSpot self.now spot }
         requires counts { All (λ frame. frame < length counts.now) (groups_at self.now spot) }
-        ensures { result ≡ find (λ frame. nat_lt (slice_index_or counts.now frame 0) limit) (groups_at self.now spot) }
+        ensures { result ≡ find (λ frame. nat_lt (slice_index_or counts.now frame 0) limit) (groups_at self.now spot.entry) }
     {
         spot.first_below(counts, limit)
     }

@@ -49,7 +49,7 @@ give_back-requires c =
 pub returns-in-Nowhere-clause-whole : goal.returns-in-Nowhere-clause-whole
 returns-in-Nowhere-clause-whole c =
     let old = c.args.store.now in
-    let told = rw (c.deref_mut.ensures.value, c.deref.ensures.value, c.deref-2.ensures.value) at c.in-Nowhere.ensures.out in
+    let told = rw (c.deref_mut.ensures.value, c.deref.ensures.value) at c.in-Nowhere.ensures.out in
     let out = told (tree_in old) (whole-taking old old.free.items c.requires.whole c.args.arena.now.pages c.requires.sorted) in
     let is = renoded old c.take_out.new.nodes old.root (ap length out.1) c.requires.whole.room in
     let same : IsRenoded old (renoded_store old c.take_out.new.nodes old.root) old.nodes.items old.root = subst (λ (nodes : List Node). IsRenoded old (renoded_store old c.take_out.new.nodes old.root) nodes old.root) out.1 is in
@@ -58,7 +58,7 @@ returns-in-Nowhere-clause-whole c =
 pub returns-in-Nowhere-clause-taken : goal.returns-in-Nowhere-clause-taken
 returns-in-Nowhere-clause-taken c =
     let old = c.args.store.now in
-    let told = rw (c.deref_mut.ensures.value, c.deref.ensures.value, c.deref-2.ensures.value) at c.in-Nowhere.ensures.out in
+    let told = rw (c.deref_mut.ensures.value, c.deref.ensures.value) at c.in-Nowhere.ensures.out in
     let out = told (tree_in old) (whole-taking old old.free.items c.requires.whole c.args.arena.now.pages c.requires.sorted) in
     let is = renoded old c.take_out.new.nodes old.root (ap length out.1) c.requires.whole.room in
     let same : IsRenoded old (renoded_store old c.take_out.new.nodes old.root) old.nodes.items old.root = subst (λ (nodes : List Node). IsRenoded old (renoded_store old c.take_out.new.nodes old.root) nodes old.root) out.1 is in
