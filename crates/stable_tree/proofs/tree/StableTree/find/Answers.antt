@@ -8,7 +8,8 @@ pub returns-in_err-place-clause-found : goal.returns-in_err-place-clause-found
 returns-in_err-place-clause-found c =
     let sorted = rw (← c.self.view_is) at c.requires.sorted in
     let told = c.in_err-place.ensures.found in
-    rw (← c.self.view_is) (?)
+    let none = filter-not_there c.args.arena.now.pages (page_at c.args.arena.now.pages c.args.frame) (chains_in c.self.inside.store) told.k sorted told.cut told.absent in
+    rw (← c.self.view_is, c.from_residual.ensures) (sym none)
 
 pub returns-clause-found : goal.returns-clause-found
 returns-clause-found c =
