@@ -1,5 +1,5 @@
 -- What halving makes of the number of binary digits.
-use Rattle.std.proofs.Common.{◌≡◌, ℕ, zero, suc, ◌+◌, ◌*◌, ◌/◌, ◌<◌, ◌≤◌, refl, arith}
+use Rattle.std.proofs.Common.{◌≡◌, ℕ, zero, suc, ◌+◌, ◌*◌, ◌^◌, ◌/◌, ◌<◌, ◌≤◌, refl, arith}
 use Rattle.stable_tree.specs.Digits.{digits, digits_within}
 
 none-within : (most : ℕ) → digits_within most 0 ≡ 0
@@ -45,3 +45,17 @@ digits-some n some = let one = digits-half 0 n some (omega arith) in omega (arit
 pub looked-twice : (n place before between after : ℕ) → between ≤ before + digits n → after ≤ between + 1 → (n ≤ place → after ≡ between) → place ≤ n → after ≤ before + 2 * digits n
 looked-twice zero place before between after halved one none within = let same = none (omega arith) in omega (arith, halved, same)
 looked-twice (suc n) place before between after halved one none within = let some = digits-some (suc n) (omega arith) in omega (arith, halved, one, some)
+
+-- a number is below the power of two that its digits make
+below-within : (most n : ℕ) → n ≤ most → n < 2 ^ digits_within most n
+unfolding digits_within
+below-within zero zero le = omega arith
+below-within zero (suc n) le = absurd (omega (arith, le))
+below-within (suc most) zero le = omega arith
+below-within (suc most) (suc n) le =
+    let rest = below-within most (suc n / 2) (omega (arith, le)) in
+    let twice : 2 ^ suc (digits_within most (suc n / 2)) ≡ 2 ^ digits_within most (suc n / 2) + 2 ^ digits_within most (suc n / 2) = grind arith in
+    omega (arith, rest, twice)
+
+pub below-digits : (n : ℕ) → n < 2 ^ digits n
+below-digits n = below-within n n (omega arith)

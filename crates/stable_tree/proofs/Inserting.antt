@@ -57,17 +57,17 @@ has-page : (arena : List (List ℕ)) (bytes : List ℕ) (f : ℕ) → has arena 
 has-page arena bytes f e = (bytes_eq-Decides (page_at arena f) bytes).0 e
 
 module _ (arena chains : List (List ℕ)) (f k : ℕ) (sorted : IsSorted arena chains) (at : IsCutAt arena (page_at arena f) chains k) where
-  pub lengthened : is_there arena (page_at arena f) chains k ≡ true → (bytes : List ℕ)
+  pub lengthened-told : is_there arena (page_at arena f) chains k ≡ true → (bytes : List ℕ)
       → filter (has arena bytes) (concat (slice_set chains k (slice_index_or chains k [] ++ f ∷ []))) ≡ filter (has arena bytes) (concat chains) ++ filter (has arena bytes) (f ∷ [])
-  lengthened there bytes =
+  lengthened-told there bytes =
       let less : k < length chains = ltb-true k (length chains) (both (nat_lt k (length chains)) (bytes_eq (content arena (slice_index_or chains k [])) (page_at arena f)) there).0 in
       filter-lengthened (has arena bytes) chains k f less
       (λ e. subst (λ (page : List ℕ). filter (has arena page) (concat (drop (suc k) chains)) ≡ []) (has-page arena bytes f e)
       (filter-behind arena (page_at arena f) chains (suc k) sorted.alike (λ i ge h. other-chain arena (page_at arena f) chains k i sorted at (λ same. omega (arith, ge, same)) h)))
 
-  pub added : is_there arena (page_at arena f) chains k ≡ false → (bytes : List ℕ)
+  pub added-told : is_there arena (page_at arena f) chains k ≡ false → (bytes : List ℕ)
       → filter (has arena bytes) (concat (insert chains k (f ∷ []))) ≡ filter (has arena bytes) (concat chains) ++ filter (has arena bytes) (f ∷ [])
-  added absent bytes =
+  added-told absent bytes =
       filter-added (has arena bytes) chains k f at.inside
       (λ e. subst (λ (page : List ℕ). filter (has arena page) (concat (drop k chains)) ≡ []) (has-page arena bytes f e)
       (filter-behind arena (page_at arena f) chains k sorted.alike (λ i ge h. unlike-chain arena (page_at arena f) chains k sorted at absent i h)))

@@ -84,20 +84,20 @@ All-remove : {X : Type 0} (P : X → Type 0) (xs : List X) (k : ℕ) → All P x
 All-remove P xs k all = All-append P (take k xs) (drop (suc k) xs) (All-take P k xs all) (All-drop P (suc k) xs all)
 
 module _ (arena chains : List (List ℕ)) (f k p : ℕ) (sorted : IsSorted arena chains) (there : k < length chains) (place : p < length (slice_index_or chains k [])) (is : slice_index_or (slice_index_or chains k []) p 0 ≡ f) where
-  pub shortened : concat (slice_set chains k (remove (slice_index_or chains k []) p)) ≡ filter (λ g. not (g == f)) (concat chains)
-  shortened =
+  pub shortened-told : concat (slice_set chains k (remove (slice_index_or chains k []) p)) ≡ filter (λ g. not (g == f)) (concat chains)
+  shortened-told =
       let placed = concat-shortened chains k p there place in
       placed.3 ∙ remove-once (concat chains) placed.0 f sorted.once placed.1 (placed.2 ∙ is)
 
-  pub taken_out : length (slice_index_or chains k []) ≡ 1 → concat (remove chains k) ≡ filter (λ g. not (g == f)) (concat chains)
-  taken_out one = concat-taken_out chains k p there one place ∙ shortened
+  pub taken_out-told : length (slice_index_or chains k []) ≡ 1 → concat (remove chains k) ≡ filter (λ g. not (g == f)) (concat chains)
+  taken_out-told one = concat-taken_out chains k p there one place ∙ shortened-told
 
   pub sorted-taken_out : length (slice_index_or chains k []) ≡ 1 → IsSorted arena (remove chains k)
   sorted-taken_out one =
       record {
         alike = All-remove (IsChain arena) chains k sorted.alike;
         ascending = all_pairs_remove (λ c d. order (content arena c) (content arena d) ≡ Less) chains k there sorted.ascending;
-        once = rw (taken_out one) (AllPairs-filter (λ g h. g ≢ h) (λ g. not (g == f)) (concat chains) sorted.once);
+        once = rw (taken_out-told one) (AllPairs-filter (λ g h. g ≢ h) (λ g. not (g == f)) (concat chains) sorted.once);
       }
 
   pub sorted-shortened : 2 ≤ length (slice_index_or chains k []) → IsSorted arena (slice_set chains k (remove (slice_index_or chains k []) p))
@@ -105,7 +105,7 @@ module _ (arena chains : List (List ℕ)) (f k p : ℕ) (sorted : IsSorted arena
       record {
         alike = All-set (IsChain arena) chains k (remove (slice_index_or chains k []) p) shorter sorted.alike;
         ascending = ascending-set arena chains k (remove (slice_index_or chains k []) p) there same sorted.ascending;
-        once = rw shortened (AllPairs-filter (λ g h. g ≢ h) (λ g. not (g == f)) (concat chains) sorted.once);
+        once = rw shortened-told (AllPairs-filter (λ g h. g ≢ h) (λ g. not (g == f)) (concat chains) sorted.once);
       }
     where
       old : IsChain arena (slice_index_or chains k [])

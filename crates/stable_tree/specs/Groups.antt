@@ -9,7 +9,6 @@ use Rattle.std.specs.declared.cmp.Ordering.TheVariants.{Less}
 use Rattle.std.specs.Cmp.Lexicographic.{slice_cmp}
 use Rattle.frame_arena.specs.Pages.{page_at}
 use Rattle.stable_tree.specs.declared.dups.Dups.{Dups}
-use Rattle.stable_tree.specs.declared.tree.Spot.{Spot}
 
 -- A chain for each content, with the frames of its groups in order of creation; and for how many
 -- groups there is room.
@@ -66,15 +65,17 @@ pub record IsSorted (arena : List (List ℕ)) (chains : List (List ℕ)) : Type 
   pub ascending : AllPairs (λ c d. order (content arena c) (content arena d) ≡ Less) chains
   pub once : AllPairs (λ f g. f ≢ g) (concat chains)
 
--- where a chain stands
-abbrev pub IsSpot : Groups → Spot → Type 0
-IsSpot tree spot = spot.chain < length tree.chains
+-- one of the chains, which is what a spot shows
+pub record IsSpot (tree : Groups) (spot : List ℕ) : Type 0 where
+  pub k : ℕ
+  pub inside : k < length tree.chains
+  pub is : spot ≡ slice_index_or tree.chains k []
 
 -- the frames of the groups at a spot, in order of creation
-abbrev pub groups_at : Groups → Spot → List ℕ
-groups_at tree spot = slice_index_or tree.chains spot.chain []
+abbrev pub groups_at : Groups → List ℕ → List ℕ
+groups_at tree spot = spot
 
-abbrev pub groups_found : Groups → Option Spot → List ℕ
+abbrev pub groups_found : Groups → Option (List ℕ) → List ℕ
 groups_found tree None = []
 groups_found tree (Some spot) = groups_at tree spot
 

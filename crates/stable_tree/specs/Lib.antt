@@ -1,3 +1,4 @@
 pub mod Groups
-pub mod Cut
+pub mod Places
+pub mod Edits
 pub mod Digits

@@ -1,9 +1,11 @@
-//! The groups of pages that share frames, as chains of one content each, sorted by content. A content
-//! is found by binary search. No call but `StableTree::reserve` takes memory or can fail.
+//! The groups of pages that share frames, as chains of one content each, at the nodes of a balanced tree. A
+//! content is found by one way down the tree. No call but `StableTree::reserve` takes memory or can fail.
 #![tactic(auto)]
 
-mod chains;
 mod dups;
+mod spot;
+mod store;
 mod tree;
 
-pub use tree::{Spot, StableTree};
+pub use spot::Spot;
+pub use tree::StableTree;

@@ -1,27 +1,72 @@
-use Rattle.std.proofs.Common.{sym, ◌∙◌, length}
-use Rattle.stable_tree.proofs.Inserting.{lengthened, added}
-use Rattle.stable_tree.proofs.Ordered.{sorted-lengthened, sorted-added}
-use Rattle.stable_tree.proofs.Digits.{looked-twice}
+use Rattle.std.proofs.Common.{◌≡◌, ◌+◌, ◌-◌, ◌<◌, ◌≤◌, length, refl, ap, sym, ◌∙◌, arith}
+use Rattle.std.specs.List.{concat}
+use Rattle.stable_tree.specs.Groups.{Groups, AreDups}
+use Rattle.stable_tree.specs.Places.{chains_in, heads_in}
+use Rattle.stable_tree.proofs.Counting.{IsMoved}
+use Rattle.stable_tree.proofs.Told.{put-inserted, put-sorted, put-kept, put-moved, take-removed, take-sorted, take-kept, take-moved}
+use Rattle.stable_tree.proofs.Hanging.{length-chains}
 use Rattle.stable_tree.proofs.tree.StableTree.insert.Goals as goal
 
-pub returns-then-is_there-clause-inserted : goal.returns-then-is_there-clause-inserted
-returns-then-is_there-clause-inserted c =
-    rw c.lengthen.ensures (lengthened c.args.arena.now.pages c.args.self.now.chains c.args.frame c.lower_bound-chain.result c.requires.sorted c.lower_bound-chain.ensures.place (sym (rw c.lower_bound-chain.ensures.pages at c.is_there.ensures.told) ∙ c.if-is_there.true))
+pub moved-self-inside-requires-clause-chains : goal.moved-self-inside-requires-clause-chains
+moved-self-inside-requires-clause-chains c =
+    let moved = put-moved c.args.arena.now.pages c.args.frame (chains_in c.self.inside.store) (chains_in c.put-before.new.store) c.put-before.result (length (concat (chains_in c.put-before.new.store))) c.self.inside.dups c.self.invariant.1 c.put-before.ensures.put (omega (arith, c.if-before-gt0.true)) refl in
+    moved.one
 
-pub returns-then-is_there-clause-sorted : goal.returns-then-is_there-clause-sorted
-returns-then-is_there-clause-sorted c =
-    rw c.lengthen.ensures (sorted-lengthened c.args.arena.now.pages c.args.self.now.chains c.args.frame c.lower_bound-chain.result c.requires.sorted c.lower_bound-chain.ensures.place c.requires.frame c.requires.new (sym (rw c.lower_bound-chain.ensures.pages at c.is_there.ensures.told) ∙ c.if-is_there.true))
+pub moved-self-inside-requires-clause-groups : goal.moved-self-inside-requires-clause-groups
+moved-self-inside-requires-clause-groups c =
+    let moved = put-moved c.args.arena.now.pages c.args.frame (chains_in c.self.inside.store) (chains_in c.put-before.new.store) c.put-before.result (length (concat (chains_in c.put-before.new.store))) c.self.inside.dups c.self.invariant.1 c.put-before.ensures.put (omega (arith, c.if-before-gt0.true)) refl in
+    moved.other
 
-pub returns-clause-inserted : goal.returns-clause-inserted
-returns-clause-inserted c =
-    rw c.add.ensures (added c.args.arena.now.pages c.args.self.now.chains c.args.frame c.lower_bound-chain.result c.requires.sorted c.lower_bound-chain.ensures.place (sym (rw c.lower_bound-chain.ensures.pages at c.is_there.ensures.told) ∙ c.if-is_there.false))
+pub moved-self-inside-requires-clause-few_chains : goal.moved-self-inside-requires-clause-few_chains
+moved-self-inside-requires-clause-few_chains c =
+    let moved = put-moved c.args.arena.now.pages c.args.frame (chains_in c.self.inside.store) (chains_in c.put-before.new.store) c.put-before.result (length (concat (chains_in c.put-before.new.store))) c.self.inside.dups c.self.invariant.1 c.put-before.ensures.put (omega (arith, c.if-before-gt0.true)) refl in
+    let store = c.put-before.new.store in
+    let long = length-chains store.frames.items store.nexts.items store.sizes.items (heads_in store) in
+    let all = c.put-before.ensures.whole.hung.shared.all in
+    let few = c.put-before.ensures.whole.few in
+    let low = c.put-before.ensures.whole.low in
+    let fit = moved.few in
+    omega (arith, fit, long, all, few, low)
 
-pub returns-clause-sorted : goal.returns-clause-sorted
-returns-clause-sorted c =
-    rw c.add.ensures (sorted-added c.args.arena.now.pages c.args.self.now.chains c.args.frame c.lower_bound-chain.result c.requires.sorted c.lower_bound-chain.ensures.place c.requires.frame c.requires.new (sym (rw c.lower_bound-chain.ensures.pages at c.is_there.ensures.told) ∙ c.if-is_there.false))
+pub moved-self-inside-requires-clause-few_groups : goal.moved-self-inside-requires-clause-few_groups
+moved-self-inside-requires-clause-few_groups c =
+    let moved = put-moved c.args.arena.now.pages c.args.frame (chains_in c.self.inside.store) (chains_in c.put-before.new.store) c.put-before.result (length (concat (chains_in c.put-before.new.store))) c.self.inside.dups c.self.invariant.1 c.put-before.ensures.put (omega (arith, c.if-before-gt0.true)) refl in
+    let store = c.put-before.new.store in
+    let long = length-chains store.frames.items store.nexts.items store.sizes.items (heads_in store) in
+    let all = c.put-before.ensures.whole.hung.shared.all in
+    let few = c.put-before.ensures.whole.few in
+    let low = c.put-before.ensures.whole.low in
+    let fit = moved.fit in
+    omega (arith, fit, long, all, few, low)
 
-pub returns-then-is_there-clause-few : goal.returns-then-is_there-clause-few
-returns-then-is_there-clause-few c = looked-twice (length c.args.self.now.chains) c.lower_bound-chain.result c.args.arena.now.steps c.lower_bound-chain.new.arena.steps c.is_there.new.arena.steps c.lower_bound-chain.ensures.few c.is_there.ensures.few c.is_there.ensures.none c.lower_bound-chain.ensures.place.inside
+pub invariant_of-self : goal.invariant_of-self
+invariant_of-self c =
+    let moved = put-moved c.args.arena.now.pages c.args.frame (chains_in c.self.inside.store) (chains_in c.put-before.new.store) c.put-before.result (length (concat (chains_in c.put-before.new.store))) c.self.inside.dups c.self.invariant.1 c.put-before.ensures.put (omega (arith, c.if-before-gt0.true)) refl in
+    (c.put-before.ensures.whole, rw c.moved-self-inside.ensures moved.told)
 
-pub returns-clause-few : goal.returns-clause-few
-returns-clause-few c = looked-twice (length c.args.self.now.chains) c.lower_bound-chain.result c.args.arena.now.steps c.lower_bound-chain.new.arena.steps c.is_there.new.arena.steps c.lower_bound-chain.ensures.few c.is_there.ensures.few c.is_there.ensures.none c.lower_bound-chain.ensures.place.inside
+pub invariant_of-self-else-before-gt0 : goal.invariant_of-self-else-before-gt0
+invariant_of-self-else-before-gt0 c =
+    let sorted = rw (← c.self.view_is) at c.requires.sorted in
+    (c.put-before.ensures.whole, put-kept c.args.arena.now.pages c.args.frame (chains_in c.self.inside.store) (chains_in c.put-before.new.store) c.put-before.result c.self.inside.dups sorted c.self.invariant.1 c.put-before.ensures.put (omega (arith, c.if-before-gt0.false)))
+
+pub returns-then-before-gt0-clause-inserted : goal.returns-then-before-gt0-clause-inserted
+returns-then-before-gt0-clause-inserted c =
+    let sorted = rw (← c.self.view_is) at c.requires.sorted in
+    rw (← c.self.view_is) (put-inserted c.args.arena.now.pages c.args.frame (chains_in c.self.inside.store) (chains_in c.put-before.new.store) c.put-before.result sorted c.put-before.ensures.put)
+
+pub returns-then-before-gt0-clause-sorted : goal.returns-then-before-gt0-clause-sorted
+returns-then-before-gt0-clause-sorted c =
+    let sorted = rw (← c.self.view_is) at c.requires.sorted in
+    let fresh = rw (← c.self.view_is) at c.requires.new in
+    put-sorted c.args.arena.now.pages c.args.frame (chains_in c.self.inside.store) (chains_in c.put-before.new.store) c.put-before.result sorted c.requires.frame fresh c.put-before.ensures.put
+
+pub returns-else-before-gt0-clause-inserted : goal.returns-else-before-gt0-clause-inserted
+returns-else-before-gt0-clause-inserted c =
+    let sorted = rw (← c.self.view_is) at c.requires.sorted in
+    rw (← c.self.view_is) (put-inserted c.args.arena.now.pages c.args.frame (chains_in c.self.inside.store) (chains_in c.put-before.new.store) c.put-before.result sorted c.put-before.ensures.put)
+
+pub returns-else-before-gt0-clause-sorted : goal.returns-else-before-gt0-clause-sorted
+returns-else-before-gt0-clause-sorted c =
+    let sorted = rw (← c.self.view_is) at c.requires.sorted in
+    let fresh = rw (← c.self.view_is) at c.requires.new in
+    put-sorted c.args.arena.now.pages c.args.frame (chains_in c.self.inside.store) (chains_in c.put-before.new.store) c.put-before.result sorted c.requires.frame fresh c.put-before.ensures.put

@@ -1,0 +1,195 @@
+-- A place that is put into the tree, and one that is taken out of it.
+use Rattle.std.proofs.Common.{◌≡◌, ◌≢◌, ℕ, zero, suc, ◌+◌, ◌-◌, ◌*◌, ◌<◌, ◌≤◌, true, false, List, [], ◌∷◌, ◌++◌, length, map, slice_index_or, insert, All, Option, None, Some, refl, sym, ap, subst, ◌∙◌, arith, length-append, vec_capacity}
+use Rattle.std.specs.List.{concat, sum_by, remove}
+use Rattle.std.specs.Vec.{with_items}
+use Rattle.std.proofs.lemmas.List.{map-append, length-map}
+use Rattle.std.proofs.lemmas.List.Edits.{insert-append_right, remove-append_right}
+use Rattle.std.proofs.lemmas.List.Elements.{All-cons, All-append, All-tail}
+use Rattle.std.specs.declared.cmp.Ordering.{Ordering}
+use Rattle.frame_arena.specs.Pages.{page_at}
+use Rattle.tree_shape.specs.declared.Node.{Node}
+use Rattle.tree_shape.specs.Shape.{Tree, leaf, fork, in_order, Holds, IsEven, IsOnce, IsHung, none, height_at}
+use Rattle.tree_shape.specs.Changes.{found, entered, taken}
+use Rattle.tree_shape.specs.Searches.{order_to, IsGrowing}
+use Rattle.tree_shape.specs.Removals.{IsShrinking, IsTaking}
+use Rattle.tree_shape.proofs.Times.{times-fork, times-leaf, times-once}
+use Rattle.tree_shape.proofs.Changing.{entered-grown, taken-shrunk}
+use Rattle.stable_tree.specs.declared.store.Store.{Store}
+use Rattle.stable_tree.specs.Groups.{IsSorted, IsCutAt, is_there}
+use Rattle.stable_tree.specs.Edits.{IsFound, IsMissing, IsAnswer}
+use Rattle.stable_tree.specs.Places.{walk, hanging, frames_of, chain_at, used, times, AreShared, AreHung, HasRoom, IsWhole, IsHead, tree_in, heads_in, chains_in}
+use Rattle.stable_tree.proofs.Counting.{written}
+use Rattle.stable_tree.proofs.Walks.{here, times-cons, times-walk}
+use Rattle.stable_tree.proofs.Trees.{read-tree, all-front, all-back}
+use Rattle.stable_tree.proofs.Hanging.{shared-again, times-cut, times-both, length-cut, length-both, heads-used}
+use Rattle.stable_tree.proofs.Placing.{spare-inside}
+use Rattle.stable_tree.proofs.Contents.{whole-sound, whole-framed, IsHere, found-here, IsNowhere, missing-here}
+
+-- what is told of a content that was looked for
+pub answer-of : (pages : List (List ℕ)) (store : Store) (free : List ℕ) (whole : IsWhole store free) (sorted : IsSorted pages (chains_in store)) (frame : ℕ) (told : Option ℕ)
+    → told ≡ found (order_to pages store.frames.items frame) (tree_in store) → IsAnswer pages frame store told
+answer-of pages store free whole sorted frame None e =
+    let is = missing-here pages store free whole sorted frame 0 (sym e) in
+    record { k = length is.earlier; cut = is.cut; absent = is.absent }
+answer-of pages store free whole sorted frame (Some at) e =
+    let is = found-here pages store free whole sorted frame at (sym e) in
+    record { k = length is.head.earlier; cut = is.cut; there = is.there; chain = is.chain; head = is.head }
+
+-- other nodes in the same memory
+pub record IsRenoded (old new : Store) (nodes : List Node) (root : ℕ) : Type 0 where
+  pub nodes_are : new.nodes.items ≡ nodes
+  pub root_is : new.root ≡ root
+  pub frames : new.frames.items ≡ old.frames.items
+  pub nexts : new.nexts.items ≡ old.nexts.items
+  pub sizes : new.sizes.items ≡ old.sizes.items
+  pub same_room : new.room ≡ old.room
+  pub room : HasRoom new
+
+-- a store whose nodes were written
+abbrev pub renoded_store : Store → List Node → ℕ → Store
+renoded_store store nodes root = record {
+  nodes = with_items store.nodes nodes;
+  frames = store.frames;
+  nexts = store.nexts;
+  sizes = store.sizes;
+  free = store.free;
+  root = root;
+  room = store.room;
+}
+
+pub renoded : (store : Store) (nodes : List Node) (root : ℕ) → length nodes ≡ length store.nodes.items → HasRoom store → IsRenoded store (renoded_store store nodes root) nodes root
+renoded store nodes root long room = record {
+  nodes_are = written store.nodes.len nodes store.nodes.items (long ∙ sym store.nodes.ok.0) (sym store.nodes.ok.0);
+  root_is = refl;
+  frames = refl;
+  nexts = refl;
+  sizes = refl;
+  same_room = refl;
+  room = record { nodes = room.nodes; frames = room.frames; nexts = room.nexts; sizes = room.sizes; free = room.free };
+}
+
+-- the same nodes
+module _ (old new : Store) (is : IsRenoded old new old.nodes.items old.root) where
+  same-tree : tree_in new ≡ tree_in old
+  same-tree = rw (is.nodes_are, is.root_is) refl
+
+  pub same-heads : heads_in new ≡ heads_in old
+  same-heads = ap in_order same-tree
+
+  pub same-chains : chains_in new ≡ chains_in old
+  same-chains = rw (is.nodes_are, is.root_is, is.frames, is.nexts, is.sizes) refl
+
+  pub same-whole : (free : List ℕ) → IsWhole old free → IsWhole new free
+  same-whole free whole = record {
+    holds = rw (is.nodes_are, is.root_is) whole.holds;
+    even = rw (is.nodes_are, is.root_is) whole.even;
+    hung = rw (is.nodes_are, is.root_is, is.frames, is.nexts, is.sizes) whole.hung;
+    few = rw (is.nodes_are, is.same_room) whole.few;
+    low = rw is.same_room whole.low;
+    room = is.room;
+  }
+
+  pub same-head : (at : ℕ) → IsHead old at → IsHead new at
+  same-head at head = record { earlier = head.earlier; later = head.later; is = same-heads ∙ head.is }
+
+-- a group alone
+pub hanging-alone : (nexts sizes : List ℕ) (at : ℕ) → slice_index_or sizes at 0 ≡ 1 → hanging nexts sizes at ≡ at ∷ []
+unfolding walk
+hanging-alone nexts sizes at e = rw e refl
+
+-- a head comes between two
+module _ (frames nexts sizes earlier later free : List ℕ) (new bound : ℕ) (alone : slice_index_or sizes new 0 ≡ 1) where
+  times-alone : (i : ℕ) → times i (used nexts sizes (earlier ++ new ∷ later)) ≡ times i (used nexts sizes (earlier ++ later)) + here i new
+  times-alone i =
+      let a = times-cut i nexts sizes earlier new later in
+      let b = times-both i nexts sizes earlier later in
+      let c = ap (times i) (hanging-alone nexts sizes new alone) in
+      let d = times-cons i new [] in
+      omega (arith, a, b, c, d)
+
+  length-alone : length (used nexts sizes (earlier ++ new ∷ later)) ≡ length (used nexts sizes (earlier ++ later)) + 1
+  length-alone = let a = length-cut nexts sizes earlier new later in let b = length-both nexts sizes earlier later in omega (arith, a, b, alone)
+
+  pub head-in : AreHung frames nexts sizes (earlier ++ later) (new ∷ free) bound → AreHung frames nexts sizes (earlier ++ new ∷ later) free bound
+  head-in hung =
+      let P : ℕ → Type 0 = λ at. 1 ≤ slice_index_or sizes at 0 in
+      record {
+        filled = All-append P earlier (new ∷ later) (all-front P earlier later hung.filled) (All-cons P new later (omega (arith, alone)) (all-back P earlier later hung.filled));
+        shared = shared-again (used nexts sizes (earlier ++ later)) (new ∷ free) (used nexts sizes (earlier ++ new ∷ later)) free bound hung.shared
+            (λ i. let a = times-alone i in let b = times-cons i new free in omega (arith, a, b))
+            (let a = length-alone in omega (arith, a));
+        framed = hung.framed;
+        linked = hung.linked;
+        sized = hung.sized;
+      }
+
+  pub head-out : AreHung frames nexts sizes (earlier ++ new ∷ later) free bound → AreHung frames nexts sizes (earlier ++ later) (new ∷ free) bound
+  head-out hung =
+      let P : ℕ → Type 0 = λ at. 1 ≤ slice_index_or sizes at 0 in
+      record {
+        filled = All-append P earlier later (all-front P earlier (new ∷ later) hung.filled) (All-tail P new later (all-back P earlier (new ∷ later) hung.filled));
+        shared = shared-again (used nexts sizes (earlier ++ new ∷ later)) free (used nexts sizes (earlier ++ later)) (new ∷ free) bound hung.shared
+            (λ i. let a = times-alone i in let b = times-cons i new free in omega (arith, a, b))
+            (let a = length-alone in omega (arith, a));
+        framed = hung.framed;
+        linked = hung.linked;
+        sized = hung.sized;
+      }
+
+-- an element between two lists
+pub insert-between : (g : ℕ → List ℕ) (earlier : List ℕ) (new : ℕ) (later : List ℕ) → map g (earlier ++ new ∷ later) ≡ insert (map g (earlier ++ later)) (length earlier) (g new)
+insert-between g earlier new later =
+    let none : length earlier - length earlier ≡ 0 = omega arith in
+    map-append g earlier (new ∷ later)
+    ∙ ap (λ (n : ℕ). map g earlier ++ insert (map g later) n (g new)) (sym none)
+    ∙ sym (insert-append_right (map g earlier) (map g later) (length earlier) (length earlier) (g new) (length-map earlier g) (omega arith))
+    ∙ ap (λ l. insert l (length earlier) (g new)) (sym (map-append g earlier later))
+
+pub remove-between : (g : ℕ → List ℕ) (earlier : List ℕ) (out : ℕ) (later : List ℕ) → map g (earlier ++ later) ≡ remove (map g (earlier ++ out ∷ later)) (length earlier)
+remove-between g earlier out later =
+    let none : length earlier - length earlier ≡ 0 = omega arith in
+    map-append g earlier later
+    ∙ ap (λ (n : ℕ). map g earlier ++ remove (map g (out ∷ later)) n) (sym none)
+    ∙ sym (remove-append_right (map g earlier) (map g (out ∷ later)) (length earlier) (length earlier) (length-map earlier g) (omega arith))
+    ∙ ap (λ l. remove l (length earlier)) (sym (map-append g earlier (out ∷ later)))
+
+-- the places of a tree's nodes stand once
+module _ (store : Store) (free : List ℕ) (whole : IsWhole store free) where
+  tree-times : (i : ℕ) (t : Tree) → Rattle.tree_shape.proofs.Times.times i t ≡ times i (in_order t)
+  unfolding Rattle.tree_shape.proofs.Times.times
+  tree-times i t = refl
+
+  heads-once : (i : ℕ) → times i (heads_in store) + times i free ≤ 1
+  heads-once i =
+      let a = heads-used i store.nexts.items store.sizes.items (heads_in store) whole.hung.filled in
+      let b = whole.hung.shared.once i in
+      omega (arith, a, b)
+
+  pub tree-once : IsOnce (tree_in store)
+  tree-once = times-once (tree_in store) (λ i. let a = tree-times i (tree_in store) in let b = heads-once i in omega (arith, a, b))
+
+  pub whole-taking : (pages : List (List ℕ)) → IsSorted pages (chains_in store) → IsTaking store.nodes.items store.frames.items pages store.root (tree_in store)
+  whole-taking pages sorted = record {
+    shrinks = record { sound = whole-sound store free whole; once = tree-once };
+    framed = whole-framed pages store free whole sorted;
+  }
+
+pub whole-growing : (store : Store) (place : ℕ) (free : List ℕ) → IsWhole store (place ∷ free) → (pages : List (List ℕ)) → IsSorted pages (chains_in store)
+    → IsGrowing store.nodes.items store.frames.items pages store.root place (tree_in store)
+whole-growing store place free whole pages sorted =
+    let inside = spare-inside store place free whole in
+    let few = whole.few in
+    let low = whole.low in
+    record {
+      sound = whole-sound store (place ∷ free) whole;
+      framed = whole-framed pages store (place ∷ free) whole sorted;
+      once = times-once (fork place (tree_in store) leaf) (λ i.
+          let a = times-fork i place (tree_in store) leaf in
+          let b = times-leaf i in
+          let c = tree-times store (place ∷ free) whole i (tree_in store) in
+          let d = heads-once store (place ∷ free) whole i in
+          let e = times-cons i place free in
+          omega (arith, a, b, c, d, e));
+      inside = inside;
+      some = λ same. omega (arith, same, inside, few, low);
+    }

@@ -1,0 +1,121 @@
+-- A place that a new group gets.
+use Rattle.std.proofs.Common.{◌≡◌, ◌≢◌, ℕ, zero, suc, ◌+◌, ◌<◌, ◌≤◌, List, [], ◌∷◌, ◌++◌, length, map, slice_index_or, slice_set, All, ⊎_elim, refl, sym, ap, subst, ◌∙◌, arith, length-append, vec_capacity}
+use Rattle.std.specs.List.{concat}
+use Rattle.std.proofs.lemmas.Bool.{cases_lt}
+use Rattle.std.proofs.lemmas.List.{get_or-set_same, length-set, get_or_append_left, append-nil}
+use Rattle.std.proofs.Math.Seq.{get_or-append_seam}
+use Rattle.tree_shape.specs.declared.Node.{Node}
+use Rattle.tree_shape.specs.Shape.{in_order, Tree, Holds, none, blank, IsEven}
+use Rattle.stable_tree.specs.declared.store.Store.{Store}
+use Rattle.stable_tree.specs.Places.{chain_at, used, times, AreShared, AreHung, HasRoom, IsWhole, IsStore, IsPlaced, tree_at, tree_in, heads_in, chains_in}
+use Rattle.stable_tree.proofs.Walks.{here, here-same, here-other, here-few, times-cons, times-append, Agree, agree-set}
+use Rattle.stable_tree.proofs.Trees.{read-tree, holds-same}
+use Rattle.stable_tree.proofs.Hanging.{AreSame, chains-agree, shared-again, length-chains}
+
+abbrev pub used_in : Store → List ℕ
+used_in store = used store.nexts.items store.sizes.items (heads_in store)
+
+-- what is known of a store where a place is made ready for a group
+pub record IsReady (old new : Store) (frame place : ℕ) : Type 0 where
+  pub root : new.root ≡ old.root
+  pub long : length old.nodes.items ≤ length new.nodes.items
+  pub nodes : (i : ℕ) → i < length old.nodes.items → slice_index_or new.nodes.items i blank ≡ slice_index_or old.nodes.items i blank
+  pub frames : Agree (used_in old) old.frames.items new.frames.items
+  pub nexts : Agree (used_in old) old.nexts.items new.nexts.items
+  pub sizes : Agree (used_in old) old.sizes.items new.sizes.items
+  pub shared : AreShared (used_in old) (place ∷ new.free.items) (length new.nodes.items)
+  pub all_frames : length new.frames.items ≡ length new.nodes.items
+  pub all_nexts : length new.nexts.items ≡ length new.nodes.items
+  pub all_sizes : length new.sizes.items ≡ length new.nodes.items
+  pub few : length new.nodes.items ≤ new.room
+  pub low : new.room < none
+  pub room : HasRoom new
+  pub framed : slice_index_or new.frames.items place 0 ≡ frame
+  pub alone : slice_index_or new.sizes.items place 0 ≡ 1
+  pub same_room : new.room ≡ old.room
+
+pub placed : (old new : Store) (frame place : ℕ) → IsStore old → IsReady old new frame place → IsPlaced old new frame place
+placed old new frame place whole ready =
+    let held : Holds new.nodes.items new.root (tree_in old) =
+    subst (λ (root : ℕ). Holds new.nodes.items root (tree_in old)) (sym ready.root) (holds-same old.nodes.items new.nodes.items old.root (tree_in old) ready.long ready.nodes whole.holds) in
+    let tree : tree_in new ≡ tree_in old = read-tree new.nodes.items new.root (tree_in old) held in
+    let heads : heads_in new ≡ heads_in old = ap in_order tree in
+    let same = chains-agree old.frames.items old.nexts.items old.sizes.items new.frames.items new.nexts.items new.sizes.items (heads_in old) whole.hung.filled ready.frames ready.nexts ready.sizes in
+    let hung : AreHung new.frames.items new.nexts.items new.sizes.items (heads_in old) (place ∷ new.free.items) (length new.nodes.items) = record {
+      filled = same.filled;
+      shared = subst (λ (held : List ℕ). AreShared held (place ∷ new.free.items) (length new.nodes.items)) (sym same.used) ready.shared;
+      framed = ready.all_frames;
+      linked = ready.all_nexts;
+      sized = ready.all_sizes;
+    } in
+    record {
+      whole = record {
+        holds = subst (λ (t : Tree). Holds new.nodes.items new.root t) (sym tree) held;
+        even = subst IsEven (sym tree) whole.even;
+        hung = subst (λ (heads : List ℕ). AreHung new.frames.items new.nexts.items new.sizes.items heads (place ∷ new.free.items) (length new.nodes.items)) (sym heads) hung;
+        few = ready.few;
+        low = ready.low;
+        room = ready.room;
+      };
+      heads = heads;
+      chains = ap (map (chain_at new.frames.items new.nexts.items new.sizes.items)) heads ∙ same.chains;
+      framed = ready.framed;
+      alone = ready.alone;
+      room = ready.same_room;
+    }
+
+-- a used or a free place is one
+pub place-inside : (held free : List ℕ) (bound i : ℕ) → AreShared held free bound → 1 ≤ times i held + times i free → i < bound
+place-inside held free bound i shared some =
+    ⊎_elim (λ (less : i < bound). less) (λ (far : bound ≤ i). let none = shared.inside i far in absurd (omega (arith, none, some))) (cases_lt i bound)
+
+-- the last of the free places
+module _ (held rest free : List ℕ) (place bound : ℕ) (shared : AreShared held free bound) (is : free ≡ rest ++ place ∷ []) where
+  last-times : (i : ℕ) → times i free ≡ times i rest + here i place
+  last-times i = let e = ap (times i) is in let f = times-append i rest (place ∷ []) in let g = times-cons i place [] in omega (arith, e, f, g)
+
+  pub last-inside : place < bound
+  last-inside = place-inside held free bound place shared (let e = last-times place in let f = here-same place in omega (arith, e, f))
+
+  pub last-away : times place held ≡ 0
+  last-away = let e = last-times place in let f = here-same place in let most = shared.once place in omega (arith, e, f, most)
+
+  pub last-shared : AreShared held (place ∷ rest) bound
+  last-shared = shared-again held free held (place ∷ rest) bound shared
+      (λ i. let e = last-times i in let f = times-cons i place rest in omega (arith, e, f))
+      (let e = ap length is in let f = length-append rest (place ∷ []) in omega (arith, e, f))
+
+-- where all places are used, one more
+module _ (held free : List ℕ) (bound : ℕ) (shared : AreShared held free bound) (is : free ≡ []) where
+  pub more-shared : (rest : List ℕ) → rest ≡ [] → AreShared held (bound ∷ rest) (bound + 1)
+  more-shared rest e =
+      let none : times bound held ≡ 0 = let all = shared.inside bound (omega arith) in omega (arith, all) in
+      rw e (record {
+        once = λ i. let f = times-cons i bound [] in once i f;
+        inside = λ i far. let f = times-cons i bound [] in let g = here-other i bound (λ same. omega (arith, same, far)) in let h = shared.inside i (omega (arith, far)) in omega (arith, f, g, h);
+        all = let all = shared.all in let long = ap length is in omega (arith, all, long);
+      })
+    where
+      once : (i : ℕ) → times i (bound ∷ []) ≡ here i bound + 0 → times i held + times i (bound ∷ []) ≤ 1
+      once i f =
+          ⊎_elim
+          (λ (less : i < bound). let g = here-other i bound (λ same. omega (arith, same, less)) in let most = shared.once i in omega (arith, f, g, most))
+          (λ (far : bound ≤ i). let none = shared.inside i far in let few = here-few i bound in omega (arith, f, none, few))
+          (cases_lt i bound)
+
+  pub more-agree : (old more : List ℕ) → length old ≡ bound → Agree held old (old ++ more)
+  more-agree old more long = λ i some. get_or_append_left old more 0 i (let less = place-inside held free bound i shared (omega (arith, some)) in omega (arith, less, long))
+
+-- where all places are used, there is memory for one more
+pub room-left : (store : Store) → IsStore store → length (concat (chains_in store)) < store.room → length store.free.items ≡ 0 → length store.nodes.items < store.room
+room-left store whole few none =
+    let all = whole.hung.shared.all in
+    let long = length-chains store.frames.items store.nexts.items store.sizes.items (heads_in store) in
+    omega (arith, all, none, few, long)
+
+-- a spare place is one of the store's
+pub spare-inside : (store : Store) (place : ℕ) (free : List ℕ) → IsWhole store (place ∷ free) → place < length store.nodes.items
+spare-inside store place free whole =
+    let all = times-cons place place free in
+    let one = here-same place in
+    place-inside (used_in store) (place ∷ free) (length store.nodes.items) place whole.hung.shared (omega (arith, all, one))

@@ -1,0 +1,69 @@
+-- What the chains are where a group was put in, by what came of its place in the tree.
+use Rattle.std.proofs.Common.{◌≡◌, ℕ, ◌+◌, List, [], ◌∷◌, ◌++◌, length, map, slice_index_or, slice_set, insert, None, Some, refl, sym, ap, subst, ◌∙◌, arith}
+use Rattle.tree_shape.specs.declared.Node.{Node}
+use Rattle.tree_shape.specs.Shape.{Tree, leaf, fork, in_order, Holds, IsEven, IsHung}
+use Rattle.tree_shape.specs.Changes.{found, entered}
+use Rattle.tree_shape.specs.Searches.{order_to}
+use Rattle.tree_shape.proofs.Changing.{entered-grown}
+use Rattle.stable_tree.specs.declared.store.Store.{Store}
+use Rattle.stable_tree.specs.Groups.{IsSorted}
+use Rattle.stable_tree.specs.Edits.{IsPut, added, lengthened}
+use Rattle.stable_tree.specs.Places.{frames_of, chain_at, AreHung, IsWhole, IsHead, IsLengthened, tree_in, heads_in, chains_in}
+use Rattle.stable_tree.proofs.Trees.{read-tree}
+use Rattle.stable_tree.proofs.Contents.{IsHere, found-here, IsNowhere, missing-here}
+use Rattle.stable_tree.proofs.Entering.{IsRenoded, same-chains, same-heads, hanging-alone, head-in, insert-between}
+
+-- the place came into the tree
+module _ (pages : List (List ℕ)) (frame : ℕ) (old new : Store) (place root : ℕ) (nodes : List Node) (whole : IsWhole old (place ∷ old.free.items)) (sorted : IsSorted pages (chains_in old))
+    (framed : slice_index_or old.frames.items place 0 ≡ frame) (alone : slice_index_or old.sizes.items place 0 ≡ 1) (is : IsRenoded old new nodes root)
+    (told : IsNowhere pages old (place ∷ old.free.items) whole sorted frame place)
+    (hung : IsHung old.nodes.items nodes root (entered (order_to pages old.frames.items frame) place (tree_in old)) (fork place (tree_in old) leaf)) where
+  abbrev grown : Tree
+  grown = entered (order_to pages old.frames.items frame) place (tree_in old)
+
+  tree : tree_in new ≡ grown
+  tree = rw (is.nodes_are, is.root_is) (read-tree nodes root grown hung.holds)
+
+  heads : heads_in new ≡ told.earlier ++ place ∷ told.later
+  heads = ap in_order tree ∙ told.more
+
+  pub put-whole : IsWhole new old.free.items
+  put-whole =
+      let size = hung.kept.size in
+      let few = whole.few in
+      let long = ap length is.nodes_are in
+      let same = is.same_room in
+      record {
+        holds = subst (λ (t : Tree). Holds new.nodes.items new.root t) (sym tree) (rw (is.nodes_are, is.root_is) hung.holds);
+        even = subst IsEven (sym tree) (entered-grown (order_to pages old.frames.items frame) place (tree_in old) whole.even).even;
+        hung = rw (heads, is.nodes_are, is.frames, is.nexts, is.sizes, size)
+            (head-in old.frames.items old.nexts.items old.sizes.items told.earlier told.later old.free.items place (length old.nodes.items) alone
+            (subst (λ (heads : List ℕ). AreHung old.frames.items old.nexts.items old.sizes.items heads (place ∷ old.free.items) (length old.nodes.items)) told.is whole.hung));
+        few = omega (arith, size, few, long, same);
+        low = let low = whole.low in omega (arith, low, same);
+        room = is.room;
+      }
+
+  pub put-added : IsPut pages frame (chains_in old) (chains_in new) 0
+  put-added =
+      added (length told.earlier) told.cut told.absent
+      (rw (heads, is.frames, is.nexts, is.sizes)
+          (insert-between (chain_at old.frames.items old.nexts.items old.sizes.items) told.earlier place told.later
+          ∙ ap (λ chain. insert (map (chain_at old.frames.items old.nexts.items old.sizes.items) (told.earlier ++ told.later)) (length told.earlier) chain)
+              (ap (frames_of old.frames.items) (hanging-alone old.nexts.items old.sizes.items place alone) ∙ ap (λ (f : ℕ). f ∷ []) framed)
+          ∙ ap (λ heads. insert (map (chain_at old.frames.items old.nexts.items old.sizes.items) heads) (length told.earlier) (frame ∷ [])) (sym told.is)))
+      refl
+
+-- the place came behind others
+pub put-lengthened : (pages : List (List ℕ)) (frame : ℕ) (old mid new : Store) (place at groups : ℕ) (whole : IsWhole old (place ∷ old.free.items)) (sorted : IsSorted pages (chains_in old))
+    → slice_index_or old.frames.items place 0 ≡ frame → IsRenoded old mid old.nodes.items old.root
+    → found (order_to pages old.frames.items frame) (tree_in old) ≡ Some at
+    → ((earlier later : List ℕ) → heads_in mid ≡ earlier ++ at ∷ later → IsLengthened mid new at place (length earlier) groups)
+    → IsPut pages frame (chains_in old) (chains_in new) groups
+put-lengthened pages frame old mid new place at groups whole sorted framed is has more =
+    let told = found-here pages old (place ∷ old.free.items) whole sorted frame at has in
+    let same = same-chains old mid is in
+    let longer = more told.head.earlier told.head.later (same-heads old mid is ∙ told.head.is) in
+    lengthened (length told.head.earlier) told.cut told.there
+    (longer.chains ∙ (rw (same, is.frames, framed) refl))
+    (longer.counted ∙ ap (λ chains. length (slice_index_or chains (length told.head.earlier) [])) same)

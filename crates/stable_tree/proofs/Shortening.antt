@@ -1,0 +1,177 @@
+-- One group less among those that hang at a place.
+use Rattle.std.proofs.Common.{◌≡◌, ℕ, zero, suc, ◌+◌, ◌-◌, ◌<◌, ◌≤◌, List, [], ◌∷◌, ◌++◌, length, map, slice_index_or, slice_set, All, refl, sym, ap, subst, ◌∙◌, arith, length-append}
+use Rattle.std.specs.List.{remove}
+use Rattle.std.specs.Vec.{with_item}
+use Rattle.std.proofs.lemmas.List.{get_or-set_same, length-set}
+use Rattle.stable_tree.specs.declared.store.Store.{Store}
+use Rattle.stable_tree.specs.Places.{walk, hanging, frames_of, chain_at, used, times, AreShared, AreHung, IsWhole, IsHead, IsWithout, heads_in, chains_in}
+use Rattle.stable_tree.proofs.Walks.{here, times-cons, times-first, apart-set, walk-there, walk-next, length-walk, IsShorter, walk-shortened, walk-cut, Once}
+use Rattle.stable_tree.proofs.Hanging.{IsChanged, Apart, one-changed, shared-again, times-cut, length-cut}
+use Rattle.stable_tree.proofs.Lengthening.{cut-filled, cut-shared, head-some, head-inside, hanging-once, hanging-inside, changed-times, changed-length, changed-filled, changed-chains}
+use Rattle.stable_tree.proofs.Heads.{head-chain}
+
+module _ (frames nexts sizes heads free earlier : List ℕ) (at : ℕ) (later : List ℕ) (bound gone j : ℕ) (given newer : List ℕ) (hung : AreHung frames nexts sizes heads free bound) (is : heads ≡ earlier ++ at ∷ later)
+    (more : 2 ≤ slice_index_or sizes at 0) (all_given : length given ≡ bound) (all_newer : length newer ≡ bound)
+    (f : Apart (hanging nexts sizes at) frames given) (n : Apart (hanging nexts sizes at) nexts newer)
+    (short : IsShorter (slice_index_or sizes at 0 - 1) j nexts frames at newer given gone) where
+  abbrev groups : ℕ
+  groups = slice_index_or sizes at 0
+
+  abbrev sized : List ℕ
+  sized = slice_set sizes at (groups - 1)
+
+  size : slice_index_or sized at 0 ≡ groups - 1
+  size = let inside = head-inside frames nexts sizes heads free earlier at later bound hung is in let long = hung.sized in get_or-set_same sizes at (groups - 1) 0 (omega (arith, inside, long))
+
+  one-more : suc (groups - 1) ≡ groups
+  one-more = omega (arith, more)
+
+  changed : IsChanged frames nexts sizes given newer sized earlier at later
+  changed = one-changed frames nexts sizes given newer sized earlier at later
+      (cut-filled frames nexts sizes heads free earlier at later bound hung is)
+      (λ i. let most = (cut-shared frames nexts sizes heads free earlier at later bound hung is).once i in omega (arith, most))
+      f n (apart-set (hanging nexts sizes at) sizes at (groups - 1) (times-first groups nexts at (omega (arith, more))))
+
+  shorter-chain : chain_at given newer sized at ≡ remove (chain_at frames nexts sizes at) j
+  shorter-chain = rw size (short.chain ∙ ap (λ (m : ℕ). remove (frames_of frames (walk m nexts at)) j) one-more)
+
+  shorter-places : (i : ℕ) → times i (hanging newer sized at) + here i gone ≡ times i (hanging nexts sizes at)
+  shorter-places i = rw size (short.places i ∙ ap (λ (m : ℕ). times i (walk m nexts at)) one-more)
+
+  pub less-chains : map (chain_at given newer sized) (earlier ++ at ∷ later) ≡ slice_set (map (chain_at frames nexts sizes) (earlier ++ at ∷ later)) (length earlier) (remove (chain_at frames nexts sizes at) j)
+  less-chains =
+      changed-chains frames nexts sizes given newer sized earlier at later changed
+      ∙ ap (λ chain. slice_set (map (chain_at frames nexts sizes) (earlier ++ at ∷ later)) (length earlier) chain) shorter-chain
+
+  pub less-hung : AreHung given newer sized heads (gone ∷ free) bound
+  less-hung = rw is (record {
+    filled = changed-filled frames nexts sizes given newer sized earlier at later changed (omega (arith, size, more));
+    shared = shared-again (used nexts sizes (earlier ++ at ∷ later)) free (used newer sized (earlier ++ at ∷ later)) (gone ∷ free) bound
+        (cut-shared frames nexts sizes heads free earlier at later bound hung is)
+        (λ i. let a = changed-times frames nexts sizes given newer sized earlier at later changed i in let b = times-cut i nexts sizes earlier at later in
+        let c = shorter-places i in let d = times-cons i gone free in omega (arith, a, b, c, d))
+        (let a = changed-length frames nexts sizes given newer sized earlier at later changed in let b = length-cut nexts sizes earlier at later in omega (arith, a, b, size, more));
+    framed = all_given;
+    linked = all_newer;
+    sized = let e = length-set sizes at (groups - 1) in let long = hung.sized in omega (arith, e, long);
+  })
+
+-- the store without the last group
+abbrev pub cut_store : Store → ℕ → Store
+cut_store store at = record {
+  nodes = store.nodes;
+  frames = store.frames;
+  nexts = store.nexts;
+  sizes = with_item store.sizes at (slice_index_or store.sizes.items at 0 - 1);
+  free = store.free;
+  root = store.root;
+  room = store.room;
+}
+
+module _ (store : Store) (at gone : ℕ) (whole : IsWhole store store.free.items) (head : IsHead store at) (more : 2 ≤ slice_index_or store.sizes.items at 0)
+    (last : gone ≡ slice_index_or (hanging store.nexts.items store.sizes.items at) (slice_index_or store.sizes.items at 0 - 1) 0) where
+  abbrev all : ℕ
+  all = slice_index_or store.sizes.items at 0
+
+  short : IsShorter (all - 1) (all - 1) store.nexts.items store.frames.items at store.nexts.items store.frames.items gone
+  short =
+      let e : suc (all - 1) ≡ all = omega (arith, more) in
+      subst (λ (p : ℕ). IsShorter (all - 1) (all - 1) store.nexts.items store.frames.items at store.nexts.items store.frames.items p)
+      (ap (λ (m : ℕ). slice_index_or (walk m store.nexts.items at) (all - 1) 0) e ∙ sym last)
+      (walk-cut (all - 1) store.nexts.items store.frames.items at)
+
+  pub cut-whole : IsWhole (cut_store store at) (gone ∷ store.free.items)
+  cut-whole = record {
+    holds = whole.holds;
+    even = whole.even;
+    hung = less-hung store.frames.items store.nexts.items store.sizes.items (heads_in store) store.free.items head.earlier at head.later (length store.nodes.items) gone (all - 1) store.frames.items store.nexts.items
+        whole.hung head.is more whole.hung.framed whole.hung.linked (λ i none. refl) (λ i none. refl) short;
+    few = whole.few;
+    low = whole.low;
+    room = record { nodes = whole.room.nodes; frames = whole.room.frames; nexts = whole.room.nexts; sizes = whole.room.sizes; free = whole.room.free };
+  }
+
+  pub cut-chains : IsWithout store (cut_store store at) at (all - 1)
+  cut-chains earlier later is =
+      let chain = head-chain store earlier at later is in
+      rw chain (rw is (less-chains store.frames.items store.nexts.items store.sizes.items (heads_in store) store.free.items earlier at later (length store.nodes.items) gone (all - 1) store.frames.items store.nexts.items
+          whole.hung is more whole.hung.framed whole.hung.linked (λ i none. refl) (λ i none. refl) short))
+
+-- the store where the next group took a place
+abbrev pub pulled_store : Store → ℕ → ℕ → Store
+pulled_store store at place = record {
+  nodes = store.nodes;
+  frames = with_item store.frames place (slice_index_or store.frames.items (slice_index_or store.nexts.items place 0) 0);
+  nexts = with_item store.nexts place (slice_index_or store.nexts.items (slice_index_or store.nexts.items place 0) 0);
+  sizes = with_item store.sizes at (slice_index_or store.sizes.items at 0 - 1);
+  free = store.free;
+  root = store.root;
+  room = store.room;
+}
+
+module _ (store : Store) (at place j : ℕ) (whole : IsWhole store store.free.items) (head : IsHead store at) (more : j + 1 < slice_index_or store.sizes.items at 0)
+    (stands : place ≡ slice_index_or (hanging store.nexts.items store.sizes.items at) j 0) where
+  abbrev size_all : ℕ
+  size_all = slice_index_or store.sizes.items at 0
+
+  abbrev bound_all : ℕ
+  bound_all = length store.nodes.items
+
+  place-stands : 1 ≤ times place (hanging store.nexts.items store.sizes.items at)
+  place-stands = rw stands (walk-there size_all j store.nexts.items at (omega (arith, more)))
+
+  pub pulled-inside : place < bound_all
+  pulled-inside = hanging-inside store.frames.items store.nexts.items store.sizes.items (heads_in store) store.free.items head.earlier at head.later bound_all whole.hung head.is place place-stands
+
+  pub next-inside : slice_index_or store.nexts.items place 0 < bound_all
+  next-inside =
+      let e = walk-next size_all j store.nexts.items at (omega (arith, more)) in
+      let there = walk-there size_all (suc j) store.nexts.items at (omega (arith, more)) in
+      let f : slice_index_or (walk size_all store.nexts.items at) (suc j) 0 ≡ slice_index_or store.nexts.items place 0 = e ∙ ap (λ (p : ℕ). slice_index_or store.nexts.items p 0) (sym stands) in
+      hanging-inside store.frames.items store.nexts.items store.sizes.items (heads_in store) store.free.items head.earlier at head.later bound_all whole.hung head.is (slice_index_or store.nexts.items place 0)
+      (subst (λ (p : ℕ). 1 ≤ times p (hanging store.nexts.items store.sizes.items at)) f there)
+
+  pulled-short : IsShorter (size_all - 1) j store.nexts.items store.frames.items at (slice_set store.nexts.items place (slice_index_or store.nexts.items (slice_index_or store.nexts.items place 0) 0))
+      (slice_set store.frames.items place (slice_index_or store.frames.items (slice_index_or store.nexts.items place 0) 0)) (slice_index_or store.nexts.items place 0)
+  pulled-short =
+      let e : suc (size_all - 2) ≡ size_all - 1 = omega (arith, more) in
+      let f : size_all ≡ suc (suc (size_all - 2)) = omega (arith, more) in
+      let linked = whole.hung.linked in
+      let framed = whole.hung.framed in
+      subst (λ (m : ℕ). IsShorter m j store.nexts.items store.frames.items at (slice_set store.nexts.items place (slice_index_or store.nexts.items (slice_index_or store.nexts.items place 0) 0))
+          (slice_set store.frames.items place (slice_index_or store.frames.items (slice_index_or store.nexts.items place 0) 0)) (slice_index_or store.nexts.items place 0)) e
+      (walk-shortened (size_all - 2) j store.nexts.items store.frames.items at place (omega (arith, more))
+          (stands ∙ ap (λ (m : ℕ). slice_index_or (walk m store.nexts.items at) j 0) f)
+          (subst (λ (m : ℕ). Once (walk m store.nexts.items at)) f (hanging-once store.frames.items store.nexts.items store.sizes.items (heads_in store) store.free.items head.earlier at head.later bound_all whole.hung head.is))
+          (omega (arith, pulled-inside, linked)) (omega (arith, pulled-inside, framed)))
+
+  pulled-frames : length (slice_set store.frames.items place (slice_index_or store.frames.items (slice_index_or store.nexts.items place 0) 0)) ≡ bound_all
+  pulled-frames = length-set store.frames.items place (slice_index_or store.frames.items (slice_index_or store.nexts.items place 0) 0) ∙ whole.hung.framed
+
+  pulled-nexts : length (slice_set store.nexts.items place (slice_index_or store.nexts.items (slice_index_or store.nexts.items place 0) 0)) ≡ bound_all
+  pulled-nexts = length-set store.nexts.items place (slice_index_or store.nexts.items (slice_index_or store.nexts.items place 0) 0) ∙ whole.hung.linked
+
+  pub pulled-whole : IsWhole (pulled_store store at place) (slice_index_or store.nexts.items place 0 ∷ store.free.items)
+  pulled-whole = record {
+    holds = whole.holds;
+    even = whole.even;
+    hung = less-hung store.frames.items store.nexts.items store.sizes.items (heads_in store) store.free.items head.earlier at head.later bound_all (slice_index_or store.nexts.items place 0) j
+        (slice_set store.frames.items place (slice_index_or store.frames.items (slice_index_or store.nexts.items place 0) 0)) (slice_set store.nexts.items place (slice_index_or store.nexts.items (slice_index_or store.nexts.items place 0) 0))
+        whole.hung head.is (omega (arith, more)) pulled-frames pulled-nexts
+        (apart-set (hanging store.nexts.items store.sizes.items at) store.frames.items place (slice_index_or store.frames.items (slice_index_or store.nexts.items place 0) 0) place-stands)
+        (apart-set (hanging store.nexts.items store.sizes.items at) store.nexts.items place (slice_index_or store.nexts.items (slice_index_or store.nexts.items place 0) 0) place-stands)
+        pulled-short;
+    few = whole.few;
+    low = whole.low;
+    room = record { nodes = whole.room.nodes; frames = whole.room.frames; nexts = whole.room.nexts; sizes = whole.room.sizes; free = whole.room.free };
+  }
+
+  pub pulled-chains : IsWithout store (pulled_store store at place) at j
+  pulled-chains earlier later is =
+      let chain = head-chain store earlier at later is in
+      rw chain (rw is (less-chains store.frames.items store.nexts.items store.sizes.items (heads_in store) store.free.items earlier at later bound_all (slice_index_or store.nexts.items place 0) j
+          (slice_set store.frames.items place (slice_index_or store.frames.items (slice_index_or store.nexts.items place 0) 0)) (slice_set store.nexts.items place (slice_index_or store.nexts.items (slice_index_or store.nexts.items place 0) 0))
+          whole.hung is (omega (arith, more)) pulled-frames pulled-nexts
+          (apart-set (hanging store.nexts.items store.sizes.items at) store.frames.items place (slice_index_or store.frames.items (slice_index_or store.nexts.items place 0) 0) place-stands)
+          (apart-set (hanging store.nexts.items store.sizes.items at) store.nexts.items place (slice_index_or store.nexts.items (slice_index_or store.nexts.items place 0) 0) place-stands)
+          pulled-short))

@@ -1,0 +1,136 @@
+-- What the chains are where a group was taken out, by what came of its place in the tree.
+use Rattle.std.proofs.Common.{◌≡◌, ◌≢◌, ℕ, zero, suc, ◌+◌, ◌-◌, ◌<◌, ◌≤◌, ◌==◌, ◌&&◌, Bool, true, false, List, [], ◌∷◌, ◌++◌, length, map, slice_index_or, slice_set, filter, All, None, Some, ⊎_elim, refl, sym, ap, subst, ◌∙◌, arith}
+use Rattle.std.specs.List.{concat, remove}
+use Rattle.std.proofs.lemmas.Bool.{cases_lt}
+use Rattle.std.proofs.lemmas.Bool.Decides.{nat_tests}
+use Rattle.std.proofs.lemmas.List.{get_or-map}
+use Rattle.std.proofs.lemmas.List.Elements.{All-nil}
+use Rattle.frame_arena.specs.Pages.{page_at}
+use Rattle.tree_shape.specs.declared.Node.{Node}
+use Rattle.tree_shape.specs.Shape.{Tree, in_order, Holds, IsEven, IsHung}
+use Rattle.tree_shape.specs.Changes.{found, taken}
+use Rattle.tree_shape.specs.Searches.{order_to}
+use Rattle.tree_shape.specs.Removals.{is_alone}
+use Rattle.tree_shape.proofs.Changing.{taken-shrunk}
+use Rattle.stable_tree.specs.declared.store.Store.{Store}
+use Rattle.stable_tree.specs.Groups.{IsSorted, has}
+use Rattle.stable_tree.specs.Edits.{IsTakenOut, nowhere, alone, shortened, IsShortened, missing, shorter}
+use Rattle.stable_tree.specs.Places.{walk, hanging, frames_of, chain_at, AreHung, IsWhole, IsHead, IsWithout, IsStanding, tree_in, heads_in, chains_in}
+use Rattle.stable_tree.proofs.Sorting.{filter-there, filter-not_there, both}
+use Rattle.stable_tree.proofs.Walks.{length-walk}
+use Rattle.stable_tree.proofs.Trees.{read-tree}
+use Rattle.stable_tree.proofs.Heads.{chain-length}
+use Rattle.stable_tree.proofs.Contents.{IsHere, found-here, missing-here}
+use Rattle.stable_tree.proofs.Entering.{IsRenoded, same-chains, same-heads, hanging-alone, head-out, remove-between}
+
+alone-tells : (frames sizes : List ℕ) (frame at : ℕ) → is_alone frames sizes frame at ≡ true → (slice_index_or sizes at 0 ≡ 1) × (slice_index_or frames at 0 ≡ frame)
+alone-tells frames sizes frame at e =
+    let tests = both (slice_index_or sizes at 0 == 1) (slice_index_or frames at 0 == frame) e in
+    let one = tests.0 in
+    let two = tests.1 in
+    (grind (arith, nat_tests, one), grind (arith, nat_tests, two))
+
+-- a group that isn't alone has another beside it
+pub two-groups : (frames nexts sizes : List ℕ) (at frame place behind : ℕ) → is_alone frames sizes frame at ≡ false → 1 ≤ slice_index_or sizes at 0
+    → IsStanding (hanging nexts sizes at) frames frame place behind → 2 ≤ slice_index_or sizes at 0
+unfolding walk
+two-groups frames nexts sizes at frame place behind not_alone some standing =
+    ⊎_elim
+    (λ (more : 1 < slice_index_or sizes at 0). more)
+    (λ (few : slice_index_or sizes at 0 ≤ 1).
+    let one : slice_index_or sizes at 0 ≡ 1 = omega (arith, some, few) in
+    let long : length (hanging nexts sizes at) ≡ 1 = length-walk (slice_index_or sizes at 0) nexts at ∙ one in
+    let inside = standing.inside in
+    let first : length (hanging nexts sizes at) - 1 - behind ≡ 0 = omega (arith, long) in
+    let here : place ≡ at = standing.place_is ∙ ap (λ (n : ℕ). slice_index_or (hanging nexts sizes at) n 0) first ∙ ap (λ (places : List ℕ). slice_index_or places 0 0) (hanging-alone nexts sizes at one) in
+    let same : slice_index_or frames at 0 ≡ frame = ap (λ (n : ℕ). slice_index_or frames n 0) (sym here) ∙ standing.frame_is in
+    let a : (slice_index_or sizes at 0 == 1) ≡ true = grind (arith, nat_tests, one) in
+    let b : (slice_index_or frames at 0 == frame) ≡ true = grind (arith, nat_tests, same) in
+    let c : is_alone frames sizes frame at ≡ true = rw (a, b) refl in
+    absurd (differ (sym c ∙ not_alone)))
+    (cases_lt 1 (slice_index_or sizes at 0))
+  where
+    differ : true ≡ false → ⊥
+    differ e = cc
+
+-- the frame at a place of a chain
+pub standing-frame : (frames nexts sizes : List ℕ) (at frame place behind : ℕ) → IsStanding (hanging nexts sizes at) frames frame place behind
+    → slice_index_or (chain_at frames nexts sizes at) (slice_index_or sizes at 0 - 1 - behind) 0 ≡ frame
+standing-frame frames nexts sizes at frame place behind standing =
+    let long = length-walk (slice_index_or sizes at 0) nexts at in
+    let inside = standing.inside in
+    let e : length (hanging nexts sizes at) - 1 - behind ≡ slice_index_or sizes at 0 - 1 - behind = omega (arith, long) in
+    get_or-map (λ (place : ℕ). slice_index_or frames place 0) (hanging nexts sizes at) (slice_index_or sizes at 0 - 1 - behind) 0 0 (omega (arith, inside, long))
+    ∙ ap (λ (p : ℕ). slice_index_or frames p 0) (ap (λ (n : ℕ). slice_index_or (hanging nexts sizes at) n 0) (sym e) ∙ sym standing.place_is)
+    ∙ standing.frame_is
+
+-- no such content
+pub take-nowhere : (pages : List (List ℕ)) (frame : ℕ) (old new : Store) (whole : IsWhole old old.free.items) (sorted : IsSorted pages (chains_in old)) → IsRenoded old new old.nodes.items old.root
+    → found (order_to pages old.frames.items frame) (tree_in old) ≡ None → IsTakenOut pages frame (chains_in old) (chains_in new) 0
+take-nowhere pages frame old new whole sorted is lacks =
+    let told = missing-here pages old old.free.items whole sorted frame 0 lacks in
+    let none = filter-not_there pages (page_at pages frame) (chains_in old) (length told.earlier) sorted told.cut told.absent in
+    nowhere (rw none (All-nil (λ g. g ≢ frame))) (same-chains old new is) refl
+
+-- one of several groups, or none of them
+pub take-stays : (pages : List (List ℕ)) (frame : ℕ) (old mid new : Store) (at before : ℕ) (whole : IsWhole old old.free.items) (sorted : IsSorted pages (chains_in old)) → IsRenoded old mid old.nodes.items old.root
+    → found (order_to pages old.frames.items frame) (tree_in old) ≡ Some at → IsShortened mid new at frame before → IsTakenOut pages frame (chains_in old) (chains_in new) before
+take-stays pages frame old mid new at before whole sorted is has (missing others same none) =
+    let told = found-here pages old old.free.items whole sorted frame at has in
+    let all = filter-there pages (page_at pages frame) (chains_in old) (length told.head.earlier) sorted told.cut told.there ∙ told.chain in
+    nowhere (rw all (rw (is.frames, is.nexts, is.sizes) at others)) (same ∙ same-chains old mid is) none
+take-stays pages frame old mid new at before whole sorted is has (shorter j inside there two without counted) =
+    let told = found-here pages old old.free.items whole sorted frame at has in
+    let same = same-chains old mid is in
+    let size : length (slice_index_or (chains_in old) (length told.head.earlier) []) ≡ slice_index_or old.sizes.items at 0 = ap length told.chain ∙ chain-length old.frames.items old.nexts.items old.sizes.items at in
+    let sizes = ap (λ (xs : List ℕ). slice_index_or xs at 0) is.sizes in
+    shortened (length told.head.earlier) j told.inside
+    (omega (arith, inside, size, sizes))
+    (ap (λ chain. slice_index_or chain j 0) told.chain ∙ (rw (is.frames, is.nexts, is.sizes) at there))
+    (omega (arith, two, size, sizes))
+    (without told.head.earlier told.head.later (same-heads old mid is ∙ told.head.is) ∙ ap (λ chains. slice_set chains (length told.head.earlier) (remove (slice_index_or chains (length told.head.earlier) []) j)) same)
+    (omega (arith, counted, size, sizes))
+
+-- a group alone
+module _ (pages : List (List ℕ)) (frame : ℕ) (old new : Store) (place root : ℕ) (nodes : List Node) (whole : IsWhole old old.free.items) (sorted : IsSorted pages (chains_in old))
+    (is : IsRenoded old new nodes root) (told : IsHere pages old old.free.items whole sorted frame place)
+    (single : is_alone old.frames.items old.sizes.items frame place ≡ true)
+    (hung : IsHung old.nodes.items nodes root (taken (order_to pages old.frames.items frame) (tree_in old)) (tree_in old)) where
+  abbrev left : Tree
+  left = taken (order_to pages old.frames.items frame) (tree_in old)
+
+  tree : tree_in new ≡ left
+  tree = rw (is.nodes_are, is.root_is) (read-tree nodes root left hung.holds)
+
+  heads : heads_in new ≡ told.head.earlier ++ told.head.later
+  heads = ap in_order tree ∙ told.less
+
+  one : slice_index_or old.sizes.items place 0 ≡ 1
+  one = (alone-tells old.frames.items old.sizes.items frame place single).0
+
+  pub out-whole : IsWhole new (place ∷ old.free.items)
+  out-whole =
+      let size = hung.kept.size in
+      let few = whole.few in
+      let long = ap length is.nodes_are in
+      let same = is.same_room in
+      record {
+        holds = subst (λ (t : Tree). Holds new.nodes.items new.root t) (sym tree) (rw (is.nodes_are, is.root_is) hung.holds);
+        even = subst IsEven (sym tree) (taken-shrunk (order_to pages old.frames.items frame) (tree_in old) whole.even).even;
+        hung = rw (heads, is.nodes_are, is.frames, is.nexts, is.sizes, size)
+            (head-out old.frames.items old.nexts.items old.sizes.items told.head.earlier told.head.later old.free.items place (length old.nodes.items) one
+            (subst (λ (heads : List ℕ). AreHung old.frames.items old.nexts.items old.sizes.items heads old.free.items (length old.nodes.items)) told.head.is whole.hung));
+        few = omega (arith, size, few, long, same);
+        low = let low = whole.low in omega (arith, low, same);
+        room = is.room;
+      }
+
+  pub out-chains : (last : List (List ℕ)) → last ≡ chains_in new → IsTakenOut pages frame (chains_in old) last 1
+  out-chains last e =
+      let chain : slice_index_or (chains_in old) (length told.head.earlier) [] ≡ frame ∷ [] =
+      told.chain ∙ ap (frames_of old.frames.items) (hanging-alone old.nexts.items old.sizes.items place one) ∙ ap (λ (f : ℕ). f ∷ []) (alone-tells old.frames.items old.sizes.items frame place single).1 in
+      alone (length told.head.earlier) told.inside (ap length chain) (ap (λ chain. slice_index_or chain 0 0) chain)
+      (e ∙ (rw (heads, is.frames, is.nexts, is.sizes)
+          (remove-between (chain_at old.frames.items old.nexts.items old.sizes.items) told.head.earlier place told.head.later
+          ∙ ap (λ heads. remove (map (chain_at old.frames.items old.nexts.items old.sizes.items) heads) (length told.head.earlier)) (sym told.head.is))))
+      refl

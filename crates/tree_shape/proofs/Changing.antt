@@ -1,0 +1,225 @@
+-- What is put in or taken out changes a tree's levels by one at most, and keeps the places of the others in order.
+use Rattle.std.proofs.Common.{◌≡◌, ℕ, suc, ◌+◌, ◌<◌, ◌≤◌, nat_lt, Bool, true, false, if◌then◌else◌, List, [], ◌∷◌, ◌++◌, max, refl, sym, ap, ◌∙◌, arith, append_assoc}
+use Rattle.std.specs.declared.cmp.Ordering.{Ordering}
+use Rattle.std.specs.declared.cmp.Ordering.TheVariants.{Less, Equal, Greater}
+use Rattle.std.proofs.lemmas.List.{append-nil}
+use Rattle.tree_shape.specs.Shape.{Tree, leaf, fork, levels, in_order, IsEven}
+use Rattle.tree_shape.specs.Turns.{left_up, right_up, settled}
+use Rattle.tree_shape.specs.Changes.{by_order, entered, least, without_least, merged, taken}
+use Rattle.tree_shape.proofs.Turning.{levels-fork, levels-none, even-fork, even-sides, in_order-settled, settled-level}
+
+-- sides that are even already
+pub settled-flat : (at : ℕ) (l r : Tree) → levels l ≤ levels r + 1 → levels r ≤ levels l + 1 → settled at l r ≡ fork at l r
+unfolding settled
+settled-flat at l r left right = by_test (nat_lt (levels r + 1) (levels l)) (nat_lt (levels l + 1) (levels r)) refl refl
+  where
+    by_test : (t u : Bool) → nat_lt (levels r + 1) (levels l) ≡ t → nat_lt (levels l + 1) (levels r) ≡ u → (if t then left_up at l r else (if u then right_up at l r else fork at l r)) ≡ fork at l r
+    by_test true u test other = let more : levels r + 1 < levels l = grind (arith, test) in absurd (omega (arith, more, left))
+    by_test false true test other = let more : levels l + 1 < levels r = grind (arith, other) in absurd (omega (arith, more, right))
+    by_test false false test other = refl
+
+pub even-one : (at : ℕ) → IsEven (fork at leaf leaf)
+unfolding IsEven
+even-one at = let none = levels-none in (omega (arith, none), omega (arith, none), tt, tt)
+
+pub even-none : IsEven leaf
+unfolding IsEven
+even-none = tt
+
+-- levels of an even tree that grew out of one, or shrank
+pub record IsGrown (old new : Tree) : Type 0 where
+  pub even : IsEven new
+  pub least : levels old ≤ levels new
+  pub most : levels new ≤ levels old + 1
+
+pub record IsShrunk (old new : Tree) : Type 0 where
+  pub even : IsEven new
+  pub least : levels old ≤ levels new + 1
+  pub most : levels new ≤ levels old
+
+-- numbers alone: what a node with other sides has
+grown-levels : (l r m n k t : ℕ) → l ≤ r + 1 → r ≤ l + 1 → l ≤ m → m ≤ l + 1 → k ≡ suc (max l r) → max m r ≤ n → n ≤ max m r + 1 → (m ≤ r + 1 → r ≤ m + 1 → n ≡ suc (max m r)) → (k ≤ n) × (n ≤ k + 1)
+grown-levels l r m n k t a b c d e f g flat = by_test (nat_lt (r + 1) m) refl
+  where
+    by_test : (t : Bool) → nat_lt (r + 1) m ≡ t → (k ≤ n) × (n ≤ k + 1)
+    by_test true test = let more : r + 1 < m = grind (arith, test) in (omega arith, omega arith)
+    by_test false test =
+        let few : m ≤ r + 1 = grind (arith, test) in
+        let same : n ≡ suc (max m r) = flat few (omega (arith, b, c)) in
+        (omega (arith, same), omega (arith, same))
+
+shrunk-levels : (l r m n k t : ℕ) → l ≤ r + 1 → r ≤ l + 1 → l ≤ m + 1 → m ≤ l → k ≡ suc (max l r) → max m r ≤ n → n ≤ max m r + 1 → (m ≤ r + 1 → r ≤ m + 1 → n ≡ suc (max m r)) → (k ≤ n + 1) × (n ≤ k)
+shrunk-levels l r m n k t a b c d e f g flat = by_test (nat_lt (m + 1) r) refl
+  where
+    by_test : (t : Bool) → nat_lt (m + 1) r ≡ t → (k ≤ n + 1) × (n ≤ k)
+    by_test true test = let more : m + 1 < r = grind (arith, test) in (omega arith, omega arith)
+    by_test false test =
+        let few : r ≤ m + 1 = grind (arith, test) in
+        let same : n ≡ suc (max m r) = flat (omega (arith, a, d)) few in
+        (omega (arith, same), omega (arith, same))
+
+-- a node whose one side grew or shrank
+module _ (at : ℕ) (l r : Tree) (even : IsEven (fork at l r)) where
+  pub grown-left : (new : Tree) → IsGrown l new → IsGrown (fork at l r) (settled at new r)
+  grown-left new is =
+      let sides = even-sides at l r even in
+      let settles = settled-level at new r is.even sides.3 (omega (arith, is.most, sides.0)) (omega (arith, is.least, sides.1)) in
+      let told = grown-levels (levels l) (levels r) (levels new) (levels (settled at new r)) (levels (fork at l r)) 0 sides.0 sides.1 is.least is.most (levels-fork at l r) settles.least settles.low
+      (λ left right. ap levels (settled-flat at new r left right) ∙ levels-fork at new r) in
+      record { even = settles.even; least = told.0; most = told.1 }
+
+  pub shrunk-left : (new : Tree) → IsShrunk l new → IsShrunk (fork at l r) (settled at new r)
+  shrunk-left new is =
+      let sides = even-sides at l r even in
+      let settles = settled-level at new r is.even sides.3 (omega (arith, is.most, sides.0)) (omega (arith, is.least, sides.1)) in
+      let told = shrunk-levels (levels l) (levels r) (levels new) (levels (settled at new r)) (levels (fork at l r)) 0 sides.0 sides.1 is.least is.most (levels-fork at l r) settles.least settles.low
+      (λ left right. ap levels (settled-flat at new r left right) ∙ levels-fork at new r) in
+      record { even = settles.even; least = told.0; most = told.1 }
+
+  pub grown-right : (new : Tree) → IsGrown r new → IsGrown (fork at l r) (settled at l new)
+  grown-right new is =
+      let sides = even-sides at l r even in
+      let settles = settled-level at l new sides.2 is.even (omega (arith, is.least, sides.0)) (omega (arith, is.most, sides.1)) in
+      let told = grown-levels (levels r) (levels l) (levels new) (levels (settled at l new)) (levels (fork at l r)) 0 sides.1 sides.0 is.least is.most (let e = levels-fork at l r in omega (arith, e)) (let e = settles.least in omega (arith, e)) (let e = settles.low in omega (arith, e))
+      (λ left right. let e = ap levels (settled-flat at l new right left) ∙ levels-fork at l new in omega (arith, e)) in
+      record { even = settles.even; least = told.0; most = told.1 }
+
+  pub shrunk-right : (new : Tree) → IsShrunk r new → IsShrunk (fork at l r) (settled at l new)
+  shrunk-right new is =
+      let sides = even-sides at l r even in
+      let settles = settled-level at l new sides.2 is.even (omega (arith, is.least, sides.0)) (omega (arith, is.most, sides.1)) in
+      let told = shrunk-levels (levels r) (levels l) (levels new) (levels (settled at l new)) (levels (fork at l r)) 0 sides.1 sides.0 is.least is.most (let e = levels-fork at l r in omega (arith, e)) (let e = settles.least in omega (arith, e)) (let e = settles.low in omega (arith, e))
+      (λ left right. let e = ap levels (settled-flat at l new right left) ∙ levels-fork at l new in omega (arith, e)) in
+      record { even = settles.even; least = told.0; most = told.1 }
+
+same-grown : (t : Tree) → IsEven t → IsGrown t t
+same-grown t even = record { even = even; least = omega arith; most = omega arith }
+
+same-shrunk : (t : Tree) → IsEven t → IsShrunk t t
+same-shrunk t even = record { even = even; least = omega arith; most = omega arith }
+
+-- a place that is put in
+pub entered-grown : (order : ℕ → Ordering) (new : ℕ) (t : Tree) → IsEven t → IsGrown t (entered order new t)
+unfolding entered
+entered-grown order new leaf even =
+    let none = levels-none in
+    let one = levels-fork new leaf leaf in
+    record { even = even-one new; least = omega (arith, none); most = omega (arith, none, one) }
+entered-grown order new (fork at l r) even =
+    let sides = even-sides at l r even in
+    by_test (order at) (entered-grown order new l sides.2) (entered-grown order new r sides.3)
+  where
+    by_test : (o : Ordering) → IsGrown l (entered order new l) → IsGrown r (entered order new r) → IsGrown (fork at l r) (by_order o (settled at l (entered order new r)) (fork at l r) (settled at (entered order new l) r))
+    by_test Less left right = grown-right at l r even (entered order new r) right
+    by_test Equal left right = same-grown (fork at l r) even
+    by_test Greater left right = grown-left at l r even (entered order new l) left
+
+-- the first place that is taken out
+pub without_least-shrunk : (at : ℕ) (l r : Tree) → IsEven (fork at l r) → IsShrunk (fork at l r) (without_least at l r)
+unfolding without_least
+without_least-shrunk at leaf r even =
+    let sides = even-sides at leaf r even in
+    let none = levels-none in
+    let all = levels-fork at leaf r in
+    record { even = sides.3; least = omega (arith, none, all); most = omega (arith, none, all) }
+without_least-shrunk at (fork top a b) r even =
+    let sides = even-sides at (fork top a b) r even in
+    shrunk-left at (fork top a b) r even (without_least top a b) (without_least-shrunk top a b sides.2)
+
+-- a node goes, and its sides are merged
+pub merged-shrunk : (at : ℕ) (l r : Tree) → IsEven (fork at l r) → IsShrunk (fork at l r) (merged l r)
+unfolding merged
+merged-shrunk at l leaf even =
+    let sides = even-sides at l leaf even in
+    let none = levels-none in
+    let all = levels-fork at l leaf in
+    record { even = sides.2; least = omega (arith, none, all); most = omega (arith, none, all) }
+merged-shrunk at l (fork top a b) even =
+    let sides = even-sides at l (fork top a b) even in
+    let other = even-fork (least top a) l (fork top a b) sides.0 sides.1 sides.2 sides.3 in
+    let is = shrunk-right (least top a) l (fork top a b) other (without_least top a b) (without_least-shrunk top a b sides.3) in
+    let one = levels-fork at l (fork top a b) in
+    let two = levels-fork (least top a) l (fork top a b) in
+    let low = is.least in
+    let high = is.most in
+    record { even = is.even; least = omega (arith, one, two, low); most = omega (arith, one, two, high) }
+
+pub taken-shrunk : (order : ℕ → Ordering) (t : Tree) → IsEven t → IsShrunk t (taken order t)
+unfolding taken
+taken-shrunk order leaf even = same-shrunk leaf even
+taken-shrunk order (fork at l r) even =
+    let sides = even-sides at l r even in
+    by_test (order at) (taken-shrunk order l sides.2) (taken-shrunk order r sides.3)
+  where
+    by_test : (o : Ordering) → IsShrunk l (taken order l) → IsShrunk r (taken order r) → IsShrunk (fork at l r) (by_order o (settled at l (taken order r)) (merged l r) (settled at (taken order l) r))
+    by_test Less left right = shrunk-right at l r even (taken order r) right
+    by_test Equal left right = merged-shrunk at l r even
+    by_test Greater left right = shrunk-left at l r even (taken order l) left
+
+-- the places in order
+pub in_order-least : (at : ℕ) (l r : Tree) → least at l ∷ in_order (without_least at l r) ≡ in_order l ++ at ∷ in_order r
+unfolding in_order least without_least
+in_order-least at leaf r = refl
+in_order-least at (fork top a b) r =
+    ap (λ xs. least top a ∷ xs) (in_order-settled at (without_least top a b) r)
+    ∙ ap (λ xs. xs ++ at ∷ in_order r) (in_order-least top a b)
+
+pub in_order-merged : (l r : Tree) → in_order (merged l r) ≡ in_order l ++ in_order r
+unfolding in_order merged
+in_order-merged l leaf = sym (append-nil (in_order l))
+in_order-merged l (fork top a b) =
+    in_order-settled (least top a) l (without_least top a b) ∙ ap (λ xs. in_order l ++ xs) (in_order-least top a b)
+
+-- Where a place is put in, unless one of an equal content is there.
+pub data IsEntered (order : ℕ → Ordering) (new : ℕ) (old now : List ℕ) : Type 0 where
+  put : (earlier later : List ℕ) → old ≡ earlier ++ later → now ≡ earlier ++ new ∷ later → IsEntered order new old now
+  there : (at : ℕ) (earlier later : List ℕ) → order at ≡ Equal → old ≡ earlier ++ at ∷ later → now ≡ old → IsEntered order new old now
+
+pub entered-places : (order : ℕ → Ordering) (new : ℕ) (t : Tree) → IsEntered order new (in_order t) (in_order (entered order new t))
+unfolding entered in_order
+entered-places order new leaf = put [] [] refl refl
+entered-places order new (fork at l r) = by_test (order at) refl (entered-places order new l) (entered-places order new r)
+  where
+    by_test : (o : Ordering) → order at ≡ o → IsEntered order new (in_order l) (in_order (entered order new l)) → IsEntered order new (in_order r) (in_order (entered order new r))
+        → IsEntered order new (in_order l ++ at ∷ in_order r) (in_order (by_order o (settled at l (entered order new r)) (fork at l r) (settled at (entered order new l) r)))
+    by_test Less e left (put earlier later was is) =
+        put (in_order l ++ at ∷ earlier) later
+        (ap (λ xs. in_order l ++ at ∷ xs) was ∙ sym (append_assoc (in_order l) (at ∷ earlier) later))
+        (in_order-settled at l (entered order new r) ∙ ap (λ xs. in_order l ++ at ∷ xs) is ∙ sym (append_assoc (in_order l) (at ∷ earlier) (new ∷ later)))
+    by_test Less e left (there found earlier later equal was is) =
+        there found (in_order l ++ at ∷ earlier) later equal
+        (ap (λ xs. in_order l ++ at ∷ xs) was ∙ sym (append_assoc (in_order l) (at ∷ earlier) (found ∷ later)))
+        (in_order-settled at l (entered order new r) ∙ ap (λ xs. in_order l ++ at ∷ xs) is)
+    by_test Equal e left right = there at (in_order l) (in_order r) e refl refl
+    by_test Greater e (put earlier later was is) right =
+        put earlier (later ++ at ∷ in_order r)
+        (ap (λ xs. xs ++ at ∷ in_order r) was ∙ append_assoc earlier later (at ∷ in_order r))
+        (in_order-settled at (entered order new l) r ∙ ap (λ xs. xs ++ at ∷ in_order r) is ∙ append_assoc earlier (new ∷ later) (at ∷ in_order r))
+    by_test Greater e (there found earlier later equal was is) right =
+        there found earlier (later ++ at ∷ in_order r) equal
+        (ap (λ xs. xs ++ at ∷ in_order r) was ∙ append_assoc earlier (found ∷ later) (at ∷ in_order r))
+        (in_order-settled at (entered order new l) r ∙ ap (λ xs. xs ++ at ∷ in_order r) is)
+
+-- Where a place of an equal content is taken out, if the way down leads to one.
+pub data IsTaken (order : ℕ → Ordering) (old now : List ℕ) : Type 0 where
+  gone : (at : ℕ) (earlier later : List ℕ) → order at ≡ Equal → old ≡ earlier ++ at ∷ later → now ≡ earlier ++ later → IsTaken order old now
+  kept : now ≡ old → IsTaken order old now
+
+pub taken-places : (order : ℕ → Ordering) (t : Tree) → IsTaken order (in_order t) (in_order (taken order t))
+unfolding taken in_order
+taken-places order leaf = kept refl
+taken-places order (fork at l r) = by_test (order at) refl (taken-places order l) (taken-places order r)
+  where
+    by_test : (o : Ordering) → order at ≡ o → IsTaken order (in_order l) (in_order (taken order l)) → IsTaken order (in_order r) (in_order (taken order r))
+        → IsTaken order (in_order l ++ at ∷ in_order r) (in_order (by_order o (settled at l (taken order r)) (merged l r) (settled at (taken order l) r)))
+    by_test Less e left (gone found earlier later equal was is) =
+        gone found (in_order l ++ at ∷ earlier) later equal
+        (ap (λ xs. in_order l ++ at ∷ xs) was ∙ sym (append_assoc (in_order l) (at ∷ earlier) (found ∷ later)))
+        (in_order-settled at l (taken order r) ∙ ap (λ xs. in_order l ++ at ∷ xs) is ∙ sym (append_assoc (in_order l) (at ∷ earlier) later))
+    by_test Less e left (kept is) = kept (in_order-settled at l (taken order r) ∙ ap (λ xs. in_order l ++ at ∷ xs) is)
+    by_test Equal e left right = gone at (in_order l) (in_order r) e refl (in_order-merged l r)
+    by_test Greater e (gone found earlier later equal was is) right =
+        gone found earlier (later ++ at ∷ in_order r) equal
+        (ap (λ xs. xs ++ at ∷ in_order r) was ∙ append_assoc earlier (found ∷ later) (at ∷ in_order r))
+        (in_order-settled at (taken order l) r ∙ ap (λ xs. xs ++ at ∷ in_order r) is ∙ append_assoc earlier later (at ∷ in_order r))
+    by_test Greater e (kept is) right = kept (in_order-settled at (taken order l) r ∙ ap (λ xs. xs ++ at ∷ in_order r) is)

@@ -1,0 +1,5 @@
+pub mod Shape
+pub mod Turns
+pub mod Changes
+pub mod Searches
+pub mod Removals

@@ -1,0 +1,90 @@
+//! Looking for a content from the top of the tree down, with one look at the arena a level.
+ghost use Rattle.std.specs.Prelude.{◌≡◌, ◌+◌, ◌<◌, ◌≤◌, ℕ, length, slice_index_or};
+ghost use Rattle.tree_shape.specs.Shape.{Tree, height_at};
+ghost use Rattle.tree_shape.specs.Changes.{found};
+ghost use Rattle.tree_shape.specs.Searches.{order_to, IsSearched, IsGrowing, IsEntry};
+
+use crate::{NONE, Node, join, settle};
+use frame_arena::Counted;
+use std::cmp::Ordering;
+
+/// What came of putting in a content.
+#[derive(Clone, Copy, Debug, PartialEq, Eq)]
+pub enum Entered {
+    /// An equal content is at this place, and nothing changed.
+    There(u32),
+    /// It was put in, and the tree's first node is now at this place.
+    Root(u32),
+}
+
+/// How the content of a place stands to a frame's, as one step.
+pub(crate) fn order_at(frames: &[u32], arena: &mut Counted, at: u32, frame: u32) -> Ordering
+    requires inside { at < length frames.now }
+    requires framed { slice_index_or frames.now at 0 < length arena.old.pages }
+    requires frame { frame < length arena.old.pages }
+    ensures told { result ≡ order_to arena.old.pages frames.now frame at }
+    ensures pages { arena.new.pages ≡ arena.old.pages }
+    ensures steps { arena.new.steps ≡ arena.old.steps + 1 }
+{
+    arena.order(frames[at as usize], frame)
+}
+
+/// The place of a frame's content in what hangs at a link.
+pub fn find(
+    nodes: &[Node],
+    frames: &[u32],
+    arena: &mut Counted,
+    link: u32,
+    frame: u32,
+) -> Option<u32>
+    requires tree { (t : Tree) × IsSearched nodes.now frames.now arena.old.pages link t }
+    requires frame { frame < length arena.old.pages }
+    ensures place { (t : Tree) → IsSearched nodes.now frames.now arena.old.pages link t
+        → result ≡ found (order_to arena.old.pages frames.now frame) t }
+    ensures pages { arena.new.pages ≡ arena.old.pages }
+    ensures few { arena.new.steps ≤ arena.old.steps + height_at nodes.now link }
+{
+    if link == NONE {
+        return None;
+    }
+    let node = nodes[link as usize];
+    match order_at(frames, arena, link, frame) {
+        Ordering::Less => find(nodes, frames, arena, node.right, frame),
+        Ordering::Equal => Some(link),
+        Ordering::Greater => find(nodes, frames, arena, node.left, frame),
+    }
+}
+
+/// Puts a place into what hangs at a link, unless the content of its frame is there.
+pub fn enter(
+    nodes: &mut [Node],
+    frames: &[u32],
+    arena: &mut Counted,
+    link: u32,
+    new: u32,
+) -> Entered
+    requires tree { (t : Tree) × IsGrowing nodes.old frames.now arena.old.pages link new t }
+    requires inside { new < length frames.now }
+    requires framed { slice_index_or frames.now new 0 < length arena.old.pages }
+    ensures entry { (t : Tree) → IsGrowing nodes.old frames.now arena.old.pages link new t
+        → IsEntry nodes.old nodes.new (order_to arena.old.pages frames.now (slice_index_or frames.now new 0)) new t result }
+    ensures pages { arena.new.pages ≡ arena.old.pages }
+    ensures few { arena.new.steps ≤ arena.old.steps + height_at nodes.old link }
+{
+    if link == NONE {
+        join(nodes, NONE, new, NONE);
+        return Entered::Root(new);
+    }
+    let node = nodes[link as usize];
+    match order_at(frames, arena, link, frames[new as usize]) {
+        Ordering::Less => match enter(nodes, frames, arena, node.right, new) {
+            Entered::There(at) => Entered::There(at),
+            Entered::Root(right) => Entered::Root(settle(nodes, node.left, link, right)),
+        },
+        Ordering::Equal => Entered::There(link),
+        Ordering::Greater => match enter(nodes, frames, arena, node.left, new) {
+            Entered::There(at) => Entered::There(at),
+            Entered::Root(left) => Entered::Root(settle(nodes, left, link, node.right)),
+        },
+    }
+}
