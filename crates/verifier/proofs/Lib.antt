@@ -12,3 +12,5 @@ pub mod Tight
 pub mod Passes
 pub mod Reserves
 pub mod WithoutMaps
+pub mod Narrower
+pub mod Complete

@@ -14,3 +14,4 @@ pub mod Soundness
 pub mod Refinement
 pub mod Narrower
 pub mod NarrowerKinds
+pub mod NarrowerDescriptions

@@ -195,7 +195,7 @@ same_constant a b p q w t =
 -- ---- what a width takes
 
 -- of two ranges of a width, both normal, the first lies within the second
-pub record IsNarrower (width : Width) (a b : Range) : Type 0 where
+pub record IsRangeNarrower (width : Width) (a b : Range) : Type 0 where
   pub within : IsWithin a b
   pub smaller : IsNormal a
   pub larger : IsNormal b
@@ -221,7 +221,7 @@ taken_within width a b p w =
     normal_keeps a (all width b.align) p (record { low = omega arith; high = omega arith; aligned = w.aligned }))
     (λ _. normal_narrows (all width a.align) (all width b.align) 0 (in_all width a.align 0 (modulus_positive width) (zero_divided a.align)) (all_narrows width a.align b.align w.aligned)))
 
-pub taken_narrows : (width : Width) (a b : Range) → IsNormal a → IsNormal b → IsWithin a b → IsNarrower width (taken width a) (taken width b)
+pub taken_narrows : (width : Width) (a b : Range) → IsNormal a → IsNormal b → IsWithin a b → IsRangeNarrower width (taken width a) (taken width b)
 taken_narrows width a b p q w = record {
   within = taken_within width a b p w;
   smaller = taken_is_normal width a p;
@@ -247,7 +247,7 @@ unless_narrows width from to wide_from wide_to d e p q h =
     (record { low = p; high = q; aligned = h }))
     (λ _. unless_within_all width from to d e h)
 
-sum_narrows : (width : Width) (a b c d : Range) → IsNarrower width a c → IsNarrower width b d → IsWithin (sum_of width a b) (sum_of width c d)
+sum_narrows : (width : Width) (a b c d : Range) → IsRangeNarrower width a c → IsRangeNarrower width b d → IsWithin (sum_of width a b) (sum_of width c d)
 sum_narrows width a b c d p q =
     let a_low = p.within.low in
     let a_high = p.within.high in
@@ -256,7 +256,7 @@ sum_narrows width a b c d p q =
     unless_narrows width (a.low + b.low) (a.high + b.high) (c.low + d.low) (c.high + d.high) (least_align a.align b.align) (least_align c.align d.align)
     (omega arith) (omega arith) (rank_least c.align d.align a.align b.align p.within.aligned q.within.aligned)
 
-difference_narrows : (width : Width) (a b c d : Range) → IsNarrower width a c → IsNarrower width b d → IsWithin (difference_of width a b) (difference_of width c d)
+difference_narrows : (width : Width) (a b c d : Range) → IsRangeNarrower width a c → IsRangeNarrower width b d → IsWithin (difference_of width a b) (difference_of width c d)
 difference_narrows width a b c d p q =
     let a_low = p.within.low in
     let a_high = p.within.high in
@@ -274,20 +274,20 @@ difference_narrows width a b c d p q =
     (λ _. record { low = omega arith; high = omega arith; aligned = least })
     (λ _. all_narrows width (least_align a.align b.align) (least_align c.align d.align) least))
 
-product_narrows : (width : Width) (a b c d : Range) → IsNarrower width a c → IsNarrower width b d → IsWithin (product_of width a b) (product_of width c d)
+product_narrows : (width : Width) (a b c d : Range) → IsRangeNarrower width a c → IsRangeNarrower width b d → IsWithin (product_of width a b) (product_of width c d)
 product_narrows width a b c d p q =
     unless_narrows width (a.low * b.low) (a.high * b.high) (c.low * d.low) (c.high * d.high) (raised a.align (rank b.align)) (raised c.align (rank d.align))
     (mul-le c.low d.low a.low b.low p.within.low q.within.low) (mul-le a.high b.high c.high d.high p.within.high q.within.high)
     (rank_raised c.align a.align (rank d.align) (rank b.align) p.within.aligned q.within.aligned)
 
 -- where the lower end of a range isn't 0, that of each range within it isn't
-positive_within : (width : Width) (b d : Range) → IsNarrower width b d → (d.low == 0) ≡ false → (b.low == 0) ≡ false
+positive_within : (width : Width) (b d : Range) → IsRangeNarrower width b d → (d.low == 0) ≡ false → (b.low == 0) ≡ false
 positive_within width b d q f =
     let least : 0 < d.low = at_least_one d.low f in
     let low = q.within.low in
     not_zero b.low (omega arith)
 
-quotient_narrows : (width : Width) (a b c d : Range) → IsNarrower width a c → IsNarrower width b d → IsWithin (quotient_of a b) (quotient_of c d)
+quotient_narrows : (width : Width) (a b c d : Range) → IsRangeNarrower width a c → IsRangeNarrower width b d → IsWithin (quotient_of a b) (quotient_of c d)
 quotient_narrows width a b c d p q =
     let a_high = p.within.high in
     let b_low = q.within.low in
@@ -306,7 +306,7 @@ quotient_narrows width a b c d p q =
       aligned = omega arith;
     }))
 
-remainder_narrows : (width : Width) (a b c d : Range) → IsNarrower width a c → IsNarrower width b d → IsWithin (remainder_of a b) (remainder_of c d)
+remainder_narrows : (width : Width) (a b c d : Range) → IsRangeNarrower width a c → IsRangeNarrower width b d → IsWithin (remainder_of a b) (remainder_of c d)
 remainder_narrows width a b c d p q =
     let a_high = p.within.high in
     let b_high = q.within.high in
@@ -318,7 +318,7 @@ remainder_narrows width a b c d p q =
       aligned = omega arith;
     }
 
-and_narrows : (width : Width) (a b c d : Range) → IsNarrower width a c → IsNarrower width b d → IsWithin (and_of a b) (and_of c d)
+and_narrows : (width : Width) (a b c d : Range) → IsRangeNarrower width a c → IsRangeNarrower width b d → IsWithin (and_of a b) (and_of c d)
 and_narrows width a b c d p q =
     let a_high = p.within.high in
     let b_high = q.within.high in
@@ -345,7 +345,7 @@ ones_order x y h fits =
     let order : 2 ^ m ≤ 2 ^ n = pow_mono (bits_order m n x y h y_below x_least) in
     rw (x_bits, y_bits) (omega arith)
 
-or_narrows : (width : Width) (a b c d : Range) → IsNarrower width a c → IsNarrower width b d → IsWithin (or_of a b) (or_of c d)
+or_narrows : (width : Width) (a b c d : Range) → IsRangeNarrower width a c → IsRangeNarrower width b d → IsWithin (or_of a b) (or_of c d)
 or_narrows width a b c d p q =
     let a_low = p.within.low in
     let a_high = p.within.high in
@@ -359,7 +359,7 @@ or_narrows width a b c d p q =
       aligned = rank_least c.align d.align a.align b.align p.within.aligned q.within.aligned;
     }
 
-xor_narrows : (width : Width) (a b c d : Range) → IsNarrower width a c → IsNarrower width b d → IsWithin (xor_of a b) (xor_of c d)
+xor_narrows : (width : Width) (a b c d : Range) → IsRangeNarrower width a c → IsRangeNarrower width b d → IsWithin (xor_of a b) (xor_of c d)
 xor_narrows width a b c d p q =
     let a_high = p.within.high in
     let b_high = q.within.high in
@@ -377,7 +377,7 @@ left_by_narrows width bits a c w =
     (mul-le c.low (2 ^ bits) a.low (2 ^ bits) w.low (omega arith)) (mul-le a.high (2 ^ bits) c.high (2 ^ bits) w.high (omega arith))
     (rank_raised c.align a.align bits bits w.aligned (omega arith))
 
-left_shift_narrows : (width : Width) (a b c d : Range) → IsNarrower width a c → IsNarrower width b d → IsWithin (left_shift_of width a b) (left_shift_of width c d)
+left_shift_narrows : (width : Width) (a b c d : Range) → IsRangeNarrower width a c → IsRangeNarrower width b d → IsWithin (left_shift_of width a b) (left_shift_of width c d)
 left_shift_narrows width a b c d p q =
     cond_both (is_constant d) _ _ (λ r. IsWithin (left_shift_of width a b) r)
     (λ t.
@@ -395,7 +395,7 @@ right_by_narrows bits a c w =
     let positive : 0 < k = pow_pos bits in
     record { low = quotient_order c.low k a.low k w.low (omega arith) positive; high = quotient_order a.high k c.high k w.high (omega arith) positive; aligned = omega arith }
 
-right_shift_narrows : (width : Width) (a b c d : Range) → IsNarrower width a c → IsNarrower width b d → IsWithin (right_shift_of width a b) (right_shift_of width c d)
+right_shift_narrows : (width : Width) (a b c d : Range) → IsRangeNarrower width a c → IsRangeNarrower width b d → IsWithin (right_shift_of width a b) (right_shift_of width c d)
 right_shift_narrows width a b c d p q =
     let a_high = p.within.high in
     cond_both (is_constant d) _ _ (λ r. IsWithin (right_shift_of width a b) r)
@@ -407,7 +407,7 @@ right_shift_narrows width a b c d p q =
     (λ _. record { low = omega arith; high = omega (arith, shr_le a.high (count width b.low)); aligned = omega arith })
     (λ _. record { low = omega arith; high = a_high; aligned = omega arith }))
 
-swap_narrows : (width : Width) (b d : Range) → IsNarrower width b d → IsWithin (swapped_range b) (swapped_range d)
+swap_narrows : (width : Width) (b d : Range) → IsRangeNarrower width b d → IsWithin (swapped_range b) (swapped_range d)
 swap_narrows width b d q =
     cond_both (is_constant d) _ _ (λ r. IsWithin (swapped_range b) r)
     (λ t.
@@ -419,7 +419,7 @@ swap_narrows width b d q =
     (λ _. within_self (all Bits64 One)))
 
 -- what a row makes of ranges lies within what it makes of wider ones
-row_narrows : (code : AluCode) (width : Width) (offset : ℤ) (a b c d : Range) → IsNarrower width a c → IsNarrower width b d → IsWithin (row code width offset a b) (row code width offset c d)
+row_narrows : (code : AluCode) (width : Width) (offset : ℤ) (a b c d : Range) → IsRangeNarrower width a c → IsRangeNarrower width b d → IsWithin (row code width offset a b) (row code width offset c d)
 unfolding row
 row_narrows Add width offset a b c d p q = sum_narrows width a b c d p q
 row_narrows Sub width offset a b c d p q = difference_narrows width a b c d p q
@@ -457,7 +457,7 @@ end_in : (r : Range) → IsNormal r → IsIn r r.low
 end_in r p = record { low = omega arith; high = p.ordered; aligned = p.low }
 
 -- what the machine computes of the lower ends is a number of the row, also of that of wider ranges
-ends_in_row : (code : AluCode) (width : Width) (offset : ℤ) (a b c d : Range) → IsNarrower width a c → IsNarrower width b d → IsIn (row code width offset a b) (alu code width offset a.low b.low)
+ends_in_row : (code : AluCode) (width : Width) (offset : ℤ) (a b c d : Range) → IsRangeNarrower width a c → IsRangeNarrower width b d → IsIn (row code width offset a b) (alu code width offset a.low b.low)
 ends_in_row code width offset a b c d p q =
     let a_high = p.within.high in
     let b_high = q.within.high in
@@ -465,7 +465,7 @@ ends_in_row code width offset a b c d p q =
     let d_small = q.below in
     in_row_of_ends code width offset a b p.smaller q.smaller (omega arith) (omega arith)
 
-computed_narrows : (code : AluCode) (width : Width) (offset : ℤ) (a b c d : Range) → IsNarrower width a c → IsNarrower width b d → IsWithin (computed_range code width offset a b) (computed_range code width offset c d)
+computed_narrows : (code : AluCode) (width : Width) (offset : ℤ) (a b c d : Range) → IsRangeNarrower width a c → IsRangeNarrower width b d → IsWithin (computed_range code width offset a b) (computed_range code width offset c d)
 computed_narrows code width offset a b c d p q =
     let number : ℕ = alu code width offset a.low b.low in
     let has : IsIn (row code width offset a b) number = ends_in_row code width offset a b c d p q in

@@ -1,5 +1,3 @@
-use Rattle.verifier_kinds.proofs.Narrower.{range_narrows}
-use Rattle.verifier_kinds.proofs.NarrowerKinds.{refined_narrows}
 use Rattle.verifier_kinds.proofs.Joins.{register_below_join_left, register_below_join_right, slot_below_join_left, slot_below_join_right, below_join_left, below_join_right}
 use Rattle.verifier_kinds.proofs.Least.{registers_join_below, slots_join_below, join_below}
 use Rattle.verifier_kinds.proofs.laws.join_is_least.Goals as goal
