@@ -503,7 +503,7 @@ falls_on_below : (p : Subject) (slot : ℕ) (r s : Result Description ℕ) → I
 falls_on_below p slot r s h =
     then_below (AreBoth IsAfter ◌≡◌) AreTargetsBelow (both r (falls_to p.text slot)) (both s (falls_to p.text slot)) (λ x. Ok (target x.1 (Some x.0))) (λ x. Ok (target x.1 (Some x.0)))
     (both_below IsAfter ◌≡◌ r s (falls_to p.text slot) (falls_to p.text slot) h (result_below_self ◌≡◌ (falls_to p.text slot) (λ x. refl)))
-    (λ x y g. rw (g.1) (target_below y.1 x.0 y.0 g.0))
+    (λ x y g. subst (λ to. AreTargetsBelow (target to (Some x.0)) (target y.1 (Some y.0))) (sym g.1) (target_below y.1 x.0 y.0 g.0))
 
 jump_below : (p : Subject) (slot : ℕ) (distance : ℤ) (d e : Description) → IsNarrower d e → IsResultBelow AreTargetsBelow (jumps_to p.text slot distance >>= λ to. Ok (target to (Some d))) (jumps_to p.text slot distance >>= λ to. Ok (target to (Some e)))
 jump_below p slot distance d e n = then_same AreTargetsBelow (jumps_to p.text slot distance) (λ to. Ok (target to (Some d))) (λ to. Ok (target to (Some e))) (λ to. target_below to d e n.below)
