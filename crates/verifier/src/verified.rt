@@ -2,7 +2,7 @@ ghost use Rattle.std.specs.Prelude.{◌≡◌, ◌≤◌, ◌⊎◌, ◌↔◌, 
 ghost use Rattle.bpf_decode.specs.Opcodes.{operation_of};
 ghost use Rattle.bpf_decode.specs.Text.{slots_of, insn_at, instructions_of, IsInstruction, out_of_memory};
 ghost use Rattle.verifier.specs.Subject.{IsContextSize, all_there};
-ghost use Rattle.verifier.specs.Table.{IsRefusal};
+ghost use Rattle.verifier.specs.Table.{IsRefusal, HasNoLawful};
 ghost use Rattle.verifier.specs.Verified.{AreShapes, IsVerified, kind_at};
 ghost use Rattle.verifier.specs.Reserve.{reserve_from};
 
@@ -149,6 +149,8 @@ pub fn verify(
     ensures verified { IfOk result IsVerified }
     ensures refused { IfErr result (λ refused. (refused ≡ out_of_memory)
         ⊎ IsRefusal (record { text = program; shapes = all_there shapes.now; context_size = ctx_size }) refused) }
+    ensures complete { IfErr result (λ refused. (refused ≡ out_of_memory)
+        ⊎ HasNoLawful (record { text = program; shapes = all_there shapes.now; context_size = ctx_size })) }
 {
     let Ok(candidate) = Candidate::new(alloc, program, shapes, ctx_size) else {
         return Err(Refused::OUT_OF_MEMORY);

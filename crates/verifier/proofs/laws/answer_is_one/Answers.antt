@@ -1,4 +1,3 @@
-use Rattle.verifier.proofs.Complete.{broken_leaves_none}
 use Rattle.verifier.proofs.Uniqueness.{one_refusal, one_table, refusal_excludes}
 use Rattle.verifier.proofs.laws.answer_is_one.Goals as goal
 
