@@ -14,3 +14,4 @@ pub mod Reserves
 pub mod WithoutMaps
 pub mod Narrower
 pub mod Complete
+pub mod Described

@@ -1,9 +1,9 @@
 -- A subject has one answer at most, and the reserve of a verified program falls.
-use Rattle.std.specs.Prelude.{◌≡◌, ℕ, ◌+◌, ◌<◌, ◌≤◌}
+use Rattle.std.specs.Prelude.{◌≡◌, ℕ, ◌+◌, ◌<◌, ◌≤◌, All}
 use Rattle.host_types.specs.declared.fault.Refused.{Refused}
 use Rattle.verifier.specs.Subject.{Subject}
 use Rattle.bpf_decode.specs.Text.{slots_of}
-use Rattle.verifier.specs.Table.{Table, IsTightTable, IsRefusal}
+use Rattle.verifier.specs.Table.{Table, IsTightTable, IsRefusal, HasNoLawful}
 use Rattle.verifier.specs.Verified.{Accepted}
 use Rattle.verifier.specs.Reserve.{cost_at, reserve_from}
 
@@ -18,6 +18,10 @@ HasOneTable = (p : Subject) (table other : Table) → IsTightTable p table → I
 -- a subject that has a refusal has no tight table
 abbrev pub RefusalExcludesTable : Type 0
 RefusalExcludesTable = (p : Subject) (table : Table) (refused : Refused) → IsTightTable p table → IsRefusal p refused → ⊥
+
+-- a text of bytes that has a refusal has no lawful table, whoever looks for one
+abbrev pub RefusalLeavesNoLawful : Type 0
+RefusalLeavesNoLawful = (p : Subject) (refused : Refused) → All (λ byte. byte < 256) p.text → IsRefusal p refused → HasNoLawful p
 
 -- what the instruction at a slot may need, and the reserve of a later slot, are reserved at the slot
 abbrev pub ReserveCoversStep : Type 0

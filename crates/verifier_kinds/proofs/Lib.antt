@@ -15,3 +15,4 @@ pub mod Refinement
 pub mod Narrower
 pub mod NarrowerKinds
 pub mod NarrowerDescriptions
+pub mod Keeping
