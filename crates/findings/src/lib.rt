@@ -23,11 +23,11 @@ use std::io;
 use std::io::Write;
 use unset::write_unset_bytes;
 
-/// What a text was judged for: maps of these shapes, by number, and a context of so many bytes.
+/// What a text was judged for: maps of these shapes, by number, each there or not, and a context of so many bytes.
 #[derive(Clone, Copy, Debug)]
 pub struct Judged<'a> {
     pub text: &'a [u8],
-    pub shapes: &'a [Shape],
+    pub shapes: &'a [Option<Shape>],
     pub context_size: u32,
 }
 

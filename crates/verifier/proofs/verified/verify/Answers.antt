@@ -9,15 +9,16 @@ use Rattle.verifier.proofs.verified.verify.Goals as goal
 
 pub invariant_of-result : goal.invariant_of-result
 invariant_of-result c = record {
-  verified = passed_verified c.in-Ok.candidate (subst IsSubject c.candidate.view_is c.candidate.invariant) c.in_ok-kept.ensures.clean c.in_ok-kept.ensures.flows;
+  verified = passed_verified c.new-candidate.result (subst IsSubject c.candidate.view_is c.candidate.invariant) c.in_ok-kept.ensures.clean c.in_ok-kept.ensures.flows;
   kept = c.in_ok-kept.ensures.kept;
   counted = c.count_instructions-instructions.ensures;
-  reserved = c.in-Ok-reserves.ensures;
+  named = c.named_maps-named.ensures;
+  reserved = c.in-Ok.ensures;
 }
 
 pub returns-clause-verified : goal.returns-clause-verified
 returns-clause-verified c =
-    passed_verified c.in-Ok.candidate (subst IsSubject c.candidate.view_is c.candidate.invariant) c.in_ok-kept.ensures.clean c.in_ok-kept.ensures.flows
+    passed_verified c.new-candidate.result (subst IsSubject c.candidate.view_is c.candidate.invariant) c.in_ok-kept.ensures.clean c.in_ok-kept.ensures.flows
 
 -- a subject is the one that the candidate was made of
 of_candidate : {A : Type 0} (p q : Subject) → p ≡ q → A ⊎ HasNoLawful p → A ⊎ HasNoLawful q
@@ -30,4 +31,4 @@ passed_on (Err e) error P same p = subst P (sym same) p
 
 pub returns-in_err-kept-clause-complete : goal.returns-in_err-kept-clause-complete
 returns-in_err-kept-clause-complete c =
-    passed_on c.from_residual.result c.in_err-kept.field-0.0 _ c.from_residual.ensures.1 (of_candidate _ _ c.in-Ok.ensures c.in_err-kept.ensures.complete)
+    passed_on c.from_residual.result c.in_err-kept.field-0.0 _ c.from_residual.ensures.1 (of_candidate _ _ c.new-candidate.ensures c.in_err-kept.ensures.complete)
