@@ -1,8 +1,8 @@
 -- What an instruction lets flow on from a description of the verifier are such descriptions. So what a
 -- text of bytes refuses leaves no lawful table, whoever refuses it.
-use Rattle.std.proofs.Common.{◌≡◌, ℕ, zero, suc, ◌+◌, ◌-◌, ◌*◌, ◌/◌, ◌%◌, ◌^◌, ◌<◌, ◌≤◌, ◌==◌, ◌∙◌, ℤ, pos, negsuc, ◌+ℤ◌, Bool, true, false, not, if◌then◌else◌, bit_or, nat_le, List, [], ◌∷◌, ◌++◌, length, take, drop, All, IfSome, Option, Some, None, option_map, Result, Ok, Err, refl, sym, ap, subst, inl, inr, arith}
+use Rattle.std.proofs.Common.{◌≡◌, ℕ, zero, suc, ◌+◌, ◌-◌, ◌*◌, ◌/◌, ◌%◌, ◌^◌, ◌<◌, ◌≤◌, ◌==◌, ◌∙◌, ℤ, pos, negsuc, ◌+ℤ◌, Bool, true, false, not, if◌then◌else◌, bit_or, nat_lt, List, [], ◌∷◌, ◌++◌, length, take, drop, All, IfSome, Option, Some, None, option_map, Result, Ok, Err, refl, sym, ap, subst, inl, inr, arith}
 use Rattle.std.specs.Prelude.{IfOk, is_some}
-use Rattle.std.proofs.lemmas.Bool.{cond_both, eqb-true}
+use Rattle.std.proofs.lemmas.Bool.{cond_both, eqb-true, ltb-true}
 use Rattle.std.proofs.lemmas.Nat.{mul-le, or_lt}
 use Rattle.std.proofs.Math.Pow.{pow_mono}
 use Rattle.std.proofs.lemmas.List.Elements.{All-nil, All-cons, All-append, All-take, All-drop}
@@ -13,7 +13,7 @@ use Rattle.host_types.specs.declared.helper.MapHelper.TheVariants.{Lookup, Updat
 use Rattle.host_types.specs.Bytes.{number_of, part_of}
 use Rattle.host_types.specs.Helpers.{helper_of}
 use Rattle.host_types.specs.Layout.{stack_size}
-use Rattle.host_types.specs.Rules.{unknown_opcode, unset_register, unset_stack, unknown_helper, unknown_map, misaligned, outside_stack}
+use Rattle.host_types.specs.Rules.{unknown_opcode, unset_register, unset_stack, unknown_helper, unknown_map, misaligned, outside_stack, outside_map}
 use Rattle.host_types.proofs.Bytes.{number_of-small}
 use Rattle.bpf_decode.specs.declared.insn.Insn.{Insn}
 use Rattle.bpf_decode.specs.declared.operation.Source.{Source}
@@ -51,11 +51,13 @@ use Rattle.verifier_kinds.proofs.Keeping.{arithmetic_is_kind}
 use Rattle.verifier.specs.declared.jumps.Compared.{Compared}
 use Rattle.verifier.specs.declared.jumps.Compared.TheVariants.{Numbers, Answer}
 use Rattle.verifier.specs.Subject.{Subject}
-use Rattle.verifier.specs.Flow.{◌>>=◌, both, known_or, holds_or, read_kind, writable, write_kind, immediate_kind, operand_kind, dst_is_known, computed_kind, after_alu, lies_below, aligned, context_place, stack_place, loaded_range, places, slot_kind, value_size_of, value_access, load_kind, loaded_kind, after_load, name_kind, wide_kind, after_load_immediate, written_slot, is_number, after_stack_store, stored, after_store, falls_to, jumps_to, target, is_null_check, compared_kinds, comparands, holds_of_null, checked_kind, beginning, on_way, flow_of_branch, called_map, answer_kind, without_arguments, after_call, after, falls_on, flow_by, flow}
+use Rattle.verifier.specs.Flow.{◌>>=◌, both, known_or, holds_or, read_kind, writable, write_kind, immediate_kind, operand_kind, dst_is_known, computed_kind, after_alu, lies_below, aligned, context_place, stack_place, loaded_range, places, slot_kind, value_size_of, value_access, load_kind, loaded_kind, after_load, name_kind, at_offset, first_value_kind, wide_kind, after_load_immediate, written_slot, is_number, after_stack_store, stored, after_store, falls_to, jumps_to, target, is_null_check, compared_kinds, comparands, holds_of_null, checked_kind, beginning, on_way, flow_of_branch, called_map, answer_kind, without_arguments, after_call, after, falls_on, flow_by, flow}
 use Rattle.verifier.specs.Table.{Table, described, flows_by, flows_from, targets_of, incoming, IsRefusal, HasNoLawful}
 use Rattle.verifier.specs.Pass.{AreDescribed, FlowDescribed}
+use Rattle.verifier.specs.Verified.{HasShapes, IsSubject}
 use Rattle.verifier.specs.Way.{AreNormal}
 use Rattle.verifier.proofs.Tables.{below_next, IsTightBefore, IsDescription-incoming}
+use Rattle.verifier.proofs.Shapes.{value_size_small}
 use Rattle.verifier.proofs.Complete.{broken_leaves_none}
 
 -- ---- questions
@@ -154,17 +156,32 @@ name_keeps : (p : Subject) (number : ℤ) → IfOk (name_kind p number) IsKind
 name_keeps p (pos m) = then_keeps IsAny IsKind (holds_or (is_some (shape_at p.shapes m)) unknown_map) (λ there. Ok (MapName m)) (any_answer (holds_or (is_some (shape_at p.shapes m)) unknown_map)) (λ x q. tt)
 name_keeps p (negsuc n) = tt
 
-wide_keeps : (p : Subject) (insn : Insn) → HasSmallNext insn → IfOk (wide_kind p insn) IsKind
-wide_keeps p insn small =
-    cond_both (insn.src == 0) (Ok (Scalar (constant (wide_immediate insn)))) (name_kind p insn.imm) (λ r. IfOk r IsKind)
-    (λ _. constant_is_normal (wide_immediate insn) (whole insn.next_imm (sign_extended insn.imm) small)) (λ _. name_keeps p insn.imm)
+first_value_keeps : (p : Subject) (number : ℤ) (n : ℕ) → HasShapes p.shapes → IfOk (first_value_kind p number n) IsKind
+first_value_keeps p (pos m) n shapes =
+    then_keeps IsAny IsKind (holds_or (is_some (shape_at p.shapes m)) unknown_map) (λ there. holds_or (nat_lt n (value_size_of p m)) outside_map >>= λ within. Ok (MapValue m (at_offset n))) (any_answer (holds_or (is_some (shape_at p.shapes m)) unknown_map))
+    (λ x q.
+    cond_both (nat_lt n (value_size_of p m)) (Ok tt) (Err outside_map) (λ r. IfOk (r >>= λ within. Ok (MapValue m (at_offset n))) IsKind)
+    (λ t.
+    let less : n < value_size_of p m = ltb-true n (value_size_of p m) t in
+    let small : value_size_of p m ≤ 4096 = value_size_small p m shapes in
+    record { normal = constant_is_normal (65536 + n) (omega arith); below = omega arith })
+    (λ _. tt))
+first_value_keeps p (negsuc k) n shapes = tt
+
+wide_keeps : (p : Subject) (insn : Insn) → HasShapes p.shapes → HasSmallNext insn → IfOk (wide_kind p insn) IsKind
+wide_keeps p insn shapes small =
+    cond_both (insn.src == 0) (Ok (Scalar (constant (wide_immediate insn)))) _ (λ r. IfOk r IsKind)
+    (λ _. constant_is_normal (wide_immediate insn) (whole insn.next_imm (sign_extended insn.imm) small))
+    (λ _.
+    cond_both (insn.src == 1) (name_kind p insn.imm) (first_value_kind p insn.imm insn.next_imm) (λ r. IfOk r IsKind)
+    (λ _. name_keeps p insn.imm) (λ _. first_value_keeps p insn.imm insn.next_imm shapes))
   where
     whole : (next imm : ℕ) → next < 2 ^ 32 → next * 2 ^ 32 + imm % 2 ^ 32 < 2 ^ 64
     whole next imm h = omega arith
 
-after_load_immediate_keeps : (p : Subject) (insn : Insn) (d : Description) → HasSmallNext insn → IsDescription d → IfOk (after_load_immediate p insn d) IsDescription
+after_load_immediate_keeps : (p : Subject) (insn : Insn) (d : Description) → HasShapes p.shapes → HasSmallNext insn → IsDescription d → IfOk (after_load_immediate p insn d) IsDescription
 unfolding after_load_immediate
-after_load_immediate_keeps p insn d small h = write_keeps d insn.dst (wide_kind p insn) h (wide_keeps p insn small)
+after_load_immediate_keeps p insn d shapes small h = write_keeps d insn.dst (wide_kind p insn) h (wide_keeps p insn shapes small)
 
 -- ---- stores
 
@@ -299,25 +316,25 @@ branch_keeps p comparison width source insn slot d h =
 
 -- ---- instructions
 
-keeps_by : (p : Subject) (operation : Operation) (slot : ℕ) (d : Description) → HasSmallNext (insn_at p.text slot) → IsDescription d → IfOk (flow_by p operation slot d) AreDescribed
+keeps_by : (p : Subject) (operation : Operation) (slot : ℕ) (d : Description) → HasShapes p.shapes → HasSmallNext (insn_at p.text slot) → IsDescription d → IfOk (flow_by p operation slot d) AreDescribed
 unfolding flow_by
-keeps_by p (Alu code width source) slot d small h = falls_on_keeps p slot (after_alu code width source (insn_at p.text slot) d) (alu_keeps code width source (insn_at p.text slot) d h)
-keeps_by p (Load size extension) slot d small h = falls_on_keeps p slot (after_load p size extension (insn_at p.text slot) d) (after_load_keeps p size extension (insn_at p.text slot) d h)
-keeps_by p (Store size source) slot d small h = falls_on_keeps p slot (after_store p size source (insn_at p.text slot) d) (after_store_keeps p size source (insn_at p.text slot) d h)
-keeps_by p LoadImmediate slot d small h = falls_on_keeps p slot (after_load_immediate p (insn_at p.text slot) d) (after_load_immediate_keeps p (insn_at p.text slot) d small h)
-keeps_by p Call slot d small h = falls_on_keeps p slot (after_call p slot (insn_at p.text slot) d) (call_keeps p slot (insn_at p.text slot) d h)
-keeps_by p (Jump distance) slot d small h =
+keeps_by p (Alu code width source) slot d shapes small h = falls_on_keeps p slot (after_alu code width source (insn_at p.text slot) d) (alu_keeps code width source (insn_at p.text slot) d h)
+keeps_by p (Load size extension) slot d shapes small h = falls_on_keeps p slot (after_load p size extension (insn_at p.text slot) d) (after_load_keeps p size extension (insn_at p.text slot) d h)
+keeps_by p (Store size source) slot d shapes small h = falls_on_keeps p slot (after_store p size source (insn_at p.text slot) d) (after_store_keeps p size source (insn_at p.text slot) d h)
+keeps_by p LoadImmediate slot d shapes small h = falls_on_keeps p slot (after_load_immediate p (insn_at p.text slot) d) (after_load_immediate_keeps p (insn_at p.text slot) d shapes small h)
+keeps_by p Call slot d shapes small h = falls_on_keeps p slot (after_call p slot (insn_at p.text slot) d) (call_keeps p slot (insn_at p.text slot) d h)
+keeps_by p (Jump distance) slot d shapes small h =
     then_keeps IsAny AreDescribed (jumps_to p.text slot (distance_of distance (insn_at p.text slot))) (λ to. Ok (target to (Some d))) (any_answer (jumps_to p.text slot (distance_of distance (insn_at p.text slot)))) (λ to q. target_keeps to (Some d) h)
-keeps_by p (Branch comparison width source) slot d small h = branch_keeps p comparison width source (insn_at p.text slot) slot d h
-keeps_by p Exit slot d small h =
+keeps_by p (Branch comparison width source) slot d shapes small h = branch_keeps p comparison width source (insn_at p.text slot) slot d h
+keeps_by p Exit slot d shapes small h =
     then_keeps IsAny AreDescribed (read_kind d 0) (λ kind. is_number kind >>= λ returned. Ok []) (any_answer (read_kind d 0))
     (λ kind q. then_keeps IsAny AreDescribed (is_number kind) (λ returned. Ok []) (any_answer (is_number kind)) (λ x r. All-nil (λ t. IsDescription t.1)))
 
 -- from a description of the verifier an instruction lets such descriptions flow on
-flow_keeps : (p : Subject) (slot : ℕ) (d : Description) → HasSmallNext (insn_at p.text slot) → IsDescription d → IfOk (flow p slot d) AreDescribed
-flow_keeps p slot d small h =
+flow_keeps : (p : Subject) (slot : ℕ) (d : Description) → HasShapes p.shapes → HasSmallNext (insn_at p.text slot) → IsDescription d → IfOk (flow p slot d) AreDescribed
+flow_keeps p slot d shapes small h =
     then_keeps IsAny AreDescribed (known_or (operation_of (insn_at p.text slot).opcode) unknown_opcode) (λ operation. flow_by p operation slot d) (any_answer (known_or (operation_of (insn_at p.text slot).opcode) unknown_opcode))
-    (λ operation q. keeps_by p operation slot d small h)
+    (λ operation q. keeps_by p operation slot d shapes small h)
 
 -- ---- texts of bytes
 
@@ -347,29 +364,29 @@ next_is_small text slot h =
     by_length number (suc (suc (suc (suc (suc n))))) few h = absurd (omega arith)
 
 -- of a text of bytes a tight table lets descriptions of the verifier flow
-flows_keep : (p : Subject) (slot : ℕ) (known : Option Description) → HasSmallNext (insn_at p.text slot) → IfSome known IsDescription → AreDescribed (flows_by p slot known)
-flows_keep p slot None small h = All-nil (λ t. IsDescription t.1)
-flows_keep p slot (Some d) small h = of (flow p slot d) (flow_keeps p slot d small h)
+flows_keep : (p : Subject) (slot : ℕ) (known : Option Description) → HasShapes p.shapes → HasSmallNext (insn_at p.text slot) → IfSome known IsDescription → AreDescribed (flows_by p slot known)
+flows_keep p slot None shapes small h = All-nil (λ t. IsDescription t.1)
+flows_keep p slot (Some d) shapes small h = of (flow p slot d) (flow_keeps p slot d shapes small h)
   where
     of : (r : Result (List (ℕ × Description)) ℕ) → IfOk r AreDescribed → AreDescribed (targets_of r)
     of (Ok targets) q = q
     of (Err rule) q = All-nil (λ t. IsDescription t.1)
 
-tight_flows : (p : Subject) (tight : Table) (n : ℕ) → All (λ byte. byte < 256) p.text → IsTightBefore p tight n → FlowDescribed p tight n
-tight_flows p tight zero bytes t s h = absurd (omega arith)
-tight_flows p tight (suc n) bytes t s h =
-    let before : FlowDescribed p tight n = tight_flows p tight n bytes (λ r k. t r (omega arith)) in
+tight_flows : (p : Subject) (tight : Table) (n : ℕ) → HasShapes p.shapes → All (λ byte. byte < 256) p.text → IsTightBefore p tight n → FlowDescribed p tight n
+tight_flows p tight zero shapes bytes t s h = absurd (omega arith)
+tight_flows p tight (suc n) shapes bytes t s h =
+    let before : FlowDescribed p tight n = tight_flows p tight n shapes bytes (λ r k. t r (omega arith)) in
     elim (below_next s n h) [
       | inl below ↦ before s below
       | inr same ↦
           let P : ℕ → Type 0 = λ s. AreDescribed (flows_from p tight s) in
           let known : IfSome (described tight n) IsDescription = subst (λ o. IfSome o IsDescription) (sym (t n (omega arith))) (IsDescription-incoming p tight n n before) in
-          subst P (sym same) (flows_keep p n (described tight n) (next_is_small p.text n bytes) known)
+          subst P (sym same) (flows_keep p n (described tight n) shapes (next_is_small p.text n bytes) known)
     ]
 
 -- a refusal of a text of bytes leaves no lawful table
-pub refusal_leaves_none : (p : Subject) (refused : Refused) → All (λ byte. byte < 256) p.text → IsRefusal p refused → HasNoLawful p
-refusal_leaves_none p refused bytes i table lawful =
+pub refusal_leaves_none : (p : Subject) (refused : Refused) → IsSubject p → All (λ byte. byte < 256) p.text → IsRefusal p refused → HasNoLawful p
+refusal_leaves_none p refused subject bytes i table lawful =
     broken_leaves_none p table i.table refused.slot refused.number
-    (tight_flows p i.table refused.slot bytes (λ s h. i.tight s (omega arith)))
+    (tight_flows p i.table refused.slot subject.shapes bytes (λ s h. i.tight s (omega arith)))
     (λ s h. i.tight s (omega arith)) i.breaks lawful

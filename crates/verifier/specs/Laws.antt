@@ -4,7 +4,7 @@ use Rattle.host_types.specs.declared.fault.Refused.{Refused}
 use Rattle.verifier.specs.Subject.{Subject}
 use Rattle.bpf_decode.specs.Text.{slots_of}
 use Rattle.verifier.specs.Table.{Table, IsTightTable, IsRefusal, HasNoLawful}
-use Rattle.verifier.specs.Verified.{Accepted}
+use Rattle.verifier.specs.Verified.{Accepted, IsSubject}
 use Rattle.verifier.specs.Reserve.{cost_at, reserve_from}
 
 -- a subject has one refusal at most
@@ -21,7 +21,7 @@ RefusalExcludesTable = (p : Subject) (table : Table) (refused : Refused) → IsT
 
 -- a text of bytes that has a refusal has no lawful table, whoever looks for one
 abbrev pub RefusalLeavesNoLawful : Type 0
-RefusalLeavesNoLawful = (p : Subject) (refused : Refused) → All (λ byte. byte < 256) p.text → IsRefusal p refused → HasNoLawful p
+RefusalLeavesNoLawful = (p : Subject) (refused : Refused) → IsSubject p → All (λ byte. byte < 256) p.text → IsRefusal p refused → HasNoLawful p
 
 -- what the instruction at a slot may need, and the reserve of a later slot, are reserved at the slot
 abbrev pub ReserveCoversStep : Type 0
