@@ -8,7 +8,8 @@ use std::alloc::Global;
 use verifier::Verified;
 
 /// Whether both passes of the plain verifier answer of a well-formed text, with maps of these shapes and a
-/// context of a size, what `verify` answered: the same number and slot of a refusal, or the same kinds.
+/// context of a size, the same as one another, with the same table, up to the slot that is refused if one is;
+/// and what `verify` answered: the same number and slot of a refusal, or the same kinds.
 pub fn judge_alike(
     alloc: Global,
     text: &[u8],
@@ -19,8 +20,13 @@ pub fn judge_alike(
     requires shapes { AreShapes shapes.now }
     requires context { IsContextSize size }
 {
-    forward(alloc, text, shapes, size).is_some_and(|judged| is_as(&judged, verified))
-        && backward(alloc, text, shapes, size).is_some_and(|judged| is_as(&judged, verified))
+    let Some(forward) = forward(alloc, text, shapes, size) else {
+        return false;
+    };
+    let Some(backward) = backward(alloc, text, shapes, size) else {
+        return false;
+    };
+    forward == backward && is_as(&forward, verified)
 }
 
 /// What the pass answers that joins in order; `None` where the decoder refuses, or for want of memory.
@@ -43,7 +49,7 @@ fn backward(alloc: Global, text: &[u8], shapes: &[Option<Shape>], size: u32) -> 
 fn is_as(judged: &Judged, verified: &Result<Verified, Refused>) -> bool {
     match (judged, verified) {
         (Judged::Accepted(table), Ok(program)) => has_kinds(table, program),
-        (Judged::Refused(refused), Err(named)) => refused == named,
+        (Judged::Refused { refused, .. }, Err(named)) => refused == named,
         _ => false,
     }
 }

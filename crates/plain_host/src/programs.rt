@@ -116,7 +116,7 @@ fn table_of(alloc: Global, text: &[u8], shapes: &[Shape], context_size: u32) -> 
     };
     match judge_forward(alloc, program, shapes, context_size) {
         Ok(Judged::Accepted(table)) => Ok(table),
-        Ok(Judged::Refused(refused)) => Err(refused.fault()),
+        Ok(Judged::Refused { refused, .. }) => Err(refused.fault()),
         Err(AllocError) => Err(Fault::OutOfMemory),
     }
 }

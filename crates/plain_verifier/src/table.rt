@@ -7,7 +7,7 @@ use verifier_kinds::{Description, Kind};
 
 /// What is known at each slot of a text, in order: a description, or nothing where the slot isn't
 /// reached. Contracts see the descriptions.
-#[derive(Drop)]
+#[derive(Drop, PartialEq, Eq)]
 pub struct Table {
     pub(crate) slots: Vec<Option<Description>>,
 }
@@ -33,10 +33,11 @@ impl Table {
 }
 
 /// How a text was judged.
-#[derive(Drop)]
+#[derive(Drop, PartialEq, Eq)]
 pub enum Judged {
     /// No slot that is reached breaks a rule.
     Accepted(Table),
-    /// This slot is the first that breaks a rule, and this number the smallest there.
-    Refused(Refused),
+    /// A slot breaks a rule: it's the first, and the number is the smallest there. The table ends with what
+    /// is known at that slot.
+    Refused { table: Table, refused: Refused },
 }

@@ -16,3 +16,4 @@ pub mod WithoutMaps
 pub mod Narrower
 pub mod Complete
 pub mod Described
+pub mod Readings
