@@ -2,6 +2,7 @@ ghost use Rattle.verifier.specs.Subject.{IsContextSize};
 ghost use Rattle.verifier.specs.Verified.{AreShapes};
 
 use bpf_decode::decode;
+use host_types::limits::MAX_TEXT;
 use host_types::{Refused, Shape};
 use plain_verifier::{Judged, Table, judge_backward, judge_forward};
 use std::alloc::Global;
@@ -26,7 +27,8 @@ pub fn judge_alike(
     let Some(backward) = backward(alloc, text, shapes, size) else {
         return false;
     };
-    forward == backward && is_as(&forward, verified)
+    let slots = (text.len().min(MAX_TEXT) / 8) as u32;
+    is_one(&forward, &backward, slots) && is_as(&forward, verified)
 }
 
 /// What the pass answers that joins in order; `None` where the decoder refuses, or for want of memory.
@@ -43,6 +45,31 @@ fn backward(alloc: Global, text: &[u8], shapes: &[Option<Shape>], size: u32) -> 
     requires context { IsContextSize size }
 {
     judge_backward(alloc, decode(alloc, text).ok()?, shapes, size).ok()
+}
+
+/// Whether two passes judged a text of so many slots alike, with one table.
+fn is_one(judged: &Judged, again: &Judged, slots: u32) -> bool {
+    match (judged, again) {
+        (Judged::Accepted(table), Judged::Accepted(other)) => is_same(table, other, slots),
+        (
+            Judged::Refused { table, refused },
+            Judged::Refused {
+                table: other,
+                refused: named,
+            },
+        ) => refused == named && is_same(table, other, slots),
+        _ => false,
+    }
+}
+
+/// Whether two tables say the same of each slot of a text.
+fn is_same(table: &Table, other: &Table, slots: u32) -> bool {
+    for slot in 0..slots {
+        if table.description(slot) != other.description(slot) {
+            return false;
+        }
+    }
+    true
 }
 
 /// Whether a text was judged as `verify` judged it.

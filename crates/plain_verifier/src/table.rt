@@ -1,4 +1,5 @@
 ghost use Rattle.std.specs.Prelude.{◌≡◌, ◌≤◌, length};
+ghost use Rattle.verifier.specs.Table.{described};
 ghost use Rattle.verifier.specs.Verified.{kind_at};
 
 use host_types::Refused;
@@ -7,7 +8,7 @@ use verifier_kinds::{Description, Kind};
 
 /// What is known at each slot of a text, in order: a description, or nothing where the slot isn't
 /// reached. Contracts see the descriptions.
-#[derive(Drop, PartialEq, Eq)]
+#[derive(Drop)]
 pub struct Table {
     pub(crate) slots: Vec<Option<Description>>,
 }
@@ -30,10 +31,17 @@ impl Table {
         let known = self.slots.get(slot as usize)?.as_ref()?;
         known.register(register)
     }
+
+    /// What is known at a slot: `None` where the slot isn't reached, or lies behind the table's last one.
+    pub fn description(&self, slot: u32) -> Option<Description>
+        ensures { result ≡ described self.now slot }
+    {
+        *self.slots.get(slot as usize)?
+    }
 }
 
 /// How a text was judged.
-#[derive(Drop, PartialEq, Eq)]
+#[derive(Drop)]
 pub enum Judged {
     /// No slot that is reached breaks a rule.
     Accepted(Table),

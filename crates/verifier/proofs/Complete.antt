@@ -1,9 +1,9 @@
 -- The verifier is complete: what the tight table says lies below every lawful one, so a slot that breaks
 -- a rule there leaves no lawful table.
-use Rattle.std.proofs.Common.{◌≡◌, ℕ, zero, suc, ◌<◌, ◌≤◌, ◌==◌, if◌then◌else◌, List, [], ◌∷◌, All, IfSome, Option, Some, None, Result, Ok, Err, refl, sym, ap, subst, ◌∙◌, inl, inr, arith}
+use Rattle.std.proofs.Common.{◌≡◌, ℕ, zero, suc, ◌<◌, ◌==◌, if◌then◌else◌, List, [], ◌∷◌, All, IfSome, Option, Some, None, Result, Ok, Err, refl, sym, ap, subst, ◌∙◌, inl, inr, arith}
 use Rattle.std.proofs.lemmas.List.Elements.{All-nil, All-head, All-tail}
 use Rattle.verifier_kinds.specs.declared.description.Description.{Description}
-use Rattle.verifier_kinds.specs.Descriptions.{start_description, join_of, IsDescription, IsDescriptionBelow, IsLawfulAt}
+use Rattle.verifier_kinds.specs.Descriptions.{start_description, IsDescription, IsDescriptionBelow, IsLawfulAt}
 use Rattle.verifier_kinds.proofs.Least.{join_below}
 use Rattle.verifier_kinds.proofs.NarrowerKinds.{IsResultBelow}
 use Rattle.verifier_kinds.proofs.NarrowerDescriptions.{IsNarrower, described_is_normal, lawful_is_normal}

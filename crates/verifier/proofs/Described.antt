@@ -1,6 +1,6 @@
 -- What an instruction lets flow on from a description of the verifier are such descriptions. So what a
 -- text of bytes refuses leaves no lawful table, whoever refuses it.
-use Rattle.std.proofs.Common.{◌≡◌, ℕ, zero, suc, ◌+◌, ◌-◌, ◌*◌, ◌/◌, ◌%◌, ◌^◌, ◌<◌, ◌≤◌, ◌==◌, ◌∙◌, ℤ, pos, negsuc, ◌+ℤ◌, Bool, true, false, not, if◌then◌else◌, bit_or, nat_lt, List, [], ◌∷◌, ◌++◌, length, take, drop, All, IfSome, Option, Some, None, option_map, Result, Ok, Err, refl, sym, ap, subst, inl, inr, arith}
+use Rattle.std.proofs.Common.{◌≡◌, ℕ, zero, suc, ◌+◌, ◌*◌, ◌/◌, ◌%◌, ◌^◌, ◌<◌, ◌≤◌, ◌==◌, ℤ, pos, negsuc, ◌+ℤ◌, Bool, true, false, not, nat_lt, List, [], ◌++◌, length, take, drop, All, IfSome, Option, Some, None, option_map, Result, Ok, Err, refl, sym, subst, inl, inr, arith}
 use Rattle.std.specs.Prelude.{IfOk, is_some}
 use Rattle.std.proofs.lemmas.Bool.{cond_both, eqb-true, ltb-true}
 use Rattle.std.proofs.lemmas.Nat.{mul-le, or_lt}
@@ -32,15 +32,15 @@ use Rattle.bpf_decode.specs.Opcodes.{operation_of, byte_count, distance_of, sign
 use Rattle.bpf_decode.specs.Text.{insn_at, opcode_at}
 use Rattle.insn_alu.specs.Arithmetic.{low}
 use Rattle.insn_alu.proofs.Small.{low_fits, width_small}
-use Rattle.verifier_kinds.specs.declared.kind.Align.TheVariants.{One, Eight}
+use Rattle.verifier_kinds.specs.declared.kind.Align.TheVariants.{One}
 use Rattle.verifier_kinds.specs.declared.kind.Range.{Range}
 use Rattle.verifier_kinds.specs.declared.kind.Kind.{Kind}
 use Rattle.verifier_kinds.specs.declared.kind.Kind.TheVariants.{Scalar, Context, Stack, MapValue, MaybeValue, MapName}
 use Rattle.verifier_kinds.specs.declared.description.StackSlot.{StackSlot}
 use Rattle.verifier_kinds.specs.declared.description.StackSlot.TheVariants.{Kept, Bytes}
 use Rattle.verifier_kinds.specs.declared.description.Description.{Description}
-use Rattle.verifier_kinds.specs.Kinds.{constant, normal, shape_at, IsKind, IsNormal}
-use Rattle.verifier_kinds.specs.Descriptions.{IsDescription, IsSlot, register_of, slot_of, settled, number_bytes, with_kind, with_slot, with_unset}
+use Rattle.verifier_kinds.specs.Kinds.{constant, shape_at, IsKind, IsNormal}
+use Rattle.verifier_kinds.specs.Descriptions.{IsDescription, IsSlot, register_of, slot_of, number_bytes, with_kind, with_slot, with_unset}
 use Rattle.verifier_kinds.specs.Arithmetic.{arith_by}
 use Rattle.verifier_kinds.specs.Refinement.{refined}
 use Rattle.verifier_kinds.proofs.Ranges.{constant_is_normal, normal_is_normal, full_is_normal}
@@ -51,8 +51,8 @@ use Rattle.verifier_kinds.proofs.Keeping.{arithmetic_is_kind}
 use Rattle.verifier.specs.declared.jumps.Compared.{Compared}
 use Rattle.verifier.specs.declared.jumps.Compared.TheVariants.{Numbers, Answer}
 use Rattle.verifier.specs.Subject.{Subject}
-use Rattle.verifier.specs.Flow.{◌>>=◌, both, known_or, holds_or, read_kind, writable, write_kind, immediate_kind, operand_kind, dst_is_known, computed_kind, after_alu, lies_below, aligned, context_place, stack_place, loaded_range, places, slot_kind, value_size_of, value_access, load_kind, loaded_kind, after_load, name_kind, at_offset, first_value_kind, wide_kind, after_load_immediate, written_slot, is_number, after_stack_store, stored, after_store, falls_to, jumps_to, target, is_null_check, compared_kinds, comparands, holds_of_null, checked_kind, beginning, on_way, flow_of_branch, called_map, answer_kind, without_arguments, after_call, after, falls_on, flow_by, flow}
-use Rattle.verifier.specs.Table.{Table, described, flows_by, flows_from, targets_of, incoming, IsRefusal, HasNoLawful}
+use Rattle.verifier.specs.Flow.{◌>>=◌, both, known_or, holds_or, read_kind, writable, write_kind, operand_kind, dst_is_known, computed_kind, after_alu, lies_below, aligned, context_place, stack_place, loaded_range, places, slot_kind, value_size_of, value_access, load_kind, loaded_kind, after_load, name_kind, at_offset, first_value_kind, wide_kind, after_load_immediate, written_slot, is_number, after_stack_store, stored, after_store, falls_to, jumps_to, target, is_null_check, compared_kinds, comparands, holds_of_null, checked_kind, on_way, flow_of_branch, called_map, answer_kind, without_arguments, after_call, falls_on, flow_by, flow}
+use Rattle.verifier.specs.Table.{Table, described, flows_by, flows_from, targets_of, IsRefusal, HasNoLawful}
 use Rattle.verifier.specs.Pass.{AreDescribed, FlowDescribed}
 use Rattle.verifier.specs.Verified.{HasShapes, IsSubject}
 use Rattle.verifier.specs.Way.{AreNormal}

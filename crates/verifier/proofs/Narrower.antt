@@ -1,15 +1,14 @@
 -- A larger description breaks a rule wherever a smaller one does, and flows to larger ones.
-use Rattle.std.proofs.Common.{◌≡◌, ℕ, zero, suc, ◌+◌, ◌-◌, ◌*◌, ◌/◌, ◌%◌, ◌^◌, ◌<◌, ◌≤◌, ◌==◌, ◌&&◌, ◌∙◌, nat_lt, ℤ, pos, negsuc, ◌+ℤ◌, ◌≤ℤ◌, Bool, true, false, not, if◌then◌else◌, bit_and, List, [], ◌∷◌, ◌++◌, All, IfSome, Option, Some, None, option_map, Result, Ok, Err, refl, sym, ap, subst, inl, inr, arith}
-use Rattle.std.specs.Prelude.{int_le}
+use Rattle.std.proofs.Common.{◌≡◌, ℕ, zero, suc, ◌+◌, ◌/◌, ◌%◌, ◌^◌, ◌≤◌, ◌==◌, ◌&&◌, ◌∙◌, ℤ, pos, ◌+ℤ◌, Bool, true, false, not, if◌then◌else◌, bit_and, List, [], ◌++◌, All, Option, Some, None, option_map, Result, Ok, Err, refl, sym, ap, subst, inl, inr, arith}
 use Rattle.std.proofs.lemmas.Int.{ints}
 use Rattle.std.proofs.lemmas.Nat.{pow_pos}
 use Rattle.std.specs.Int.Bits.{and_zero_l}
-use Rattle.std.proofs.lemmas.Bool.{cases_Bool, cond_both, cond-true, cond-false, and_parts, and_from, eq-eqb, eqb-true, eqb-false}
+use Rattle.std.proofs.lemmas.Bool.{cases_Bool, cond_both, cond-true, cond-false, and_parts, and_from, eq-eqb, eqb-true}
 use Rattle.std.proofs.lemmas.List.Elements.{All-nil, All-cons, All-head, All-tail, All-append}
 use Rattle.host_types.specs.declared.helper.MapHelper.{MapHelper}
 use Rattle.host_types.specs.declared.helper.MapHelper.TheVariants.{Lookup, Update, Delete}
 use Rattle.host_types.specs.Layout.{stack_size}
-use Rattle.host_types.specs.Rules.{unknown_opcode, unset_register, pointer_leaks, unset_stack, unknown_helper, outside_map, misaligned, outside_context, outside_stack}
+use Rattle.host_types.specs.Rules.{unknown_opcode, unset_register, pointer_leaks, unset_stack, unknown_helper, outside_map, misaligned, outside_stack}
 use Rattle.host_types.specs.Helpers.{helper_of}
 use Rattle.bpf_decode.specs.declared.insn.Insn.{Insn}
 use Rattle.bpf_decode.specs.declared.operation.Source.{Source}
@@ -37,7 +36,7 @@ use Rattle.verifier_kinds.specs.declared.kind.Kind.TheVariants.{Scalar, Context,
 use Rattle.verifier_kinds.specs.declared.description.StackSlot.{StackSlot}
 use Rattle.verifier_kinds.specs.declared.description.StackSlot.TheVariants.{Kept, Bytes}
 use Rattle.verifier_kinds.specs.declared.description.Description.{Description}
-use Rattle.verifier_kinds.specs.Kinds.{constant, factor, full, rank, range_in, IsNormal, IsNormalKind, IsWithin, IsKindBelow}
+use Rattle.verifier_kinds.specs.Kinds.{constant, factor, full, range_in, IsNormal, IsNormalKind, IsWithin, IsKindBelow}
 use Rattle.verifier_kinds.specs.Descriptions.{IsDescriptionBelow, IsSlotBelow, register_of, slot_of, settled, number_bytes, with_kind, with_slot, with_unset}
 use Rattle.verifier_kinds.specs.Arithmetic.{arith_by}
 use Rattle.verifier_kinds.specs.Refinement.{refined}
@@ -50,8 +49,8 @@ use Rattle.verifier_kinds.proofs.NarrowerDescriptions.{IsNarrower, IsSlotNarrowe
 use Rattle.verifier.specs.declared.jumps.Compared.{Compared}
 use Rattle.verifier.specs.declared.jumps.Compared.TheVariants.{Numbers, Answer}
 use Rattle.verifier.specs.Subject.{Subject}
-use Rattle.verifier.specs.Flow.{◌>>=◌, both, first_of, holds_or, known_or, read_kind, writable, write_kind, immediate_kind, operand_kind, dst_is_known, computed_kind, after_alu, lies_below, aligned, context_place, stack_place, loaded_range, places, slot_kind, value_size_of, begins_in_value, ends_in_value, lies_in_value, is_aligned_in_value, value_access, load_kind, loaded_kind, after_load, wide_kind, after_load_immediate, written_slot, is_number, after_stack_store, stored, after_store, falls_to, jumps_to, target, is_null_check, compared_kinds, comparands, holds_of_null, checked_kind, on_way, flow_of_branch, flow_of_jump, byte_in_slot, bytes_known, argument, points, name_in, flags_in, named_map, key_argument, value_argument, flags_argument, update_arguments, called_map, answer_kind, without_arguments, after_call, after, falls_on, flow_of_exit, flow_by, flow}
-use Rattle.verifier.specs.Table.{Table, described, IsContained}
+use Rattle.verifier.specs.Flow.{◌>>=◌, both, first_of, holds_or, known_or, read_kind, writable, write_kind, operand_kind, dst_is_known, computed_kind, after_alu, lies_below, aligned, context_place, stack_place, loaded_range, places, slot_kind, value_size_of, begins_in_value, ends_in_value, lies_in_value, is_aligned_in_value, value_access, load_kind, loaded_kind, after_load, wide_kind, after_load_immediate, written_slot, is_number, after_stack_store, stored, after_store, falls_to, jumps_to, target, is_null_check, compared_kinds, comparands, holds_of_null, checked_kind, on_way, flow_of_branch, byte_in_slot, bytes_known, argument, name_in, flags_in, named_map, key_argument, value_argument, flags_argument, update_arguments, called_map, answer_kind, without_arguments, after_call, falls_on, flow_of_exit, flow_by, flow}
+use Rattle.verifier.specs.Table.{Table, IsContained}
 
 -- ---- questions
 

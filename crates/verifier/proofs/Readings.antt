@@ -1,5 +1,5 @@
 -- A refusal stands against every reading of a text, whatever kinds of things that knows.
-use Rattle.std.proofs.Common.{◌≡◌, ℕ, zero, suc, ◌<◌, ◌==◌, ◌∙◌, if◌then◌else◌, Bool, true, List, [], ◌∷◌, All, IfSome, Option, Some, None, Result, Ok, Err, sym, ap, subst, inl, inr, arith}
+use Rattle.std.proofs.Common.{◌≡◌, ℕ, zero, suc, ◌<◌, ◌==◌, ◌∙◌, if◌then◌else◌, Bool, List, [], ◌∷◌, IfSome, Option, Some, None, Result, Ok, Err, sym, ap, subst, inl, inr, arith}
 use Rattle.std.proofs.lemmas.List.Elements.{All-nil, All-head, All-tail}
 use Rattle.host_types.specs.declared.fault.Refused.{Refused}
 use Rattle.verifier_kinds.specs.declared.description.Description.{Description}

@@ -1,6 +1,6 @@
 -- What arithmetic makes of kinds of the verifier is one.
-use Rattle.std.proofs.Common.{◌≡◌, ℕ, ◌+◌, ◌%◌, ◌<◌, ◌≤◌, ◌&&◌, nat_le, ℤ, pos, negsuc, ◌+ℤ◌, ◌-ℤ◌, ◌≤ℤ◌, Bool, true, false, IfSome, Option, Some, None, Result, Ok, Err, refl, arith}
-use Rattle.std.specs.Prelude.{if◌then◌else◌, int_le, IfOk}
+use Rattle.std.proofs.Common.{◌≡◌, ℕ, ◌%◌, ◌<◌, ◌≤◌, ◌&&◌, nat_le, ℤ, pos, negsuc, ◌+ℤ◌, ◌-ℤ◌, ◌≤ℤ◌, IfSome, Option, Some, None, Ok, Err, refl, arith}
+use Rattle.std.specs.Prelude.{int_le, IfOk}
 use Rattle.std.specs.Int.{cast_signed, w64}
 use Rattle.std.proofs.lemmas.Int.{ints}
 use Rattle.std.proofs.lemmas.Bool.{cond_both, and_parts, leb-true}
@@ -17,8 +17,8 @@ use Rattle.verifier_kinds.specs.declared.kind.Range.{Range}
 use Rattle.verifier_kinds.specs.declared.kind.Offsets.{Offsets}
 use Rattle.verifier_kinds.specs.declared.kind.Kind.{Kind}
 use Rattle.verifier_kinds.specs.declared.kind.Kind.TheVariants.{Scalar, Context, Stack, MapValue, MaybeValue, MapName}
-use Rattle.verifier_kinds.specs.Kinds.{factor, is_constant, least_align, normal, offsets_in, range_in, IsKind, IsNormal, IsOffset, AreOffsets}
-use Rattle.verifier_kinds.specs.Arithmetic.{row, normal_of, taken, computed_range, range_of, within_offsets, moved_forward, moved_back, displaced, signed_offset, within_value, displaced_value, kind_of, kind_with_dst, moved_number, copied, arith_by}
+use Rattle.verifier_kinds.specs.Kinds.{factor, is_constant, least_align, normal, offsets_in, range_in, IsKind, IsNormal, IsOffset}
+use Rattle.verifier_kinds.specs.Arithmetic.{taken, computed_range, range_of, within_offsets, displaced, signed_offset, within_value, displaced_value, kind_of, kind_with_dst, moved_number, copied, arith_by}
 use Rattle.verifier_kinds.proofs.Ranges.{constant_is_normal}
 use Rattle.verifier_kinds.proofs.Operands.{taken_below}
 use Rattle.verifier_kinds.proofs.Computed.{row_is_normal}

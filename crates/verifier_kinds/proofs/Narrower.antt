@@ -1,30 +1,30 @@
 -- Narrower ranges: of ranges that lie within others, arithmetic makes ranges that do.
-use Rattle.std.proofs.Common.{◌≡◌, ℕ, ◌+◌, ◌-◌, ◌*◌, ◌/◌, ◌%◌, ◌^◌, ◌<◌, ◌≤◌, ◌==◌, ◌&&◌, ◌∙◌, min, max, nat_lt, nat_le, suc, ℤ, Bool, true, false, inl, inr, refl, sym, ap, subst, arith}
+use Rattle.std.proofs.Common.{◌≡◌, ℕ, ◌+◌, ◌-◌, ◌*◌, ◌/◌, ◌%◌, ◌^◌, ◌<◌, ◌≤◌, ◌==◌, ◌&&◌, ◌∙◌, min, max, nat_lt, nat_le, suc, ℤ, Bool, true, false, inl, inr, sym, ap, subst, arith}
 use Rattle.std.specs.Prelude.{if◌then◌else◌}
 use Rattle.std.specs.Int.{leading_zeros, w64}
-use Rattle.std.proofs.lemmas.Bool.{cases_Bool, cond_both, cond-true, cond-false, and_parts, and_from, eq-eqb, eqb-true, eqb-false, le-leb, leb-true, leb-false, lt-ltb, le-ltb, ltb-true, ltb-false, cases_lt}
+use Rattle.std.proofs.lemmas.Bool.{cond_both, cond-true, cond-false, and_parts, eq-eqb, eqb-true, eqb-false, le-leb, leb-true, leb-false, lt-ltb, ltb-true, cases_lt}
 use Rattle.std.proofs.lemmas.Nat.{mul-le, leading_length, shr_le, pow_pos}
 use Rattle.std.proofs.Math.Nat.{div-le_self, le_trans, pow-suc}
 use Rattle.std.proofs.Math.Pow.{pow_mono}
 use Rattle.bpf_decode.specs.declared.operation.Width.{Width}
-use Rattle.bpf_decode.specs.declared.operation.Width.TheVariants.{Bits32, Bits64}
+use Rattle.bpf_decode.specs.declared.operation.Width.TheVariants.{Bits64}
 use Rattle.bpf_decode.specs.declared.operation.AluCode.{AluCode}
 use Rattle.bpf_decode.specs.declared.operation.AluCode.TheVariants.{Add, Sub, Mul, Div, Or, And, Lsh, Rsh, Neg, Mod, Xor, Mov, Arsh, ToLittleEndian, ToBigEndian, SwapBytes}
 use Rattle.bpf_decode.specs.Opcodes.{is}
 use Rattle.insn_alu.specs.Arithmetic.{alu, modulus, count}
-use Rattle.insn_alu.proofs.Small.{bits_small, width_small}
+use Rattle.insn_alu.proofs.Small.{bits_small}
 use Rattle.verifier_kinds.specs.declared.kind.Align.{Align}
 use Rattle.verifier_kinds.specs.declared.kind.Align.TheVariants.{One, Two, Four, Eight}
 use Rattle.verifier_kinds.specs.declared.kind.Range.{Range}
 use Rattle.verifier_kinds.specs.Kinds.{factor, rank, of_rank, raised, least_align, greatest_align, align_of, is_constant, constant, IsIn, IsNormal, IsWithin}
 use Rattle.verifier_kinds.specs.Arithmetic.{between, all, normal_of, taken, unless_wrapped, sum_of, difference_of, product_of, quotient_of, remainder_of, and_of, ones_from, or_of, xor_of, shifted_left, left_shift_of, right_by, right_shift_of, greatest_of_bits, swapped_range, row, computed_range, range_of}
-use Rattle.verifier_kinds.proofs.Ranges.{first_below, first_divided, last_above, last_below, last_divided, divided_by_least_right, in_constant}
+use Rattle.verifier_kinds.proofs.Ranges.{first_below, first_divided, last_above, last_below, last_divided, divided_by_least_right}
 use Rattle.verifier_kinds.proofs.Operands.{in_all, in_normal_of, all_is_normal, taken_below, modulus_positive, zero_divided}
 use Rattle.verifier_kinds.proofs.RowLaws.{quotient_order, at_least_one, not_zero}
 use Rattle.verifier_kinds.proofs.Joins.{least_below_left, least_below_right}
 use Rattle.verifier_kinds.proofs.Computed.{in_row_of_ends}
 use Rattle.verifier_kinds.proofs.Refinement.{first_above}
-use Rattle.verifier_kinds.proofs.Order.{within_self, within_trans}
+use Rattle.verifier_kinds.proofs.Order.{within_self}
 
 -- ---- alignments
 

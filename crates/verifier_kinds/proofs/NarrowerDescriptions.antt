@@ -1,6 +1,6 @@
 -- Narrower descriptions: what is below others stays so once a register or a slot of the stack is replaced,
 -- and once it is known of what kind the answer of a call is.
-use Rattle.std.proofs.Common.{◌≡◌, ℕ, zero, suc, ◌∙◌, ◌==◌, min, max, bit_and, bit_or, List, [], ◌∷◌, length, get_or, slice_set, Option, Some, None, IfSome, refl, sym, ap, subst, arith}
+use Rattle.std.proofs.Common.{◌≡◌, ℕ, zero, suc, ◌∙◌, ◌==◌, min, bit_and, bit_or, List, [], ◌∷◌, length, get_or, slice_set, Option, Some, None, IfSome, refl, sym, ap, subst, arith}
 use Rattle.std.specs.Prelude.{option_map}
 use Rattle.std.specs.Int.{bit_at}
 use Rattle.std.specs.Int.Bits.{and_self, and_zero_l}
@@ -18,7 +18,7 @@ use Rattle.verifier_kinds.specs.Descriptions.{IsDescription, IsLawfulAt, IsNorma
 use Rattle.verifier_kinds.proofs.Calls.{register_is_normal, slot_is_normal}
 use Rattle.verifier_kinds.proofs.Descriptions.{register_of-settled, slot_of-settled}
 use Rattle.verifier_kinds.proofs.Order.{kind_below_self, kept_places}
-use Rattle.verifier_kinds.proofs.NarrowerKinds.{IsKindNarrower, IsKnownNarrower}
+use Rattle.verifier_kinds.proofs.NarrowerKinds.{IsKnownNarrower}
 
 -- ---- descriptions with normal ranges
 

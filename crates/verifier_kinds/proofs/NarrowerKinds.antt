@@ -1,11 +1,11 @@
 -- Narrower kinds: of kinds that are below others, arithmetic and conditional jumps make kinds that are.
-use Rattle.std.proofs.Common.{◌≡◌, ℕ, ◌+◌, ◌-◌, ◌/◌, ◌*◌, ◌%◌, ◌^◌, ◌<◌, ◌≤◌, ◌==◌, ◌&&◌, ◌∙◌, min, max, nat_lt, nat_le, ℤ, pos, negsuc, ◌+ℤ◌, ◌-ℤ◌, ◌≤ℤ◌, ◌<ℤ◌, Bool, true, false, inl, inr, Option, Some, None, Result, Ok, Err, refl, sym, ap, subst, arith}
+use Rattle.std.proofs.Common.{◌≡◌, ℕ, ◌+◌, ◌-◌, ◌/◌, ◌*◌, ◌%◌, ◌^◌, ◌<◌, ◌≤◌, ◌==◌, min, max, nat_lt, nat_le, ℤ, pos, negsuc, ◌+ℤ◌, ◌-ℤ◌, ◌≤ℤ◌, ◌<ℤ◌, Bool, true, false, inl, inr, Option, Some, None, Result, Ok, Err, refl, subst, arith}
 use Rattle.std.specs.Prelude.{if◌then◌else◌}
 use Rattle.std.specs.Int.{cast_signed, w64}
 use Rattle.std.proofs.lemmas.Int.{ints, to_z_pos}
-use Rattle.std.proofs.lemmas.Bool.{cases_Bool, cases_lt, cond_both, cond-true, cond-false, and_parts, and_from, eqb-true, eqb-false, le-leb, leb-true, leb-false, lt-ltb, ltb-true}
+use Rattle.std.proofs.lemmas.Bool.{cases_Bool, cases_lt, cond_both, cond-true, cond-false, and_parts, and_from, eqb-true, eqb-false, le-leb, leb-true, lt-ltb, ltb-true}
 use Rattle.std.proofs.Math.Nat.{le_trans}
-use Rattle.host_types.specs.Rules.{wrong_kind, outside_map, unset_register, null_not_checked}
+use Rattle.host_types.specs.Rules.{wrong_kind, outside_map}
 use Rattle.bpf_decode.specs.declared.operation.Width.{Width}
 use Rattle.bpf_decode.specs.declared.operation.Width.TheVariants.{Bits32, Bits64}
 use Rattle.bpf_decode.specs.declared.operation.AluCode.{AluCode}
@@ -18,9 +18,9 @@ use Rattle.verifier_kinds.specs.declared.kind.Align.{Align}
 use Rattle.verifier_kinds.specs.declared.kind.Range.{Range}
 use Rattle.verifier_kinds.specs.declared.kind.Offsets.{Offsets}
 use Rattle.verifier_kinds.specs.declared.kind.Kind.{Kind}
-use Rattle.verifier_kinds.specs.declared.kind.Kind.TheVariants.{Scalar, Context, Stack, MapValue, MaybeValue, MapName}
-use Rattle.verifier_kinds.specs.Kinds.{factor, rank, least_align, greatest_align, is_constant, constant, normal, range_in, offsets_in, IsIn, IsNormal, IsNormalKind, IsWithin, IsKindBelow, IsBelow}
-use Rattle.verifier_kinds.specs.Arithmetic.{between, normal_of, range_of, moved_forward, moved_back, displaced, signed_offset, within_value, displaced_value, kind_of, kind_with_dst, moved_number, copied, arith_by}
+use Rattle.verifier_kinds.specs.declared.kind.Kind.TheVariants.{Scalar, Context, Stack, MapValue, MaybeValue}
+use Rattle.verifier_kinds.specs.Kinds.{factor, rank, least_align, greatest_align, is_constant, normal, range_in, offsets_in, IsIn, IsNormal, IsNormalKind, IsWithin, IsKindBelow}
+use Rattle.verifier_kinds.specs.Arithmetic.{between, normal_of, range_of, displaced, signed_offset, within_value, displaced_value, kind_of, kind_with_dst, moved_number, copied, arith_by}
 use Rattle.verifier_kinds.specs.Refinement.{some_of, without_end, negated, kept_by, is_told, refined}
 use Rattle.verifier_kinds.proofs.Ranges.{first_divided, last_below}
 use Rattle.verifier_kinds.proofs.Order.{within_trans, kind_below_self}
@@ -66,9 +66,12 @@ ends_narrow m d e (pos low) (pos high) (pos wide_low) (pos wide_high) p ordered 
     cond_both (nat_le wide_high 131072) (Ok (MapValue m (offsets_in (normal wide_low wide_high e)))) (Err outside_map) (IsResultBelow IsKindBelow (within_value m d (pos low) (pos high)))
     (λ t.
     let small : wide_high ≤ 131072 = leb-true wide_high 131072 t in
-    rw (cond-true (nat_le high 131072) (Ok (MapValue m (offsets_in (normal low high d)))) (Err outside_map) (le-leb high 131072 (omega arith)))
-    (offsets_in (normal low high d), refl, normal_narrows (between low high d) (between wide_low wide_high e) low
-    (record { low = omega arith; high = order; aligned = divided low refl }) (record { low = low_order; high = high_order; aligned = h })))
+    rw (cond-true (nat_le high 131072) (Ok (MapValue m (offsets_in (normal low high d)))) (Err outside_map) (le-leb high 131072 (omega arith))) (
+      offsets_in (normal low high d),
+      refl,
+      normal_narrows (between low high d) (between wide_low wide_high e) low
+          (record { low = omega arith; high = order; aligned = divided low refl }) (record { low = low_order; high = high_order; aligned = h }),
+    ))
     (λ _. tt)
 ends_narrow m d e (pos low) (negsuc high) (pos wide_low) (pos wide_high) p ordered q h divided = absurd (omega (arith, ints))
 ends_narrow m d e (negsuc low) high (pos wide_low) (pos wide_high) p ordered q h divided = absurd (omega (arith, ints))
@@ -97,30 +100,30 @@ added_narrows m offsets outer by wide p outer_p q wide_q w by_w = elim (cases_Bo
       (rank_least outer.align wide.align offsets.align wide.align w.aligned (omega arith))
       (λ n is. added_divided offsets wide n p wide_q is))
   | inr f ↦ elim (cases_lt wide.high (2 ^ 63)) [
-      | inl less ↦
-          let by_low = by_w.low in
-          let by_high = by_w.high in
-          let by_ordered = q.ordered in
-          let w_low = w.low in
-          let w_high = w.high in
-          let ordered = p.ordered in
-          let low : signed_offset by by.low ≡ pos by.low = open_low by by.low (omega arith) in
-          let high : signed_offset by by.high ≡ pos by.high = open_low by by.high (omega arith) in
-          let wide_low : signed_offset wide wide.low ≡ pos wide.low = signed_open wide wide.low f in
-          let wide_high : signed_offset wide wide.high ≡ pos wide.high = signed_open wide wide.high f in
-          ends_narrow m (least_align offsets.align by.align) (least_align outer.align wide.align)
-          (pos offsets.low +ℤ signed_offset by by.low) (pos offsets.high +ℤ signed_offset by by.high)
-          (pos outer.low +ℤ signed_offset wide wide.low) (pos outer.high +ℤ signed_offset wide wide.high)
-          (rw (low, wide_low) (omega (arith, ints)))
-          (rw (low, high) (omega (arith, ints)))
-          (rw (high, wide_high) (omega (arith, ints)))
-          (rank_least outer.align wide.align offsets.align by.align w.aligned by_w.aligned)
-          (λ n is. added_divided offsets by n p q is)
-      | inr more ↦
-          let wide_high : signed_offset wide wide.high ≡ pos wide.high = signed_open wide wide.high f in
-          let far : pos 131072 <ℤ (pos outer.high +ℤ signed_offset wide wide.high) = rw wide_high (omega (arith, ints)) in
-          rw (refused_above m (least_align outer.align wide.align) (pos outer.low +ℤ signed_offset wide wide.low) (pos outer.high +ℤ signed_offset wide wide.high) far) tt
-    ]
+    | inl less ↦
+        let by_low = by_w.low in
+        let by_high = by_w.high in
+        let by_ordered = q.ordered in
+        let w_low = w.low in
+        let w_high = w.high in
+        let ordered = p.ordered in
+        let low : signed_offset by by.low ≡ pos by.low = open_low by by.low (omega arith) in
+        let high : signed_offset by by.high ≡ pos by.high = open_low by by.high (omega arith) in
+        let wide_low : signed_offset wide wide.low ≡ pos wide.low = signed_open wide wide.low f in
+        let wide_high : signed_offset wide wide.high ≡ pos wide.high = signed_open wide wide.high f in
+        ends_narrow m (least_align offsets.align by.align) (least_align outer.align wide.align)
+        (pos offsets.low +ℤ signed_offset by by.low) (pos offsets.high +ℤ signed_offset by by.high)
+        (pos outer.low +ℤ signed_offset wide wide.low) (pos outer.high +ℤ signed_offset wide wide.high)
+        (rw (low, wide_low) (omega (arith, ints)))
+        (rw (low, high) (omega (arith, ints)))
+        (rw (high, wide_high) (omega (arith, ints)))
+        (rank_least outer.align wide.align offsets.align by.align w.aligned by_w.aligned)
+        (λ n is. added_divided offsets by n p q is)
+    | inr more ↦
+        let wide_high : signed_offset wide wide.high ≡ pos wide.high = signed_open wide wide.high f in
+        let far : pos 131072 <ℤ (pos outer.high +ℤ signed_offset wide wide.high) = rw wide_high (omega (arith, ints)) in
+        rw (refused_above m (least_align outer.align wide.align) (pos outer.low +ℤ signed_offset wide wide.low) (pos outer.high +ℤ signed_offset wide wide.high) far) tt
+  ]
 ]
   where
     sum_order : (a b : ℕ) (z : ℤ) → a ≤ b → (pos a +ℤ z) ≤ℤ (pos b +ℤ z)
