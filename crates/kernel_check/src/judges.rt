@@ -2,13 +2,15 @@ ghost use Rattle.verifier.specs.Subject.{IsContextSize};
 ghost use Rattle.verifier.specs.Verified.{AreShapes};
 
 use bpf_decode::decode;
+use host_types::limits::MAX_TEXT;
 use host_types::{Refused, Shape};
 use plain_verifier::{Judged, Table, judge_backward, judge_forward};
 use std::alloc::Global;
 use verifier::Verified;
 
 /// Whether both passes of the plain verifier answer of a well-formed text, with maps of these shapes and a
-/// context of a size, what `verify` answered: the same number and slot of a refusal, or the same kinds.
+/// context of a size, the same as one another, with the same table, up to the slot that is refused if one is;
+/// and what `verify` answered: the same number and slot of a refusal, or the same kinds.
 pub fn judge_alike(
     alloc: Global,
     text: &[u8],
@@ -19,8 +21,14 @@ pub fn judge_alike(
     requires shapes { AreShapes shapes.now }
     requires context { IsContextSize size }
 {
-    forward(alloc, text, shapes, size).is_some_and(|judged| is_as(&judged, verified))
-        && backward(alloc, text, shapes, size).is_some_and(|judged| is_as(&judged, verified))
+    let Some(forward) = forward(alloc, text, shapes, size) else {
+        return false;
+    };
+    let Some(backward) = backward(alloc, text, shapes, size) else {
+        return false;
+    };
+    let slots = (text.len().min(MAX_TEXT) / 8) as u32;
+    is_one(&forward, &backward, slots) && is_as(&forward, verified)
 }
 
 /// What the pass answers that joins in order; `None` where the decoder refuses, or for want of memory.
@@ -39,11 +47,36 @@ fn backward(alloc: Global, text: &[u8], shapes: &[Option<Shape>], size: u32) -> 
     judge_backward(alloc, decode(alloc, text).ok()?, shapes, size).ok()
 }
 
+/// Whether two passes judged a text of so many slots alike, with one table.
+fn is_one(judged: &Judged, again: &Judged, slots: u32) -> bool {
+    match (judged, again) {
+        (Judged::Accepted(table), Judged::Accepted(other)) => is_same(table, other, slots),
+        (
+            Judged::Refused { table, refused },
+            Judged::Refused {
+                table: other,
+                refused: named,
+            },
+        ) => refused == named && is_same(table, other, slots),
+        _ => false,
+    }
+}
+
+/// Whether two tables say the same of each slot of a text.
+fn is_same(table: &Table, other: &Table, slots: u32) -> bool {
+    for slot in 0..slots {
+        if table.description(slot) != other.description(slot) {
+            return false;
+        }
+    }
+    true
+}
+
 /// Whether a text was judged as `verify` judged it.
 fn is_as(judged: &Judged, verified: &Result<Verified, Refused>) -> bool {
     match (judged, verified) {
         (Judged::Accepted(table), Ok(program)) => has_kinds(table, program),
-        (Judged::Refused(refused), Err(named)) => refused == named,
+        (Judged::Refused { refused, .. }, Err(named)) => refused == named,
         _ => false,
     }
 }

@@ -125,7 +125,7 @@ fn table_of(
     };
     match judge_forward(alloc, program, shapes, context_size) {
         Ok(Judged::Accepted(table)) => Ok(table),
-        Ok(Judged::Refused(refused)) => Err(refused.fault()),
+        Ok(Judged::Refused { refused, .. }) => Err(refused.fault()),
         Err(AllocError) => Err(Fault::OutOfMemory),
     }
 }

@@ -9,14 +9,14 @@ use Rattle.verifier_kinds.specs.Descriptions.{start_description, IsDescription}
 use Rattle.verifier.specs.declared.flow.Target.{Target}
 use Rattle.verifier.specs.Subject.{Subject}
 use Rattle.verifier.specs.Flow.{flow}
-use Rattle.verifier.specs.Table.{Table, described, flows_by, flows_from, targets_of, arrived, incoming, Breaks, IsTightTable, IsRefusal}
+use Rattle.verifier.specs.Table.{Table, described, flows_by, flows_from, targets_of, arrived, incoming, Breaks, IsTightTable}
 use Rattle.verifier.specs.Pass.{AreDescribed}
 use Rattle.verifier.proofs.Tables.{below_next, incoming-agree, IsDescription-incoming, IsTightBefore}
 use Rattle.verifier.proofs.Passes.{described_read}
 use Rattle.verifier.proofs.Lawful.{first_instruction, described_instruction}
 use Rattle.plain_verifier.specs.declared.orders.Order.{Order}
 use Rattle.plain_verifier.specs.Orders.{pairs_of, in_order, flowed}
-use Rattle.plain_verifier.specs.Pass.{IsPulled}
+use Rattle.plain_verifier.specs.Pass.{IsPulled, IsRefusedIn}
 use Rattle.plain_verifier.proofs.Agreement.{arrived_in_order}
 
 -- tables that agree on the first n slots have the same that flowed from them
@@ -89,14 +89,18 @@ longer_clean : (p : Subject) (table : Table) (targets : List Target) (slot : ℕ
 longer_clean p table targets slot known i s rule h b =
     i.clean s rule h (record { description = b.description; found = sym (longer_before table known slot i.whole s h) ∙ b.found; breaks = b.breaks })
 
--- a slot that breaks a rule refuses the text
-pub known_refusal : (p : Subject) (table : Table) (targets : List Target) (slot number : ℕ) (d : Description) → slot < slots_of p.text → IsPulled p table targets slot → Some d ≡ incoming p table slot slot → flow p slot d ≡ Err number → IsRefusal p (record { number = number; slot = slot })
+-- a slot that breaks a rule refuses the text, in the table that ends with it
+pub known_refusal : (p : Subject) (table : Table) (targets : List Target) (slot number : ℕ) (d : Description) → slot < slots_of p.text → IsPulled p table targets slot → Some d ≡ incoming p table slot slot → flow p slot d ≡ Err number → IsRefusedIn p (longer table (Some d)) (record { number = number; slot = slot })
 known_refusal p table targets slot number d h i is breaks = record {
-  table = longer table (Some d);
-  within = h;
-  tight = λ s k. longer_tight p table targets slot (Some d) i is s (omega arith);
-  first = longer_clean p table targets slot (Some d) i;
-  breaks = record { description = d; found = longer_at table (Some d) slot i.whole; breaks = breaks };
+  whole = length-append table (Some d ∷ []) ∙ omega (arith, i.whole);
+  refusal = record {
+    table = longer table (Some d);
+    within = h;
+    tight = λ s k. longer_tight p table targets slot (Some d) i is s (omega arith);
+    first = longer_clean p table targets slot (Some d) i;
+    breaks = record { description = d; found = longer_at table (Some d) slot i.whole; breaks = breaks };
+  };
+  same = refl;
 }
 
 -- a slot that breaks no rule is passed over, once all that flows from it is listed

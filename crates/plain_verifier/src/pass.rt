@@ -86,7 +86,10 @@ fn judge(alloc: Global, candidate: &Candidate, order: Order) -> Result<Judged, A
     let mut pass = Pass::begin(alloc, candidate)?;
     for slot in 0..candidate.slots() {
         if let Some(number) = pass.judge_slot(candidate, slot, order)? {
-            return Ok(Judged::Refused(Refused { number, slot }));
+            return Ok(Judged::Refused {
+                table: Table { slots: pass.table },
+                refused: Refused { number, slot },
+            });
         }
     }
     Ok(Judged::Accepted(Table { slots: pass.table }))

@@ -1,4 +1,5 @@
 ghost use Rattle.std.specs.Prelude.{◌≡◌, ◌≤◌, length};
+ghost use Rattle.verifier.specs.Table.{described};
 ghost use Rattle.verifier.specs.Verified.{kind_at};
 
 use host_types::Refused;
@@ -30,6 +31,13 @@ impl Table {
         let known = self.slots.get(slot as usize)?.as_ref()?;
         known.register(register)
     }
+
+    /// What is known at a slot: `None` where the slot isn't reached, or lies behind the table's last one.
+    pub fn description(&self, slot: u32) -> Option<Description>
+        ensures { result ≡ described self.now slot }
+    {
+        *self.slots.get(slot as usize)?
+    }
 }
 
 /// How a text was judged.
@@ -37,6 +45,7 @@ impl Table {
 pub enum Judged {
     /// No slot that is reached breaks a rule.
     Accepted(Table),
-    /// This slot is the first that breaks a rule, and this number the smallest there.
-    Refused(Refused),
+    /// A slot breaks a rule: it's the first, and the number is the smallest there. The table ends with what
+    /// is known at that slot.
+    Refused { table: Table, refused: Refused },
 }

@@ -13,3 +13,7 @@ pub mod Tight
 pub mod Passes
 pub mod Reserves
 pub mod WithoutMaps
+pub mod Narrower
+pub mod Complete
+pub mod Described
+pub mod Readings

@@ -10,11 +10,12 @@ use Rattle.verifier_kinds.specs.declared.description.Description.{Description}
 use Rattle.verifier_kinds.specs.Descriptions.{start_description, IsDescription}
 use Rattle.verifier.specs.Subject.{Subject}
 use Rattle.verifier.specs.Flow.{flow, target}
-use Rattle.verifier.specs.Table.{Table, described, flows_by, flows_from, targets_of, known_with, arrived, incoming, tight_up_to, tight_table, Breaks, IsTightTable, IsRefusal, IsCleanBefore}
+use Rattle.verifier.specs.Table.{Table, described, flows_by, flows_from, targets_of, known_with, arrived, incoming, tight_up_to, tight_table, Breaks, IsTightTable, IsRefusal, HasNoLawful, IsCleanBefore}
 use Rattle.verifier.specs.Pass.{AreDescribed, FlowDescribed, Kept, kinds_in, pending_at, falling, known_with_coming, next_at, IsPassed}
 use Rattle.verifier.specs.Verified.{IsSubject, IsVerified}
 use Rattle.verifier.proofs.Tables.{if_same, below_next, IsDescription-incoming}
 use Rattle.verifier.proofs.Tight.{tight_is_tight, length-tight, kept_next}
+use Rattle.verifier.proofs.Complete.{broken_leaves_none}
 use Rattle.verifier.proofs.Lawful.{first_instruction, described_instruction, lawful_from_tight}
 
 -- what is known at a slot before which the pass has come, in the tight table
@@ -70,6 +71,13 @@ known_refusal p kept pending coming slot number d instruction i is breaks =
       first = i.clean;
       breaks = record { description = d; found = known_at p kept pending coming slot instruction i ∙ sym is; breaks = breaks };
     }
+
+-- and leaves no lawful table
+pub known_incomplete : (p : Subject) (kept : Kept) (pending : List (Option (Box Description))) (coming : Option Description) (slot number : ℕ) (d : Description) → IsInstruction p.text slot → IsPassed p kept pending coming slot → Some d ≡ known_with_coming (pending_at pending slot) coming → flow p slot d ≡ Err number → HasNoLawful p
+known_incomplete p kept pending coming slot number d instruction i is breaks table lawful =
+    let within = instruction.within in
+    broken_leaves_none p table (tight_table p) slot number i.flows (λ s h. tight_is_tight p (slots_of p.text) s (omega arith))
+    (record { description = d; found = known_at p kept pending coming slot instruction i ∙ sym is; breaks = breaks }) lawful
 
 -- the same slot breaks one rule at most, and none if it flows on
 flows_or_breaks : (p : Subject) (slot rule : ℕ) (known : Option Description) → IfSome known (λ d. (targets : List (ℕ × Description)) × (flow p slot d ≡ Ok targets)) → (d : Description) → known ≡ Some d → flow p slot d ≡ Err rule → ⊥

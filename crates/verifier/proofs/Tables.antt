@@ -45,7 +45,7 @@ tables_agree p table other (suc n) t u s h =
 abbrev pub IsUnder : Description → Option Description → Type 0
 IsUnder d known = (e : Description) × (known ≡ Some e) × IsDescriptionBelow d e
 
-IsDescription-known_with : (known : Option Description) (d : Description) → IfSome known IsDescription → IsDescription d → IsDescription (known_with known d)
+pub IsDescription-known_with : (known : Option Description) (d : Description) → IfSome known IsDescription → IsDescription d → IsDescription (known_with known d)
 IsDescription-known_with None d k q = q
 IsDescription-known_with (Some e) d k q = join_is_description e d k q
 

@@ -1,10 +1,13 @@
 -- A subject has one answer at most, and the reserve of a verified program falls.
-use Rattle.std.specs.Prelude.{◌≡◌, ℕ, ◌+◌, ◌<◌, ◌≤◌}
+use Rattle.std.specs.Prelude.{◌≡◌, ℕ, ◌+◌, ◌<◌, ◌≤◌, Bool, true, List, All, Ok}
 use Rattle.host_types.specs.declared.fault.Refused.{Refused}
+use Rattle.verifier_kinds.specs.declared.description.Description.{Description}
+use Rattle.verifier_kinds.specs.Descriptions.{start_description, join_of}
 use Rattle.verifier.specs.Subject.{Subject}
+use Rattle.verifier.specs.Flow.{flow}
 use Rattle.bpf_decode.specs.Text.{slots_of}
-use Rattle.verifier.specs.Table.{Table, IsTightTable, IsRefusal}
-use Rattle.verifier.specs.Verified.{Accepted}
+use Rattle.verifier.specs.Table.{Table, IsTightTable, IsRefusal, HasNoLawful}
+use Rattle.verifier.specs.Verified.{Accepted, IsSubject}
 use Rattle.verifier.specs.Reserve.{cost_at, reserve_from}
 
 -- a subject has one refusal at most
@@ -18,6 +21,29 @@ HasOneTable = (p : Subject) (table other : Table) → IsTightTable p table → I
 -- a subject that has a refusal has no tight table
 abbrev pub RefusalExcludesTable : Type 0
 RefusalExcludesTable = (p : Subject) (table : Table) (refused : Refused) → IsTightTable p table → IsRefusal p refused → ⊥
+
+-- a text of bytes that has a refusal has no lawful table, whoever looks for one
+abbrev pub RefusalLeavesNoLawful : Type 0
+RefusalLeavesNoLawful = (p : Subject) (refused : Refused) → IsSubject p → All (λ byte. byte < 256) p.text → IsRefusal p refused → HasNoLawful p
+
+-- a reading of a text contains a description at a slot
+abbrev pub Contains : (ℕ → Description → Bool) → ℕ → Description → Type 0
+Contains contains slot d = contains slot d ≡ true
+
+-- it contains all targets of an instruction
+abbrev pub AreContained : (ℕ → Description → Bool) → List (ℕ × Description) → Type 0
+AreContained contains targets = All (λ t. Contains contains t.0 t.1) targets
+
+-- A reading of a text tells which descriptions it contains at each slot, whatever else it may know there: the
+-- start's at slot 0, with any two their join, and what flows on from each, which breaks no rule.
+pub record IsReading (p : Subject) (contains : ℕ → Description → Bool) : Type 0 where
+  pub start : Contains contains 0 start_description
+  pub joins : (slot : ℕ) (d e : Description) → Contains contains slot d → Contains contains slot e → Contains contains slot (join_of d e)
+  pub flows : (slot : ℕ) (d : Description) → Contains contains slot d → (targets : List (ℕ × Description)) × (flow p slot d ≡ Ok targets) × AreContained contains targets
+
+-- a text that has a refusal has no reading either, also none that knows of other kinds than a table does
+abbrev pub RefusalLeavesNoReading : Type 0
+RefusalLeavesNoReading = (p : Subject) (refused : Refused) (contains : ℕ → Description → Bool) → IsRefusal p refused → IsReading p contains → ⊥
 
 -- what the instruction at a slot may need, and the reserve of a later slot, are reserved at the slot
 abbrev pub ReserveCoversStep : Type 0

@@ -1,4 +1,4 @@
-ghost use Rattle.verifier.specs.Laws.{HasOneRefusal, HasOneTable, RefusalExcludesTable, ReserveCoversStep, ReserveEndsAtNone};
+ghost use Rattle.verifier.specs.Laws.{HasOneRefusal, HasOneTable, RefusalExcludesTable, RefusalLeavesNoLawful, RefusalLeavesNoReading, ReserveCoversStep, ReserveEndsAtNone};
 
 /// A subject has one refusal or one tight table at most, and not both, so what `verify` answers
 /// is the only answer that there is. This is a law about the definitions: the function does nothing.
@@ -6,6 +6,14 @@ pub fn answer_is_one()
     ensures refusal { HasOneRefusal }
     ensures table { HasOneTable }
     ensures exclusive { RefusalExcludesTable }
+{}
+
+/// The verifier is complete: a text that has a refusal has no lawful table, and no reading of any kind that
+/// goes by the same rules, so it's the profile that refuses it and no whim of the code. This is a law about
+/// the definitions, for every body that refuses by them: the function does nothing.
+pub fn refusal_leaves_none()
+    ensures lawful { RefusalLeavesNoLawful }
+    ensures reading { RefusalLeavesNoReading }
 {}
 
 /// A step to a later slot needs no more than what the reserve falls by, so a run that is admitted with

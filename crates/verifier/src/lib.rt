@@ -19,5 +19,5 @@ mod way;
 
 pub use candidate::Candidate;
 pub use flow::{Onward, Target};
-pub use laws::{answer_is_one, reserve_falls};
+pub use laws::{answer_is_one, refusal_leaves_none, reserve_falls};
 pub use verified::{Verified, is_context_size, verify};

@@ -8,7 +8,7 @@ ghost use Rattle.verifier_kinds.specs.declared.kind.Kind.TheVariants.{Scalar};
 ghost use Rattle.verifier_kinds.specs.Descriptions.{with_kind};
 ghost use Rattle.verifier.specs.declared.way.Way.TheVariants.{Checks, Forks};
 ghost use Rattle.verifier.specs.Flow.{target};
-ghost use Rattle.verifier.specs.Table.{arrived, known_with, tight_table, IsCleanBefore, IsRefusal};
+ghost use Rattle.verifier.specs.Table.{arrived, known_with, tight_table, IsCleanBefore, IsRefusal, HasNoLawful};
 ghost use Rattle.verifier.specs.Way.{HasDst, FallsTo, LeadsBelow, ways_of};
 ghost use Rattle.verifier.specs.Pass.{FlowDescribed, falling, kinds_in, known_with_coming, pending_at, HasPassed};
 
@@ -248,6 +248,7 @@ impl Pass {
         requires passed { HasPassed candidate.now self.old slot }
         ensures passed { OnOk result (HasPassed candidate.now self.new (slot + 1)) }
         ensures refused { IfErr result (λ refused. (refused ≡ out_of_memory) ⊎ IsRefusal candidate.now refused) }
+        ensures complete { IfErr result (λ refused. (refused ≡ out_of_memory) ⊎ HasNoLawful candidate.now) }
     {
         self.arrive(slot);
         if !self.falls {
@@ -286,6 +287,7 @@ impl Pass {
         requires passed { HasPassed candidate.now self.old slot }
         ensures passed { OnOk result (HasPassed candidate.now self.new (slot + 1)) }
         ensures refused { IfErr result (λ refused. (refused ≡ out_of_memory) ⊎ IsRefusal candidate.now refused) }
+        ensures complete { IfErr result (λ refused. (refused ≡ out_of_memory) ⊎ HasNoLawful candidate.now) }
     {
         if candidate.begins(slot) {
             self.judge(alloc, candidate, slot)?;
@@ -306,6 +308,7 @@ pub(crate) fn kept_kinds(
     ensures clean { IfOk result (λ kept. IsCleanBefore candidate.now (tight_table candidate.now) (slots_of candidate.now.text)) }
     ensures flows { IfOk result (λ kept. FlowDescribed candidate.now (tight_table candidate.now) (slots_of candidate.now.text)) }
     ensures refused { IfErr result (λ refused. (refused ≡ out_of_memory) ⊎ IsRefusal candidate.now refused) }
+    ensures complete { IfErr result (λ refused. (refused ≡ out_of_memory) ⊎ HasNoLawful candidate.now) }
 {
     let Ok(mut pass) = Pass::begin(alloc, candidate) else {
         return Err(Refused::OUT_OF_MEMORY);

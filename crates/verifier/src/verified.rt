@@ -4,7 +4,7 @@ ghost use Rattle.bpf_decode.specs.Text.{slots_of, insn_at, instructions_of, IsIn
 ghost use Rattle.verifier.specs.Subject.{IsContextSize, padded};
 ghost use Rattle.verifier.specs.Flow.{value_size_of};
 ghost use Rattle.verifier.specs.Named.{names};
-ghost use Rattle.verifier.specs.Table.{IsRefusal};
+ghost use Rattle.verifier.specs.Table.{IsRefusal, HasNoLawful};
 ghost use Rattle.verifier.specs.Verified.{AreShapes, IsVerified, kind_at};
 ghost use Rattle.verifier.specs.Reserve.{reserve_from};
 
@@ -174,6 +174,8 @@ pub fn verify(
     ensures verified { IfOk result IsVerified }
     ensures refused { IfErr result (λ refused. (refused ≡ out_of_memory)
         ⊎ IsRefusal (record { text = program; shapes = padded shapes.now; context_size = ctx_size }) refused) }
+    ensures complete { IfErr result (λ refused. (refused ≡ out_of_memory)
+        ⊎ HasNoLawful (record { text = program; shapes = padded shapes.now; context_size = ctx_size })) }
 {
     let candidate = Candidate::new(program, shapes, ctx_size);
     let kept = kept_kinds(alloc, &candidate)?;

@@ -229,11 +229,11 @@ kind_is_normal (Scalar range) h = h
 kind_is_normal (MapValue m offsets) h = h.normal
 kind_is_normal kind h = tt
 
-register_is_normal : (known : Option Kind) → IfSome known IsKind → IfSome known IsNormalKind
+pub register_is_normal : (known : Option Kind) → IfSome known IsKind → IfSome known IsNormalKind
 register_is_normal (Some kind) h = kind_is_normal kind h
 register_is_normal None h = tt
 
-slot_is_normal : (slot : StackSlot) → IsSlot slot → IsNormalSlot slot
+pub slot_is_normal : (slot : StackSlot) → IsSlot slot → IsNormalSlot slot
 slot_is_normal (Kept kind) h = kind_is_normal kind h
 slot_is_normal (Bytes set) h = h
 

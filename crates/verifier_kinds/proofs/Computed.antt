@@ -135,7 +135,7 @@ row_high SwapBytes width offset a b p q = swap_high b
 -- ---- what is computed is normal
 
 -- the number that the machine computes of the lower ends
-in_row_of_ends : (code : AluCode) (width : Width) (offset : ℤ) (a b : Range) → IsNormal a → IsNormal b → a.high < modulus width → b.high < modulus width → IsIn (row code width offset a b) (alu code width offset a.low b.low)
+pub in_row_of_ends : (code : AluCode) (width : Width) (offset : ℤ) (a b : Range) → IsNormal a → IsNormal b → a.high < modulus width → b.high < modulus width → IsIn (row code width offset a b) (alu code width offset a.low b.low)
 in_row_of_ends code width offset a b p q left right =
     let left_ordered = p.ordered in
     let right_ordered = q.ordered in

@@ -182,7 +182,7 @@ slot_below_join_right (Kept a) (Bytes set) = and_again_right (number_bytes (Kept
 slot_below_join_right (Bytes set) (Kept b) = and_again_right set (number_bytes (Kept b))
 slot_below_join_right (Bytes set) (Bytes more) = and_again_right set more
 
-places_fit : (slot : StackSlot) → IsSlot slot → number_bytes slot < 256
+pub places_fit : (slot : StackSlot) → IsSlot slot → number_bytes slot < 256
 places_fit (Kept (Scalar range)) h = omega arith
 places_fit (Kept pointer) h = omega arith
 places_fit (Bytes set) h = h

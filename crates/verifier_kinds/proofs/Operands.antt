@@ -32,7 +32,7 @@ low_divided Bits64 Two n e = omega arith
 low_divided Bits64 Four n e = omega arith
 low_divided Bits64 Eight n e = omega arith
 
-zero_divided : (d : Align) → 0 % factor d ≡ 0
+pub zero_divided : (d : Align) → 0 % factor d ≡ 0
 zero_divided One = refl
 zero_divided Two = refl
 zero_divided Four = refl
@@ -69,7 +69,7 @@ pub all_high : (width : Width) (d : Align) → (all width d).high < 2 ^ 64
 all_high Bits32 d = omega arith
 all_high Bits64 d = omega arith
 
-modulus_positive : (width : Width) → 0 < modulus width
+pub modulus_positive : (width : Width) → 0 < modulus width
 modulus_positive Bits32 = omega arith
 modulus_positive Bits64 = omega arith
 

@@ -53,7 +53,7 @@ slot_below_self (Kept kind) = (kind, refl, kind_below_self kind)
 slot_below_self (Bytes set) = and_self set
 
 -- a slot below one that keeps a kind knows the same bytes to hold numbers
-kept_places : (a b : Kind) → IsKindBelow a b → number_bytes (Kept a) ≡ number_bytes (Kept b)
+pub kept_places : (a b : Kind) → IsKindBelow a b → number_bytes (Kept a) ≡ number_bytes (Kept b)
 kept_places a (Scalar outer) (inner, is, within) = ap (λ k. number_bytes (Kept k)) is
 kept_places a (Context offset) is = ap (λ k. number_bytes (Kept k)) is
 kept_places a (Stack offset) is = ap (λ k. number_bytes (Kept k)) is

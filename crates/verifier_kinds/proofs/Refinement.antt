@@ -21,7 +21,7 @@ use Rattle.verifier_kinds.proofs.Operands.{constant_number, in_normal_of, normal
 
 -- ---- ranges of which nothing may be left
 
-first_above : (d : Align) (low : ℕ) → low ≤ (low + (factor d - 1)) / factor d * factor d
+pub first_above : (d : Align) (low : ℕ) → low ≤ (low + (factor d - 1)) / factor d * factor d
 first_above One low = omega arith
 first_above Two low = omega arith
 first_above Four low = omega arith

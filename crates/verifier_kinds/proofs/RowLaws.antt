@@ -167,15 +167,15 @@ in_left_shift width offset a b x y p one =
 -- ---- divisions and right shifts
 
 -- a quotient isn't less where the first number isn't and the second isn't more
-quotient_order : (x y a c : ℕ) → x ≤ a → c ≤ y → 0 < c → x / y ≤ a / c
+pub quotient_order : (x y a c : ℕ) → x ≤ a → c ≤ y → 0 < c → x / y ≤ a / c
 quotient_order x y a c p q positive =
     le-div (x / y) a c positive
     (le_trans (mul-le (x / y) c (x / y) y (omega arith) q) (le_trans (div-mul-le_self x y) p))
 
-not_zero : (n : ℕ) → 0 < n → (n == 0) ≡ false
+pub not_zero : (n : ℕ) → 0 < n → (n == 0) ≡ false
 not_zero n h = grind (arith, nat_tests)
 
-at_least_one : (n : ℕ) → (n == 0) ≡ false → 0 < n
+pub at_least_one : (n : ℕ) → (n == 0) ≡ false → 0 < n
 at_least_one n f = grind (arith, nat_tests)
 
 quotient_at_most : (width : Width) (x y : ℕ) → quotient width (pos 0) x y ≤ x

@@ -157,7 +157,7 @@ added_down offsets by low high base x offset y k far whole first last small p di
 signed_constant : (by : Range) (n : ℕ) → is_constant by ≡ true → signed_offset by n ≡ cast_signed w64 n
 signed_constant by n t = cond-true (is_constant by) (cast_signed w64 n) (pos n) t
 
-signed_open : (by : Range) (n : ℕ) → is_constant by ≡ false → signed_offset by n ≡ pos n
+pub signed_open : (by : Range) (n : ℕ) → is_constant by ≡ false → signed_offset by n ≡ pos n
 signed_open by n f = cond-false (is_constant by) (cast_signed w64 n) (pos n) f
 
 -- the numbers from 2^63 on stand for those below 0

@@ -1,7 +1,7 @@
 use Rattle.std.proofs.Common.{suc, ◌++◌, Some, sym, ap, subst, ◌∙◌, append_assoc}
 use Rattle.verifier.specs.Pass.{target_in, targets_in}
 use Rattle.plain_verifier.specs.Orders.{pairs_of}
-use Rattle.plain_verifier.specs.Pass.{IsPulled}
+use Rattle.plain_verifier.specs.Pass.{IsPulled, IsRefusedIn}
 use Rattle.plain_verifier.proofs.Passes.{IsRead, known_read, known_instruction, known_description, known_refusal, known_flow, known_unreached}
 use Rattle.plain_verifier.proofs.pass.Pass.judge_slot.Goals as goal
 
@@ -48,4 +48,5 @@ returns-in-Err c =
     let p = c.args.candidate.now in
     let read = known_read c.args.order p before.table.items c.push.new.self.items before.flowed.items c.deref.result.now c.args.slot c.joined.result c.index.result.now c.requires.pulled c.deref.ensures.value c.joined.ensures c.in_ok-push.ensures.items c.index.ensures in
     let known = subst (IsRead p before.table.items c.push.new.self.items c.args.slot) c.in-Some.is read in
-    known_refusal p before.table.items before.flowed.items c.args.slot c.in-Err.number c.in-Some.known c.requires.slot c.requires.pulled known.flows (sym c.in-Err.ensures.flow)
+    subst (λ table. IsRefusedIn p table (record { number = c.in-Err.number; slot = c.args.slot })) (sym known.made)
+    (known_refusal p before.table.items before.flowed.items c.args.slot c.in-Err.number c.in-Some.known c.requires.slot c.requires.pulled known.flows (sym c.in-Err.ensures.flow))

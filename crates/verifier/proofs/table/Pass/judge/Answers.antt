@@ -4,7 +4,7 @@ use Rattle.verifier.specs.Flow.{flow}
 use Rattle.verifier.specs.Table.{arrived}
 use Rattle.verifier.specs.Way.{ways_of}
 use Rattle.verifier.specs.Pass.{falling, pending_at}
-use Rattle.verifier.proofs.Passes.{falls_some, falls_none, known_description, known_refusal, passed_unreached, passed_flow}
+use Rattle.verifier.proofs.Passes.{falls_some, falls_none, known_description, known_refusal, known_incomplete, passed_unreached, passed_flow}
 use Rattle.verifier.proofs.table.Pass.judge.Goals as goal
 
 pub returns-then-not-self-clause-passed : goal.returns-then-not-self-clause-passed
@@ -32,6 +32,15 @@ returns-in-Err-clause-refused c =
     let after = c.arrive.new.self in
     let p = c.args.candidate.now in
     inr (known_refusal p before.kept.items before.pending.items (falling before.falls before.current) c.args.slot c.in-Err.number after.current c.requires.instruction c.requires.passed
+    (sym (falls_some after.falls after.current c.if-not-self.false) ∙ c.arrive.ensures.known)
+    (ap (flow p c.args.slot) (sym c.in_ok-keep-2.ensures.current) ∙ sym c.in-Err.ensures.flow))
+
+pub returns-in-Err-clause-complete : goal.returns-in-Err-clause-complete
+returns-in-Err-clause-complete c =
+    let before = c.args.self.now in
+    let after = c.arrive.new.self in
+    let p = c.args.candidate.now in
+    inr (known_incomplete p before.kept.items before.pending.items (falling before.falls before.current) c.args.slot c.in-Err.number after.current c.requires.instruction c.requires.passed
     (sym (falls_some after.falls after.current c.if-not-self.false) ∙ c.arrive.ensures.known)
     (ap (flow p c.args.slot) (sym c.in_ok-keep-2.ensures.current) ∙ sym c.in-Err.ensures.flow))
 

@@ -1,0 +1,367 @@
+-- Narrower kinds: of kinds that are below others, arithmetic and conditional jumps make kinds that are.
+use Rattle.std.proofs.Common.{◌≡◌, ℕ, ◌+◌, ◌-◌, ◌/◌, ◌*◌, ◌%◌, ◌^◌, ◌<◌, ◌≤◌, ◌==◌, min, max, nat_lt, nat_le, ℤ, pos, negsuc, ◌+ℤ◌, ◌-ℤ◌, ◌≤ℤ◌, ◌<ℤ◌, Bool, true, false, inl, inr, Option, Some, None, Result, Ok, Err, refl, subst, arith}
+use Rattle.std.specs.Prelude.{if◌then◌else◌}
+use Rattle.std.specs.Int.{cast_signed, w64}
+use Rattle.std.proofs.lemmas.Int.{ints, to_z_pos}
+use Rattle.std.proofs.lemmas.Bool.{cases_Bool, cases_lt, cond_both, cond-true, cond-false, and_parts, and_from, eqb-true, eqb-false, le-leb, leb-true, lt-ltb, ltb-true}
+use Rattle.std.proofs.Math.Nat.{le_trans}
+use Rattle.host_types.specs.Rules.{wrong_kind, outside_map}
+use Rattle.bpf_decode.specs.declared.operation.Width.{Width}
+use Rattle.bpf_decode.specs.declared.operation.Width.TheVariants.{Bits32, Bits64}
+use Rattle.bpf_decode.specs.declared.operation.AluCode.{AluCode}
+use Rattle.bpf_decode.specs.declared.operation.AluCode.TheVariants.{Add, Sub, Mov}
+use Rattle.bpf_decode.specs.declared.operation.Comparison.{Comparison}
+use Rattle.bpf_decode.specs.declared.operation.Comparison.TheVariants.{Equal, NotEqual, Greater, GreaterOrEqual, Less, LessOrEqual}
+use Rattle.bpf_decode.specs.Opcodes.{is}
+use Rattle.insn_alu.specs.Arithmetic.{modulus, reads_dst}
+use Rattle.verifier_kinds.specs.declared.kind.Align.{Align}
+use Rattle.verifier_kinds.specs.declared.kind.Range.{Range}
+use Rattle.verifier_kinds.specs.declared.kind.Offsets.{Offsets}
+use Rattle.verifier_kinds.specs.declared.kind.Kind.{Kind}
+use Rattle.verifier_kinds.specs.declared.kind.Kind.TheVariants.{Scalar, Context, Stack, MapValue, MaybeValue}
+use Rattle.verifier_kinds.specs.Kinds.{factor, rank, least_align, greatest_align, is_constant, normal, range_in, offsets_in, IsIn, IsNormal, IsNormalKind, IsWithin, IsKindBelow}
+use Rattle.verifier_kinds.specs.Arithmetic.{between, normal_of, range_of, displaced, signed_offset, within_value, displaced_value, kind_of, kind_with_dst, moved_number, copied, arith_by}
+use Rattle.verifier_kinds.specs.Refinement.{some_of, without_end, negated, kept_by, is_told, refined}
+use Rattle.verifier_kinds.proofs.Ranges.{first_divided, last_below}
+use Rattle.verifier_kinds.proofs.Order.{within_trans, kind_below_self}
+use Rattle.verifier_kinds.proofs.Refinement.{first_above}
+use Rattle.verifier_kinds.proofs.RowLaws.{at_least_one, not_zero}
+use Rattle.verifier_kinds.proofs.Values.{added_divided, subtracted_divided, signed_open, signed_ordered, refused_above}
+use Rattle.verifier_kinds.proofs.Narrower.{below_greatest_left, rank_least, rank_greatest, normal_narrows, normal_within, same_constant, range_narrows}
+
+-- ---- answers
+
+-- Of two questions the first answers at least as much as the second: it breaks no rule where that breaks
+-- none, and what it answers is below.
+abbrev pub IsResultBelow : {X : Type 0} → (X → X → Type 0) → Result X ℕ → Result X ℕ → Type 0
+IsResultBelow below r (Err n) = Unit {0}
+IsResultBelow below (Ok x) (Ok y) = below x y
+IsResultBelow below (Err m) (Ok y) = ⊥
+
+-- an answer is below itself where all that it may be is
+pub result_below_self : {X : Type 0} (below : X → X → Type 0) (r : Result X ℕ) → ((x : X) → below x x) → IsResultBelow below r r
+result_below_self below (Ok x) self = self x
+result_below_self below (Err n) self = tt
+
+-- ---- pointers
+
+-- a pointer is moved by constants alone, and a range within one is the same
+displaced_narrows : (kind : ℤ → Kind) (rule : ℕ) (code : AluCode) (width : Width) (offset : ℤ) (by wide : Range) → IsNormal by → IsNormal wide → IsWithin by wide → IsResultBelow IsKindBelow (displaced kind rule code width offset by) (displaced kind rule code width offset wide)
+displaced_narrows kind rule code width offset by wide p q w = elim (cases_Bool (is_constant wide)) [
+  | inl t ↦ rw (same_constant by wide p q w t) (result_below_self IsKindBelow (displaced kind rule code width offset wide) kind_below_self)
+  | inr f ↦ rw (refused kind rule code width offset wide f) tt
+]
+  where
+    refused : (kind : ℤ → Kind) (rule : ℕ) (code : AluCode) (width : Width) (offset : ℤ) (by : Range) → is_constant by ≡ false → displaced kind rule code width offset by ≡ Err wrong_kind
+    refused kind rule Add Bits64 offset by f = cond-false (is_constant by) _ _ f
+    refused kind rule Sub Bits64 offset by f = cond-false (is_constant by) _ _ f
+    refused kind rule code width offset by f = refl
+
+-- the ends of a pointer to a value that a number moves, and those of a wider one
+ends_narrow : (m : ℕ) (d e : Align) (low high wide_low wide_high : ℤ) → wide_low ≤ℤ low → low ≤ℤ high → high ≤ℤ wide_high → rank e ≤ rank d → ((n : ℕ) → low ≡ pos n → n % factor d ≡ 0) → IsResultBelow IsKindBelow (within_value m d low high) (within_value m e wide_low wide_high)
+ends_narrow m d e (pos low) (pos high) (pos wide_low) (pos wide_high) p ordered q h divided =
+    let low_order : wide_low ≤ low = omega (arith, ints) in
+    let order : low ≤ high = omega (arith, ints) in
+    let high_order : high ≤ wide_high = omega (arith, ints) in
+    cond_both (nat_le wide_high 131072) (Ok (MapValue m (offsets_in (normal wide_low wide_high e)))) (Err outside_map) (IsResultBelow IsKindBelow (within_value m d (pos low) (pos high)))
+    (λ t.
+    let small : wide_high ≤ 131072 = leb-true wide_high 131072 t in
+    rw (cond-true (nat_le high 131072) (Ok (MapValue m (offsets_in (normal low high d)))) (Err outside_map) (le-leb high 131072 (omega arith))) (
+      offsets_in (normal low high d),
+      refl,
+      normal_narrows (between low high d) (between wide_low wide_high e) low
+          (record { low = omega arith; high = order; aligned = divided low refl }) (record { low = low_order; high = high_order; aligned = h }),
+    ))
+    (λ _. tt)
+ends_narrow m d e (pos low) (negsuc high) (pos wide_low) (pos wide_high) p ordered q h divided = absurd (omega (arith, ints))
+ends_narrow m d e (negsuc low) high (pos wide_low) (pos wide_high) p ordered q h divided = absurd (omega (arith, ints))
+ends_narrow m d e low high (pos wide_low) (negsuc wide_high) p ordered q h divided = tt
+ends_narrow m d e low high (negsuc wide_low) wide_high p ordered q h divided = tt
+
+-- what a number moves by is between the ends of a wider range, where that is no constant and moves less than 2^63
+open_low : (by : Range) (n : ℕ) → n < 2 ^ 63 → signed_offset by n ≡ pos n
+open_low by n h = cond_both (is_constant by) (cast_signed w64 n) (pos n) (λ z. z ≡ pos n) (λ _. to_z_pos w64 n h) (λ _. refl)
+
+-- a pointer to a value that a number moves
+added_narrows : (m : ℕ) (offsets outer : Offsets) (by wide : Range) → IsNormal (range_in offsets) → IsNormal (range_in outer) → IsNormal by → IsNormal wide → IsWithin (range_in offsets) (range_in outer) → IsWithin by wide → IsResultBelow IsKindBelow (displaced_value m Add Bits64 offsets by) (displaced_value m Add Bits64 outer wide)
+added_narrows m offsets outer by wide p outer_p q wide_q w by_w = elim (cases_Bool (is_constant wide)) [
+  | inl t ↦
+      let same : by ≡ wide = same_constant by wide q wide_q by_w t in
+      let w_low = w.low in
+      let w_high = w.high in
+      let ordered = p.ordered in
+      rw same
+      (ends_narrow m (least_align offsets.align wide.align) (least_align outer.align wide.align)
+      (pos offsets.low +ℤ signed_offset wide wide.low) (pos offsets.high +ℤ signed_offset wide wide.high)
+      (pos outer.low +ℤ signed_offset wide wide.low) (pos outer.high +ℤ signed_offset wide wide.high)
+      (sum_order outer.low offsets.low (signed_offset wide wide.low) w_low)
+      (sums_order offsets.low offsets.high (signed_offset wide wide.low) (signed_offset wide wide.high) ordered (signed_ordered wide wide_q.ordered))
+      (sum_order offsets.high outer.high (signed_offset wide wide.high) w_high)
+      (rank_least outer.align wide.align offsets.align wide.align w.aligned (omega arith))
+      (λ n is. added_divided offsets wide n p wide_q is))
+  | inr f ↦ elim (cases_lt wide.high (2 ^ 63)) [
+    | inl less ↦
+        let by_low = by_w.low in
+        let by_high = by_w.high in
+        let by_ordered = q.ordered in
+        let w_low = w.low in
+        let w_high = w.high in
+        let ordered = p.ordered in
+        let low : signed_offset by by.low ≡ pos by.low = open_low by by.low (omega arith) in
+        let high : signed_offset by by.high ≡ pos by.high = open_low by by.high (omega arith) in
+        let wide_low : signed_offset wide wide.low ≡ pos wide.low = signed_open wide wide.low f in
+        let wide_high : signed_offset wide wide.high ≡ pos wide.high = signed_open wide wide.high f in
+        ends_narrow m (least_align offsets.align by.align) (least_align outer.align wide.align)
+        (pos offsets.low +ℤ signed_offset by by.low) (pos offsets.high +ℤ signed_offset by by.high)
+        (pos outer.low +ℤ signed_offset wide wide.low) (pos outer.high +ℤ signed_offset wide wide.high)
+        (rw (low, wide_low) (omega (arith, ints)))
+        (rw (low, high) (omega (arith, ints)))
+        (rw (high, wide_high) (omega (arith, ints)))
+        (rank_least outer.align wide.align offsets.align by.align w.aligned by_w.aligned)
+        (λ n is. added_divided offsets by n p q is)
+    | inr more ↦
+        let wide_high : signed_offset wide wide.high ≡ pos wide.high = signed_open wide wide.high f in
+        let far : pos 131072 <ℤ (pos outer.high +ℤ signed_offset wide wide.high) = rw wide_high (omega (arith, ints)) in
+        rw (refused_above m (least_align outer.align wide.align) (pos outer.low +ℤ signed_offset wide wide.low) (pos outer.high +ℤ signed_offset wide wide.high) far) tt
+  ]
+]
+  where
+    sum_order : (a b : ℕ) (z : ℤ) → a ≤ b → (pos a +ℤ z) ≤ℤ (pos b +ℤ z)
+    sum_order a b z h = omega (arith, ints)
+
+    sums_order : (a b : ℕ) (y z : ℤ) → a ≤ b → y ≤ℤ z → (pos a +ℤ y) ≤ℤ (pos b +ℤ z)
+    sums_order a b y z h k = omega (arith, ints)
+
+-- and one that a constant moves back
+subtracted_narrows : (m : ℕ) (offsets outer : Offsets) (by wide : Range) → IsNormal (range_in offsets) → IsNormal (range_in outer) → IsNormal by → IsNormal wide → IsWithin (range_in offsets) (range_in outer) → IsWithin by wide → IsResultBelow IsKindBelow (displaced_value m Sub Bits64 offsets by) (displaced_value m Sub Bits64 outer wide)
+subtracted_narrows m offsets outer by wide p outer_p q wide_q w by_w = elim (cases_Bool (is_constant wide)) [
+  | inl t ↦
+      let same : by ≡ wide = same_constant by wide q wide_q by_w t in
+      let z : ℤ = cast_signed w64 wide.low in
+      rw (same, t)
+      (ends_narrow m (least_align offsets.align wide.align) (least_align outer.align wide.align)
+      (pos offsets.low -ℤ z) (pos offsets.high -ℤ z) (pos outer.low -ℤ z) (pos outer.high -ℤ z)
+      (difference_order outer.low offsets.low z w.low)
+      (difference_order offsets.low offsets.high z p.ordered)
+      (difference_order offsets.high outer.high z w.high)
+      (rank_least outer.align wide.align offsets.align wide.align w.aligned (omega arith))
+      (λ n is. subtracted_divided offsets wide n p wide_q is))
+  | inr f ↦ rw f tt
+]
+  where
+    difference_order : (a b : ℕ) (z : ℤ) → a ≤ b → (pos a -ℤ z) ≤ℤ (pos b -ℤ z)
+    difference_order a b z h = omega (arith, ints)
+
+value_narrows : (m : ℕ) (code : AluCode) (width : Width) (offsets outer : Offsets) (by wide : Range) → IsNormal (range_in offsets) → IsNormal (range_in outer) → IsNormal by → IsNormal wide → IsWithin (range_in offsets) (range_in outer) → IsWithin by wide → IsResultBelow IsKindBelow (displaced_value m code width offsets by) (displaced_value m code width outer wide)
+value_narrows m Add Bits64 offsets outer by wide p outer_p q wide_q w by_w = added_narrows m offsets outer by wide p outer_p q wide_q w by_w
+value_narrows m Sub Bits64 offsets outer by wide p outer_p q wide_q w by_w = subtracted_narrows m offsets outer by wide p outer_p q wide_q w by_w
+value_narrows m code width offsets outer by wide p outer_p q wide_q w by_w = tt
+
+-- ---- arithmetic
+
+-- one kind is below another, and the ranges of both are normal
+pub record IsKindNarrower (a b : Kind) : Type 0 where
+  pub below : IsKindBelow a b
+  pub smaller : IsNormalKind a
+  pub larger : IsNormalKind b
+
+kinds_narrow : (code : AluCode) (width : Width) (offset : ℤ) (a b c d : Kind) → IsKindNarrower a c → IsKindNarrower b d → IsResultBelow IsKindBelow (kind_of code width offset a b) (kind_of code width offset c d)
+kinds_narrow code width offset a b (Scalar c) (Scalar d) p q =
+    let (x, left, within) = p.below in
+    let (y, right, also) = q.below in
+    let x_normal : IsNormal x = subst IsNormalKind left p.smaller in
+    let y_normal : IsNormal y = subst IsNormalKind right q.smaller in
+    rw (left, right) (range_of code width offset x y, refl, range_narrows code width offset x y c d x_normal y_normal p.larger q.larger within also)
+kinds_narrow code width offset a b (Context k) (Scalar d) p q =
+    let (y, right, also) = q.below in
+    let y_normal : IsNormal y = subst IsNormalKind right q.smaller in
+    rw (p.below, right) (displaced_narrows Context 16 code width k y d y_normal q.larger also)
+kinds_narrow code width offset a b (Stack k) (Scalar d) p q =
+    let (y, right, also) = q.below in
+    let y_normal : IsNormal y = subst IsNormalKind right q.smaller in
+    rw (p.below, right) (displaced_narrows Stack 17 code width k y d y_normal q.larger also)
+kinds_narrow code width offset a b (MapValue m outer) (Scalar d) p q =
+    let (x, left, within) = p.below in
+    let (y, right, also) = q.below in
+    let x_normal : IsNormal (range_in x) = subst IsNormalKind left p.smaller in
+    let y_normal : IsNormal y = subst IsNormalKind right q.smaller in
+    rw (left, right) (value_narrows m code width x outer y d x_normal p.larger y_normal q.larger within also)
+kinds_narrow code width offset a b (MaybeValue m id) d p q = tt
+kinds_narrow code width offset a b c (MaybeValue m id) p q = tt
+kinds_narrow code width offset a b c d p q = tt
+
+-- one thing that is known is below another, and the ranges of both are normal
+abbrev pub IsKnownNarrower : Option Kind → Option Kind → Type 0
+IsKnownNarrower a None = Unit {0}
+IsKnownNarrower a (Some outer) = (inner : Kind) × (a ≡ Some inner) × IsKindNarrower inner outer
+
+with_dst_narrows : (code : AluCode) (width : Width) (offset : ℤ) (a c : Option Kind) (b d : Kind) → IsKnownNarrower a c → IsKindNarrower b d → IsResultBelow IsKindBelow (kind_with_dst code width offset a b) (kind_with_dst code width offset c d)
+with_dst_narrows code width offset a None b d p q = tt
+with_dst_narrows code width offset a (Some c) b d (x, is, narrow) q = rw is (kinds_narrow code width offset x b c d narrow q)
+
+moved_narrows : (width : Width) (offset : ℤ) (b d : Kind) → IsKindNarrower b d → IsResultBelow IsKindBelow (moved_number width offset b) (moved_number width offset d)
+moved_narrows width offset b (Scalar d) q =
+    let (y, right, also) = q.below in
+    let y_normal : IsNormal y = subst IsNormalKind right q.smaller in
+    rw right (range_of Mov width offset y y, refl, range_narrows Mov width offset y y d d y_normal y_normal q.larger q.larger also also)
+moved_narrows width offset b (MaybeValue m id) q = tt
+moved_narrows width offset b d q = tt
+
+copied_narrows : (width : Width) (offset : ℤ) (b d : Kind) → IsKindNarrower b d → IsResultBelow IsKindBelow (copied width offset b) (copied width offset d)
+copied_narrows Bits32 offset b d q = moved_narrows Bits32 offset b d q
+copied_narrows Bits64 offset b d q = by_test (is offset 0)
+  where
+    by_test : (t : Bool) → IsResultBelow IsKindBelow (if t then Ok b else moved_number Bits64 offset b) (if t then Ok d else moved_number Bits64 offset d)
+    by_test true = q.below
+    by_test false = moved_narrows Bits64 offset b d q
+
+-- arithmetic on kinds that are below others makes kinds that are; only code that reads dst asks for it
+pub arithmetic_narrows : (code : AluCode) (width : Width) (offset : ℤ) (a c : Option Kind) (b d : Kind) → IsKnownNarrower a c → IsKindNarrower b d → IsResultBelow IsKindBelow (arith_by code width offset a b) (arith_by code width offset c d)
+arithmetic_narrows code width offset a c b d p q = by_test (reads_dst code)
+  where
+    by_test : (t : Bool) → IsResultBelow IsKindBelow (if t then kind_with_dst code width offset a b else copied width offset b) (if t then kind_with_dst code width offset c d else copied width offset d)
+    by_test true = with_dst_narrows code width offset a c b d p q
+    by_test false = copied_narrows width offset b d q
+
+-- ---- what a conditional jump tells
+
+-- what is left of one range lies within what is left of another
+abbrev pub IsLeftWithin : Option Range → Option Range → Type 0
+IsLeftWithin None wide = Unit {0}
+IsLeftWithin (Some r) (Some wide) = IsWithin r wide
+IsLeftWithin (Some r) None = ⊥
+
+some_narrows : (a b : Range) → IsWithin a b → IsLeftWithin (some_of a) (some_of b)
+some_narrows a b w =
+    let d : Align = a.align in
+    let first : ℕ = (a.low + (factor d - 1)) / factor d * factor d in
+    let last : ℕ = a.high / factor d * factor d in
+    let from : a.low ≤ first = first_above d a.low in
+    let to : last ≤ a.high = last_below d a.high in
+    cond_both (nat_le first last) (Some (normal_of a)) None (λ o. IsLeftWithin o (some_of b))
+    (λ t.
+    let ordered : first ≤ last = leb-true first last t in
+    let has : IsIn a first = record { low = from; high = omega arith; aligned = first_divided d a.low } in
+    let narrow : IsWithin (normal_of a) (normal_of b) = normal_narrows a b first has w in
+    let low = narrow.low in
+    let high = narrow.high in
+    let there : (normal_of b).low ≤ (normal_of b).high = omega arith in
+    rw (cond-true (nat_le (normal_of b).low (normal_of b).high) (Some (normal_of b)) None (le-leb (normal_of b).low (normal_of b).high there)) narrow)
+    (λ _. tt)
+
+-- what is left of a range lies within each range around it
+some_within : (a b : Range) → IsWithin a b → IsLeftWithin (some_of a) (Some b)
+some_within a b w =
+    cond_both (nat_le (normal_of a).low (normal_of a).high) (Some (normal_of a)) None (λ o. IsLeftWithin o (Some b))
+    (λ _. normal_within a b w) (λ _. tt)
+
+-- a range without one of its ends
+abbrev shorter : Range → ℕ → Range
+shorter a n = between (if a.low == n then a.low + 1 else a.low) (if a.high == n then a.high - 1 else a.high) a.align
+
+shorter_within : (a : Range) (n : ℕ) → IsWithin (shorter a n) a
+shorter_within a n = record {
+  low = cond_both (a.low == n) (a.low + 1) a.low (λ l. a.low ≤ l) (λ _. omega arith) (λ _. omega arith);
+  high = cond_both (a.high == n) (a.high - 1) a.high (λ h. h ≤ a.high) (λ _. omega arith) (λ _. omega arith);
+  aligned = omega arith;
+}
+
+shorter_narrows : (a b : Range) (n : ℕ) → IsWithin a b → IsWithin (shorter a n) (shorter b n)
+shorter_narrows a b n w =
+    let low = w.low in
+    let high = w.high in
+    record {
+      low = cond_both (b.low == n) (b.low + 1) b.low (λ l. l ≤ (if a.low == n then a.low + 1 else a.low))
+          (λ t. cond_both (a.low == n) (a.low + 1) a.low (λ l. b.low + 1 ≤ l) (λ _. omega arith) (λ f. omega (arith, eqb-true b.low n t, eqb-false a.low n f)))
+          (λ _. cond_both (a.low == n) (a.low + 1) a.low (λ l. b.low ≤ l) (λ _. omega arith) (λ _. omega arith));
+      high = cond_both (b.high == n) (b.high - 1) b.high (λ h. (if a.high == n then a.high - 1 else a.high) ≤ h)
+          (λ t. cond_both (a.high == n) (a.high - 1) a.high (λ h. h ≤ b.high - 1) (λ _. omega arith) (λ f. omega (arith, eqb-true b.high n t, eqb-false a.high n f)))
+          (λ _. cond_both (a.high == n) (a.high - 1) a.high (λ h. h ≤ b.high) (λ _. omega arith) (λ _. omega arith));
+      aligned = w.aligned;
+    }
+
+-- what a comparison leaves of a range lies within it
+kept_within : (comparison : Comparison) (a b c : Range) → IsWithin a c → IsLeftWithin (kept_by comparison a b) (Some c)
+kept_within Equal a b c w =
+    let low = w.low in
+    let high = w.high in
+    some_within (between (max a.low b.low) (min a.high b.high) (greatest_align a.align b.align)) c (record {
+      low = omega arith;
+      high = omega arith;
+      aligned = le_trans w.aligned (below_greatest_left a.align b.align);
+    })
+kept_within NotEqual a b c w =
+    cond_both (is_constant b) (without_end a b.low) (Some a) (λ o. IsLeftWithin o (Some c))
+    (λ _. some_within (shorter a b.low) c (within_trans (shorter a b.low) a c (shorter_within a b.low) w)) (λ _. w)
+kept_within Greater a b c w =
+    let low = w.low in
+    some_within (between (max a.low (b.low + 1)) a.high a.align) c (record { low = omega arith; high = w.high; aligned = w.aligned })
+kept_within GreaterOrEqual a b c w =
+    let low = w.low in
+    some_within (between (max a.low b.low) a.high a.align) c (record { low = omega arith; high = w.high; aligned = w.aligned })
+kept_within Less a b c w =
+    let high = w.high in
+    cond_both (b.high == 0) None (some_of (between a.low (min a.high (b.high - 1)) a.align)) (λ o. IsLeftWithin o (Some c))
+    (λ _. tt) (λ _. some_within (between a.low (min a.high (b.high - 1)) a.align) c (record { low = w.low; high = omega arith; aligned = w.aligned }))
+kept_within LessOrEqual a b c w =
+    let high = w.high in
+    some_within (between a.low (min a.high b.high) a.align) c (record { low = w.low; high = omega arith; aligned = w.aligned })
+kept_within comparison a b c w = w
+
+-- what it leaves of ranges within others lies within what it leaves of those
+kept_narrows : (comparison : Comparison) (a b c d : Range) → IsNormal b → IsNormal d → IsWithin a c → IsWithin b d → IsLeftWithin (kept_by comparison a b) (kept_by comparison c d)
+kept_narrows Equal a b c d p q w v =
+    let low = w.low in
+    let high = w.high in
+    let other_low = v.low in
+    let other_high = v.high in
+    some_narrows (between (max a.low b.low) (min a.high b.high) (greatest_align a.align b.align)) (between (max c.low d.low) (min c.high d.high) (greatest_align c.align d.align)) (record {
+      low = omega arith;
+      high = omega arith;
+      aligned = rank_greatest c.align d.align a.align b.align w.aligned v.aligned;
+    })
+kept_narrows NotEqual a b c d p q w v =
+    cond_both (is_constant d) (without_end c d.low) (Some c) (IsLeftWithin (kept_by NotEqual a b))
+    (λ t.
+    rw (same_constant b d p q v t, cond-true (is_constant d) (without_end a d.low) (Some a) t)
+    (some_narrows (shorter a d.low) (shorter c d.low) (shorter_narrows a c d.low w)))
+    (λ _. kept_within NotEqual a b c w)
+kept_narrows Greater a b c d p q w v =
+    let low = w.low in
+    let other_low = v.low in
+    some_narrows (between (max a.low (b.low + 1)) a.high a.align) (between (max c.low (d.low + 1)) c.high c.align) (record { low = omega arith; high = w.high; aligned = w.aligned })
+kept_narrows GreaterOrEqual a b c d p q w v =
+    let low = w.low in
+    let other_low = v.low in
+    some_narrows (between (max a.low b.low) a.high a.align) (between (max c.low d.low) c.high c.align) (record { low = omega arith; high = w.high; aligned = w.aligned })
+kept_narrows Less a b c d p q w v =
+    let high = w.high in
+    let other_high = v.high in
+    cond_both (b.high == 0) None (some_of (between a.low (min a.high (b.high - 1)) a.align)) (λ o. IsLeftWithin o (kept_by Less c d))
+    (λ _. tt)
+    (λ f.
+    let more : (d.high == 0) ≡ false = not_zero d.high (omega (arith, at_least_one b.high f)) in
+    rw (cond-false (d.high == 0) None (some_of (between c.low (min c.high (d.high - 1)) c.align)) more)
+    (some_narrows (between a.low (min a.high (b.high - 1)) a.align) (between c.low (min c.high (d.high - 1)) c.align) (record { low = w.low; high = omega arith; aligned = w.aligned })))
+kept_narrows LessOrEqual a b c d p q w v =
+    let high = w.high in
+    let other_high = v.high in
+    some_narrows (between a.low (min a.high b.high) a.align) (between c.low (min c.high d.high) c.align) (record { low = w.low; high = omega arith; aligned = w.aligned })
+kept_narrows comparison a b c d p q w v = w
+
+-- what a way of a comparison leaves of ranges within others lies within what it leaves of those
+pub refined_narrows : (comparison : Comparison) (width : Width) (taken : Bool) (a b c d : Range) → IsNormal b → IsNormal d → IsWithin a c → IsWithin b d → IsLeftWithin (refined comparison width taken a b) (refined comparison width taken c d)
+refined_narrows comparison width taken a b c d p q w v =
+    let holding : Comparison = if taken then comparison else negated comparison in
+    let a_high = w.high in
+    let b_high = v.high in
+    cond_both (is_told width c d) (kept_by holding c d) (Some c) (IsLeftWithin (refined comparison width taken a b))
+    (λ t.
+    let parts = and_parts (nat_lt c.high (modulus width)) (nat_lt d.high (modulus width)) t in
+    let left : c.high < modulus width = ltb-true c.high (modulus width) parts.0 in
+    let right : d.high < modulus width = ltb-true d.high (modulus width) parts.1 in
+    let told : is_told width a b ≡ true = and_from (nat_lt a.high (modulus width)) (nat_lt b.high (modulus width)) (lt-ltb a.high (modulus width) (omega arith)) (lt-ltb b.high (modulus width) (omega arith)) in
+    rw (cond-true (is_told width a b) (kept_by holding a b) (Some a) told) (kept_narrows holding a b c d p q w v))
+    (λ _.
+    cond_both (is_told width a b) (kept_by holding a b) (Some a) (λ o. IsLeftWithin o (Some c))
+    (λ _. kept_within holding a b c w) (λ _. w))
