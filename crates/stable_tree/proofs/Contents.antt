@@ -1,17 +1,15 @@
 -- The contents of a tree's nodes, where the chains that hang at them are sorted.
-use Rattle.std.proofs.Common.{◌≡◌, ◌≢◌, ℕ, zero, suc, ◌+◌, ◌-◌, ◌*◌, ◌<◌, ◌≤◌, ◌⊎◌, ◌&&◌, nat_lt, Bool, true, false, List, [], ◌∷◌, ◌++◌, length, map, slice_index_or, All, AllPairs, None, Some, ⊎_elim, refl, sym, ap, subst, ◌∙◌, arith, length-append}
+use Rattle.std.proofs.Common.{◌≡◌, ℕ, zero, suc, ◌-◌, ◌*◌, ◌<◌, ◌≤◌, ◌&&◌, nat_lt, Bool, true, false, List, [], ◌∷◌, ◌++◌, length, slice_index_or, All, None, Some, refl, sym, ap, ◌∙◌, arith, length-append}
 use Rattle.std.specs.Str.{bytes_eq}
-use Rattle.std.specs.Ordering.{is_lt, is_eq, nat_cmp}
-use Rattle.std.specs.Cmp.Lexicographic.{slice_cmp}
+use Rattle.std.specs.Ordering.{is_lt, is_eq}
 use Rattle.std.specs.declared.cmp.Ordering.{Ordering}
-use Rattle.std.specs.declared.cmp.Ordering.TheVariants.{Less, Equal, Greater}
+use Rattle.std.specs.declared.cmp.Ordering.TheVariants.{Equal, Greater}
 use borrow.Author.Tests.{ltb-true, lt-ltb}
-use Rattle.std.proofs.lemmas.Bool.{cases_lt}
 use Rattle.std.proofs.lemmas.Map.Text.{is_eq-slice_cmp}
 use Rattle.std.proofs.lemmas.List.{get_or-map, length-map, get_or_append_left, get_or-append_right}
 use Rattle.std.proofs.lemmas.List.Elements.{All-cons, All-weaker}
 use Rattle.frame_arena.specs.Pages.{page_at}
-use Rattle.tree_shape.specs.Shape.{Tree, in_order, Holds, IsEven, IsOnce, height_at, none, levels}
+use Rattle.tree_shape.specs.Shape.{in_order, height_at}
 use Rattle.std.proofs.Math.Seq.{get_or-append_seam}
 use Rattle.tree_shape.specs.Changes.{found, entered, taken}
 use Rattle.tree_shape.specs.Searches.{order_to, AreFramed, IsSearched, IsSound}
@@ -21,9 +19,8 @@ use Rattle.tree_shape.proofs.Leaving.{IsLeaving, leaving, taken-leaving}
 use Rattle.tree_shape.proofs.Bound.{height-few}
 use Rattle.stable_tree.specs.declared.store.Store.{Store}
 use Rattle.stable_tree.specs.Digits.{digits}
-use Rattle.stable_tree.specs.Groups.{IsChain, IsSorted, IsCutAt, content, order, is_before, is_there}
-use Rattle.stable_tree.specs.Edits.{IsFound, IsMissing}
-use Rattle.stable_tree.specs.Places.{walk, hanging, frames_of, chain_at, used, times, IsWhole, IsHead, tree_in, heads_in, chains_in}
+use Rattle.stable_tree.specs.Groups.{IsSorted, IsCutAt, content, is_there}
+use Rattle.stable_tree.specs.Places.{walk, frames_of, chain_at, used, IsWhole, IsHead, tree_in, heads_in, chains_in}
 use Rattle.stable_tree.proofs.Digits.{below-digits}
 use Rattle.stable_tree.proofs.Sorting.{first-there}
 use Rattle.stable_tree.proofs.Walks.{stands}
@@ -80,10 +77,10 @@ module _ (pages : List (List ℕ)) (store : Store) (free : List ℕ) (whole : Is
   whole-framed =
       framed-all pages store.frames.items (tree_in store) (λ i d less. (
         (let one = stands heads i d less in
-        let two = heads-used (slice_index_or heads i d) store.nexts.items store.sizes.items heads whole.hung.filled in
-        let inside = place-inside (used store.nexts.items store.sizes.items heads) free (length store.nodes.items) (slice_index_or heads i d) whole.hung.shared (omega (arith, one, two)) in
-        let size = whole.hung.framed in
-        omega (arith, inside, size)),
+            let two = heads-used (slice_index_or heads i d) store.nexts.items store.sizes.items heads whole.hung.filled in
+            let inside = place-inside (used store.nexts.items store.sizes.items heads) free (length store.nodes.items) (slice_index_or heads i d) whole.hung.shared (omega (arith, one, two)) in
+            let size = whole.hung.framed in
+            omega (arith, inside, size)),
         (let there = first-there pages (chains_in store) i sorted (omega (arith, long, less)) in let same = head-content i d less in omega (arith, there, same)),
       ))
 

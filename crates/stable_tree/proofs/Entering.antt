@@ -1,29 +1,26 @@
 -- A place that is put into the tree, and one that is taken out of it.
-use Rattle.std.proofs.Common.{◌≡◌, ◌≢◌, ℕ, zero, suc, ◌+◌, ◌-◌, ◌*◌, ◌<◌, ◌≤◌, true, false, List, [], ◌∷◌, ◌++◌, length, map, slice_index_or, insert, All, Option, None, Some, refl, sym, ap, subst, ◌∙◌, arith, length-append, vec_capacity}
-use Rattle.std.specs.List.{concat, sum_by, remove}
+use Rattle.std.proofs.Common.{◌≡◌, ℕ, ◌+◌, ◌-◌, ◌≤◌, List, [], ◌∷◌, ◌++◌, length, map, slice_index_or, insert, Option, None, Some, refl, sym, ap, ◌∙◌, arith}
+use Rattle.std.specs.List.{remove}
 use Rattle.std.specs.Vec.{with_items}
 use Rattle.std.proofs.lemmas.List.{map-append, length-map}
 use Rattle.std.proofs.lemmas.List.Edits.{insert-append_right, remove-append_right}
 use Rattle.std.proofs.lemmas.List.Elements.{All-cons, All-append, All-tail}
-use Rattle.std.specs.declared.cmp.Ordering.{Ordering}
-use Rattle.frame_arena.specs.Pages.{page_at}
 use Rattle.tree_shape.specs.declared.Node.{Node}
-use Rattle.tree_shape.specs.Shape.{Tree, leaf, fork, in_order, Holds, IsEven, IsOnce, IsHung, none, height_at}
-use Rattle.tree_shape.specs.Changes.{found, entered, taken}
+use Rattle.tree_shape.specs.Shape.{Tree, leaf, fork, in_order, IsOnce}
+use Rattle.tree_shape.specs.Changes.{found}
 use Rattle.tree_shape.specs.Searches.{order_to, IsGrowing}
-use Rattle.tree_shape.specs.Removals.{IsShrinking, IsTaking}
+use Rattle.tree_shape.specs.Removals.{IsTaking}
 use Rattle.tree_shape.proofs.Times.{times-fork, times-leaf, times-once}
-use Rattle.tree_shape.proofs.Changing.{entered-grown, taken-shrunk}
 use Rattle.stable_tree.specs.declared.store.Store.{Store}
-use Rattle.stable_tree.specs.Groups.{IsSorted, IsCutAt, is_there}
-use Rattle.stable_tree.specs.Edits.{IsFound, IsMissing, IsAnswer}
-use Rattle.stable_tree.specs.Places.{walk, hanging, frames_of, chain_at, used, times, AreShared, AreHung, HasRoom, IsWhole, IsHead, tree_in, heads_in, chains_in}
+use Rattle.stable_tree.specs.Groups.{IsSorted}
+use Rattle.stable_tree.specs.Edits.{IsAnswer}
+use Rattle.stable_tree.specs.Places.{walk, hanging, used, times, AreHung, HasRoom, IsWhole, IsHead, tree_in, heads_in, chains_in}
 use Rattle.stable_tree.proofs.Counting.{written}
-use Rattle.stable_tree.proofs.Walks.{here, times-cons, times-walk}
-use Rattle.stable_tree.proofs.Trees.{read-tree, all-front, all-back}
+use Rattle.stable_tree.proofs.Walks.{here, times-cons}
+use Rattle.stable_tree.proofs.Trees.{all-front, all-back}
 use Rattle.stable_tree.proofs.Hanging.{shared-again, times-cut, times-both, length-cut, length-both, heads-used}
 use Rattle.stable_tree.proofs.Placing.{spare-inside}
-use Rattle.stable_tree.proofs.Contents.{whole-sound, whole-framed, IsHere, found-here, IsNowhere, missing-here}
+use Rattle.stable_tree.proofs.Contents.{whole-sound, whole-framed, found-here, missing-here}
 
 -- what is told of a content that was looked for
 pub answer-of : (pages : List (List ℕ)) (store : Store) (free : List ℕ) (whole : IsWhole store free) (sorted : IsSorted pages (chains_in store)) (frame : ℕ) (told : Option ℕ)

@@ -1,13 +1,12 @@
 -- Groups that hang at places, where what hangs at one of them changes.
-use Rattle.std.proofs.Common.{◌≡◌, ◌≢◌, ℕ, zero, suc, ◌+◌, ◌<◌, ◌≤◌, ◌⊎◌, List, [], ◌∷◌, ◌++◌, length, map, slice_index_or, slice_set, All, ⊎_elim, refl, sym, ap, subst, ◌∙◌, arith, append_assoc, length-append}
-use Rattle.std.specs.List.{concat, flat_map}
-use Rattle.std.proofs.lemmas.Bool.{cases_lt}
-use Rattle.std.proofs.lemmas.List.{map-append, length-map, get_or-set_same, length-set}
+use Rattle.std.proofs.Common.{◌≡◌, ℕ, zero, suc, ◌+◌, ◌≤◌, List, [], ◌∷◌, ◌++◌, length, map, slice_index_or, All, refl, sym, ap, ◌∙◌, arith, length-append}
+use Rattle.std.specs.List.{concat}
+use Rattle.std.proofs.lemmas.List.{map-append, length-map}
 use Rattle.std.proofs.lemmas.List.Concat.{flat_map-cons}
 use Rattle.std.proofs.lemmas.Grind.{flat_map-append}
 use Rattle.std.proofs.lemmas.List.Elements.{All-head, All-tail, All-cons, All-nil}
-use Rattle.stable_tree.specs.Places.{walk, hanging, frames_of, chain_at, used, times, AreShared, AreHung}
-use Rattle.stable_tree.proofs.Walks.{here, here-same, times-cons, times-append, times-first, times-walk, length-walk, Agree, Once, walk-agree, frames-agree}
+use Rattle.stable_tree.specs.Places.{walk, hanging, chain_at, used, times, AreShared}
+use Rattle.stable_tree.proofs.Walks.{here, times-cons, times-append, times-first, times-walk, length-walk, Agree, Once, walk-agree, frames-agree}
 
 abbrev Filled : List ℕ → List ℕ → Type 0
 Filled sizes heads = All (λ at. 1 ≤ slice_index_or sizes at 0) heads

@@ -1,15 +1,11 @@
 -- One group more behind those that hang at a place.
-use Rattle.std.proofs.Common.{◌≡◌, ◌≢◌, ℕ, zero, suc, ◌+◌, ◌-◌, ◌<◌, ◌≤◌, List, [], ◌∷◌, ◌++◌, length, map, slice_index_or, slice_set, All, refl, sym, ap, subst, ◌∙◌, arith, length-append}
-use Rattle.std.specs.List.{concat, sum_by}
-use Rattle.std.proofs.lemmas.List.{map-append, length-map, get_or-set_same, get_or-set_other, length-set}
-use Rattle.std.proofs.lemmas.List.Elements.{All-nil, All-cons, All-append}
+use Rattle.std.proofs.Common.{◌≡◌, ℕ, ◌+◌, ◌-◌, ◌<◌, ◌≤◌, List, [], ◌∷◌, ◌++◌, length, map, slice_index_or, slice_set, All, refl, sym, ap, subst, ◌∙◌, arith, length-append}
+use Rattle.std.proofs.lemmas.List.{map-append, length-map, get_or-set_same, length-set}
+use Rattle.std.proofs.lemmas.List.Elements.{All-cons, All-append}
 use Rattle.std.proofs.Math.Seq.{set-append_seam, get_or-append_seam}
-use Rattle.tree_shape.specs.declared.Node.{Node}
-use Rattle.tree_shape.specs.Shape.{in_order, Tree, Holds, none, blank, IsEven}
-use Rattle.stable_tree.specs.declared.store.Store.{Store}
-use Rattle.stable_tree.specs.Places.{walk, end, hanging, frames_of, chain_at, used, times, AreShared, AreHung, HasRoom, IsWhole, IsStore, IsHead, IsLengthened, heads_in, chains_in}
-use Rattle.stable_tree.proofs.Walks.{here, here-same, times-cons, times-append, times-first, end-stands, walk-grown, apart-set, stands, Once}
-use Rattle.stable_tree.proofs.Hanging.{AreSame, IsChanged, Apart, one-changed, shared-again, times-cut, length-cut}
+use Rattle.stable_tree.specs.Places.{end, hanging, frames_of, chain_at, used, times, AreShared, AreHung}
+use Rattle.stable_tree.proofs.Walks.{times-cons, times-append, times-first, end-stands, walk-grown, apart-set, stands, Once}
+use Rattle.stable_tree.proofs.Hanging.{IsChanged, one-changed, shared-again, times-cut, length-cut}
 use Rattle.stable_tree.proofs.Placing.{place-inside}
 
 -- what is known of groups that hang at a head
@@ -117,7 +113,7 @@ module _ (frames nexts sizes heads free earlier : List ℕ) (at : ℕ) (later : 
   grown-chains =
       changed-chains frames nexts sizes frames newer sized earlier at later changed
       ∙ ap (λ chain. slice_set (map (chain_at frames nexts sizes) (earlier ++ at ∷ later)) (length earlier) chain)
-          (ap (frames_of frames) longer ∙ map-append (λ place. slice_index_or frames place 0) (hanging nexts sizes at) (place ∷ []))
+      (ap (frames_of frames) longer ∙ map-append (λ place. slice_index_or frames place 0) (hanging nexts sizes at) (place ∷ []))
 
   pub grown-hung : AreHung frames newer sized heads free bound
   grown-hung = rw is (record {

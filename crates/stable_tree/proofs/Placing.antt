@@ -1,16 +1,14 @@
 -- A place that a new group gets.
-use Rattle.std.proofs.Common.{◌≡◌, ◌≢◌, ℕ, zero, suc, ◌+◌, ◌<◌, ◌≤◌, List, [], ◌∷◌, ◌++◌, length, map, slice_index_or, slice_set, All, ⊎_elim, refl, sym, ap, subst, ◌∙◌, arith, length-append, vec_capacity}
+use Rattle.std.proofs.Common.{◌≡◌, ℕ, ◌+◌, ◌<◌, ◌≤◌, List, [], ◌∷◌, ◌++◌, length, map, slice_index_or, ⊎_elim, sym, ap, subst, ◌∙◌, arith, length-append}
 use Rattle.std.specs.List.{concat}
 use Rattle.std.proofs.lemmas.Bool.{cases_lt}
-use Rattle.std.proofs.lemmas.List.{get_or-set_same, length-set, get_or_append_left, append-nil}
-use Rattle.std.proofs.Math.Seq.{get_or-append_seam}
-use Rattle.tree_shape.specs.declared.Node.{Node}
+use Rattle.std.proofs.lemmas.List.{get_or_append_left}
 use Rattle.tree_shape.specs.Shape.{in_order, Tree, Holds, none, blank, IsEven}
 use Rattle.stable_tree.specs.declared.store.Store.{Store}
-use Rattle.stable_tree.specs.Places.{chain_at, used, times, AreShared, AreHung, HasRoom, IsWhole, IsStore, IsPlaced, tree_at, tree_in, heads_in, chains_in}
-use Rattle.stable_tree.proofs.Walks.{here, here-same, here-other, here-few, times-cons, times-append, Agree, agree-set}
+use Rattle.stable_tree.specs.Places.{chain_at, used, times, AreShared, AreHung, HasRoom, IsWhole, IsStore, IsPlaced, tree_in, heads_in, chains_in}
+use Rattle.stable_tree.proofs.Walks.{here, here-same, here-other, here-few, times-cons, times-append, Agree}
 use Rattle.stable_tree.proofs.Trees.{read-tree, holds-same}
-use Rattle.stable_tree.proofs.Hanging.{AreSame, chains-agree, shared-again, length-chains}
+use Rattle.stable_tree.proofs.Hanging.{chains-agree, shared-again, length-chains}
 
 abbrev pub used_in : Store → List ℕ
 used_in store = used store.nexts.items store.sizes.items (heads_in store)

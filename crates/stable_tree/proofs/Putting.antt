@@ -1,5 +1,5 @@
 -- What the chains are where a group was put in, by what came of its place in the tree.
-use Rattle.std.proofs.Common.{◌≡◌, ℕ, ◌+◌, List, [], ◌∷◌, ◌++◌, length, map, slice_index_or, slice_set, insert, None, Some, refl, sym, ap, subst, ◌∙◌, arith}
+use Rattle.std.proofs.Common.{◌≡◌, ℕ, List, [], ◌∷◌, ◌++◌, length, map, slice_index_or, insert, Some, refl, sym, ap, subst, ◌∙◌, arith}
 use Rattle.tree_shape.specs.declared.Node.{Node}
 use Rattle.tree_shape.specs.Shape.{Tree, leaf, fork, in_order, Holds, IsEven, IsHung}
 use Rattle.tree_shape.specs.Changes.{found, entered}
@@ -8,9 +8,9 @@ use Rattle.tree_shape.proofs.Changing.{entered-grown}
 use Rattle.stable_tree.specs.declared.store.Store.{Store}
 use Rattle.stable_tree.specs.Groups.{IsSorted}
 use Rattle.stable_tree.specs.Edits.{IsPut, added, lengthened}
-use Rattle.stable_tree.specs.Places.{frames_of, chain_at, AreHung, IsWhole, IsHead, IsLengthened, tree_in, heads_in, chains_in}
+use Rattle.stable_tree.specs.Places.{frames_of, chain_at, AreHung, IsWhole, IsLengthened, tree_in, heads_in, chains_in}
 use Rattle.stable_tree.proofs.Trees.{read-tree}
-use Rattle.stable_tree.proofs.Contents.{IsHere, found-here, IsNowhere, missing-here}
+use Rattle.stable_tree.proofs.Contents.{found-here, IsNowhere}
 use Rattle.stable_tree.proofs.Entering.{IsRenoded, same-chains, same-heads, hanging-alone, head-in, insert-between}
 
 -- the place came into the tree
@@ -48,10 +48,10 @@ module _ (pages : List (List ℕ)) (frame : ℕ) (old new : Store) (place root :
   put-added =
       added (length told.earlier) told.cut told.absent
       (rw (heads, is.frames, is.nexts, is.sizes)
-          (insert-between (chain_at old.frames.items old.nexts.items old.sizes.items) told.earlier place told.later
-          ∙ ap (λ chain. insert (map (chain_at old.frames.items old.nexts.items old.sizes.items) (told.earlier ++ told.later)) (length told.earlier) chain)
-              (ap (frames_of old.frames.items) (hanging-alone old.nexts.items old.sizes.items place alone) ∙ ap (λ (f : ℕ). f ∷ []) framed)
-          ∙ ap (λ heads. insert (map (chain_at old.frames.items old.nexts.items old.sizes.items) heads) (length told.earlier) (frame ∷ [])) (sym told.is)))
+      (insert-between (chain_at old.frames.items old.nexts.items old.sizes.items) told.earlier place told.later
+      ∙ ap (λ chain. insert (map (chain_at old.frames.items old.nexts.items old.sizes.items) (told.earlier ++ told.later)) (length told.earlier) chain)
+      (ap (frames_of old.frames.items) (hanging-alone old.nexts.items old.sizes.items place alone) ∙ ap (λ (f : ℕ). f ∷ []) framed)
+      ∙ ap (λ heads. insert (map (chain_at old.frames.items old.nexts.items old.sizes.items) heads) (length told.earlier) (frame ∷ [])) (sym told.is)))
       refl
 
 -- the place came behind others

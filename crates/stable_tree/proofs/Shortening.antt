@@ -1,13 +1,13 @@
 -- One group less among those that hang at a place.
-use Rattle.std.proofs.Common.{◌≡◌, ℕ, zero, suc, ◌+◌, ◌-◌, ◌<◌, ◌≤◌, List, [], ◌∷◌, ◌++◌, length, map, slice_index_or, slice_set, All, refl, sym, ap, subst, ◌∙◌, arith, length-append}
+use Rattle.std.proofs.Common.{◌≡◌, ℕ, suc, ◌+◌, ◌-◌, ◌<◌, ◌≤◌, List, ◌∷◌, ◌++◌, length, map, slice_index_or, slice_set, refl, sym, ap, subst, ◌∙◌, arith}
 use Rattle.std.specs.List.{remove}
 use Rattle.std.specs.Vec.{with_item}
 use Rattle.std.proofs.lemmas.List.{get_or-set_same, length-set}
 use Rattle.stable_tree.specs.declared.store.Store.{Store}
-use Rattle.stable_tree.specs.Places.{walk, hanging, frames_of, chain_at, used, times, AreShared, AreHung, IsWhole, IsHead, IsWithout, heads_in, chains_in}
-use Rattle.stable_tree.proofs.Walks.{here, times-cons, times-first, apart-set, walk-there, walk-next, length-walk, IsShorter, walk-shortened, walk-cut, Once}
+use Rattle.stable_tree.specs.Places.{walk, hanging, frames_of, chain_at, used, times, AreHung, IsWhole, IsHead, IsWithout, heads_in}
+use Rattle.stable_tree.proofs.Walks.{here, times-cons, times-first, apart-set, walk-there, walk-next, IsShorter, walk-shortened, walk-cut, Once}
 use Rattle.stable_tree.proofs.Hanging.{IsChanged, Apart, one-changed, shared-again, times-cut, length-cut}
-use Rattle.stable_tree.proofs.Lengthening.{cut-filled, cut-shared, head-some, head-inside, hanging-once, hanging-inside, changed-times, changed-length, changed-filled, changed-chains}
+use Rattle.stable_tree.proofs.Lengthening.{cut-filled, cut-shared, head-inside, hanging-once, hanging-inside, changed-times, changed-length, changed-filled, changed-chains}
 use Rattle.stable_tree.proofs.Heads.{head-chain}
 
 module _ (frames nexts sizes heads free earlier : List ℕ) (at : ℕ) (later : List ℕ) (bound gone j : ℕ) (given newer : List ℕ) (hung : AreHung frames nexts sizes heads free bound) (is : heads ≡ earlier ++ at ∷ later)
@@ -95,7 +95,7 @@ module _ (store : Store) (at gone : ℕ) (whole : IsWhole store store.free.items
   cut-chains earlier later is =
       let chain = head-chain store earlier at later is in
       rw chain (rw is (less-chains store.frames.items store.nexts.items store.sizes.items (heads_in store) store.free.items earlier at later (length store.nodes.items) gone (all - 1) store.frames.items store.nexts.items
-          whole.hung is more whole.hung.framed whole.hung.linked (λ i none. refl) (λ i none. refl) short))
+      whole.hung is more whole.hung.framed whole.hung.linked (λ i none. refl) (λ i none. refl) short))
 
 -- the store where the next group took a place
 abbrev pub pulled_store : Store → ℕ → ℕ → Store
@@ -139,11 +139,11 @@ module _ (store : Store) (at place j : ℕ) (whole : IsWhole store store.free.it
       let linked = whole.hung.linked in
       let framed = whole.hung.framed in
       subst (λ (m : ℕ). IsShorter m j store.nexts.items store.frames.items at (slice_set store.nexts.items place (slice_index_or store.nexts.items (slice_index_or store.nexts.items place 0) 0))
-          (slice_set store.frames.items place (slice_index_or store.frames.items (slice_index_or store.nexts.items place 0) 0)) (slice_index_or store.nexts.items place 0)) e
+      (slice_set store.frames.items place (slice_index_or store.frames.items (slice_index_or store.nexts.items place 0) 0)) (slice_index_or store.nexts.items place 0)) e
       (walk-shortened (size_all - 2) j store.nexts.items store.frames.items at place (omega (arith, more))
-          (stands ∙ ap (λ (m : ℕ). slice_index_or (walk m store.nexts.items at) j 0) f)
-          (subst (λ (m : ℕ). Once (walk m store.nexts.items at)) f (hanging-once store.frames.items store.nexts.items store.sizes.items (heads_in store) store.free.items head.earlier at head.later bound_all whole.hung head.is))
-          (omega (arith, pulled-inside, linked)) (omega (arith, pulled-inside, framed)))
+      (stands ∙ ap (λ (m : ℕ). slice_index_or (walk m store.nexts.items at) j 0) f)
+      (subst (λ (m : ℕ). Once (walk m store.nexts.items at)) f (hanging-once store.frames.items store.nexts.items store.sizes.items (heads_in store) store.free.items head.earlier at head.later bound_all whole.hung head.is))
+      (omega (arith, pulled-inside, linked)) (omega (arith, pulled-inside, framed)))
 
   pulled-frames : length (slice_set store.frames.items place (slice_index_or store.frames.items (slice_index_or store.nexts.items place 0) 0)) ≡ bound_all
   pulled-frames = length-set store.frames.items place (slice_index_or store.frames.items (slice_index_or store.nexts.items place 0) 0) ∙ whole.hung.framed
@@ -170,8 +170,8 @@ module _ (store : Store) (at place j : ℕ) (whole : IsWhole store store.free.it
   pulled-chains earlier later is =
       let chain = head-chain store earlier at later is in
       rw chain (rw is (less-chains store.frames.items store.nexts.items store.sizes.items (heads_in store) store.free.items earlier at later bound_all (slice_index_or store.nexts.items place 0) j
-          (slice_set store.frames.items place (slice_index_or store.frames.items (slice_index_or store.nexts.items place 0) 0)) (slice_set store.nexts.items place (slice_index_or store.nexts.items (slice_index_or store.nexts.items place 0) 0))
-          whole.hung is (omega (arith, more)) pulled-frames pulled-nexts
-          (apart-set (hanging store.nexts.items store.sizes.items at) store.frames.items place (slice_index_or store.frames.items (slice_index_or store.nexts.items place 0) 0) place-stands)
-          (apart-set (hanging store.nexts.items store.sizes.items at) store.nexts.items place (slice_index_or store.nexts.items (slice_index_or store.nexts.items place 0) 0) place-stands)
-          pulled-short))
+      (slice_set store.frames.items place (slice_index_or store.frames.items (slice_index_or store.nexts.items place 0) 0)) (slice_set store.nexts.items place (slice_index_or store.nexts.items (slice_index_or store.nexts.items place 0) 0))
+      whole.hung is (omega (arith, more)) pulled-frames pulled-nexts
+      (apart-set (hanging store.nexts.items store.sizes.items at) store.frames.items place (slice_index_or store.frames.items (slice_index_or store.nexts.items place 0) 0) place-stands)
+      (apart-set (hanging store.nexts.items store.sizes.items at) store.nexts.items place (slice_index_or store.nexts.items (slice_index_or store.nexts.items place 0) 0) place-stands)
+      pulled-short))

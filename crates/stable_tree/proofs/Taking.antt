@@ -1,6 +1,6 @@
 -- What the chains are where a group was taken out, by what came of its place in the tree.
-use Rattle.std.proofs.Common.{◌≡◌, ◌≢◌, ℕ, zero, suc, ◌+◌, ◌-◌, ◌<◌, ◌≤◌, ◌==◌, ◌&&◌, Bool, true, false, List, [], ◌∷◌, ◌++◌, length, map, slice_index_or, slice_set, filter, All, None, Some, ⊎_elim, refl, sym, ap, subst, ◌∙◌, arith}
-use Rattle.std.specs.List.{concat, remove}
+use Rattle.std.proofs.Common.{◌≡◌, ◌≢◌, ℕ, ◌-◌, ◌<◌, ◌≤◌, ◌==◌, true, false, List, [], ◌∷◌, ◌++◌, length, map, slice_index_or, slice_set, None, Some, ⊎_elim, refl, sym, ap, subst, ◌∙◌, arith}
+use Rattle.std.specs.List.{remove}
 use Rattle.std.proofs.lemmas.Bool.{cases_lt}
 use Rattle.std.proofs.lemmas.Bool.Decides.{nat_tests}
 use Rattle.std.proofs.lemmas.List.{get_or-map}
@@ -15,7 +15,7 @@ use Rattle.tree_shape.proofs.Changing.{taken-shrunk}
 use Rattle.stable_tree.specs.declared.store.Store.{Store}
 use Rattle.stable_tree.specs.Groups.{IsSorted, has}
 use Rattle.stable_tree.specs.Edits.{IsTakenOut, nowhere, alone, shortened, IsShortened, missing, shorter}
-use Rattle.stable_tree.specs.Places.{walk, hanging, frames_of, chain_at, AreHung, IsWhole, IsHead, IsWithout, IsStanding, tree_in, heads_in, chains_in}
+use Rattle.stable_tree.specs.Places.{walk, hanging, frames_of, chain_at, AreHung, IsWhole, IsStanding, tree_in, heads_in, chains_in}
 use Rattle.stable_tree.proofs.Sorting.{filter-there, filter-not_there, both}
 use Rattle.stable_tree.proofs.Walks.{length-walk}
 use Rattle.stable_tree.proofs.Trees.{read-tree}
@@ -131,6 +131,6 @@ module _ (pages : List (List ℕ)) (frame : ℕ) (old new : Store) (place root :
       told.chain ∙ ap (frames_of old.frames.items) (hanging-alone old.nexts.items old.sizes.items place one) ∙ ap (λ (f : ℕ). f ∷ []) (alone-tells old.frames.items old.sizes.items frame place single).1 in
       alone (length told.head.earlier) told.inside (ap length chain) (ap (λ chain. slice_index_or chain 0 0) chain)
       (e ∙ (rw (heads, is.frames, is.nexts, is.sizes)
-          (remove-between (chain_at old.frames.items old.nexts.items old.sizes.items) told.head.earlier place told.head.later
-          ∙ ap (λ heads. remove (map (chain_at old.frames.items old.nexts.items old.sizes.items) heads) (length told.head.earlier)) (sym told.head.is))))
+      (remove-between (chain_at old.frames.items old.nexts.items old.sizes.items) told.head.earlier place told.head.later
+      ∙ ap (λ heads. remove (map (chain_at old.frames.items old.nexts.items old.sizes.items) heads) (length told.head.earlier)) (sym told.head.is))))
       refl

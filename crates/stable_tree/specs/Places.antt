@@ -1,5 +1,5 @@
 -- Where groups stand: each has a place, and those of one content hang at the place of a tree's node.
-use Rattle.std.specs.Prelude.{◌≡◌, ◌≢◌, ℕ, zero, suc, ◌+◌, ◌-◌, ◌<◌, ◌≤◌, ◌==◌, if◌then◌else◌, List, [], ◌∷◌, ◌++◌, All, length, map, flat_map, sum_by, slice_index_or, slice_set, remove, vec_capacity}
+use Rattle.std.specs.Prelude.{◌≡◌, ℕ, zero, suc, ◌+◌, ◌-◌, ◌<◌, ◌≤◌, ◌==◌, if◌then◌else◌, List, [], ◌∷◌, ◌++◌, All, length, map, flat_map, sum_by, slice_index_or, slice_set, remove, vec_capacity}
 use Rattle.tree_shape.specs.declared.Node.{Node}
 use Rattle.tree_shape.specs.Shape.{Tree, leaf, fork, in_order, Holds, IsEven, height_at, none, blank}
 use Rattle.stable_tree.specs.declared.store.Store.{Store}

@@ -1,6 +1,4 @@
-use Rattle.std.proofs.Common.{◌≡◌, ◌*◌, ◌∙◌, sym, arith}
-use Rattle.tree_shape.specs.Searches.{IsSearched, order_to}
-use Rattle.tree_shape.specs.Changes.{found}
+use Rattle.std.proofs.Common.{arith}
 use Rattle.stable_tree.specs.Places.{tree_in}
 use Rattle.stable_tree.proofs.Contents.{whole-searched, whole-few}
 use Rattle.stable_tree.proofs.Entering.{answer-of}
@@ -14,7 +12,7 @@ pub returns-clause-found : goal.returns-clause-found
 returns-clause-found c =
     answer-of c.args.arena.now.pages c.args.store.now c.args.store.now.free.items c.requires.whole c.requires.sorted c.args.frame c.find.result
     (rw c.deref-2.ensures.value at (c.find.ensures.place (tree_in c.args.store.now)
-        (rw (c.deref.ensures.value, c.deref-2.ensures.value) (whole-searched c.args.arena.now.pages c.args.store.now c.args.store.now.free.items c.requires.whole c.requires.sorted))))
+    (rw (c.deref.ensures.value, c.deref-2.ensures.value) (whole-searched c.args.arena.now.pages c.args.store.now c.args.store.now.free.items c.requires.whole c.requires.sorted))))
 
 pub returns-clause-few : goal.returns-clause-few
 returns-clause-few c =

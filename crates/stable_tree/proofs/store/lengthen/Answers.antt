@@ -1,6 +1,5 @@
-use Rattle.std.proofs.Common.{◌≡◌, ◌+◌, ◌-◌, ◌<◌, ◌≤◌, ◌∷◌, ℕ, length, slice_index_or, All, sym, ap, subst, ◌∙◌, arith}
+use Rattle.std.proofs.Common.{◌≡◌, ◌∷◌, slice_index_or, arith}
 use Rattle.std.proofs.lemmas.List.{get_or_read}
-use Rattle.stable_tree.specs.Places.{walk, end}
 use Rattle.stable_tree.proofs.Heads.{head-facts, longer-whole, longer-chains}
 use Rattle.stable_tree.proofs.store.lengthen.Goals as goal
 

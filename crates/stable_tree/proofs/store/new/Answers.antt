@@ -1,4 +1,4 @@
-use Rattle.std.proofs.Common.{◌≡◌, ◌≤◌, ℕ, [], length, slice_index_or, refl, arith, rules}
+use Rattle.std.proofs.Common.{◌≤◌, slice_index_or, refl, arith}
 use Rattle.std.proofs.lemmas.List.Elements.{All-nil}
 use Rattle.tree_shape.specs.Shape.{in_order, Holds, IsEven}
 use Rattle.stable_tree.specs.Places.{tree_within}

@@ -1,9 +1,8 @@
-use Rattle.std.proofs.Common.{◌≡◌, ◌+◌, ◌<◌, ◌≤◌, List, [], ◌∷◌, ◌++◌, ℕ, length, refl, sym, ap, ◌∙◌, arith, rules, length-append, vec_len, vec_capacity}
-use Rattle.std.proofs.lemmas.List.{get_or-set_same, length-set, append-nil, get_or_append_left}
+use Rattle.std.proofs.Common.{◌≡◌, ◌<◌, [], ◌∷◌, ◌++◌, ℕ, length, refl, ap, ◌∙◌, arith, rules, length-append, vec_len, vec_capacity}
+use Rattle.std.proofs.lemmas.List.{get_or-set_same, length-set, get_or_append_left}
 use Rattle.std.proofs.Math.Seq.{get_or-append_seam}
 use Rattle.tree_shape.specs.declared.Node.{Node}
 use Rattle.tree_shape.specs.Shape.{blank}
-use Rattle.stable_tree.specs.Places.{heads_in}
 use Rattle.stable_tree.proofs.Walks.{agree-set}
 use Rattle.stable_tree.proofs.Placing.{used_in, placed, last-inside, last-away, last-shared, more-shared, more-agree, room-left}
 use Rattle.stable_tree.proofs.store.place.Goals as goal

@@ -1,7 +1,7 @@
-use Rattle.std.proofs.Common.{◌≡◌, ◌≢◌, ℕ, ◌+◌, ◌-◌, ◌<◌, ◌≤◌, length, slice_index_or, ⊎_elim, refl, sym, ap, ◌∙◌, arith, rules}
+use Rattle.std.proofs.Common.{◌≡◌, ℕ, ◌-◌, ◌<◌, ◌≤◌, length, slice_index_or, ⊎_elim, sym, ap, ◌∙◌, arith}
 use Rattle.std.proofs.lemmas.Bool.{cases_lt}
 use Rattle.std.proofs.lemmas.List.{get_or-map, length-map}
-use Rattle.stable_tree.specs.Places.{walk, frames_of}
+use Rattle.stable_tree.specs.Places.{walk}
 use Rattle.stable_tree.proofs.Walks.{length-walk, on-inside, on-within, ahead-first, ahead-next}
 use Rattle.stable_tree.proofs.store.place_of.Goals as goal
 

@@ -1,8 +1,8 @@
-use Rattle.std.proofs.Common.{◌≡◌, ◌≤◌, ◌*◌, ◌∷◌, ◌∙◌, ℕ, List, length, slice_index_or, Some, None, refl, sym, ap, subst, arith}
+use Rattle.std.proofs.Common.{◌∷◌, List, length, sym, ap, subst, arith}
 use Rattle.tree_shape.specs.declared.Node.{Node}
 use Rattle.stable_tree.specs.Digits.{digits}
 use Rattle.stable_tree.specs.Groups.{IsSorted}
-use Rattle.stable_tree.specs.Places.{tree_in, chains_in}
+use Rattle.stable_tree.specs.Places.{tree_in}
 use Rattle.stable_tree.proofs.Contents.{whole-few, found-here, missing-here}
 use Rattle.stable_tree.proofs.Entering.{IsRenoded, renoded_store, renoded, whole-growing, same-whole, same-head}
 use Rattle.stable_tree.proofs.Putting.{put-whole, put-added, put-lengthened}

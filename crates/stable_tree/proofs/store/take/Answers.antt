@@ -1,7 +1,5 @@
-use Rattle.std.proofs.Common.{◌≡◌, ◌≤◌, ◌*◌, ◌∷◌, ◌∙◌, ℕ, List, length, slice_index_or, Some, None, refl, sym, ap, subst, arith}
+use Rattle.std.proofs.Common.{List, length, ap, subst, arith}
 use Rattle.tree_shape.specs.declared.Node.{Node}
-use Rattle.stable_tree.specs.Digits.{digits}
-use Rattle.stable_tree.specs.Groups.{IsSorted}
 use Rattle.stable_tree.specs.Places.{tree_in, chains_in}
 use Rattle.stable_tree.proofs.Contents.{whole-few, found-here}
 use Rattle.stable_tree.proofs.Entering.{IsRenoded, renoded_store, renoded, whole-taking, same-whole, same-head}

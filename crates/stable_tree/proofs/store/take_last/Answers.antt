@@ -1,4 +1,4 @@
-use Rattle.std.proofs.Common.{◌≡◌, ◌∙◌, ap, arith}
+use Rattle.std.proofs.Common.{◌∙◌, arith}
 use Rattle.std.proofs.lemmas.List.{get_or_read}
 use Rattle.stable_tree.proofs.Heads.{head-facts}
 use Rattle.stable_tree.proofs.Shortening.{cut-whole, cut-chains}

@@ -1,4 +1,4 @@
-use Rattle.std.proofs.Common.{sym, ◌∙◌, length}
+use Rattle.std.proofs.Common.{sym, ◌∙◌}
 use Rattle.frame_arena.specs.Pages.{page_at}
 use Rattle.stable_tree.specs.Places.{chains_in}
 use Rattle.stable_tree.proofs.Sorting.{filter-there, filter-not_there}

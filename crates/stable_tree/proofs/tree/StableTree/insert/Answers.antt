@@ -1,9 +1,7 @@
-use Rattle.std.proofs.Common.{◌≡◌, ◌+◌, ◌-◌, ◌<◌, ◌≤◌, length, refl, ap, sym, ◌∙◌, arith}
+use Rattle.std.proofs.Common.{length, refl, arith}
 use Rattle.std.specs.List.{concat}
-use Rattle.stable_tree.specs.Groups.{Groups, AreDups}
 use Rattle.stable_tree.specs.Places.{chains_in, heads_in}
-use Rattle.stable_tree.proofs.Counting.{IsMoved}
-use Rattle.stable_tree.proofs.Told.{put-inserted, put-sorted, put-kept, put-moved, take-removed, take-sorted, take-kept, take-moved}
+use Rattle.stable_tree.proofs.Told.{put-inserted, put-sorted, put-kept, put-moved}
 use Rattle.stable_tree.proofs.Hanging.{length-chains}
 use Rattle.stable_tree.proofs.tree.StableTree.insert.Goals as goal
 
