@@ -152,9 +152,11 @@ impl<'a> Whole<'a> {
         let mut words = Vec::new(rt.alloc());
         let mut reader = self.file;
         let outcome = self.asked.answer(rt, &mut reader, &mut output, &mut words);
-        let is_fault =
-            matches!(outcome, Err(FileFault::Write(_))) && status_of(&outcome) == FAULT;
-        if is_fault && output.has_stopped() && self.told.begins(output.taken.as_slice(), words.as_slice()) {
+        let is_fault = matches!(outcome, Err(FileFault::Write(_))) && status_of(&outcome) == FAULT;
+        if is_fault
+            && output.has_stopped()
+            && self.told.begins(output.taken.as_slice(), words.as_slice())
+        {
             Some(output.taken.len())
         } else {
             None

@@ -179,7 +179,9 @@ impl Drawn {
 
     /// Prints what was found.
     pub(crate) fn print(&self, rt: &impl Print) -> io::Result<()> {
-        let refused = self.refused_by_decoder.saturating_add(self.refused_by_verifier);
+        let refused = self
+            .refused_by_decoder
+            .saturating_add(self.refused_by_verifier);
         println!(rt;
             "{} drawn texts: {} refused by the decoder, {} by the verifier, {} run alike",
             refused.saturating_add(self.ran),
