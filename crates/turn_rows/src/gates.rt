@@ -11,35 +11,20 @@ use host_types::Fault;
 use std::alloc::Global;
 use std::sync::{Mutex, Wait};
 use tenant_runs::RunReply;
-use tenant_workers::{Gate, Open, Shared};
+use tenant_workers::{Gate, Open, ScanPlan, Shared};
 use test_inputs::texts::COUNTER;
-use turn::{ScanSeat, Seat};
+use turn::Seat;
 use verifier::Verified;
 
-/// The scanner, which visits two pages whenever it is asked to.
-#[derive(Drop)]
-struct Scanning<'a> {
-    shared: &'a Shared,
-    seat: ScanSeat,
-    ghost idle: { IsIdle shared.now seat },
-}
-
-impl<'a> Scanning<'a> {
-    fn scan(&mut self, rt: &impl Wait) {
-        let shared = self.shared;
-        shared.scan_batch(rt, &mut self.seat, 2);
-    }
-}
-
-/// A gate at which the scanner visits pages.
+/// A gate that makes visits of the scanner.
 #[derive(Drop)]
 struct Scanned<'a> {
-    scanning: Mutex<Scanning<'a>>,
+    plan: Mutex<ScanPlan<'a>>,
 }
 
 impl<'a> Gate for Scanned<'a> {
     fn at<R: Wait>(&self, rt: &R, _tenant: u32, _slot: u32) {
-        self.scanning.lock(rt).scan(rt);
+        self.plan.lock(rt).scan(rt, &Open);
     }
 }
 
@@ -61,12 +46,13 @@ pub(crate) fn runs_scanned(rt: &(impl Wait + AllocGlobal)) -> Result<Runs, Fault
         scanner,
         host: _host,
     } = two_tenants(alloc, 8)?;
-    let scanning = Scanning {
+    let plan = ScanPlan {
         shared: &shared,
         seat: scanner,
+        visits: 2,
     };
     let gate = Scanned {
-        scanning: Mutex::new(scanning),
+        plan: Mutex::new(plan),
     };
     let replies = [
         counted(rt, alloc, &shared, &mut first, &gate),
