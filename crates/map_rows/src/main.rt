@@ -3,10 +3,13 @@
 //! what a program is to answer and to leave in its maps (`row.rt`); it is run on pages of their own, on
 //! merged pages and on pages of the zero frame. Where its maps are small, so is each text that its program
 //! becomes by a cut at a byte or by the flip of a bit: it is refused, or it goes as on the plain machine.
-//! Beside the rows, a byte is loaded at every offset of some maps' first values (`offsets.rt`).
+//! Beside the rows, a byte is loaded at every offset of some maps' first values (`offsets.rt`). With a number
+//! as its one argument the program draws so many changed texts of each such row in their place, and judges them
+//! by the plain verifier too.
 #![tactic(auto)]
 
 mod changes;
+mod drawn;
 mod offsets;
 mod pages;
 mod row;
@@ -14,12 +17,14 @@ mod runs;
 mod setting;
 
 use changes::{is_small, texts_that_agree};
+use drawn::Drawn;
 use kernel_check::{Finding, Rows, compare_rows};
 use offsets::agreeing_offsets;
 use row::Row;
-use runs::agrees;
+use runs::{Outcome, agrees};
 use std::alloc::{AllocError, Global};
 use std::io;
+use test_inputs::rounds_of;
 
 /// How many changed texts are refused or go alike.
 #[derive(Drop)]
@@ -58,7 +63,52 @@ impl Changed {
     }
 }
 
+/// So many texts that are drawn of each row's program.
+#[derive(Drop)]
+struct Drawing {
+    texts: u32,
+    drawn: Drawn,
+}
+
+impl Rows for Drawing {
+    /// Draws texts of an accepted program of a row.
+    fn compare(
+        &mut self,
+        alloc: Global,
+        line: &str,
+        _number: usize,
+    ) -> Result<Finding, AllocError> {
+        match Row::parse(alloc, line) {
+            Some(row) if agrees(alloc, &row) => self.draw(alloc, &row),
+            _ => Ok(Finding::Differs),
+        }
+    }
+}
+
+impl Drawing {
+    /// Draws texts of a row's program, where it is accepted on small maps.
+    fn draw(&mut self, alloc: Global, row: &Row) -> Result<Finding, AllocError> {
+        if !is_small(&row.setting) || matches!(row.wanted, Outcome::Refused(_)) {
+            return Ok(Finding::Agrees);
+        }
+        let text = row.text.as_slice();
+        if self.drawn.agree(alloc, &row.setting, text, self.texts)? {
+            Ok(Finding::Agrees)
+        } else {
+            Ok(Finding::DiffersChanged)
+        }
+    }
+}
+
 fn main(rt: HostRuntime) -> io::Result<()> {
+    if let Some(texts) = rounds_of(&rt)? {
+        let mut drawing = Drawing {
+            texts,
+            drawn: Drawn::new(),
+        };
+        compare_rows(&rt, &mut drawing)?;
+        return drawing.drawn.print(&rt);
+    }
     let mut changed = Changed { texts: 0 };
     compare_rows(&rt, &mut changed)?;
     println!(rt; "{} changed texts are refused or agree", changed.texts)?;

@@ -149,6 +149,30 @@ pub(crate) fn is_refused_or_agrees(alloc: Global, setting: &Setting, text: &[u8]
     }
 }
 
+/// What is found of a text, by the program and by the plain verifier and the plain machine.
+pub(crate) enum Judgement {
+    RefusedByDecoder,
+    /// The plain verifier refuses it alike.
+    RefusedByVerifier,
+    /// The plain verifier knows the same of it, and it goes as on the plain machine.
+    Ran,
+    Differs,
+}
+
+/// What is found of a text.
+pub(crate) fn found_of(alloc: Global, setting: &Setting, text: &[u8]) -> Judgement {
+    let verified = judged(alloc, setting, text);
+    if !is_judged_alike(alloc, setting, text, &verified) {
+        return Judgement::Differs;
+    }
+    match verified {
+        Ok(program) if gone(alloc, setting, text, &program).is_some() => Judgement::Ran,
+        Err(refused) if refused.number <= CUT_WIDE => Judgement::RefusedByDecoder,
+        Err(refused) if refused != Refused::OUT_OF_MEMORY => Judgement::RefusedByVerifier,
+        _ => Judgement::Differs,
+    }
+}
+
 /// Whether both have the same maps.
 fn are_same(maps: &[Option<ArrayMap>], others: &[Option<ArrayMap>]) -> bool {
     maps.len() == others.len()
