@@ -79,10 +79,13 @@ fn fill(memory: &mut Memory, setting: &Setting) -> bool {
 /// Makes a tenant's maps. It answers whether all were made.
 fn make_maps(memory: &mut Memory, tenant: u32, shapes: &[Option<Shape>]) -> bool {
     let mut all = true;
-    for shape in shapes.iter().flatten() {
-        all &= memory
-            .create_map(tenant, shape.value_size, shape.entries, true)
-            .is_ok();
+    for shape in shapes {
+        all &= match shape {
+            Some(shape) => memory
+                .create_map(tenant, shape.value_size, shape.entries, true)
+                .is_ok(),
+            None => false,
+        };
     }
     all
 }
