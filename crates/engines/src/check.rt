@@ -10,6 +10,8 @@ ghost use Rattle.engines.specs.Lines.{line_of};
 mod acceptance;
 pub(crate) mod question;
 
+pub use question::{Question, question_of};
+
 use crate::explanation::explain_check;
 use crate::fault::written;
 use crate::lines::write_refusal;
@@ -18,7 +20,6 @@ use host_calls::judge;
 use host_file::FileFault;
 use host_types::Fault;
 use host_types::limits::MAX_MAPS;
-use question::{Question, question_of};
 use std::alloc::Global;
 use std::io::Write;
 use verifier::{Verified, is_context_size};
