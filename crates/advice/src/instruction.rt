@@ -92,7 +92,9 @@ fn on_field(insn: &Insn) -> Option<Advice> {
         Operation::Call if insn.src != 0 => return Some(on_callee(insn)),
         Operation::LoadImmediate => (
             "this form of the wide instruction isn't taken",
-            "load a number with src 0, or name a map with src 1, the second half's other fields 0",
+            "load a number with src 0; name a map with src 1, the second half 0; or take an address in \
+                a map's first value with src 2, its offset in the second half's imm; the second half's \
+                other fields are 0",
         ),
         Operation::Alu {
             code: AluCode::Div | AluCode::Mod,
@@ -172,7 +174,8 @@ fn on_kind(insn: &Insn) -> Option<Advice> {
     let (wrong, mend) = match Operation::of(insn.opcode)? {
         Operation::Load { .. } => (
             "a load goes through a number or a map's name",
-            "load through R1, R10, a lookup's answer, or a copy of one of them",
+            "load through R1, R10, a lookup's answer, an address in a map's first value, or a copy of \
+                one of them",
         ),
         Operation::Store { .. } => (
             "a store goes through a number or a map's name, or into the context",
@@ -233,7 +236,8 @@ fn on_unset_bytes(insn: &Insn) -> Option<Advice> {
     }
 }
 
-/// A number that is added to an address in a map's value, or an access there.
+/// A number that is added to an address in a map's value, an access there, or an offset in its first
+/// value.
 fn on_reach(insn: &Insn) -> Option<Advice> {
     let (wrong, mend) = match Operation::of(insn.opcode)? {
         Operation::Alu {
@@ -251,6 +255,10 @@ fn on_reach(insn: &Insn) -> Option<Advice> {
             "compare the index, as an unsigned number of 64 bits, with how many there are before it \
                 is added, or mask it, so that the whole access lies in the value; or make the map \
                 with larger values",
+        ),
+        Operation::LoadImmediate => (
+            "the offset isn't less than the bytes of the map's first value",
+            "give a smaller offset in the second half's imm, or make the map with larger values",
         ),
         _ => return None,
     };

@@ -123,8 +123,8 @@ pub fn on_access(number: u32) -> Option<Advice>
             "store them first, on every way that leads here",
         ),
         OUTSIDE_MAP => (
-            "an access that may lie outside a map's value, or an address that may be more than 65536 \
-            bytes from the value's beginning",
+            "an access that may lie outside a map's value, an address that may be more than 65536 bytes \
+            from the value's beginning, or an offset that isn't less than the bytes of a first value",
             "compare the index, as an unsigned number, with the value's size before it is added, or mask \
             it, so that the whole access lies in the value; or make the map with larger values",
         ),

@@ -139,7 +139,7 @@ fn text_of(alloc: Global, work: Work) -> Result<Vec<u8>, AllocError> {
 
 /// A program that is judged.
 fn judged(alloc: Global, text: &[u8]) -> Result<Verified, Refused> {
-    verify(alloc, decode(alloc, text)?, &[SHAPE], 0)
+    verify(alloc, decode(alloc, text)?, &[Some(SHAPE)], 0)
 }
 
 /// The program of some work.

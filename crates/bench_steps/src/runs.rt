@@ -1,7 +1,7 @@
 //! Runs of the programs, from their beginning to their end.
 
 ghost use Rattle.std.specs.Prelude.{◌≡◌, [], IfOk};
-ghost use Rattle.verifier.specs.Subject.{all_there};
+ghost use Rattle.verifier.specs.Subject.{padded};
 ghost use Rattle.interp.specs.Machine.{MachineState};
 ghost use Rattle.interp.specs.StandsFor.{StandsFor};
 
@@ -32,7 +32,7 @@ pub(crate) trait Runner {
 #[derive(Drop)]
 pub(crate) struct Interpreter<'a> {
     pub(crate) program: &'a Verified,
-    ghost no_maps: { program.now.subject.shapes ≡ all_there [] },
+    ghost no_maps: { program.now.subject.shapes ≡ padded [] },
 }
 
 impl Runner for Interpreter<'_> {
@@ -105,7 +105,7 @@ fn steps_told(last: Option<Reply>) -> u32 {
 
 /// The program, accepted for an empty context and no maps.
 pub(crate) fn accepted(alloc: Global, text: &[u8]) -> Result<Verified, Refused>
-    ensures { IfOk result (λ v. v.subject.shapes ≡ all_there []) }
+    ensures { IfOk result (λ v. v.subject.shapes ≡ padded []) }
 {
     let program = decode(alloc, text)?;
     verify(alloc, program, &[], 0)

@@ -1,7 +1,7 @@
 //! How long things take: the least time of many tries, since others use the machine too.
 
 ghost use Rattle.std.specs.Prelude.{◌≡◌, []};
-ghost use Rattle.verifier.specs.Subject.{all_there};
+ghost use Rattle.verifier.specs.Subject.{padded};
 
 use crate::runs::{Calls, Interpreter, Runner, accepted};
 use anyhow::{Result, anyhow};
@@ -63,7 +63,7 @@ pub(crate) fn measure_interpreter(
     program: &Verified,
     tries: u32,
 ) -> Result<StepTimes>
-    requires { program.now.subject.shapes ≡ all_there [] }
+    requires { program.now.subject.shapes ≡ padded [] }
 {
     measure_runner(rt, &mut Interpreter { program }, tries)
 }

@@ -81,15 +81,20 @@ impl Insn {
         u64::from(self.next_imm) << 32 | u64::from(self.imm.cast_unsigned())
     }
 
-    /// The number that the wide instruction loads: both immediates, or where `src` is 1 the name of the
-    /// map whose number `imm` is. The map m is named by (8 + m) * 2^32 (this project's own rule).
+    /// The number that the wide instruction loads: both immediates; or of the map whose number `imm`
+    /// is, where `src` is 1 its name, and where `src` is 2 the address at the offset `next_imm` in its
+    /// first value. The map m is named by (8 + m) * 2^32, and its first value begins at (16 + m) * 2^32
+    /// (this project's own rule).
     pub fn loaded_immediate(&self) -> u64
         ensures { result ≡ loaded_immediate self.now }
     {
-        if self.src == 1 {
-            (8 + u64::from(self.imm.cast_unsigned())).wrapping_mul(1 << 32)
-        } else {
-            self.wide_immediate()
+        let map = u64::from(self.imm.cast_unsigned());
+        match self.src {
+            1 => (8 + map).wrapping_mul(1 << 32),
+            2 => (16 + map)
+                .wrapping_mul(1 << 32)
+                .wrapping_add(u64::from(self.next_imm)),
+            _ => self.wide_immediate(),
         }
     }
 

@@ -97,8 +97,8 @@ pub enum Operation {
         size: Size,
         source: Source,
     },
-    /// Loads the number of both immediates into a register, or the name of a map, by the field
-    /// `src`: the wide instruction (RFC 9669, section 5.4).
+    /// Loads the number of both immediates into a register, the name of a map, or an address in a
+    /// map's first value, by the field `src`: the wide instruction (RFC 9669, section 5.4).
     LoadImmediate,
     /// Goes on elsewhere (RFC 9669, section 4.3).
     Jump {
@@ -454,12 +454,13 @@ impl Operation {
     }
 
     /// Whether a number may stand in the field `src`, where that names no register. In the wide
-    /// instruction 1 says that a map is named, and then there is no second immediate.
+    /// instruction 1 says that a map is named, and then there is no second immediate; 2 asks for an
+    /// address in a map's first value, and then the second immediate is the offset.
     pub(crate) fn allows_src(self, src: u8, next_imm: u32) -> bool
         ensures { result ≡ allows_src self src next_imm }
     {
         match self {
-            Operation::LoadImmediate => src == 0 || src == 1 && next_imm == 0,
+            Operation::LoadImmediate => src == 0 || src == 1 && next_imm == 0 || src == 2,
             _ => self.uses_src() || src == 0,
         }
     }

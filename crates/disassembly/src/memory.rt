@@ -53,13 +53,13 @@ pub fn write_store<W: fmt::Write>(
     write!(f, "{place} = {operand}")
 }
 
-/// Writes a wide instruction. The assembler has no word for the name of a map: `map 0` is this host's
-/// own.
+/// Writes a wide instruction. The assembler has no word for the name of a map, nor for an address in its
+/// first value: `map 0` and `map 0[0] + 8` are this host's own.
 pub fn write_load_immediate<W: fmt::Write>(f: &mut fmt::Formatter<W>, insn: &Insn) -> fmt::Result {
-    if insn.src == 0 {
-        write!(f, "r{} = {} ll", insn.dst, insn.wide_immediate())
-    } else {
-        write!(f, "r{} = map {}", insn.dst, insn.imm)
+    match insn.src {
+        0 => write!(f, "r{} = {} ll", insn.dst, insn.wide_immediate()),
+        1 => write!(f, "r{} = map {}", insn.dst, insn.imm),
+        _ => write!(f, "r{} = map {}[0] + {}", insn.dst, insn.imm, insn.next_imm),
     }
 }
 

@@ -1,5 +1,5 @@
 -- Words V:E and the shapes that they give, place by place.
-use Rattle.std.proofs.Common.{◌≡◌, ℕ, zero, suc, ◌+◌, ◌<◌, List, [], ◌∷◌, ◌++◌, length, take, get_or, Bor, sym, subst, arith}
+use Rattle.std.proofs.Common.{◌≡◌, ℕ, zero, suc, ◌+◌, ◌<◌, List, [], ◌∷◌, ◌++◌, length, take, get_or, Option, Some, None, IsSomeAnd, Bor, sym, subst, arith}
 use Rattle.std.proofs.lemmas.List.{take_more}
 use Rattle.std.specs.List.{AllZip}
 use Rattle.host_types.specs.declared.shape.Shape.{Shape}
@@ -18,14 +18,18 @@ AllZip-lacks R (x ∷ xs) (y ∷ ys) zero d lt lacks h = lacks y h.0
 AllZip-lacks R (x ∷ xs) (y ∷ ys) (suc i) d lt lacks h = AllZip-lacks R xs ys i d (omega arith) lacks h.1
 
 -- one word more, and its shape
-pub more_shape_words : (words : List (Bor (List ℕ))) (i : ℕ) (d : Bor (List ℕ)) (shapes longer : List Shape) (shape : Shape) → i < length words
-    → AreShapeWords (take i words) shapes → IsShapeWord (get_or words i d).now shape → longer ≡ shapes ++ shape ∷ [] → AreShapeWords (take (i + 1) words) longer
+pub more_shape_words : (words : List (Bor (List ℕ))) (i : ℕ) (d : Bor (List ℕ)) (shapes longer : List (Option Shape)) (shape : Shape) → i < length words
+    → AreShapeWords (take i words) shapes → IsShapeWord (get_or words i d).now shape → longer ≡ shapes ++ Some shape ∷ [] → AreShapeWords (take (i + 1) words) longer
 more_shape_words words i d shapes longer shape lt h r is =
     subst (λ ys. AreShapeWords (take (i + 1) words) ys) (sym is)
-    (subst (λ xs. AreShapeWords xs (shapes ++ shape ∷ [])) (sym (take_more words i d lt))
-    (AllZip-more (λ word shape. IsShapeWord word.now shape) (take i words) shapes (get_or words i d) shape h r))
+    (subst (λ xs. AreShapeWords xs (shapes ++ Some shape ∷ [])) (sym (take_more words i d lt))
+    (AllZip-more (λ word shape. IsSomeAnd shape (IsShapeWord word.now)) (take i words) shapes (get_or words i d) (Some shape) h r))
 
 -- a word that gives no shape is among them
 pub no_shape_words : (words : List (Bor (List ℕ))) (i : ℕ) (d : Bor (List ℕ)) → i < length words
-    → ((shape : Shape) → IsShapeWord (get_or words i d).now shape → ⊥) → (shapes : List Shape) → AreShapeWords words shapes → ⊥
-no_shape_words words i d lt lacks shapes h = AllZip-lacks (λ word shape. IsShapeWord word.now shape) words shapes i d lt lacks h
+    → ((shape : Shape) → IsShapeWord (get_or words i d).now shape → ⊥) → (shapes : List (Option Shape)) → AreShapeWords words shapes → ⊥
+no_shape_words words i d lt lacks shapes h = AllZip-lacks (λ word shape. IsSomeAnd shape (IsShapeWord word.now)) words shapes i d lt none h
+  where
+    none : (shape : Option Shape) → IsSomeAnd shape (IsShapeWord (get_or words i d).now) → ⊥
+    none None given = given
+    none (Some shape) given = lacks shape given

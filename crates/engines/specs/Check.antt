@@ -1,5 +1,5 @@
 -- What `check` judges (this project's own command, docs/HOST.md).
-use Rattle.std.specs.Prelude.{◌≡◌, ℕ, ◌<◌, ◌≤◌, ◌==◌, Bool, List, ◌++◌, length, codes, decimal, All, ◌⊎◌, Option, Ok}
+use Rattle.std.specs.Prelude.{◌≡◌, ℕ, ◌<◌, ◌≤◌, ◌==◌, Bool, List, ◌++◌, length, codes, decimal, All, ◌⊎◌, Option, IfSome, IsSomeAnd, Ok}
 use Rattle.std.specs.Borrow.{Bor}
 use Rattle.std.specs.Io.KnownBytes.{Appends}
 use Rattle.std.specs.List.{AllZip, before_first, after_first}
@@ -30,8 +30,8 @@ abbrev pub IsShapeWord : List ℕ → Shape → Type 0
 IsShapeWord word shape = IsDecimal (before_first is_colon word) shape.value_size × IsDecimal (after_first is_colon word) shape.entries
 
 -- words give the shapes of maps, each that of the map with its number
-abbrev pub AreShapeWords : List (Bor (List ℕ)) → List Shape → Type 0
-AreShapeWords words shapes = AllZip (λ word shape. IsShapeWord word.now shape) words shapes
+abbrev pub AreShapeWords : List (Bor (List ℕ)) → List (Option Shape) → Type 0
+AreShapeWords words shapes = AllZip (λ word shape. IsSomeAnd shape (IsShapeWord word.now)) words shapes
 
 -- what the words ask for: a text as hex, the shapes of its maps, and the size of its context as a decimal number
 abbrev pub IsAsked : List ℕ → List (Bor (List ℕ)) → List ℕ → Question → Type 0
@@ -45,7 +45,7 @@ subject_asked asked = subject_for asked.shapes.items asked.text asked.context_si
 -- why a program is refused: the first refusal, in this order, whose condition holds; that of its text comes last
 abbrev pub IsCheckRefusal : Question → Fault → Type 0
 IsCheckRefusal asked TooManyMaps = 8 < length asked.shapes.items
-IsCheckRefusal asked BadShape = (length asked.shapes.items ≤ 8) × ¬ (All IsShape asked.shapes.items)
+IsCheckRefusal asked BadShape = (length asked.shapes.items ≤ 8) × ¬ (All (λ shape. IfSome shape IsShape) asked.shapes.items)
 IsCheckRefusal asked BadContext = AreShapes asked.shapes.items × ¬ (IsContextSize asked.context_size)
 IsCheckRefusal asked fault = AreShapes asked.shapes.items × IsContextSize asked.context_size × IsJudgement (subject_asked asked) fault
 

@@ -1,8 +1,9 @@
 //! The engine of `check`: one program, judged and not run.
 
-ghost use Rattle.std.specs.Prelude.{◌≡◌, ◌≤◌, IfErr, IfOk, OnErr, OnOk};
+ghost use Rattle.std.specs.Prelude.{◌≡◌, ◌≤◌, ◌↔◌, IfErr, IfOk, IfSome, IsTrue, OnErr, OnOk};
 ghost use Rattle.std.specs.Io.KnownBytes.{Appends};
 ghost use Rattle.host_types.specs.Refusals.{refusal_text};
+ghost use Rattle.host_types.specs.Shapes.{IsShape};
 ghost use Rattle.host_file.specs.Faults.{IsBad, IsOfWords, IsUsage};
 ghost use Rattle.engines.specs.Check.{AnswersWords, AskNothing, IsAccepted, IsCheckRefusal, acceptance_of, subject_asked};
 ghost use Rattle.engines.specs.Lines.{line_of};
@@ -18,8 +19,8 @@ use crate::lines::write_refusal;
 use acceptance::Acceptance;
 use host_calls::judge;
 use host_file::FileFault;
-use host_types::Fault;
 use host_types::limits::MAX_MAPS;
+use host_types::{Fault, Shape};
 use std::alloc::Global;
 use std::io::Write;
 use verifier::{Verified, is_context_size};
@@ -67,13 +68,23 @@ fn judgement(alloc: Global, asked: &Question) -> Result<Verified, Fault>
     if shapes.len() > MAX_MAPS {
         return Err(Fault::TooManyMaps);
     }
-    if !shapes.iter().all(|shape| shape.is_valid()) {
+    if !shapes.iter().all(may_be) {
         return Err(Fault::BadShape);
     }
     if !is_context_size(asked.context_size) {
         return Err(Fault::BadContext);
     }
     judge(alloc, shapes, asked.text.as_slice(), asked.context_size)
+}
+
+/// Whether a map may have a shape, if there is one.
+fn may_be(shape: &Option<Shape>) -> bool
+    ensures { IsTrue result ↔ IfSome shape.now IsShape }
+{
+    match shape {
+        Some(shape) => shape.is_valid(),
+        None => true,
+    }
 }
 
 /// Writes that a program is accepted, and passes it on.

@@ -66,13 +66,13 @@ fn explain_judged<W: Write>(
 }
 
 /// Writes what the refusal of an event means. Of a program that was to be loaded, the maps of its tenant have these
-/// shapes.
+/// shapes by number.
 pub fn explain_event<W: Write>(
     alloc: Global,
     words: &mut W,
     event: &Event,
     fault: Fault,
-    shapes: &[Shape],
+    shapes: &[Option<Shape>],
 ) -> io::Result<()> {
     match (event, fault) {
         (

@@ -16,7 +16,7 @@ use host_core::{Event, Host, Reply};
 use host_file::{Command, FileFault, HostFile};
 use host_types::limits::MAX_MAPS;
 use host_types::{Fault, MapNo, Opt, Shape};
-use std::alloc::{AllocError, Global};
+use std::alloc::Global;
 use std::io::Write;
 
 /// A host at work, and what its output and its visits need to know.
@@ -290,25 +290,20 @@ impl Session {
     /// Writes, of a refusal, which event of the file was refused, and what that means.
     fn explain<E: Write>(&self, words: &mut E, number: usize, event: &Event, reply: &Reply) {
         if let Reply::Refused(fault) = reply {
-            match self.shapes_for(event) {
-                Ok(shapes) => explain_at(self.alloc, words, number, event, *fault, &shapes),
-                Err(AllocError) => explain_at(self.alloc, words, number, event, *fault, &[]),
-            }
+            let shapes = self.shapes_for(event);
+            explain_at(self.alloc, words, number, event, *fault, &shapes);
         }
     }
 
-    /// The shapes of the maps that a program may use which an event loads.
-    fn shapes_for(&self, event: &Event) -> Result<Vec<Shape>, AllocError> {
-        let mut shapes = Vec::new(self.alloc);
-        let Event::Load { tenant, .. } = event else {
-            return Ok(shapes);
-        };
-        for map in 0..MAX_MAPS as MapNo {
-            if let Some(shape) = self.host.shape(*tenant, map) {
-                shapes.push(shape)?;
+    /// The shapes of the maps by number that a program may use which an event loads.
+    fn shapes_for(&self, event: &Event) -> [Option<Shape>; MAX_MAPS] {
+        let mut shapes = [None; MAX_MAPS];
+        if let Event::Load { tenant, .. } = event {
+            for map in 0..MAX_MAPS as MapNo {
+                shapes[map as usize] = self.host.shape(*tenant, map);
             }
         }
-        Ok(shapes)
+        shapes
     }
 }
 
@@ -320,14 +315,14 @@ fn is_begun(reply: &Reply) -> bool
 }
 
 /// Writes which event of the file was refused, and what that means. Of a program that was to be loaded, the maps of
-/// its tenant have these shapes. The line of the refusal is written: the words may be lost.
+/// its tenant have these shapes by number. The line of the refusal is written: the words may be lost.
 pub fn explain_at<W: Write>(
     alloc: Global,
     words: &mut W,
     number: usize,
     event: &Event,
     fault: Fault,
-    shapes: &[Shape],
+    shapes: &[Option<Shape>],
 ) {
     let _ = write!(words, "event {number}: ");
     let _ = explain_event(alloc, words, event, fault, shapes);

@@ -1,7 +1,10 @@
+ghost use Rattle.std.specs.Prelude.{◌↔◌, IfSome, IsTrue};
+ghost use Rattle.host_types.specs.Shapes.{IsShape};
+
 use crate::Judged;
 use bpf_decode::decode;
-use host_types::Refused;
 use host_types::limits::MAX_MAPS;
+use host_types::{Refused, Shape};
 use std::alloc::{AllocError, Global};
 use verifier::{Verified, is_context_size, verify};
 
@@ -16,6 +19,16 @@ pub struct Cut<'a> {
     pub alloc: Global,
     pub judged: Judged<'a>,
     pub slot: usize,
+}
+
+/// Whether a number has no shape, or one within the limits.
+pub fn is_within_limits(shape: &Option<Shape>) -> bool
+    ensures { IsTrue result ↔ IfSome shape.now IsShape }
+{
+    match shape {
+        Some(shape) => shape.is_valid(),
+        None => true,
+    }
 }
 
 impl<'a> Cut<'a> {
@@ -38,7 +51,7 @@ impl<'a> Cut<'a> {
         let shapes = self.judged.shapes;
         let context_size = self.judged.context_size;
         if shapes.len() > MAX_MAPS
-            || !shapes.iter().all(|shape| shape.is_valid())
+            || !shapes.iter().all(|shape| is_within_limits(shape))
             || !is_context_size(context_size)
         {
             return None;

@@ -11,7 +11,7 @@ mod place;
 mod unset;
 
 pub use access::Access;
-pub use cut::{CLEAR, Cut};
+pub use cut::{CLEAR, Cut, is_within_limits};
 pub use limit::{greatest, least};
 pub use operands::registers_read;
 pub use place::Kinds;
@@ -27,11 +27,11 @@ use std::io;
 use std::io::Write;
 use unset::write_unset_bytes;
 
-/// What a text was judged for: maps of these shapes, by number, and a context of so many bytes.
+/// What a text was judged for: maps of these shapes, by number, each there or not, and a context of so many bytes.
 #[derive(Clone, Copy, Debug)]
 pub struct Judged<'a> {
     pub text: &'a [u8],
-    pub shapes: &'a [Shape],
+    pub shapes: &'a [Option<Shape>],
     pub context_size: u32,
 }
 

@@ -41,7 +41,7 @@ impl<'a> Place<'a> {
 
     /// How many bytes the values of a map have.
     pub fn value_size(&self, map: u32) -> Option<u32> {
-        let shape = self.judged.shapes.get(map as usize)?;
+        let shape = self.judged.shapes.get(map as usize)?.as_ref()?;
         Some(shape.value_size)
     }
 

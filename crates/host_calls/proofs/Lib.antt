@@ -3,3 +3,4 @@ pub mod NewMaps
 pub mod Answers
 pub mod Begins
 pub mod Faults
+pub mod ShapesRead

@@ -1,27 +1,24 @@
 -- What a tenant's programs are judged by, and when a run of one may not begin: over the tenant's part alone.
-use Rattle.std.specs.Prelude.{◌≡◌, ◌⊎◌, ℕ, ◌<◌, List, [], ◌∷◌, None, Some}
+use Rattle.std.specs.Prelude.{◌≡◌, ◌⊎◌, ℕ, ◌<◌, List, map, Option, option_map}
 use Rattle.host_types.specs.declared.fault.Fault.{Fault}
 use Rattle.host_types.specs.declared.fault.Fault.TheVariants.{Program, NoFrames, BadContext, OutOfMemory}
 use Rattle.host_types.specs.declared.fault.Refused.{Refused}
 use Rattle.host_types.specs.declared.shape.Shape.{Shape}
-use Rattle.host_types.specs.Memory.{FlatMaps}
+use Rattle.host_types.specs.Memory.{FlatMap, FlatMaps}
 use Rattle.host_types.specs.Tenant.{TenantPart}
 use Rattle.bpf_decode.specs.Text.{IsWellFormed, IsFirstFault}
-use Rattle.verifier.specs.Subject.{Subject, IsContextSize, all_there}
+use Rattle.verifier.specs.Subject.{Subject, IsContextSize, padded}
 use Rattle.verifier.specs.Reserve.{reserve_from}
 use Rattle.verifier.specs.Table.{IsRefusal}
 use Rattle.verifier.specs.Verified.{Accepted}
 
--- The shapes of a tenant's maps by number, up to the first number that no map has: those are all, as a new
--- map gets that number and no map is ever deleted.
-abbrev pub shapes_of : FlatMaps → List Shape
-shapes_of [] = []
-shapes_of (None ∷ maps) = []
-shapes_of (Some flat ∷ maps) = flat.shape ∷ shapes_of maps
+-- the shapes of a tenant's maps by number: none where it has no such map
+abbrev pub shapes_of : FlatMaps → List (Option Shape)
+shapes_of maps = map (option_map (λ (flat : FlatMap). flat.shape)) maps
 
 -- a text as a program for maps of these shapes
-abbrev pub subject_for : List Shape → List ℕ → ℕ → Subject
-subject_for shapes text size = record { text = text; shapes = all_there shapes; context_size = size }
+abbrev pub subject_for : List (Option Shape) → List ℕ → ℕ → Subject
+subject_for shapes text size = record { text = text; shapes = padded shapes; context_size = size }
 
 -- a text as a program of the tenant
 abbrev pub subject_of : TenantPart → List ℕ → ℕ → Subject

@@ -15,6 +15,6 @@ pub use beginning::host_begin;
 pub use creating::host_create_map;
 pub use loading::judge;
 pub use looking::host_lookup;
-pub use shapes::{Shapes, host_shapes};
+pub use shapes::host_shapes;
 pub use sharing::{host_set, host_unmerge};
 pub use updating::host_update;

@@ -9,12 +9,17 @@ use host_types::{Fault, Shape};
 use std::alloc::Global;
 use verifier::{Verified, verify};
 
-/// Judges a text as a program that may use maps of these shapes by number, and whose context has so many
-/// bytes: it is accepted if it is well formed and breaks no rule.
+/// Judges a text as a program that may use maps of these shapes by number, `None` where no map has the number,
+/// and whose context has so many bytes: it is accepted if it is well formed and breaks no rule.
 ///
 /// A refusal is the text's first fault, 1 to 5, or else the first rule that it breaks, 11 to 25; or 41 where
 /// memory ran out, and only of a text without a fault.
-pub fn judge(alloc: Global, shapes: &[Shape], text: &[u8], ctx_size: u32) -> Result<Verified, Fault>
+pub fn judge(
+    alloc: Global,
+    shapes: &[Option<Shape>],
+    text: &[u8],
+    ctx_size: u32,
+) -> Result<Verified, Fault>
     requires shapes { AreShapes shapes.now }
     requires context { IsContextSize ctx_size }
     ensures subject { IfOk result (λ v. v.subject ≡ subject_for shapes.now text.now ctx_size) }

@@ -1,5 +1,5 @@
 -- What the load of a program does to a tenant and to each system that it stands in.
-use Rattle.std.proofs.Common.{◌≡◌, ℕ, zero, suc, ◌%◌, nat_le, ◌==◌, ◌&&◌, Bool, true, false, List, [], ◌∷◌, length, map, set, inl, inr, Option, Some, None, is_some, is_none, IfSome, sym, ap, refl, ◌∙◌, subst, eq-eqb, arith}
+use Rattle.std.proofs.Common.{◌≡◌, ℕ, zero, suc, ◌-◌, ◌%◌, nat_le, ◌==◌, ◌&&◌, Bool, true, false, List, [], ◌∷◌, ◌++◌, length, map, replicate, set, slice_index_or, inl, inr, Option, Some, None, is_some, is_none, IfSome, IsSomeAnd, sym, ap, refl, ◌∙◌, subst, eq-eqb, arith}
 use Rattle.std.specs.List.{position}
 use Rattle.std.specs.Option.{option_map}
 use Rattle.std.proofs.lemmas.Bool.{le-leb}
@@ -8,16 +8,20 @@ use Rattle.std.proofs.lemmas.List.{length-set}
 use Rattle.std.proofs.lemmas.List.Elements.{All-set}
 use Rattle.host_types.specs.declared.fault.Fault.{Fault}
 use Rattle.host_types.specs.declared.fault.Fault.TheVariants.{Busy, TooManyPrograms, BadContext}
-use Rattle.host_types.specs.Memory.{FlatMaps}
+use Rattle.host_types.specs.declared.shape.Shape.{Shape}
+use Rattle.host_types.specs.Memory.{FlatMap, map_at}
+use Rattle.host_types.specs.Tenant.{TenantPart}
 use Rattle.bpf_decode.specs.Text.{IsWellFormed}
 use Rattle.page_table.specs.Reads.{ReadsAs}
 use Rattle.page_table.specs.State.{MemoryState, part}
-use Rattle.verifier.specs.Subject.{Subject, IsContextSize, all_there}
+use Rattle.verifier.specs.Named.{named_shapes}
+use Rattle.verifier.specs.Subject.{Subject, IsContextSize, padded}
 use Rattle.verifier.specs.Table.{IsTightTable, IsRefusal}
 use Rattle.verifier.specs.Verified.{Accepted, IsVerified}
+use Rattle.verifier.proofs.NamedMaps.{asked_shape}
 use Rattle.interp.specs.Fits.{HaveShapes}
-use Rattle.tenant_runs.proofs.Shapes.{HaveFirst, have_all}
 use Rattle.host_calls.specs.Programs.{IsJudgement, shapes_of, subject_of}
+use Rattle.host_calls.proofs.ShapesRead.{shape_of_map}
 use Rattle.host_core.specs.declared.event.Event.TheVariants.{Load}
 use Rattle.host_core.specs.declared.event.Reply.TheVariants.{Program, Refused}
 use Rattle.host_core.specs.declared.tenant.OpenRun.{OpenRun as KeptRun}
@@ -29,15 +33,34 @@ use Rattle.host_core.proofs.Worlds.{OfTenant-there, RefusedOr-refused, RefusedOr
 use Rattle.host_core.proofs.Systems.{part_stands, changed_stands}
 use Rattle.host_core.proofs.Serving.{is_some-run, served-same}
 
--- the shapes of a tenant's maps are those that it has
-first_shapes : (maps : FlatMaps) → HaveFirst (shapes_of maps) maps (length (shapes_of maps))
-first_shapes [] m less d = absurd (omega (arith, less))
-first_shapes (None ∷ maps) m less d = absurd (omega (arith, less))
-first_shapes (Some flat ∷ maps) zero less d = refl
-first_shapes (Some flat ∷ maps) (suc m) less d = first_shapes maps m (omega (arith, less)) d
+-- behind a list nothing is there
+padded-at : (shapes : List (Option Shape)) (m : ℕ) → slice_index_or (padded shapes) m None ≡ slice_index_or shapes m None
+padded-at shapes m = behind shapes (8 - length shapes) m
+  where
+    nowhere : (n m : ℕ) → slice_index_or (replicate {A = Option Shape} n None) m None ≡ None
+    nowhere zero m = refl
+    nowhere (suc n) zero = refl
+    nowhere (suc n) (suc m) = nowhere n m
+    behind : (shapes : List (Option Shape)) (n m : ℕ) → slice_index_or (shapes ++ replicate n None) m None ≡ slice_index_or shapes m None
+    behind [] n m = nowhere n m
+    behind (shape ∷ shapes) n zero = refl
+    behind (shape ∷ shapes) n (suc m) = behind shapes n m
 
-have_shapes : (maps : FlatMaps) → HaveShapes (all_there (shapes_of maps)) maps
-have_shapes maps = have_all (shapes_of maps) maps (first_shapes maps)
+-- a map of a shape
+shaped : (found : Option FlatMap) (shape : Shape) → option_map (λ (flat : FlatMap). flat.shape) found ≡ Some shape → IsSomeAnd found (λ (flat : FlatMap). flat.shape ≡ shape)
+shaped None shape e = absurd (cc)
+shaped (Some flat) shape e = cc
+
+-- a tenant has the maps that a program names which is judged with their shapes
+have_named : (owned : TenantPart) (text : List ℕ) (size : ℕ) → HaveShapes (named_shapes (subject_of owned text size)) owned.maps
+have_named owned text size m = by (slice_index_or (named_shapes (subject_of owned text size)) m None) refl
+  where
+    by : (found : Option Shape) → slice_index_or (named_shapes (subject_of owned text size)) m None ≡ found → IfSome found (λ shape. IsSomeAnd (map_at owned.maps m) (λ (flat : FlatMap). flat.shape ≡ shape))
+    by None e = tt
+    by (Some shape) e =
+        let there : slice_index_or (padded (shapes_of owned.maps)) m None ≡ Some shape = asked_shape (subject_of owned text size) m shape e in
+        let told : option_map (λ (flat : FlatMap). flat.shape) (map_at owned.maps m) ≡ Some shape = sym (shape_of_map owned.maps m) ∙ sym (padded-at (shapes_of owned.maps) m) ∙ there in
+        shaped (map_at owned.maps m) shape told
 
 -- the first of the places where a host keeps no program
 abbrev pub first_free_of : TenantView → Option ℕ
@@ -146,8 +169,8 @@ module _ (t : ℕ) (old : TenantView) (memory : MemoryState) (text : List ℕ) (
         loaded_stands v tenant owned is verified stands =
             let p : Subject = subject_of (owned_by tenant) text size in
             let same : p ≡ v.subject = sym (is ∙ ap (λ o. subject_of o text size) owned) in
-            let Fitting : Accepted → Type 0 = λ a. HaveShapes a.subject.shapes tenant.maps in
-            let have : Fitting v = subst (λ (q : Subject). HaveShapes q.shapes tenant.maps) same (have_shapes tenant.maps) in
+            let Fitting : Accepted → Type 0 = λ a. HaveShapes (named_shapes a.subject) tenant.maps in
+            let have : Fitting v = subst (λ (q : Subject). HaveShapes (named_shapes q) tenant.maps) same (have_named (owned_by tenant) text size) in
             let subjects : List (Option Accepted) → List (Option Subject) = map (option_map (λ (a : Accepted). a.subject)) in
             let listed : set (subjects old.programs) k (Some p) ≡ subjects (set old.programs k (Some v)) =
             ap (λ q. set (subjects old.programs) k (Some q)) same ∙ sym (map-set (option_map (λ (a : Accepted). a.subject)) old.programs k (Some v)) in

@@ -8,6 +8,7 @@ use Rattle.bpf_decode.specs.Text.{slots_of}
 use Rattle.page_table.specs.Changes.{IsKeptBut, with_record, with_reserve}
 use Rattle.page_table.specs.Reads.{ReadsAs}
 use Rattle.page_table.specs.State.{MemoryState, part, have_of}
+use Rattle.verifier.specs.Named.{named_shapes}
 use Rattle.verifier.specs.Reserve.{reserve_from}
 use Rattle.verifier.specs.Subject.{Subject}
 use Rattle.verifier.specs.Table.{described, tight_table}
@@ -188,7 +189,7 @@ begun_stands k old tenant context run v found begun none_made stands = record {
     accepted = v;
     numbered = slice_get-there old.programs k v found;
     program = refl;
-    state = begun tenant.maps stands.meets.maps (each-at (λ (a : Accepted). HaveShapes a.subject.shapes tenant.maps) old k v stands.shapes found);
+    state = begun tenant.maps stands.meets.maps (each-at (λ (a : Accepted). HaveShapes (named_shapes a.subject) tenant.maps) old k v stands.shapes found);
     steps = none_made;
   };
   meets = record { maps = stands.meets.maps; places = stands.meets.places; run = record { reached = refl; steps = omega arith }; same = refl };

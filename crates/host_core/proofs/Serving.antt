@@ -20,6 +20,7 @@ use Rattle.page_table.specs.Limits.{page_count, shape_of}
 use Rattle.page_table.specs.Reads.{ReadsAs}
 use Rattle.page_table.specs.State.{MemoryState, part, free_number, have_of}
 use Rattle.map_helpers.specs.Updates.{part_updated, updated_sharing}
+use Rattle.verifier.specs.Named.{named_shapes}
 use Rattle.verifier.specs.Verified.{Accepted}
 use Rattle.interp.specs.Fits.{HaveShapes}
 use Rattle.host_calls.specs.Calls.{FitsNewMap, FitsValue, IsCharged, IsValue, RefusesNewMap, RefusesUpdate, RefusesLookup, IsThere, TellsHave, HasFrames}
@@ -118,7 +119,7 @@ with_maps : (old : TenantView) (tenant : Tenant) (maps : FlatMaps) → IsNone te
 with_maps old tenant maps idle stands flat have = record {
   programs = stands.programs;
   verified = stands.verified;
-  shapes = λ k d less. IfSome_then (slice_index_or old.programs k d) (stands.shapes k d less) (λ accepted. have accepted.subject.shapes);
+  shapes = λ k d less. IfSome_then (slice_index_or old.programs k d) (stands.shapes k d less) (λ accepted. have (named_shapes accepted.subject));
   run = stands.run;
   meets = record { maps = flat; places = stands.meets.places; run = stands.meets.run; same = if_idle tenant.run (λ r. maps ≡ r.state.memory.maps) idle };
 }

@@ -18,6 +18,7 @@ use Rattle.bpf_decode.specs.Text.{instructions_of, instructions_before, insn_at}
 use Rattle.page_table.specs.Changes.{IsKeptBut}
 use Rattle.page_table.specs.Reads.{ReadsAs}
 use Rattle.page_table.specs.State.{MemoryState, part}
+use Rattle.verifier.specs.Named.{named_shapes}
 use Rattle.verifier.specs.Reserve.{reserve_from}
 use Rattle.verifier.specs.Verified.{Accepted, IsVerified}
 use Rattle.interp.specs.declared.need.Need.{Need}
@@ -125,8 +126,8 @@ have_alike shapes maps later same have m = by (get_or shapes m None) (map_at map
     by (Some shape) (Some x) None e h = absurd cc
     by (Some shape) (Some x) (Some y) e h = let alike : y.shape ≡ x.shape = cc in alike ∙ h
 
-all_have_alike : (programs : List (Option Accepted)) (maps later : FlatMaps) → ((j : ℕ) → shape_in later j ≡ shape_in maps j) → EachProgram (λ accepted. HaveShapes accepted.subject.shapes maps) programs → EachProgram (λ accepted. HaveShapes accepted.subject.shapes later) programs
-all_have_alike programs maps later same all k d less = IfSome_then (get_or programs k d) (all k d less) (λ v. have_alike v.subject.shapes maps later same)
+all_have_alike : (programs : List (Option Accepted)) (maps later : FlatMaps) → ((j : ℕ) → shape_in later j ≡ shape_in maps j) → EachProgram (λ accepted. HaveShapes (named_shapes accepted.subject) maps) programs → EachProgram (λ accepted. HaveShapes (named_shapes accepted.subject) later) programs
+all_have_alike programs maps later same all k d less = IfSome_then (get_or programs k d) (all k d less) (λ v. have_alike (named_shapes v.subject) maps later same)
 
 -- a system stays covered where a tenant needs no more than before
 pub covered-changed : (x : System) (t : ℕ) (tenant next : Tenant) → slice_get x.world t ≡ Some tenant → IsCovered x → reserve_of next.run ≤ reserve_of tenant.run → IsCovered (changed_system x t next x.sharing)

@@ -5,6 +5,7 @@ use Rattle.host_types.specs.declared.fault.Fault.{Fault}
 use Rattle.host_types.specs.Sharing.{Sharing}
 use Rattle.page_table.specs.declared.tenant.Tenant.{Tenant as Recorded}
 use Rattle.page_table.specs.State.{MemoryState}
+use Rattle.verifier.specs.Named.{named_shapes}
 use Rattle.verifier.specs.Verified.{Accepted, IsVerified}
 use Rattle.interp.specs.Fits.{HaveShapes}
 use Rattle.interp.specs.StandsFor.{StandsFor}
@@ -47,11 +48,11 @@ StandsForAnyRun programs (Some kept) None = ⊥
 StandsForAnyRun programs (Some kept) (Some r) = StandsForRun programs kept r
 
 -- A kept tenant stands for one of the system: at each place their programs are the same, each of which was
--- accepted for maps that the tenant has, and so are their open runs.
+-- accepted, and the maps that it names are the tenant's with its shapes; and so are their open runs.
 pub record StandsForTenant (kept : TenantView) (tenant : Tenant) : Type 0 where
   pub programs : tenant.programs ≡ map (option_map (λ accepted. accepted.subject)) kept.programs
   pub verified : EachProgram IsVerified kept.programs
-  pub shapes : EachProgram (λ accepted. HaveShapes accepted.subject.shapes tenant.maps) kept.programs
+  pub shapes : EachProgram (λ accepted. HaveShapes (named_shapes accepted.subject) tenant.maps) kept.programs
   pub run : StandsForAnyRun kept.programs kept.run tenant.run
   pub meets : IsTenant tenant
 

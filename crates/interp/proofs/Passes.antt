@@ -1,15 +1,15 @@
 -- What is known of questions that broke no rule.
-use Rattle.std.specs.Prelude.{◌≡◌, ℕ, ◌+◌, ◌%◌, ◌≤◌, nat_le, ◌==◌, ℤ, pos, negsuc, ◌+ℤ◌, ◌⊎◌, Bool, true, false, not, if◌then◌else◌, is_some, Result, Ok, Err, refl}
-use Rattle.std.proofs.Common.{arith, inl, inr}
+use Rattle.std.specs.Prelude.{◌≡◌, ℕ, ◌+◌, ◌%◌, ◌≤◌, nat_lt, nat_le, ◌==◌, ℤ, pos, negsuc, ◌+ℤ◌, Bool, true, false, not, if◌then◌else◌, is_some, Result, Ok, Err, refl}
+use Rattle.std.proofs.Common.{arith}
 use Rattle.std.proofs.lemmas.Bool.Decides.{nat_tests}
 use Rattle.bpf_decode.specs.declared.insn.Insn.{Insn}
 use Rattle.bpf_decode.specs.Opcodes.{wide_immediate}
 use Rattle.verifier_kinds.specs.declared.kind.Kind.{Kind}
-use Rattle.verifier_kinds.specs.declared.kind.Kind.TheVariants.{Scalar, MapName}
+use Rattle.verifier_kinds.specs.declared.kind.Kind.TheVariants.{Scalar, MapName, MapValue}
 use Rattle.verifier_kinds.specs.declared.description.Description.{Description}
 use Rattle.verifier_kinds.specs.Kinds.{constant, shape_at}
 use Rattle.verifier_kinds.specs.Descriptions.{with_kind}
-use Rattle.verifier.specs.Flow.{both, holds_or, writable, write_kind, lies_below, aligned, context_place, stack_place, name_kind, wide_kind}
+use Rattle.verifier.specs.Flow.{◌>>=◌, both, holds_or, writable, write_kind, lies_below, aligned, context_place, stack_place, value_size_of, name_kind, at_offset, first_value_kind, wide_kind}
 use Rattle.verifier.specs.Subject.{Subject}
 use Rattle.verifier.proofs.Flows.{both_ok, then_ok}
 
@@ -59,26 +59,60 @@ write_passed d i given e h =
     let (known, may) = both_ok given (writable i) x passed in
     (x.0, known, held (not (i == 10)) 22 x.1 may, cc)
 
--- the wide instruction names a map that is there
+-- the wide instruction loads the name of a map that is there
 pub record Names (p : Subject) (insn : Insn) (kind : Kind) : Type 0 where
   pub other : (insn.src == 0) ≡ false
+  pub one : (insn.src == 1) ≡ true
   pub m : ℕ
   pub number : insn.imm ≡ pos m
   pub there : is_some (shape_at p.shapes m) ≡ true
   pub is : MapName m ≡ kind
 
--- it loads both immediates, or the name of a map
-pub wide_passed : (p : Subject) (insn : Insn) (kind : Kind) → wide_kind p insn ≡ Ok kind
-    → (((insn.src == 0) ≡ true) × (Scalar (constant (wide_immediate insn)) ≡ kind)) ⊎ Names p insn kind
-wide_passed p insn kind e = by_test (insn.src == 0) refl e
-  where
-    named : (number : ℤ) → insn.imm ≡ number → (insn.src == 0) ≡ false → name_kind p number ≡ Ok kind → Names p insn kind
-    named (pos m) is other e =
-        let there = then_ok (holds_or (is_some (shape_at p.shapes m)) 24) (λ there. Ok (MapName m)) kind e in
-        record { other = other; m = m; number = is; there = held (is_some (shape_at p.shapes m)) 24 there.0 there.1; is = cc }
-    named (negsuc n) is other e = cc
+-- it loads an address in the first value of a map that is there
+pub record Points (p : Subject) (insn : Insn) (kind : Kind) : Type 0 where
+  pub other : (insn.src == 0) ≡ false
+  pub another : (insn.src == 1) ≡ false
+  pub m : ℕ
+  pub number : insn.imm ≡ pos m
+  pub there : is_some (shape_at p.shapes m) ≡ true
+  pub within : nat_lt insn.next_imm (value_size_of p m) ≡ true
+  pub is : MapValue m (at_offset insn.next_imm) ≡ kind
 
-    by_test : (b : Bool) → (insn.src == 0) ≡ b → if◌then◌else◌ {A = Result Kind ℕ} b (Ok (Scalar (constant (wide_immediate insn)))) (name_kind p insn.imm) ≡ Ok kind
-        → (((insn.src == 0) ≡ true) × (Scalar (constant (wide_immediate insn)) ≡ kind)) ⊎ Names p insn kind
-    by_test true is e = inl (is, cc)
-    by_test false is e = inr (named insn.imm refl is e)
+-- what the wide instruction loads that is let through
+pub data WideLoad (p : Subject) (insn : Insn) (kind : Kind) : Type 0 where
+  Both : (insn.src == 0) ≡ true → Scalar (constant (wide_immediate insn)) ≡ kind → WideLoad p insn kind
+  Name : Names p insn kind → WideLoad p insn kind
+  Address : Points p insn kind → WideLoad p insn kind
+
+-- it loads both immediates, the name of a map, or an address in its first value
+pub wide_passed : (p : Subject) (insn : Insn) (kind : Kind) → wide_kind p insn ≡ Ok kind → WideLoad p insn kind
+wide_passed p insn kind e = by_test (insn.src == 0) (insn.src == 1) refl refl e
+  where
+    named : (number : ℤ) → insn.imm ≡ number → (insn.src == 0) ≡ false → (insn.src == 1) ≡ true → name_kind p number ≡ Ok kind → Names p insn kind
+    named (pos m) is other one e =
+        let there = then_ok (holds_or (is_some (shape_at p.shapes m)) 24) (λ there. Ok (MapName m)) kind e in
+        record { other = other; one = one; m = m; number = is; there = held (is_some (shape_at p.shapes m)) 24 there.0 there.1; is = cc }
+    named (negsuc n) is other one e = cc
+
+    pointed : (number : ℤ) → insn.imm ≡ number → (insn.src == 0) ≡ false → (insn.src == 1) ≡ false → first_value_kind p number insn.next_imm ≡ Ok kind → Points p insn kind
+    pointed (pos m) is other another e =
+        let inside = nat_lt insn.next_imm (value_size_of p m) in
+        let there = then_ok (holds_or (is_some (shape_at p.shapes m)) 24) (λ there. holds_or inside 19 >>= λ within. Ok (MapValue m (at_offset insn.next_imm))) kind e in
+        let within = then_ok (holds_or inside 19) (λ within. Ok (MapValue m (at_offset insn.next_imm))) kind there.2 in
+        record {
+          other = other;
+          another = another;
+          m = m;
+          number = is;
+          there = held (is_some (shape_at p.shapes m)) 24 there.0 there.1;
+          within = held inside 19 within.0 within.1;
+          is = cc;
+        }
+    pointed (negsuc n) is other another e = cc
+
+    by_test : (number name : Bool) → (insn.src == 0) ≡ number → (insn.src == 1) ≡ name
+        → if◌then◌else◌ {A = Result Kind ℕ} number (Ok (Scalar (constant (wide_immediate insn)))) (if◌then◌else◌ {A = Result Kind ℕ} name (name_kind p insn.imm) (first_value_kind p insn.imm insn.next_imm)) ≡ Ok kind
+        → WideLoad p insn kind
+    by_test true name is one e = Both is (cc)
+    by_test false true is one e = Name (named insn.imm refl is one e)
+    by_test false false is one e = Address (pointed insn.imm refl is one e)

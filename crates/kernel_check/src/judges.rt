@@ -12,7 +12,7 @@ use verifier::Verified;
 pub fn judge_alike(
     alloc: Global,
     text: &[u8],
-    shapes: &[Shape],
+    shapes: &[Option<Shape>],
     size: u32,
     verified: &Result<Verified, Refused>,
 ) -> bool
@@ -24,7 +24,7 @@ pub fn judge_alike(
 }
 
 /// What the pass answers that joins in order; `None` where the decoder refuses, or for want of memory.
-fn forward(alloc: Global, text: &[u8], shapes: &[Shape], size: u32) -> Option<Judged>
+fn forward(alloc: Global, text: &[u8], shapes: &[Option<Shape>], size: u32) -> Option<Judged>
     requires shapes { AreShapes shapes.now }
     requires context { IsContextSize size }
 {
@@ -32,7 +32,7 @@ fn forward(alloc: Global, text: &[u8], shapes: &[Shape], size: u32) -> Option<Ju
 }
 
 /// What the pass answers that joins in the opposite order.
-fn backward(alloc: Global, text: &[u8], shapes: &[Shape], size: u32) -> Option<Judged>
+fn backward(alloc: Global, text: &[u8], shapes: &[Option<Shape>], size: u32) -> Option<Judged>
     requires shapes { AreShapes shapes.now }
     requires context { IsContextSize size }
 {

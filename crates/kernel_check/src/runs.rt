@@ -1,5 +1,5 @@
 ghost use Rattle.std.specs.Prelude.{◌≡◌, [], IfOk};
-ghost use Rattle.verifier.specs.Subject.{all_there};
+ghost use Rattle.verifier.specs.Subject.{padded};
 ghost use Rattle.interp.specs.Machine.{MachineState};
 ghost use Rattle.interp.specs.StandsFor.{StandsFor};
 
@@ -45,7 +45,7 @@ fn verified_on_the_host(
     verified: Result<Verified, Refused>,
     judged_twice: bool,
 ) -> Outcome
-    requires { IfOk verified (λ v. v.subject.shapes ≡ all_there []) }
+    requires { IfOk verified (λ v. v.subject.shapes ≡ padded []) }
 {
     if judged_twice && !judge_alike(alloc, text, &[], 0, &verified) {
         return Outcome::Disputed;
@@ -79,14 +79,14 @@ pub(crate) fn on_the_plain_machine(alloc: Global, text: &[u8]) -> Outcome {
 
 /// The program as `verify` judges it, for an empty context and no maps.
 fn judged(alloc: Global, program: Program) -> Result<Verified, Refused>
-    ensures { IfOk result (λ v. v.subject.shapes ≡ all_there []) }
+    ensures { IfOk result (λ v. v.subject.shapes ≡ padded []) }
 {
     verify(alloc, program, &[], 0)
 }
 
 /// Runs the program to its end.
 fn run_to_end(alloc: Global, program: &Verified) -> Outcome
-    requires { program.now.subject.shapes ≡ all_there [] }
+    requires { program.now.subject.shapes ≡ padded [] }
 {
     match Run::begin(alloc, program, &[]) {
         Ok(run) => ended(run, program),

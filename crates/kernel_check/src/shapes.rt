@@ -8,6 +8,9 @@ use host_types::Shape;
 use plain_verifier::push_shape;
 use std::alloc::{AllocError, Global};
 
+/// What stands for a number without a shape.
+const NO_SHAPE: &str = "-";
+
 /// The shape that is written `VALUE_SIZE:ENTRIES`, if a map may have it.
 fn shape_of(text: &str) -> Option<Shape>
     ensures { IfSome result IsShape }
@@ -20,16 +23,16 @@ fn shape_of(text: &str) -> Option<Shape>
     if shape.is_valid() { Some(shape) } else { None }
 }
 
-/// The shapes that are written `VALUE_SIZE:ENTRIES` between spaces, at most eight; what is no shape that a map may
-/// have is passed over.
-pub fn shapes_of(alloc: Global, given: &str) -> Result<Vec<Shape>, AllocError>
+/// The shapes by number that are written `VALUE_SIZE:ENTRIES` between spaces, or `-` for a number that has none, at
+/// most eight; what is neither that nor a shape that a map may have is passed over.
+pub fn shapes_of(alloc: Global, given: &str) -> Result<Vec<Option<Shape>>, AllocError>
     ensures { IfOk result (λ shapes. AreShapes shapes.items) }
 {
     let mut shapes = Vec::new(alloc);
     for text in given.split(' ') {
-        match shape_of(text) {
-            Some(shape) if shapes.len() < 8 => push_shape(&mut shapes, shape)?,
-            _ => {}
+        let shape = shape_of(text);
+        if shapes.len() < 8 && (shape.is_some() || text == NO_SHAPE) {
+            push_shape(&mut shapes, shape)?;
         }
     }
     Ok(shapes)

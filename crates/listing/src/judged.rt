@@ -6,7 +6,7 @@ ghost use Rattle.verifier.specs.Verified.{AreShapes};
 use crate::knowledge::Knowledge;
 use crate::ways::Ways;
 use bpf_decode::decode;
-use findings::{CLEAR, Cut, Judged};
+use findings::{CLEAR, Cut, Judged, is_within_limits};
 use host_types::limits::MAX_MAPS;
 use host_types::{Refused, Shape};
 use std::alloc::{AllocError, Global};
@@ -34,7 +34,7 @@ impl Told {
     /// What is told of a text that was judged: nothing where no text can be judged so.
     pub fn of(alloc: Global, judged: &Judged<'_>) -> Option<Told> {
         if judged.shapes.len() > MAX_MAPS
-            || !judged.shapes.iter().all(|shape| shape.is_valid())
+            || !judged.shapes.iter().all(|shape| is_within_limits(shape))
             || !is_context_size(judged.context_size)
         {
             return None;
@@ -69,7 +69,7 @@ impl Told {
 fn verified_of(
     alloc: Global,
     text: &[u8],
-    shapes: &[Shape],
+    shapes: &[Option<Shape>],
     context_size: u32,
 ) -> Result<Verified, Refused>
     requires shapes { AreShapes shapes.now }
@@ -90,13 +90,12 @@ fn verified_before(alloc: Global, judged: &Judged<'_>, refused: Refused) -> Opti
 }
 
 /// What is known at the slots of a text, if it is well formed and there is memory for it.
-fn known_in(alloc: Global, text: &[u8], shapes: &[Shape], context_size: u32) -> Option<Known>
+fn known_in(alloc: Global, text: &[u8], shapes: &[Option<Shape>], context_size: u32) -> Option<Known>
     requires shapes { AreShapes shapes.now }
     requires context { IsContextSize context_size }
 {
     let program = decode(alloc, text).ok()?;
-    let candidate = Candidate::new(alloc, program, shapes, context_size).ok()?;
-    known_of(alloc, candidate).ok()
+    known_of(alloc, Candidate::new(program, shapes, context_size)).ok()
 }
 
 /// What is known at the slots of a candidate's text.

@@ -231,7 +231,7 @@ impl<'a> Listing<'a> {
     /// How many bytes the values of the map have that R1 names.
     fn named_value_size(&self, slot: u32, knowledge: &Knowledge) -> Option<u32> {
         match knowledge.kind(slot, 1)? {
-            Kind::MapName(map) => Some(self.judged.shapes.get(map as usize)?.value_size),
+            Kind::MapName(map) => Some(self.judged.shapes.get(map as usize)?.as_ref()?.value_size),
             _ => None,
         }
     }

@@ -11,7 +11,7 @@ const SMALL: usize = 65536;
 /// Whether the maps are so small that a program is changed in every way.
 pub(crate) fn is_small(setting: &Setting) -> bool {
     let mut bytes: usize = 0;
-    for shape in setting.shapes() {
+    for shape in setting.shapes().iter().flatten() {
         let size = (shape.value_size as usize).saturating_mul(shape.entries as usize);
         bytes = bytes.saturating_add(size);
     }

@@ -77,9 +77,9 @@ fn fill(memory: &mut Memory, setting: &Setting) -> bool {
 }
 
 /// Makes a tenant's maps. It answers whether all were made.
-fn make_maps(memory: &mut Memory, tenant: u32, shapes: &[Shape]) -> bool {
+fn make_maps(memory: &mut Memory, tenant: u32, shapes: &[Option<Shape>]) -> bool {
     let mut all = true;
-    for shape in shapes {
+    for shape in shapes.iter().flatten() {
         all &= memory
             .create_map(tenant, shape.value_size, shape.entries, true)
             .is_ok();

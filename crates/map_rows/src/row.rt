@@ -38,7 +38,7 @@ impl Row {
 }
 
 /// What a run finds, where the shapes of its maps are given between spaces. `None` where memory ran out.
-fn setting_of(
+pub(crate) fn setting_of(
     alloc: Global,
     shapes: &str,
     values: Vec<Value>,

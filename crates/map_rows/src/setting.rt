@@ -1,6 +1,6 @@
 //! What a run finds: its maps and its context.
 
-ghost use Rattle.std.specs.Prelude.{◌≡◌, List};
+ghost use Rattle.std.specs.Prelude.{◌≡◌, List, Option};
 ghost use Rattle.host_types.specs.declared.shape.Shape.{Shape};
 ghost use Rattle.host_types.specs.Shapes.{IsShape};
 ghost use Rattle.verifier.specs.Verified.{AreShapes};
@@ -27,13 +27,13 @@ pub(crate) type Maps = Vec<Option<ArrayMap>>;
 /// The shapes of a tenant's maps, the values in them that aren't zero, and a run's context.
 #[derive(Drop)]
 pub(crate) struct Setting {
-    shapes: Vec<Shape>,
+    shapes: Vec<Option<Shape>>,
     values: Vec<Value>,
     context: Vec<u8>,
 }
 
 impl Model for Setting {
-    ghost Value = { List Shape };
+    ghost Value = { List (Option Shape) };
 
     ghost view = { λ setting. setting.shapes.items };
 
@@ -42,7 +42,7 @@ impl Model for Setting {
 
 impl Setting {
     /// What a run finds.
-    pub(crate) fn new(shapes: Vec<Shape>, values: Vec<Value>, context: Vec<u8>) -> Self
+    pub(crate) fn new(shapes: Vec<Option<Shape>>, values: Vec<Value>, context: Vec<u8>) -> Self
         requires { AreShapes shapes.items }
     {
         Setting {
@@ -53,7 +53,7 @@ impl Setting {
     }
 
     /// The shapes of the maps by number.
-    pub(crate) fn shapes(&self) -> &[Shape]
+    pub(crate) fn shapes(&self) -> &[Option<Shape>]
         ensures { AreShapes result.now }
     {
         self.shapes.as_slice()
@@ -73,7 +73,7 @@ impl Setting {
     pub(crate) fn maps(&self, alloc: Global) -> Option<Maps> {
         let mut maps = Vec::new(alloc);
         for shape in self.shapes() {
-            maps.push(Some(map_of_zeros(alloc, *shape)?)).ok()?;
+            maps.push(Some(map_of_zeros(alloc, (*shape)?)?)).ok()?;
         }
         if put_all(maps.as_mut_slice(), self.values()) {
             Some(maps)

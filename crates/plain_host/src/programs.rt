@@ -1,13 +1,15 @@
 //! Programs as the plain verifier accepts them, with what each slot may need of frames.
 
-ghost use Rattle.std.specs.Prelude.{IfOk};
+ghost use Rattle.std.specs.Prelude.{IfSome};
+ghost use Rattle.host_types.specs.Shapes.{IsShape};
 ghost use Rattle.verifier.specs.Verified.{AreShapes};
 ghost use Rattle.verifier.specs.Subject.{IsContextSize};
 
 use bpf_decode::{FRAME_POINTER, Insn, Operation, decode};
+use host_types::limits::MAX_MAPS;
 use host_types::{Fault, MapHelper, Shape};
 use plain_machine::ArrayMap;
-use plain_verifier::{Judged, Table, judge_forward, push_shape};
+use plain_verifier::{Judged, Table, judge_forward};
 use std::alloc::{AllocError, Global};
 use verifier_kinds::Kind;
 
@@ -33,21 +35,23 @@ impl PlainProgram {
     }
 }
 
-/// The shapes of a tenant's maps by number, up to the first number that no map has.
-fn shapes_of(alloc: Global, maps: &[Option<ArrayMap>]) -> Result<Vec<Shape>, AllocError>
-    ensures { IfOk result (λ shapes. AreShapes shapes.items) }
+/// The shape of a tenant's map, if it is there.
+fn shape_at(maps: &[Option<ArrayMap>], map: usize) -> Option<Shape>
+    ensures { IfSome result IsShape }
 {
-    let mut shapes = Vec::new(alloc);
-    for map in maps {
-        match map {
-            Some(map) if map.shape().is_valid() && shapes.len() < 8 => push_shape(
-                &mut shapes,
-                map.shape(),
-            )?,
-            _ => return Ok(shapes),
-        }
+    let shape = maps.get(map)?.as_ref()?.shape();
+    if shape.is_valid() { Some(shape) } else { None }
+}
+
+/// The shapes of a tenant's maps by number.
+fn shapes_of(maps: &[Option<ArrayMap>]) -> [Option<Shape>; MAX_MAPS]
+    ensures { AreShapes result }
+{
+    let mut shapes = [None; MAX_MAPS];
+    for map in 0..MAX_MAPS {
+        shapes[map] = shape_at(maps, map);
     }
-    Ok(shapes)
+    shapes
 }
 
 /// The kind of a register before a slot, if the slot is reached and something is known of it.
@@ -59,18 +63,18 @@ fn kind_at(table: &Table, slot: usize, register: u8) -> Option<Kind> {
 }
 
 /// What an update of a map may need.
-fn cost_of_update(shapes: &[Shape], map: u32) -> u32
+fn cost_of_update(shapes: &[Option<Shape>], map: u32) -> u32
     requires { AreShapes shapes.now }
 {
     match shapes.get(map as usize) {
-        Some(shape) if shape.is_valid() => shape.update_charge(),
+        Some(Some(shape)) if shape.is_valid() => shape.update_charge(),
         _ => 0,
     }
 }
 
 /// What the instruction at a slot may need: a store through a map's value one frame, and an update what is
 /// charged for it. A slot that isn't reached needs nothing.
-fn cost_at(text: &[u8], shapes: &[Shape], table: &Table, slot: usize) -> u32
+fn cost_at(text: &[u8], shapes: &[Option<Shape>], table: &Table, slot: usize) -> u32
     requires { AreShapes shapes.now }
 {
     let Some(insn) = Insn::at(text, slot) else {
@@ -93,7 +97,7 @@ fn cost_at(text: &[u8], shapes: &[Shape], table: &Table, slot: usize) -> u32
 fn costs_of(
     alloc: Global,
     text: &[u8],
-    shapes: &[Shape],
+    shapes: &[Option<Shape>],
     table: &Table,
 ) -> Result<Vec<u32>, AllocError>
     requires { AreShapes shapes.now }
@@ -106,7 +110,12 @@ fn costs_of(
 }
 
 /// What is known at the slots of a text, or why it isn't accepted.
-fn table_of(alloc: Global, text: &[u8], shapes: &[Shape], context_size: u32) -> Result<Table, Fault>
+fn table_of(
+    alloc: Global,
+    text: &[u8],
+    shapes: &[Option<Shape>],
+    context_size: u32,
+) -> Result<Table, Fault>
     requires shapes { AreShapes shapes.now }
     requires context { IsContextSize context_size }
 {
@@ -144,9 +153,7 @@ pub(crate) fn judge(
 ) -> Result<PlainProgram, Fault>
     requires { IsContextSize context_size }
 {
-    let Ok(shapes) = shapes_of(alloc, maps) else {
-        return Err(Fault::OutOfMemory);
-    };
+    let shapes = shapes_of(maps);
     let table = table_of(alloc, text, &shapes, context_size)?;
     let Ok(costs) = costs_of(alloc, text, &shapes, &table) else {
         return Err(Fault::OutOfMemory);

@@ -2,7 +2,7 @@ ghost use Rattle.std.specs.Prelude.{◌≡◌, ◌≤◌, ◌<◌, replicate, op
 ghost use Rattle.host_types.specs.Helpers.{lookup_answer, update_answer, maps_updated};
 ghost use Rattle.host_types.specs.Layout.{stack_size, region_size, map_name};
 ghost use Rattle.host_types.specs.Memory.{FlatMemory, FlatMaps, fetch, place, map_at};
-ghost use Rattle.interp.specs.Machine.{name_of_map, map_named};
+ghost use Rattle.interp.specs.Machine.{name_of_map, address_in_first, map_named};
 ghost use Rattle.plain_machine.specs.Calls.{key_at, updated_from, updated_from_context, updated_from_stack};
 ghost use Rattle.plain_machine.specs.Regions.{number_in_context, number_in_stack, number_in_map, with_number_in_stack, with_number_in_map, with_number_put};
 
@@ -182,6 +182,19 @@ impl Memory {
         }
         match self.maps.get(number as usize) {
             Some(Some(_)) => Some((MAP_NAMES + number as u64) * REGION),
+            _ => None,
+        }
+    }
+
+    /// The address at an offset in the first value of the map with a number, if the map is there.
+    pub(crate) fn address_in_first(&self, number: i32, offset: u32) -> Option<u64>
+        ensures { result ≡ address_in_first self.now.maps number offset }
+    {
+        if number < 0 {
+            return None;
+        }
+        match self.maps.get(number as usize) {
+            Some(Some(_)) => Some((MAP_VALUES + number as u64) * REGION + u64::from(offset)),
             _ => None,
         }
     }

@@ -3,7 +3,7 @@
 ghost use Rattle.std.specs.Prelude.{◌≡◌, ◌+◌, ◌<◌, ◌++◌, IfOk};
 ghost use Rattle.bpf_decode.specs.Text.{slots_of, IsWellFormed};
 ghost use Rattle.verifier.specs.Pass.{target_in};
-ghost use Rattle.verifier.specs.Subject.{IsContextSize, all_there};
+ghost use Rattle.verifier.specs.Subject.{IsContextSize, padded};
 ghost use Rattle.verifier.specs.Verified.{AreShapes};
 ghost use Rattle.plain_verifier.specs.Orders.{pairs_of};
 ghost use Rattle.plain_verifier.specs.Pass.{IsJudged, IsPulled, IsSlotJudged};
@@ -92,20 +92,21 @@ fn judge(alloc: Global, candidate: &Candidate, order: Order) -> Result<Judged, A
     Ok(Judged::Accepted(Table { slots: pass.table }))
 }
 
-/// Judges a program that may use maps of these shapes, by number, and whose context has `ctx_size` bytes.
+/// Judges a program that may use maps of these shapes, by number, and whose context has `ctx_size` bytes;
+/// a number without a shape is that of no map.
 /// At each slot it joins what flows there in the order of the slots that it comes from, the start's
 /// description first at slot 0. The error is want of memory.
 pub fn judge_forward(
     alloc: Global,
     program: Program,
-    shapes: &[Shape],
+    shapes: &[Option<Shape>],
     ctx_size: u32,
 ) -> Result<Judged, AllocError>
     requires shapes { AreShapes shapes.now }
     requires context { IsContextSize ctx_size }
-    ensures { IfOk result (IsJudged (record { text = program; shapes = all_there shapes.now; context_size = ctx_size })) }
+    ensures { IfOk result (IsJudged (record { text = program; shapes = padded shapes.now; context_size = ctx_size })) }
 {
-    let candidate = Candidate::new(alloc, program, shapes, ctx_size)?;
+    let candidate = Candidate::new(program, shapes, ctx_size);
     judge(alloc, &candidate, Order::Forward)
 }
 
@@ -114,13 +115,13 @@ pub fn judge_forward(
 pub fn judge_backward(
     alloc: Global,
     program: Program,
-    shapes: &[Shape],
+    shapes: &[Option<Shape>],
     ctx_size: u32,
 ) -> Result<Judged, AllocError>
     requires shapes { AreShapes shapes.now }
     requires context { IsContextSize ctx_size }
-    ensures { IfOk result (IsJudged (record { text = program; shapes = all_there shapes.now; context_size = ctx_size })) }
+    ensures { IfOk result (IsJudged (record { text = program; shapes = padded shapes.now; context_size = ctx_size })) }
 {
-    let candidate = Candidate::new(alloc, program, shapes, ctx_size)?;
+    let candidate = Candidate::new(program, shapes, ctx_size);
     judge(alloc, &candidate, Order::Backward)
 }

@@ -68,12 +68,12 @@ pub(crate) fn tell_stop<W: Write, E: Write>(
     Ok(1)
 }
 
-/// The shapes of the maps that an event's tenant has behind these commands, of which none was refused.
+/// The shapes of the maps by number that an event's tenant has behind these commands, of which none was refused.
 fn shapes_for(
     alloc: Global,
     event: &Event,
     commands: &[Command],
-) -> Result<Vec<Shape>, AllocError> {
+) -> Result<Vec<Option<Shape>>, AllocError> {
     let mut shapes = Vec::new(alloc);
     for command in commands {
         if let Command::Apply(
@@ -86,10 +86,10 @@ fn shapes_for(
         ) = command
         {
             if event.tenant() == Some(*tenant) {
-                shapes.push(Shape {
+                shapes.push(Some(Shape {
                     value_size: *value_size,
                     entries: *entries,
-                })?;
+                }))?;
             }
         }
     }

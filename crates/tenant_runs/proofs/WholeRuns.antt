@@ -3,6 +3,7 @@ use Rattle.std.proofs.Common.{◌≡◌, ◌≤◌, ◌+◌, ℕ, List, length, 
 use Rattle.host_types.specs.Tenant.{TenantPart, AreFlatMaps}
 use Rattle.bpf_decode.specs.Text.{instructions_of}
 use Rattle.page_table.specs.Changes.{with_reserve}
+use Rattle.verifier.specs.Named.{named_shapes}
 use Rattle.verifier.specs.Reserve.{reserve_from}
 use Rattle.verifier.specs.Verified.{Accepted}
 use Rattle.interp.specs.Fits.{HaveShapes}
@@ -12,7 +13,7 @@ use Rattle.interp.specs.StandsFor.{Running, IsBegun}
 use Rattle.tenant_runs.specs.declared.driving.RunReply.{RunReply}
 use Rattle.tenant_runs.specs.UnderWay.{IsUnderWay, HasRun}
 
-pub has_run : (v : Accepted) (context : List ℕ) (old admitted finished released : TenantPart) (run : Running) (reply : RunReply) → HaveShapes v.subject.shapes old.maps → length context ≡ v.subject.context_size
+pub has_run : (v : Accepted) (context : List ℕ) (old admitted finished released : TenantPart) (run : Running) (reply : RunReply) → HaveShapes (named_shapes v.subject) old.maps → length context ≡ v.subject.context_size
     → IsBegun v context run → run.steps ≡ 0 → AreFlatMaps old.maps → admitted ≡ with_reserve (reserve_from v 0) old
     → ((s : MachineState) → IsUnderWay v run s admitted → (n : ℕ) × Reaches v.subject.text s n (Exits reply.ret finished.maps) × (reply.steps ≡ run.steps + n))
     → reply.steps ≤ instructions_of v.subject.text → released ≡ with_reserve 0 finished → HasRun v context old released reply

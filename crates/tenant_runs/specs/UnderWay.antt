@@ -6,6 +6,7 @@ use Rattle.host_types.specs.Tenant.{TenantPart}
 use Rattle.bpf_decode.specs.Text.{instructions_of}
 use Rattle.page_table.specs.Changes.{with_reserve}
 use Rattle.page_table.specs.State.{MemoryState, part, have_of}
+use Rattle.verifier.specs.Named.{named_shapes}
 use Rattle.verifier.specs.Reserve.{reserve_from}
 use Rattle.verifier.specs.Verified.{Accepted}
 use Rattle.interp.specs.declared.need.Need.{Need}
@@ -33,20 +34,21 @@ pub record IsAsking (v : Accepted) (s : MachineState) (need : Need) (run : Runni
 abbrev pub part_with_have : MemoryState → ℕ → TenantPart
 part_with_have memory tenant = with_reserve (have_of memory + (part memory tenant).reserve) (part memory tenant)
 
--- A whole run on a tenant's part: the tenant has the program's maps, the context has its size, the reply
+-- A whole run on a tenant's part: the tenant has the maps that the program names, the context has its size, the reply
 -- is that of the standard's machine, whose maps are the tenant's afterwards, and nothing is reserved any
 -- more.
 pub record HasRun (v : Accepted) (context : List ℕ) (old new : TenantPart) (reply : RunReply) : Type 0 where
-  pub shapes : HaveShapes v.subject.shapes old.maps
+  pub shapes : HaveShapes (named_shapes v.subject) old.maps
   pub sized : length context ≡ v.subject.context_size
   pub runs : Runs v.subject.text context old.maps reply.steps (Exits reply.ret new.maps)
   pub few : reply.steps ≤ instructions_of v.subject.text
   pub released : new.reserve ≡ 0
 
--- a tenant may run a program: it is there, and the shapes of the program's maps are a beginning of its own
+-- a tenant may run a program: it is there, and each map that the program names and has a shape for is its own
+-- with that shape
 pub record MayRun (v : Accepted) (memory : MemoryState) (tenant : ℕ) : Type 0 where
   pub there : tenant < length memory.tenants
-  pub shapes : HaveShapes v.subject.shapes (part memory tenant).maps
+  pub shapes : HaveShapes (named_shapes v.subject) (part memory tenant).maps
 
 -- when a run isn't opened: the first refusal, in this order, whose condition holds
 abbrev pub RefusesOpen : Accepted → List ℕ → MemoryState → Fault → Type 0
@@ -59,5 +61,5 @@ RefusesOpen v context memory _ = ⊥
 -- when a program isn't run: the first refusal, in this order, whose condition holds
 abbrev pub RefusesRun : Accepted → List ℕ → MemoryState → ℕ → Fault → Type 0
 RefusesRun v context memory tenant BadTenant = length memory.tenants ≤ tenant
-RefusesRun v context memory tenant NoProgram = (tenant < length memory.tenants) × ¬ (HaveShapes v.subject.shapes (part memory tenant).maps)
+RefusesRun v context memory tenant NoProgram = (tenant < length memory.tenants) × ¬ (HaveShapes (named_shapes v.subject) (part memory tenant).maps)
 RefusesRun v context memory tenant fault = MayRun v memory tenant × RefusesOpen v context memory fault

@@ -4,6 +4,7 @@ use Rattle.host_types.specs.declared.fault.Fault.{Fault}
 use Rattle.host_types.specs.declared.fault.Fault.TheVariants.{NoProgram, BadContext, OutOfMemory}
 use Rattle.host_types.specs.Tenant.{TenantPart}
 use Rattle.page_table.specs.State.{MemoryState, have_of}
+use Rattle.verifier.specs.Named.{named_shapes}
 use Rattle.verifier.specs.Reserve.{reserve_from}
 use Rattle.verifier.specs.Verified.{Accepted}
 use Rattle.interp.specs.Fits.{HaveShapes}
@@ -19,15 +20,15 @@ pub record IsFresh (v : Accepted) (run : Running) : Type 0 where
 abbrev pub IsResting : TenantPart → Type 0
 IsResting owned = owned.reserve ≡ 0
 
--- when a run isn't made: the shapes of the program's maps are no beginning of the tenant's, or else there
--- aren't the frames for it
+-- when a run isn't made: a map that the program names and has a shape for isn't the tenant's with that shape, or
+-- else there aren't the frames for it
 abbrev pub RefusesRunOfTenant : Accepted → TenantPart → Fault → Type 0
 RefusesRunOfTenant v owned fault =
-    ((fault ≡ NoProgram) × ¬ (HaveShapes v.subject.shapes owned.maps)) ⊎ (HaveShapes v.subject.shapes owned.maps × RefusesBegin v fault)
+    ((fault ≡ NoProgram) × ¬ (HaveShapes (named_shapes v.subject) owned.maps)) ⊎ (HaveShapes (named_shapes v.subject) owned.maps × RefusesBegin v fault)
 
--- where memory ran out, the tenant has the program's maps
+-- where memory ran out, the tenant has the maps that the program names
 abbrev pub LacksMemory : Accepted → TenantPart → Fault → Type 0
-LacksMemory v owned fault = (fault ≡ OutOfMemory) × HaveShapes v.subject.shapes owned.maps
+LacksMemory v owned fault = (fault ≡ OutOfMemory) × HaveShapes (named_shapes v.subject) owned.maps
 
 -- why a run of a program isn't made on a context: the context hasn't the program's size; or it has, and the run
 -- itself isn't made, or else memory ran out

@@ -6,8 +6,9 @@ ghost use Rattle.turn.specs.Seats.{IsIdle, own_part};
 ghost use Rattle.tenant_workers.specs.Calls.{IsSameSeat};
 
 use crate::shared::Shared;
-use host_calls::{Shapes, host_shapes, judge};
-use host_types::Fault;
+use host_calls::{host_shapes, judge};
+use host_types::limits::MAX_MAPS;
+use host_types::{Fault, Shape};
 use std::alloc::Global;
 use std::sync::Wait;
 use turn::Seat;
@@ -44,8 +45,8 @@ impl Shared {
         judge(alloc, shapes.as_slice(), text, ctx_size)
     }
 
-    /// The shapes of the maps of the seat's tenant by number.
-    fn shapes(&self, rt: &impl Wait, seat: &mut Seat) -> Shapes
+    /// The shapes of the maps of the seat's tenant by number: `None` where it has no such map.
+    fn shapes(&self, rt: &impl Wait, seat: &mut Seat) -> [Option<Shape>; MAX_MAPS]
         requires idle { IsIdle self.now seat.old }
         ensures idle { IsIdle self.now seat.new }
         ensures same { IsSameSeat seat.old seat.new }

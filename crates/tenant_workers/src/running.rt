@@ -2,6 +2,7 @@ ghost use Rattle.std.specs.Prelude.{◌≡◌, ◌≤◌, ◌⊎◌, IfOk, OnOk,
 ghost use Rattle.interp.specs.Fits.{HaveShapes};
 ghost use Rattle.page_table.specs.State.{part, have_of};
 ghost use Rattle.page_table.specs.Changes.{IsKeptBut, with_reserve};
+ghost use Rattle.verifier.specs.Named.{named_shapes};
 ghost use Rattle.verifier.specs.Reserve.{reserve_from};
 ghost use Rattle.host_calls.specs.Calls.{IsThere, TellsHave};
 ghost use Rattle.tenant_runs.specs.UnderWay.{HasRun};
@@ -30,8 +31,8 @@ impl Shared {
     /// returns what the standard's machine returns on the maps of the seat, whatever others do between the
     /// turns, within as many steps as the program has instructions.
     ///
-    /// Refusals in their order: 38 where the shapes of the program's maps are no beginning of the tenant's,
-    /// 31 just where the program's reserve is above the frames that may be had; it tells both numbers. A
+    /// Refusals in their order: 38 where a map that the program names and has a shape for isn't the tenant's with
+    /// that shape, 31 just where the program's reserve is above the frames that may be had; it tells both numbers. A
     /// refusal leaves the seat's part. The tenant has no other open run.
     pub fn run(
         &self,
@@ -116,7 +117,7 @@ impl Shared {
         requires resting { IsResting (own_part seat.old) }
         ensures idle { IsIdle self.now seat.new }
         ensures same { IsSameSeat seat.old seat.new }
-        ensures shapes { OnOk result (HaveShapes program.now.subject.shapes (own_part seat.old).maps) }
+        ensures shapes { OnOk result (HaveShapes (named_shapes program.now.subject) (own_part seat.old).maps) }
         ensures recorded { OnOk result
             (own_part seat.new ≡ with_reserve (reserve_from program.now 0) (own_part seat.old)) }
         ensures refused { IfErr result (RefusesRunOfTenant program.now (own_part seat.old)) }
@@ -149,7 +150,7 @@ impl Shared {
 fn begin_run(memory: &mut Memory, tenant: u32, program: &Verified) -> Result<(), Fault>
     requires there { IsThere (part memory.old tenant) }
     requires resting { IsResting (part memory.old tenant) }
-    ensures shapes { OnOk result (HaveShapes program.now.subject.shapes (part memory.old tenant).maps) }
+    ensures shapes { OnOk result (HaveShapes (named_shapes program.now.subject) (part memory.old tenant).maps) }
     ensures recorded { OnOk result
         (part memory.new tenant ≡ with_reserve (reserve_from program.now 0) (part memory.old tenant)) }
     ensures others { IsKeptBut tenant memory.old memory.new }

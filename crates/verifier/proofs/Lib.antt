@@ -7,6 +7,7 @@ pub mod Tables
 pub mod Uniqueness
 pub mod Flows
 pub mod Naming
+pub mod NamedMaps
 pub mod Lawful
 pub mod Tight
 pub mod Passes

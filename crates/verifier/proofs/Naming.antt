@@ -1,5 +1,5 @@
 -- Which calls the descriptions of a tight table name: calls before the slot alone.
-use Rattle.std.proofs.Common.{◌≡◌, ℕ, zero, suc, ◌<◌, ◌≤◌, ◌/◌, ◌==◌, ℤ, pos, negsuc, ◌+ℤ◌, Bool, true, false, if◌then◌else◌, List, [], ◌∷◌, ◌++◌, All, IfSome, Option, Some, None, option_map, is_some, Result, Ok, Err, refl, sym, subst, inl, inr, arith}
+use Rattle.std.proofs.Common.{◌≡◌, ℕ, zero, suc, ◌<◌, ◌≤◌, nat_lt, ◌/◌, ◌==◌, ℤ, pos, negsuc, ◌+ℤ◌, Bool, true, false, if◌then◌else◌, List, [], ◌∷◌, ◌++◌, All, IfSome, Option, Some, None, option_map, is_some, Result, Ok, Err, refl, sym, subst, inl, inr, arith}
 use Rattle.std.proofs.lemmas.List.Elements.{All-nil, All-cons, All-head, All-tail, All-append, All-weaker}
 use Rattle.host_types.specs.declared.helper.MapHelper.{MapHelper}
 use Rattle.host_types.specs.declared.helper.MapHelper.TheVariants.{Lookup, Update, Delete}
@@ -33,7 +33,7 @@ use Rattle.verifier_kinds.proofs.Calls.{arithmetic_names, join_names_of_left, na
 use Rattle.verifier.specs.declared.jumps.Compared.{Compared}
 use Rattle.verifier.specs.declared.jumps.Compared.TheVariants.{Numbers, Answer}
 use Rattle.verifier.specs.Subject.{Subject}
-use Rattle.verifier.specs.Flow.{◌>>=◌, both, known_or, holds_or, read_kind, writable, write_kind, operand_kind, dst_is_known, computed_kind, after_alu, loaded_range, slot_kind, context_place, stack_place, value_size_of, value_access, load_kind, loaded_kind, after_load, name_kind, wide_kind, after_load_immediate, is_number, written_slot, stored, after_store, comparands, checked_kind, holds_of_null, on_way, falls_to, jumps_to, target, called_map, answer_kind, without_arguments, after_call, after, falls_on, flow_of_branch, flow_by, flow}
+use Rattle.verifier.specs.Flow.{◌>>=◌, both, known_or, holds_or, read_kind, writable, write_kind, operand_kind, dst_is_known, computed_kind, after_alu, loaded_range, slot_kind, context_place, stack_place, value_size_of, value_access, load_kind, loaded_kind, after_load, name_kind, at_offset, first_value_kind, wide_kind, after_load_immediate, is_number, written_slot, stored, after_store, comparands, checked_kind, holds_of_null, on_way, falls_to, jumps_to, target, called_map, answer_kind, without_arguments, after_call, after, falls_on, flow_of_branch, flow_by, flow}
 use Rattle.verifier.specs.Table.{Table, described, flows_by, flows_from, targets_of, known_with, arrived, incoming}
 use Rattle.verifier.specs.Pass.{AreDescribed, FlowDescribed}
 use Rattle.verifier.proofs.Flows.{both_ok, then_ok, known_ok, flow_ok}
@@ -95,12 +95,21 @@ name_names slot p (pos m) kind e =
     subst (IsOfCallBelow slot) same tt
 name_names slot p (negsuc n) kind e = absurd cc
 
+first_names : (slot : ℕ) (p : Subject) (number : ℤ) (offset : ℕ) (kind : Kind) → first_value_kind p number offset ≡ Ok kind → IsOfCallBelow slot kind
+first_names slot p (pos m) offset kind e =
+    let there = then_ok (holds_or (is_some (shape_at p.shapes m)) 24) (λ there. holds_or (nat_lt offset (value_size_of p m)) 19 >>= λ within. Ok (MapValue m (at_offset offset))) kind e in
+    let within = then_ok (holds_or (nat_lt offset (value_size_of p m)) 19) (λ within. Ok (MapValue m (at_offset offset))) kind there.2 in
+    let same : MapValue m (at_offset offset) ≡ kind = cc (within.2) in
+    subst (IsOfCallBelow slot) same tt
+first_names slot p (negsuc n) offset kind e = absurd cc
+
 wide_names : (slot : ℕ) (p : Subject) (insn : Insn) (kind : Kind) → wide_kind p insn ≡ Ok kind → IsOfCallBelow slot kind
-wide_names slot p insn kind e = by_test (insn.src == 0) e
+wide_names slot p insn kind e = by_test (insn.src == 0) (insn.src == 1) e
   where
-    by_test : (b : Bool) → if◌then◌else◌ {A = Result Kind ℕ} b (Ok (Scalar (constant (wide_immediate insn)))) (name_kind p insn.imm) ≡ Ok kind → IsOfCallBelow slot kind
-    by_test true e = number_names slot (constant (wide_immediate insn)) kind e
-    by_test false e = name_names slot p insn.imm kind e
+    by_test : (number name : Bool) → if◌then◌else◌ {A = Result Kind ℕ} number (Ok (Scalar (constant (wide_immediate insn)))) (if◌then◌else◌ {A = Result Kind ℕ} name (name_kind p insn.imm) (first_value_kind p insn.imm insn.next_imm)) ≡ Ok kind → IsOfCallBelow slot kind
+    by_test true name e = number_names slot (constant (wide_immediate insn)) kind e
+    by_test false true e = name_names slot p insn.imm kind e
+    by_test false false e = first_names slot p insn.imm insn.next_imm kind e
 
 -- ---- descriptions
 

@@ -33,7 +33,7 @@ use Rattle.verifier_kinds.specs.declared.kind.Kind.TheVariants.{Scalar, Context,
 use Rattle.verifier_kinds.specs.declared.description.StackSlot.{StackSlot}
 use Rattle.verifier_kinds.specs.declared.description.StackSlot.TheVariants.{Kept, Bytes}
 use Rattle.verifier_kinds.specs.declared.description.Description.{Description}
-use Rattle.verifier_kinds.specs.Kinds.{constant, factor, full, normal, shape_at}
+use Rattle.verifier_kinds.specs.Kinds.{constant, factor, full, normal, offsets_in, shape_at}
 use Rattle.verifier_kinds.specs.Descriptions.{register_of, settled, slot_of, with_kind, with_slot, with_unset, number_bytes}
 use Rattle.verifier_kinds.specs.Arithmetic.{arith_by}
 use Rattle.verifier_kinds.specs.Refinement.{refined}
@@ -193,9 +193,23 @@ abbrev pub name_kind : Subject → ℤ → Result Kind ℕ
 name_kind p (pos m) = holds_or (is_some (shape_at p.shapes m)) unknown_map >>= λ there. Ok (MapName m)
 name_kind p (negsuc n) = Err unknown_map
 
--- what is known of what the wide instruction loads: a number, or the name of a map
+-- the one offset of a pointer that is so many bytes behind the beginning of an element
+abbrev pub at_offset : ℕ → Offsets
+at_offset n = offsets_in (constant (65536 + n))
+
+-- the address at an offset in the first value of a map that the program may use: a map always has a first
+-- element, so nothing is left to test
+abbrev pub first_value_kind : Subject → ℤ → ℕ → Result Kind ℕ
+first_value_kind p (pos m) n =
+    holds_or (is_some (shape_at p.shapes m)) unknown_map >>= λ there. holds_or (nat_lt n (value_size_of p m)) outside_map >>= λ within. Ok (MapValue m (at_offset n))
+first_value_kind p (negsuc k) n = Err unknown_map
+
+-- what is known of what the wide instruction loads: a number, the name of a map, or an address in its first
+-- value
 abbrev pub wide_kind : Subject → Insn → Result Kind ℕ
-wide_kind p insn = if insn.src == 0 then Ok (Scalar (constant (wide_immediate insn))) else name_kind p insn.imm
+wide_kind p insn =
+    if insn.src == 0 then Ok (Scalar (constant (wide_immediate insn))) else (
+    if insn.src == 1 then name_kind p insn.imm else first_value_kind p insn.imm insn.next_imm)
 
 -- the load of both immediates
 unfoldable pub after_load_immediate : Subject → Insn → Description → Result Description ℕ

@@ -1,4 +1,5 @@
 pub mod Subject
+pub mod Named
 pub mod Flow
 pub mod Way
 pub mod Table

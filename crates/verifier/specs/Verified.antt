@@ -13,10 +13,10 @@ pub record HasShapes (shapes : List (Option Shape)) : Type 0 where
   pub eight : length shapes ≡ 8
   pub each : All (λ shape. IfSome shape IsShape) shapes
 
--- the shapes of a list, at most eight, each within the limits
-pub record AreShapes (shapes : List Shape) : Type 0 where
+-- the shapes of a list by number, at most eight, each within the limits or not there
+pub record AreShapes (shapes : List (Option Shape)) : Type 0 where
   pub few : length shapes ≤ 8
-  pub each : All IsShape shapes
+  pub each : All (λ shape. IfSome shape IsShape) shapes
 
 -- what is verified has a well-formed text, shapes and a context within the limits
 pub record IsSubject (p : Subject) : Type 0 where

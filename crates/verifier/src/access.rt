@@ -2,9 +2,9 @@
 
 ghost use Rattle.std.specs.Prelude.{◌≡◌, ◌+◌, ◌-◌, ◌%◌, ◌^◌, ◌<◌, ◌≤◌, pos, ◌+ℤ◌, ◌≤ℤ◌, IfOk, OnOk};
 ghost use Rattle.bpf_decode.specs.Opcodes.{byte_count};
-ghost use Rattle.verifier_kinds.specs.Kinds.{IsKind, IsNormal};
+ghost use Rattle.verifier_kinds.specs.Kinds.{AreOffsets, IsKind, IsNormal};
 ghost use Rattle.verifier_kinds.specs.Descriptions.{IsDescription, IsSlot, number_bytes};
-ghost use Rattle.verifier.specs.Flow.{lies_below, aligned, context_place, stack_place, begins_in_value, ends_in_value, lies_in_value, is_aligned_in_value, value_access, loaded_range, places, slot_kind, load_kind, loaded_kind, after_load, name_kind, wide_kind, after_load_immediate, is_number, written_slot, after_stack_store, stored, after_store};
+ghost use Rattle.verifier.specs.Flow.{lies_below, aligned, context_place, stack_place, begins_in_value, ends_in_value, lies_in_value, is_aligned_in_value, value_access, loaded_range, places, slot_kind, load_kind, loaded_kind, after_load, name_kind, at_offset, first_value_kind, wide_kind, after_load_immediate, is_number, written_slot, after_stack_store, stored, after_store};
 ghost use Rattle.verifier.specs.Way.{done};
 
 use crate::candidate::Candidate;
@@ -280,15 +280,49 @@ fn name_kind(candidate: &Candidate, number: i32) -> Result<Kind, u32>
     }
 }
 
-/// What is known of what the wide instruction loads: a number, or the name of a map.
+/// The one offset of a pointer that is so many bytes behind the beginning of an element.
+fn at_offset(n: u32) -> Offsets
+    requires { n ≤ 4096 }
+    ensures offset { result ≡ at_offset n }
+    ensures meets { AreOffsets result }
+{
+    let range = Range::constant(OFFSET_BASE as u64 + u64::from(n));
+    Offsets {
+        low: range.low as u32,
+        high: range.high as u32,
+        align: range.align,
+    }
+}
+
+/// The address at an offset in the first value of a map that the program may use. A map always has a
+/// first element, so that nothing is left to test.
+fn first_value_kind(candidate: &Candidate, number: i32, offset: u32) -> Result<Kind, u32>
+    ensures kind { result ≡ first_value_kind candidate.now number offset }
+    ensures meets { IfOk result IsKind }
+{
+    match u32::try_from(number) {
+        Ok(map) if candidate.has_map(map) => {
+            if offset < candidate.value_size(map) {
+                let offsets = at_offset(offset);
+                Ok(Kind::MapValue { map, offsets })
+            } else {
+                Err(OUTSIDE_MAP)
+            }
+        }
+        _ => Err(UNKNOWN_MAP),
+    }
+}
+
+/// What is known of what the wide instruction loads: a number, the name of a map, or an address in
+/// its first value.
 fn wide_kind(candidate: &Candidate, insn: &Insn) -> Result<Kind, u32>
     ensures kind { result ≡ wide_kind candidate.now insn.now }
     ensures meets { IfOk result IsKind }
 {
-    if insn.src == 0 {
-        Ok(Kind::Scalar(Range::constant(insn.wide_immediate())))
-    } else {
-        name_kind(candidate, insn.imm)
+    match insn.src {
+        0 => Ok(Kind::Scalar(Range::constant(insn.wide_immediate()))),
+        1 => name_kind(candidate, insn.imm),
+        _ => first_value_kind(candidate, insn.imm, insn.next_imm),
     }
 }
 

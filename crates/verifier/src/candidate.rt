@@ -1,6 +1,6 @@
 use bpf_decode::{Insn, Program};
 use host_types::Shape;
-use std::alloc::{AllocError, Global};
+use host_types::limits::MAX_MAPS;
 use std::marker::Model;
 
 /// A program that is to be verified, with the shapes of the maps that it may use and the size of
@@ -9,48 +9,45 @@ use std::marker::Model;
 #[derive(Drop)]
 pub struct Candidate {
     program: Program,
-    shapes: Vec<Shape>,
+    shapes: [Option<Shape>; MAX_MAPS],
     ctx_size: u32,
 }
 
 impl Model for Candidate {
-    ghost use Rattle.verifier.specs.Subject.{Subject, all_there};
+    ghost use Rattle.verifier.specs.Subject.{Subject};
     ghost use Rattle.verifier.specs.Verified.{IsSubject};
 
     ghost Value = { Subject };
 
-    ghost view = { λ c. record { text = c.program; shapes = all_there c.shapes.items; context_size = c.ctx_size } };
+    ghost view = { λ c. record { text = c.program; shapes = c.shapes; context_size = c.ctx_size } };
 
-    ghost invariant = { λ c. IsSubject (record { text = c.program; shapes = all_there c.shapes.items; context_size = c.ctx_size }) };
+    ghost invariant = { λ c. IsSubject (record { text = c.program; shapes = c.shapes; context_size = c.ctx_size }) };
 }
 
 impl Candidate {
-    ghost use Rattle.std.specs.Prelude.{◌≡◌, ◌<◌, ◌≤◌, IfOk, IsSome, is_some};
+    ghost use Rattle.std.specs.Prelude.{◌≡◌, ◌<◌, ◌≤◌, IfSome, IsSome, is_some};
+    ghost use Rattle.host_types.specs.Shapes.{IsShape};
     ghost use Rattle.verifier_kinds.specs.Kinds.{shape_at};
     ghost use Rattle.verifier.specs.Flow.{value_size_of};
     ghost use Rattle.bpf_decode.specs.Opcodes.{operation_of};
     ghost use Rattle.bpf_decode.specs.Text.{slots_of, insn_at, is_instruction, instructions_of, IsInstruction};
-    ghost use Rattle.verifier.specs.Subject.{IsContextSize, all_there};
+    ghost use Rattle.verifier.specs.Subject.{IsContextSize, padded};
     ghost use Rattle.verifier.specs.Verified.{IsSubject, AreShapes};
 
-    /// The candidate with a copy of the shapes; it fails where there is no memory for it.
-    pub fn new(
-        alloc: Global,
-        program: Program,
-        shapes: &[Shape],
-        ctx_size: u32,
-    ) -> Result<Candidate, AllocError>
+    /// The candidate with a copy of the shapes.
+    pub fn new(program: Program, shapes: &[Option<Shape>], ctx_size: u32) -> Candidate
         requires shapes { AreShapes shapes.now }
         requires context { IsContextSize ctx_size }
-        ensures { IfOk result (λ c. c ≡ record { text = program; shapes = all_there shapes.now; context_size = ctx_size }) }
+        ensures { result ≡ record { text = program; shapes = padded shapes.now; context_size = ctx_size } }
     {
         let _well_formed = program.slots();
-        let shapes = Vec::from_slice(alloc, shapes)?;
-        Ok(Candidate {
+        let mut by_number = [None; MAX_MAPS];
+        by_number[..shapes.len()].copy_from_slice(shapes);
+        Candidate {
             program,
-            shapes,
+            shapes: by_number,
             ctx_size,
-        })
+        }
     }
 
     /// How many slots the text has, 1 to 4096.
@@ -90,18 +87,28 @@ impl Candidate {
     }
 
     /// The shapes of the maps that the program may use, by number.
-    pub(crate) fn shapes(&self) -> &[Shape]
-        ensures shapes { all_there result.now ≡ self.now.shapes }
-        ensures subject { IsSubject self.now }
+    pub(crate) fn shapes(&self) -> &[Option<Shape>]
+        ensures { result.now ≡ self.now.shapes }
     {
-        self.shapes.as_slice()
+        &self.shapes
+    }
+
+    /// The shape of a map that the program may use.
+    pub(crate) fn shape(&self, map: u32) -> Option<Shape>
+        ensures shape { result ≡ shape_at self.now.shapes map }
+        ensures limits { IfSome result IsShape }
+    {
+        match self.shapes.get(map as usize) {
+            Some(shape) => *shape,
+            None => None,
+        }
     }
 
     /// Whether the program may use a map.
     pub(crate) fn has_map(&self, map: u32) -> bool
         ensures { result ≡ is_some (shape_at self.now.shapes map) }
     {
-        (map as usize) < self.shapes.len()
+        self.shape(map).is_some()
     }
 
     /// The bytes of a value of a map; a map that isn't there has none.
@@ -109,7 +116,7 @@ impl Candidate {
         ensures size { result ≡ value_size_of self.now map }
         ensures small { result ≤ 4096 }
     {
-        match self.shapes.get(map as usize) {
+        match self.shape(map) {
             Some(shape) => shape.value_size,
             None => 0,
         }

@@ -9,6 +9,7 @@ mod candidate;
 mod flow;
 mod jumps;
 mod laws;
+mod named;
 mod reserve;
 mod rules;
 mod table;

@@ -31,7 +31,7 @@ impl Candidate {
     fn map_cost(&self, map: u32) -> u32
         ensures { result ≡ unwrap_or (option_map update_charge (shape_at self.now.shapes map)) 0 }
     {
-        match self.shapes().get(map as usize) {
+        match self.shape(map) {
             Some(shape) => shape.update_charge(),
             None => 0,
         }

@@ -1,7 +1,9 @@
 ghost use Rattle.std.specs.Prelude.{◌≡◌, ◌≤◌, ◌⊎◌, ◌↔◌, IfOk, IfErr, IsSome, IsTrue};
 ghost use Rattle.bpf_decode.specs.Opcodes.{operation_of};
 ghost use Rattle.bpf_decode.specs.Text.{slots_of, insn_at, instructions_of, IsInstruction, out_of_memory};
-ghost use Rattle.verifier.specs.Subject.{IsContextSize, all_there};
+ghost use Rattle.verifier.specs.Subject.{IsContextSize, padded};
+ghost use Rattle.verifier.specs.Flow.{value_size_of};
+ghost use Rattle.verifier.specs.Named.{names};
 ghost use Rattle.verifier.specs.Table.{IsRefusal};
 ghost use Rattle.verifier.specs.Verified.{AreShapes, IsVerified, kind_at};
 ghost use Rattle.verifier.specs.Reserve.{reserve_from};
@@ -10,26 +12,28 @@ use crate::candidate::Candidate;
 use crate::reserve::reserves;
 use crate::table::{Registers, kept_kinds};
 use bpf_decode::{Insn, Program};
-use host_types::limits::MAX_CONTEXT;
+use host_types::limits::{MAX_CONTEXT, MAX_MAPS};
 use host_types::{Refused, Shape};
 use std::alloc::Global;
 use std::marker::Model;
 use verifier_kinds::Kind;
 
 /// An accepted program, with the shapes of the maps that it may use, the size of its context, and
-/// what is known at each of its slots. Contracts see these. What the rest of a run may need from
-/// each slot on is kept beside them, so that it's told in constant time.
+/// what is known at each of its slots. Contracts see these. Which maps it names, and what the rest of
+/// a run may need from each slot on, are kept beside them, so that they are told in constant time.
 #[derive(Drop)]
 pub struct Verified {
     candidate: Candidate,
     kept: Vec<Option<Registers>>,
     instructions: u32,
+    named: [bool; MAX_MAPS],
     reserves: Vec<u32>,
 }
 
 impl Model for Verified {
     ghost use Rattle.std.specs.Prelude.{◌≡◌, map};
-    ghost use Rattle.bpf_decode.specs.Text.{instructions_of};
+    ghost use Rattle.bpf_decode.specs.Text.{slots_of, instructions_of};
+    ghost use Rattle.verifier.specs.Named.{AreNamed};
     ghost use Rattle.verifier.specs.Table.{tight_table};
     ghost use Rattle.verifier.specs.Pass.{kinds_in};
     ghost use Rattle.verifier.specs.Verified.{Accepted, IsVerified};
@@ -43,6 +47,7 @@ impl Model for Verified {
       verified : IsVerified (record { subject = v.candidate; table = tight_table v.candidate });
       kept : v.kept.items ≡ map kinds_in (tight_table v.candidate);
       counted : v.instructions ≡ instructions_of v.candidate.text;
+      named : AreNamed v.candidate.text (slots_of v.candidate.text) v.named;
       reserved : AreReserves (record { subject = v.candidate; table = tight_table v.candidate }) v.reserves.items;
     } };
 }
@@ -112,11 +117,31 @@ impl Verified {
         }
     }
 
-    /// The shapes of the maps that the program may use, by number.
-    pub fn shapes(&self) -> &[Shape]
-        ensures { all_there result.now ≡ self.now.subject.shapes }
+    /// The shapes of the maps that the program may use, by number: eight, of which each is there or
+    /// not.
+    pub fn shapes(&self) -> &[Option<Shape>]
+        ensures { result.now ≡ self.now.subject.shapes }
     {
         self.candidate.shapes()
+    }
+
+    /// The bytes of a value of a map that the program may use, and 0 of any other.
+    #[inline]
+    pub fn value_size(&self, map: u32) -> u32
+        ensures { result ≡ value_size_of self.now.subject map }
+    {
+        self.candidate.value_size(map)
+    }
+
+    /// Whether an instruction, reached or not, names a map: it loads the map's name, or an address in
+    /// the map's first value. Of the numbers 0 to 7 it's told in constant time.
+    pub fn names(&self, map: u32) -> bool
+        ensures { result ≡ names self.now.subject.text map }
+    {
+        match self.named.get(map as usize) {
+            Some(named) => *named,
+            None => self.candidate.names(map),
+        }
     }
 
     /// The bytes of the context.
@@ -135,26 +160,25 @@ impl Verified {
 }
 
 /// Judges a program that may use maps of these shapes, by number, and whose context has `ctx_size`
-/// bytes. It is accepted if no slot that is reached breaks a rule. A refusal is the first slot that
+/// bytes. A number without a shape is that of no map. The program is accepted if no slot that is reached breaks a rule. A refusal is the first slot that
 /// breaks one, with the smallest number there: 11 to 25; or 41 at slot 0 for want of memory.
 pub fn verify(
     alloc: Global,
     program: Program,
-    shapes: &[Shape],
+    shapes: &[Option<Shape>],
     ctx_size: u32,
 ) -> Result<Verified, Refused>
     requires shapes { AreShapes shapes.now }
     requires context { IsContextSize ctx_size }
-    ensures subject { IfOk result (λ v. v.subject ≡ record { text = program; shapes = all_there shapes.now; context_size = ctx_size }) }
+    ensures subject { IfOk result (λ v. v.subject ≡ record { text = program; shapes = padded shapes.now; context_size = ctx_size }) }
     ensures verified { IfOk result IsVerified }
     ensures refused { IfErr result (λ refused. (refused ≡ out_of_memory)
-        ⊎ IsRefusal (record { text = program; shapes = all_there shapes.now; context_size = ctx_size }) refused) }
+        ⊎ IsRefusal (record { text = program; shapes = padded shapes.now; context_size = ctx_size }) refused) }
 {
-    let Ok(candidate) = Candidate::new(alloc, program, shapes, ctx_size) else {
-        return Err(Refused::OUT_OF_MEMORY);
-    };
+    let candidate = Candidate::new(program, shapes, ctx_size);
     let kept = kept_kinds(alloc, &candidate)?;
     let instructions = candidate.count_instructions();
+    let named = candidate.named_maps();
     let Ok(reserves) = reserves(alloc, &candidate, &kept) else {
         return Err(Refused::OUT_OF_MEMORY);
     };
@@ -162,6 +186,7 @@ pub fn verify(
         candidate,
         kept,
         instructions,
+        named,
         reserves,
     })
 }

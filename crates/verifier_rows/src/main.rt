@@ -1,17 +1,19 @@
 //! What the verifier answers of texts, and what it knows at their slots. A row of the standard input is
 //! four texts between tabs: a name, a program in hex, the size of its context with the shapes of its maps
-//! behind it, and places `slot.register`. Its line is the name and the answer: that the program is accepted,
+//! behind it, and places `slot.register` or `map NUMBER`. Its line is the name and the answer: that the program is accepted,
 //! with what is known at the places, or the number and the slot of its refusal; and whether both passes of
 //! the plain verifier differ from that. Other rows ask a rule of kinds alone, with `insn` or `join` behind the
-//! name (`rules.rt`). The file `stdout` of this crate says what is wanted.
+//! name (`rules.rt`), or with `first` of every offset in a map's first value (`first_values.rt`). The file `stdout` of this crate says what is wanted.
 #![tactic(auto)]
 
 ghost use Rattle.verifier.specs.Subject.{IsContextSize};
 
+mod first_values;
 mod kinds;
 mod rules;
 
 use bpf_decode::decode;
+use first_values::print_first_values;
 use host_types::Refused;
 use kernel_check::{judge_alike, shapes_of};
 use kinds::print_kind;
@@ -62,6 +64,15 @@ fn answer_of(alloc: Global, hex: &str, given: &str) -> Result<Answer, AllocError
     Ok(Answer { outcome, is_alike })
 }
 
+/// Prints what is known at a place, or of `map NUMBER` whether the program names that map.
+fn print_place(rt: &impl Print, program: &Verified, place: &str) -> io::Result<()> {
+    match place.strip_prefix("map ") {
+        Some(map) if program.names(map.parse().unwrap_or(u32::MAX)) => print!(rt; "named"),
+        Some(_) => print!(rt; "not named"),
+        None => print_kind(rt, kind_at(program, place)),
+    }
+}
+
 /// Prints what is answered to a row's text, and what is known at its places.
 fn print_answer(rt: &(impl AllocGlobal + Print), asked: &str) -> io::Result<()> {
     let mut fields = asked.split('\t');
@@ -76,7 +87,7 @@ fn print_answer(rt: &(impl AllocGlobal + Print), asked: &str) -> io::Result<()> 
             print!(rt; "accepted {slots} {instructions}")?;
             for place in fields {
                 print!(rt; "\t{place}: ")?;
-                print_kind(rt, kind_at(&program, place))?;
+                print_place(rt, &program, place)?;
             }
         }
     }
@@ -94,6 +105,7 @@ fn print_line(rt: &(impl AllocGlobal + Print), row: &str) -> io::Result<()> {
     match asked.split_once('\t') {
         Some(("insn", operands)) => print_insn(rt, operands)?,
         Some(("join", slots)) => print_join(rt, slots)?,
+        Some(("first", shape)) => print_first_values(rt, shape)?,
         _ => print_answer(rt, asked)?,
     }
     println!(rt;)

@@ -1,6 +1,6 @@
 //! What the words of a command line ask `check` for.
 
-ghost use Rattle.std.specs.Prelude.{◌≡◌, ℕ, List, IfErr, IfNone, IfOk, IfSome, Ok};
+ghost use Rattle.std.specs.Prelude.{◌≡◌, ℕ, List, IfErr, IfNone, IfOk, IfSome, Ok, Option};
 ghost use Rattle.hex.specs.Hex.{decode_of};
 ghost use Rattle.host_types.specs.declared.shape.Shape.{Shape};
 ghost use Rattle.engines.specs.Check.{AreShapeWords, AskNothing, IsAsked, IsDecimal, IsShapeWord};
@@ -18,7 +18,7 @@ use std::alloc::{AllocError, Global};
 #[derive(Debug, Drop)]
 pub struct Question {
     pub text: Bytes,
-    pub shapes: Vec<Shape>,
+    pub shapes: Vec<Option<Shape>>,
     pub context_size: u32,
 }
 
@@ -110,10 +110,10 @@ fn wrong_character(hex: &str) -> Option<(usize, char)> {
     None
 }
 
-/// The shapes of maps that words V:E give. A fault names the first word that gives none.
-fn shapes_of(alloc: Global, words: &[&str]) -> Result<Vec<Shape>, FileFault>
+/// The shapes of maps that words V:E give, one for each. A fault names the first word that gives none.
+fn shapes_of(alloc: Global, words: &[&str]) -> Result<Vec<Option<Shape>>, FileFault>
     ensures ok { IfOk result (λ shapes. AreShapeWords words.now shapes.items) }
-    ensures usage { IfErr result (λ fault. IsUsage fault → (shapes : List Shape) → AreShapeWords words.now shapes → ⊥) }
+    ensures usage { IfErr result (λ fault. IsUsage fault → (shapes : List (Option Shape)) → AreShapeWords words.now shapes → ⊥) }
     ensures words { IfErr result IsOfWords }
 {
     let mut shapes = Vec::new(alloc);
@@ -121,7 +121,7 @@ fn shapes_of(alloc: Global, words: &[&str]) -> Result<Vec<Shape>, FileFault>
         let Some(shape) = shape_of(word) else {
             return Err(no_shape(alloc, word));
         };
-        let Ok(()) = shapes.push(shape) else {
+        let Ok(()) = shapes.push(Some(shape)) else {
             return Err(FileFault::OutOfMemory(AllocError));
         };
     }
