@@ -1,5 +1,5 @@
 -- One step of the pass that finds what is known at each slot.
-use Rattle.std.proofs.Common.{◌≡◌, ℕ, zero, suc, ◌+◌, ◌<◌, ◌≤◌, List, [], ◌∷◌, ◌++◌, length, get_or, IfSome, Option, Some, None, Ok, Err, refl, sym, ap, subst, ◌∙◌, ◌⊎◌, inl, inr, add-one, arith, All, replicate, set, ◌==◌, if◌then◌else◌}
+use Rattle.std.proofs.Common.{◌≡◌, ℕ, zero, suc, ◌+◌, ◌<◌, ◌≤◌, List, [], ◌∷◌, ◌++◌, length, get_or, IfSome, IfOk, Option, Some, None, Result, Ok, Err, refl, sym, ap, subst, ◌∙◌, ◌⊎◌, inl, inr, add-one, arith, All, replicate, set, ◌==◌, if◌then◌else◌}
 use Rattle.std.proofs.lemmas.List.{ext_get_or}
 use Rattle.std.proofs.lemmas.List.Elements.{All-head, All-tail, All-weaker}
 use Rattle.bpf_decode.specs.Text.{slots_of, IsInstruction, IsWellFormed}
@@ -11,7 +11,7 @@ use Rattle.verifier.specs.declared.flow.Target.{Target}
 use Rattle.verifier.specs.declared.flow.Onward.{Onward}
 use Rattle.verifier.specs.Flow.{flow}
 use Rattle.verifier.specs.Pass.{AreDescribed, FlowDescribed, target_in, targets_in, flow_in}
-use Rattle.verifier.proofs.Tables.{below_next, arrived-elsewhere, IsDescription-incoming}
+use Rattle.verifier.proofs.Tables.{if_same, below_next, arrived-elsewhere, IsDescription-incoming}
 use Rattle.verifier.proofs.Flows.{IsAhead, flow_ahead}
 use Rattle.verifier.proofs.Passes.{described_read}
 use Rattle.verifier.proofs.Lawful.{first_instruction, described_instruction, flows_ahead}
@@ -88,6 +88,7 @@ flowed_table p table slot w end f =
 
 pub flowed_all : (p : Subject) (table : Table) (slot : ℕ) → IsWellFormed p.text → slot ≡ slots_of p.text → HasFlowed p table slot → IsKnowledge p table
 flowed_all p table slot w end f = record {
+  whole = f.whole;
   tight = flowed_table p table slot w end f;
   flows = λ s h. f.flows s (rw end h);
 }
@@ -100,7 +101,9 @@ has_slots text w = (first_instruction text w).within
 pub started : (n : ℕ) (x : Option Description) (s : ℕ) → 0 < n → get_or (set (replicate n None) 0 x) s None ≡ (if s == 0 then x else None)
 started zero x s h = absurd (omega arith)
 started (suc n) x zero h = refl
-started (suc n) x (suc s) h = nothing n s
+started (suc n) x (suc s) h =
+    let P : Option Description → Type 0 = λ o. o ≡ None in
+    nothing n s ∙ sym (if_same P (suc s) 0 x None (λ e. absurd (omega (arith, e))) (λ ne. refl))
   where
     nothing : (n s : ℕ) → let none : Option Description = None in get_or (replicate n none) s none ≡ none
     nothing zero s = refl
@@ -115,6 +118,11 @@ begun p table slots w count len is = record {
   known = λ s k. ap (λ (t : Table). described t s) is ∙ started slots (Some start_description) s (rw count (has_slots p.text w));
   flows = λ s h. absurd (omega arith);
 }
+
+-- the same of an answer
+pub begun_in : {A E : Type 0} (r : Result A E) (items : A → Table) (p : Subject) (slots : ℕ) → IsWellFormed p.text → slots ≡ slots_of p.text → IfOk r (λ known. length (items known) ≡ slots) → IfOk r (λ known. items known ≡ set (replicate slots None) 0 (Some start_description)) → IfOk r (λ known. HasFlowed p (items known) 0)
+begun_in (Ok known) items p slots w count len is = begun p (items known) slots w count len is
+begun_in (Err e) items p slots w count len is = tt
 
 -- the slots to which an instruction leads are slots of the text
 within_next : (p : Subject) (slot : ℕ) (next jump : Option Target) → All (IsAhead p slot) (target_in next ++ target_in jump) → IfSome next (λ t. t.slot < slots_of p.text)

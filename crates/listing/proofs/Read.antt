@@ -10,15 +10,14 @@ use Rattle.verifier.specs.Flow.{flow}
 use Rattle.verifier.specs.Pass.{flow_in, targets_in}
 use Rattle.verifier.proofs.Tables.{IsDescription-incoming}
 use Rattle.verifier.proofs.Passes.{described_read}
-use Rattle.verifier.proofs.Tight.{tight_is_tight, length-tight}
+use Rattle.verifier.proofs.Tight.{tight_is_tight}
 use Rattle.listing.specs.Knowledge.{IsKnowledge}
 use Rattle.listing.proofs.Flowed.{tight_instruction}
 
 -- what an index reads of the table
 known_at : (p : Subject) (table : Table) (slot : ℕ) (x : Option Description) → slot < slots_of p.text → IsKnowledge p table → x ≡ get_or table slot x → described (tight_table p) slot ≡ x
 known_at p table slot x h k e =
-    let whole : length table ≡ slots_of p.text = ap (λ (t : Table). length t) k.tight ∙ length-tight p (slots_of p.text) in
-    ap (λ (t : Table). described t slot) (sym k.tight) ∙ described_read table slot x (omega (arith, whole, h)) e
+    ap (λ (t : Table). described t slot) (sym k.tight) ∙ described_read table slot x (omega (arith, k.whole, h)) e
 
 -- it is known of instructions alone
 pub known_instruction : (p : Subject) (table : Table) (slot : ℕ) (x : Option Description) → IsWellFormed p.text → slot < slots_of p.text → IsKnowledge p table → x ≡ get_or table slot x → IfSome x (λ d. IsInstruction p.text slot)

@@ -26,5 +26,6 @@ pub record HasFlowed (p : Subject) (table : Table) (slot : ℕ) : Type 0 where
 
 -- A table is the tight one of a whole text, and from its slots flow descriptions of the verifier.
 pub record IsKnowledge (p : Subject) (table : Table) : Type 0 where
+  pub whole : length table ≡ slots_of p.text
   pub tight : table ≡ tight_table p
   pub flows : FlowDescribed p (tight_table p) (slots_of p.text)

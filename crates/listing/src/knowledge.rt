@@ -7,7 +7,7 @@ ghost use Rattle.verifier.specs.Flow.{target};
 ghost use Rattle.verifier.specs.Table.{described, flows_by, flows_from, known_with, arrived, tight_table, Breaks};
 ghost use Rattle.verifier.specs.Pass.{AreDescribed, target_in, targets_in};
 ghost use Rattle.verifier.specs.Verified.{kind_at};
-ghost use Rattle.listing.specs.Knowledge.{stack_at, HasFlowed};
+ghost use Rattle.listing.specs.Knowledge.{stack_at, HasFlowed, IsKnowledge};
 
 use std::alloc::{AllocError, Global};
 use std::marker::Model;
@@ -120,6 +120,34 @@ fn pass_slot(slots: &mut Vec<Option<Description>>, candidate: &Candidate, slot: 
     arrive(slots, onward.jump);
 }
 
+/// The rule that a slot breaks with what is known there, if it breaks one.
+#[tactic(auto, using(crate::proofs::Read::known_instruction, crate::proofs::Read::known_description, crate::proofs::Read::rule_broken, crate::proofs::Read::none_broken, crate::proofs::Read::none_unreached))]
+fn broken(candidate: &Candidate, slots: &Vec<Option<Description>>, slot: u32) -> Option<u32>
+    requires text { IsWellFormed candidate.now.text }
+    requires slot { slot < slots_of candidate.now.text }
+    requires known { IsKnowledge candidate.now slots.now.items }
+    ensures some { IfSome result (Breaks candidate.now (tight_table candidate.now) slot) }
+    ensures none { IfNone result ((rule : ℕ) → Breaks candidate.now (tight_table candidate.now) slot rule → ⊥) }
+{
+    match &slots[slot as usize] {
+        None => None,
+        Some(known) => match candidate.flow(slot, known) {
+            Ok(_) => None,
+            Err(rule) => Some(rule),
+        },
+    }
+}
+
+/// Where a slot leads with what is known there.
+fn leads_on(candidate: &Candidate, slots: &Vec<Option<Description>>, slot: u32) -> Onward
+    requires text { IsWellFormed candidate.now.text }
+    requires slot { slot < slots_of candidate.now.text }
+    requires known { IsKnowledge candidate.now slots.now.items }
+    ensures { targets_in result ≡ flows_from candidate.now (tight_table candidate.now) slot }
+{
+    leads(candidate, slot, &slots[slot as usize])
+}
+
 impl Knowledge {
     /// What is known at each slot of a text. It fails where there is no memory for it.
     #[tactic(auto, using(crate::proofs::Flowed::flowed_all))]
@@ -171,22 +199,21 @@ impl Knowledge {
 
     /// The rule that a slot breaks, 11 to 25, with what is known there: the smallest number of those that it breaks. A slot
     /// that isn't reached breaks none.
-    #[tactic(auto, using(crate::proofs::Read::known_instruction, crate::proofs::Read::known_description, crate::proofs::Read::rule_broken, crate::proofs::Read::none_broken, crate::proofs::Read::none_unreached))]
     pub fn breaks(&self, slot: u32) -> Option<u32>
         requires { slot < slots_of self.now.text }
         ensures some { IfSome result (Breaks self.now (tight_table self.now) slot) }
         ensures none { IfNone result ((rule : ℕ) → Breaks self.now (tight_table self.now) slot rule → ⊥) }
     {
-        let known = self.slots[slot as usize].as_ref()?;
-        self.candidate.flow(slot, known).err()
+        let _well_formed = self.candidate.slots();
+        broken(&self.candidate, &self.slots, slot)
     }
 
     /// Where a slot leads, and with what: nowhere from one that isn't reached, or that breaks a rule.
-    #[tactic(auto, using(crate::proofs::Read::known_instruction, crate::proofs::Read::known_description, crate::proofs::Read::flows_known))]
     pub fn leads(&self, slot: u32) -> Onward
         requires { slot < slots_of self.now.text }
         ensures { targets_in result ≡ flows_from self.now (tight_table self.now) slot }
     {
-        leads(&self.candidate, slot, &self.slots[slot as usize])
+        let _well_formed = self.candidate.slots();
+        leads_on(&self.candidate, &self.slots, slot)
     }
 }
