@@ -68,7 +68,7 @@ fn judgement(alloc: Global, asked: &Question) -> Result<Verified, Fault>
     if shapes.len() > MAX_MAPS {
         return Err(Fault::TooManyMaps);
     }
-    if !shapes.iter().all(may_be) {
+    if !shapes.iter().all(|shape| may_be(shape)) {
         return Err(Fault::BadShape);
     }
     if !is_context_size(asked.context_size) {

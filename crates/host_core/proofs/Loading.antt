@@ -41,6 +41,7 @@ padded-at shapes m = behind shapes (8 - length shapes) m
     nowhere zero m = refl
     nowhere (suc n) zero = refl
     nowhere (suc n) (suc m) = nowhere n m
+
     behind : (shapes : List (Option Shape)) (n m : ℕ) → slice_index_or (shapes ++ replicate n None) m None ≡ slice_index_or shapes m None
     behind [] n m = nowhere n m
     behind (shape ∷ shapes) n zero = refl

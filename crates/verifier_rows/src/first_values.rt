@@ -71,10 +71,7 @@ fn is_as_ruled(alloc: Global, shapes: &[Option<Shape>], offset: u16, value_size:
 
 /// Prints whether all offsets in the first value of a map of this shape, and the one behind them, are as the
 /// rule says.
-pub(crate) fn print_first_values(
-    rt: &(impl AllocGlobal + Print),
-    shape: &str,
-) -> io::Result<()> {
+pub(crate) fn print_first_values(rt: &(impl AllocGlobal + Print), shape: &str) -> io::Result<()> {
     let shapes = shapes_of(rt.alloc(), shape)?;
     let Some(Some(shape)) = shapes.first() else {
         return print!(rt; "no row");

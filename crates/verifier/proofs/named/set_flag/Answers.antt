@@ -1,6 +1,5 @@
-use Rattle.std.proofs.Common.{◌≡◌, ◌<◌, ◌==◌, ℕ, false, Some, refl, arith}
+use Rattle.std.proofs.Common.{◌≡◌, ◌==◌, false, refl, arith}
 use Rattle.std.proofs.lemmas.Bool.Decides.{nat_tests}
-use Rattle.verifier.specs.Named.{is_map}
 use Rattle.verifier.proofs.NamedMaps.{flag_set, flag_kept}
 use Rattle.verifier.proofs.named.set_flag.Goals as goal
 
