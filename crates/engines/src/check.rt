@@ -11,8 +11,6 @@ ghost use Rattle.engines.specs.Lines.{line_of};
 mod acceptance;
 pub(crate) mod question;
 
-pub use question::{Question, question_of};
-
 use crate::explanation::explain_check;
 use crate::fault::written;
 use crate::lines::write_refusal;
@@ -21,6 +19,7 @@ use host_calls::judge;
 use host_file::FileFault;
 use host_types::limits::MAX_MAPS;
 use host_types::{Fault, Shape};
+pub use question::{Question, question_of};
 use std::alloc::Global;
 use std::io::Write;
 use verifier::{Verified, is_context_size};

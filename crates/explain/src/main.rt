@@ -117,11 +117,7 @@ fn explain<W: Write>(
     let mut meant = Vec::new(alloc);
     let status = check(alloc, hex, shapes, asked.context, output, &mut meant)?;
     let question = question_of(alloc, hex, shapes, asked.context)?;
-    let detail = if asked.all {
-        Detail::All
-    } else {
-        Detail::Read
-    };
+    let detail = if asked.all { Detail::All } else { Detail::Read };
     let judged = Judged {
         text: question.text.as_slice(),
         shapes: question.shapes.as_slice(),

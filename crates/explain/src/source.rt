@@ -51,9 +51,7 @@ fn bytes_at<R: AllocGlobal + Files>(rt: &R, path: &str) -> io::Result<Vec<u8>> {
 
 /// The hex text of bytes that are one, or else that of the bytes themselves.
 fn hex_in(alloc: Global, bytes: &[u8]) -> Result<String, AllocError> {
-    let is_text = bytes
-        .iter()
-        .all(|byte| byte.is_ascii_hexdigit() || byte.is_ascii_whitespace());
+    let is_text = bytes.iter().all(|byte| byte.is_ascii_hexdigit() || byte.is_ascii_whitespace());
     if !is_text {
         return hex::encode(alloc, bytes);
     }

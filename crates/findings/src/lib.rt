@@ -11,16 +11,15 @@ mod place;
 mod unset;
 
 pub use access::Access;
-pub use cut::{CLEAR, Cut, is_within_limits};
-pub use limit::{greatest, least};
-pub use operands::registers_read;
-pub use place::Kinds;
-
 use bpf_decode::{FRAME_POINTER, Insn};
+pub use cut::{CLEAR, Cut, is_within_limits};
 use host_types::rule::{NULL_NOT_CHECKED, POINTER_LEAKS, UNSET_REGISTER};
 use host_types::{Refused, Shape};
 use known::Known;
 use limit::Limit;
+pub use limit::{greatest, least};
+pub use operands::registers_read;
+pub use place::Kinds;
 use place::Place;
 use std::alloc::Global;
 use std::io;

@@ -119,7 +119,11 @@ impl fmt::Display for Differing {
     fn fmt<W: fmt::Write>(&self, f: &mut fmt::Formatter<W>) -> fmt::Result {
         let (first, begin) = self.first;
         let (other, from) = self.other;
-        write!(f, "{}: {first} from {begin}, {other} from {from}", self.place)?;
+        write!(
+            f,
+            "{}: {first} from {begin}, {other} from {from}",
+            self.place
+        )?;
         match self.more {
             0 => Ok(()),
             more => write!(f, ", {more} more"),
