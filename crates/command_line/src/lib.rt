@@ -1,5 +1,9 @@
-//! The words of the command line of `bpf_host`: what they ask for (docs/HOST.md).
+//! The words of the command lines of `bpf_host` (docs/HOST.md) and of `explain` (docs/EXPLAIN.md): what they ask for.
 #![tactic(auto)]
+
+mod explain;
+
+pub use explain::{ToExplain, explained_of};
 
 use clap::{Arg, ArgAction, ArgMatches, Command};
 use plain_text::quoted;
@@ -39,9 +43,10 @@ pub enum WrongWords {
 /// What words ask for, the program's name being the first of them. All that isn't a request, help
 /// among it, is usage.
 pub fn request_of<'a>(alloc: Global, words: &'a [String]) -> Result<Request<'a>, WrongWords> {
-    let command = command(alloc).map_err(WrongWords::OutOfMemory)?;
-    let Ok(matches) = command.try_get_matches_from(words) else {
-        return Err(usage(said_of(alloc, words)));
+    let host = command(alloc).map_err(WrongWords::OutOfMemory)?;
+    let Ok(matches) = host.try_get_matches_from(words) else {
+        let told = told_of(alloc, NAME, words).map_err(WrongWords::OutOfMemory)?;
+        return Err(usage(said_of(alloc, command(alloc), told.as_slice())));
     };
     if let Some(check) = matches.subcommand_matches("check") {
         return check_of(alloc, check);
@@ -60,15 +65,24 @@ fn path_of<'a>(matches: &ArgMatches<'a>, name: &str) -> Option<&'a str> {
     matches.subcommand_matches(name)?.get_str("FILE")
 }
 
-/// What is said of words that make no request. They are cut as words from outside are, and make none either;
-/// the first of them is the program's own path, of which just the name is told.
-fn said_of(alloc: Global, words: &[String]) -> Result<String, AllocError> {
+/// Words as they are told: cut as words from outside are. The first of them is the program's own path, of which just
+/// the name is told.
+fn told_of(alloc: Global, name: &str, words: &[String]) -> Result<Vec<String>, AllocError> {
     let mut told = Vec::new(alloc);
-    told.push(String::from_str(alloc, NAME)?)?;
+    told.push(String::from_str(alloc, name)?)?;
     for word in words.iter().skip(1) {
         told.push(quoted(alloc, word.as_str())?)?;
     }
-    match command(alloc)?.try_get_matches_from(told.as_slice()) {
+    Ok(told)
+}
+
+/// What a command says of words that make no request, as they are told: these make none either.
+fn said_of<'a>(
+    alloc: Global,
+    command: Result<Command<'a>, AllocError>,
+    told: &'a [String],
+) -> Result<String, AllocError> {
+    match command?.try_get_matches_from(told) {
         Ok(_) => String::from_str(alloc, "the words make no request"),
         Err(error) => error.to_string(alloc),
     }
@@ -126,18 +140,26 @@ fn check<'a>(alloc: Global) -> Result<Command<'a>, AllocError> {
         .help("the program, as hex text")
         .required(true)
         .action(ArgAction::Set);
-    let shapes = Arg::new(alloc, "V:E")
-        .help("the value size and the entries of each map")
-        .num_args(0..)
-        .action(ArgAction::Append);
-    let context = Arg::new(alloc, "context")
-        .long("context")
-        .value_name("N")
-        .help("the bytes of the context, 0 if it isn't given")
-        .action(ArgAction::Set);
     Command::new(alloc, "check")
         .about("judges a program without running it")
         .arg(hex)?
-        .arg(shapes)?
-        .arg(context)
+        .arg(shapes(alloc))?
+        .arg(context(alloc))
+}
+
+/// The maps that a program may use.
+fn shapes<'a>(alloc: Global) -> Arg<'a> {
+    Arg::new(alloc, "V:E")
+        .help("the value size and the entries of each map")
+        .num_args(0..)
+        .action(ArgAction::Append)
+}
+
+/// The context of a program.
+fn context<'a>(alloc: Global) -> Arg<'a> {
+    Arg::new(alloc, "context")
+        .long("context")
+        .value_name("N")
+        .help("the bytes of the context, 0 if it isn't given")
+        .action(ArgAction::Set)
 }

@@ -19,7 +19,7 @@ use host_calls::judge;
 use host_file::FileFault;
 use host_types::limits::MAX_MAPS;
 use host_types::{Fault, Shape};
-use question::{Question, question_of};
+pub use question::{Question, question_of};
 use std::alloc::Global;
 use std::io::Write;
 use verifier::{Verified, is_context_size};

@@ -1,5 +1,5 @@
 use crate::place::Place;
-use bpf_decode::Operation;
+use bpf_decode::{Insn, Operation};
 
 /// Bytes of memory that an instruction reads or writes by way of a register.
 #[derive(Clone, Copy, Debug)]
@@ -14,7 +14,12 @@ pub struct Access {
 impl Access {
     /// What the refused instruction reads or writes by way of a register.
     pub fn by(place: &Place<'_>, register: u8) -> Option<Access> {
-        let insn = place.insn;
+        Access::of(&place.insn, register, place.named_value_size())
+    }
+
+    /// What an instruction reads or writes by way of a register, where the values of the map that R1 names have
+    /// so many bytes.
+    pub fn of(insn: &Insn, register: u8, value_size: Option<u32>) -> Option<Access> {
         match Operation::of(insn.opcode)? {
             Operation::Load { size, .. } if register == insn.src => {
                 Some(Access::of_word(size.bytes(), insn.offset))
@@ -22,7 +27,7 @@ impl Access {
             Operation::Store { size, .. } if register == insn.dst => {
                 Some(Access::of_word(size.bytes(), insn.offset))
             }
-            Operation::Call => Access::of_helper(place, register),
+            Operation::Call => Access::of_helper(register, value_size),
             _ => None,
         }
     }
@@ -37,11 +42,11 @@ impl Access {
     }
 
     /// The key of a helper, or its value.
-    fn of_helper(place: &Place<'_>, register: u8) -> Option<Access> {
+    fn of_helper(register: u8, value_size: Option<u32>) -> Option<Access> {
         match register {
             2 => Some(Access::of_word(4, 0)),
             3 => Some(Access {
-                bytes: place.named_value_size()?,
+                bytes: value_size?,
                 offset: 0,
                 align: 1,
             }),

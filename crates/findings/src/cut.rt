@@ -22,7 +22,7 @@ pub struct Cut<'a> {
 }
 
 /// Whether a number has no shape, or one within the limits.
-fn is_within_limits(shape: &Option<Shape>) -> bool
+pub fn is_within_limits(shape: &Option<Shape>) -> bool
     ensures { IsTrue result ↔ IfSome shape.now IsShape }
 {
     match shape {

@@ -10,13 +10,16 @@ mod operands;
 mod place;
 mod unset;
 
+pub use access::Access;
 use bpf_decode::{FRAME_POINTER, Insn};
-use cut::Cut;
+pub use cut::{CLEAR, Cut, is_within_limits};
 use host_types::rule::{NULL_NOT_CHECKED, POINTER_LEAKS, UNSET_REGISTER};
 use host_types::{Refused, Shape};
 use known::Known;
 use limit::Limit;
-use operands::registers_read;
+pub use limit::{greatest, least};
+pub use operands::registers_read;
+pub use place::Kinds;
 use place::Place;
 use std::alloc::Global;
 use std::io;
@@ -39,35 +42,65 @@ pub fn write_findings<W: Write>(
     judged: &Judged<'_>,
     refused: Refused,
 ) -> io::Result<()> {
-    let is_of_values = UNSET_REGISTER <= refused.number && refused.number <= NULL_NOT_CHECKED;
-    if !is_of_values && refused.number != POINTER_LEAKS {
-        return Ok(());
-    }
     let slot = refused.slot as usize;
-    let Some(insn) = Insn::at(judged.text, slot) else {
-        return Ok(());
-    };
     let cut = Cut {
         alloc,
         judged: *judged,
         slot,
     };
-    let Some(verified) = cut.with(cut::CLEAR) else {
+    let (Some(insn), true) = (Insn::at(judged.text, slot), is_of_values(refused)) else {
+        return Ok(());
+    };
+    let Some(verified) = cut.with(CLEAR) else {
         return Ok(());
     };
     let place = Place {
         judged: *judged,
         refused,
         insn,
-        verified: &verified,
+        kinds: Kinds::at(&verified, refused.slot),
     };
-    for register in registers_read(&insn) {
+    write_registers(words, &place)?;
+    write_unset_bytes(words, &cut, &place)
+}
+
+/// Writes what is known of the registers that an instruction reads, and what may stand there, each behind a `; `,
+/// where the instruction breaks this rule. Of a rule that goes by no register nothing is written.
+pub fn write_limits<W: Write>(
+    words: &mut W,
+    judged: &Judged<'_>,
+    refused: Refused,
+    kinds: &Kinds,
+) -> io::Result<()> {
+    match Insn::at(judged.text, refused.slot as usize) {
+        Some(insn) if is_of_values(refused) => {
+            let place = Place {
+                judged: *judged,
+                refused,
+                insn,
+                kinds: *kinds,
+            };
+            write_registers(words, &place)
+        }
+        _ => Ok(()),
+    }
+}
+
+/// Whether a rule goes by what is known of registers.
+fn is_of_values(refused: Refused) -> bool {
+    let is_of_values = UNSET_REGISTER <= refused.number && refused.number <= NULL_NOT_CHECKED;
+    is_of_values || refused.number == POINTER_LEAKS
+}
+
+/// Writes what is known of the registers that are read.
+fn write_registers<W: Write>(words: &mut W, place: &Place<'_>) -> io::Result<()> {
+    for register in registers_read(&place.insn) {
         // R10 is what it always is, and numbers above are no register's.
         if register < FRAME_POINTER {
-            write_known(words, &place, register)?;
+            write_known(words, place, register)?;
         }
     }
-    write_unset_bytes(words, &cut, &place)
+    Ok(())
 }
 
 /// Writes what was known of a register, and what may stand there.

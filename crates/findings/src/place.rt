@@ -4,23 +4,39 @@ use host_types::Refused;
 use verifier::Verified;
 use verifier_kinds::Kind;
 
+/// What is known of each register.
+#[derive(Clone, Copy, Debug)]
+pub struct Kinds(pub [Option<Kind>; 11]);
+
+impl Kinds {
+    /// Those at a slot of a program.
+    pub fn at(verified: &Verified, slot: u32) -> Kinds {
+        let mut kinds = [None; 11];
+        for register in 0..FRAME_POINTER + 1 {
+            kinds[usize::from(register)] = verified.kind(slot, register);
+        }
+        Kinds(kinds)
+    }
+
+    /// What is known of a register.
+    fn of(&self, register: u8) -> Option<Kind> {
+        *self.0.get(usize::from(register))?
+    }
+}
+
 /// The slot of a refusal, what stands there, and what was known there.
-#[derive(Clone, Copy)]
+#[derive(Clone, Copy, Debug)]
 pub struct Place<'a> {
     pub judged: Judged<'a>,
     pub refused: Refused,
     pub insn: Insn,
-    /// A text of which the same was known at this slot.
-    pub verified: &'a Verified,
+    pub kinds: Kinds,
 }
 
 impl<'a> Place<'a> {
     /// What was known of a register.
     pub fn kind(&self, register: u8) -> Option<Kind> {
-        if register > FRAME_POINTER {
-            return None;
-        }
-        self.verified.kind(self.refused.slot, register)
+        self.kinds.of(register)
     }
 
     /// How many bytes the values of a map have.

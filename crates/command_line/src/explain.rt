@@ -1,0 +1,58 @@
+//! The words of `explain`.
+
+use crate::{WrongWords, context, said_of, shapes, told_of, usage};
+use clap::{Arg, ArgAction, Command};
+use std::alloc::{AllocError, Global};
+
+/// The program's name.
+const NAME: &str = "explain";
+
+/// A program that is to be explained, with maps of these shapes and a context of a size. The words are as they were
+/// given.
+#[derive(Debug, Drop)]
+pub struct ToExplain<'a> {
+    pub hex: &'a str,
+    pub shapes: Vec<&'a str>,
+    pub context: &'a str,
+    /// Whether all that is known is to be shown.
+    pub all: bool,
+}
+
+/// What the words of `explain` ask for, the program's name being the first of them.
+pub fn explained_of<'a>(
+    alloc: Global,
+    words: &'a [String],
+) -> Result<ToExplain<'a>, WrongWords> {
+    let explain = command(alloc).map_err(WrongWords::OutOfMemory)?;
+    let Ok(matches) = explain.try_get_matches_from(words) else {
+        let told = told_of(alloc, NAME, words).map_err(WrongWords::OutOfMemory)?;
+        return Err(usage(said_of(alloc, command(alloc), told.as_slice())));
+    };
+    let Some(hex) = matches.get_str("HEX") else {
+        return Err(usage(String::from_str(alloc, "no HEX is given")));
+    };
+    let shapes = matches.get_strs("V:E").unwrap_or(&[]);
+    Ok(ToExplain {
+        hex,
+        shapes: shapes.to_vec(alloc).map_err(WrongWords::OutOfMemory)?,
+        context: matches.get_str("context").unwrap_or("0"),
+        all: matches.get_flag("all"),
+    })
+}
+
+fn command<'a>(alloc: Global) -> Result<Command<'a>, AllocError> {
+    let hex = Arg::new(alloc, "HEX")
+        .help("the program, as hex text, or @FILE: its bytes or hex text")
+        .required(true)
+        .action(ArgAction::Set);
+    let all = Arg::new(alloc, "all")
+        .long("all")
+        .help("shows all that is known at each slot")
+        .action(ArgAction::SetTrue);
+    Command::new(alloc, NAME)
+        .about("shows what the verifier knows at each instruction of a program")
+        .arg(hex)?
+        .arg(shapes(alloc))?
+        .arg(context(alloc))?
+        .arg(all)
+}

@@ -1,0 +1,17 @@
+//! The listing of a text: its instructions slot by slot, and what the verifier knows at each of them.
+#![tactic(auto)]
+
+mod judged;
+mod knowledge;
+mod lines;
+mod paint;
+mod place;
+mod seen;
+mod shown;
+mod ways;
+mod words;
+
+pub use knowledge::Knowledge;
+pub use lines::fold;
+pub use paint::Paint;
+pub use shown::{Detail, Listing};

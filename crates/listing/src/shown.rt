@@ -1,0 +1,275 @@
+//! The lines of a listing.
+
+use crate::judged::{Known, Told};
+use crate::knowledge::Knowledge;
+use crate::lines::{Line, fold};
+use crate::paint::{Paint, Part};
+use crate::place::{Differing, Fact, Place, STACK_SLOTS};
+use crate::seen::Seen;
+use bpf_decode::{FRAME_POINTER, Insn};
+use disassembly::AssemblyAt;
+use findings::{Judged, Kinds, registers_read, write_limits};
+use host_types::Refused;
+use std::alloc::{AllocError, Global};
+use std::io;
+use std::io::Write;
+use verifier::Verified;
+use verifier_kinds::Kind;
+
+/// How much is shown of what is known at a slot.
+#[derive(Clone, Copy, Debug, PartialEq, Eq)]
+pub enum Detail {
+    /// What the instruction reads, and the frames that it may take.
+    Read,
+    /// All registers and bytes of the stack of which something is known, and the frames that the rest may take.
+    All,
+}
+
+/// The listing of a text that was judged.
+#[derive(Drop)]
+pub struct Listing<'a> {
+    alloc: Global,
+    judged: Judged<'a>,
+    told: Told,
+    detail: Detail,
+    paint: Paint,
+}
+
+impl<'a> Listing<'a> {
+    /// The listing of a text. There is none where no text can be judged for such maps and such a context.
+    pub fn of(
+        alloc: Global,
+        judged: &Judged<'a>,
+        detail: Detail,
+        paint: Paint,
+    ) -> Option<Listing<'a>> {
+        Some(Listing {
+            alloc,
+            judged: *judged,
+            told: Told::of(alloc, judged)?,
+            detail,
+            paint,
+        })
+    }
+
+    /// Writes the slots, up to the one for which the text is refused, if it is. Of a text that isn't well formed nothing
+    /// is known, and of one that has no whole slots nothing is written.
+    pub fn write_slots<W: Write>(&self, output: &mut W) -> io::Result<()> {
+        let mut begins = true;
+        for slot in 0..self.told.listed(self.slots()) {
+            let Some(insn) = Insn::at(self.judged.text, slot as usize) else {
+                return Ok(());
+            };
+            if begins {
+                self.write_insn(output, slot, &insn)?;
+                begins = insn.slots() == 1;
+            } else {
+                self.write_half(output, slot)?;
+                begins = true;
+            }
+        }
+        Ok(())
+    }
+
+    /// Writes the slots behind the refused one that break a rule too, with what is known there and what would have to be:
+    /// those that are reached on ways on which no slot breaks one.
+    pub fn write_further<W: Write>(&self, output: &mut W) -> io::Result<()> {
+        let (Some(refused), Some(known)) = (self.told.refused, &self.told.known) else {
+            return Ok(());
+        };
+        let knowledge = &known.knowledge;
+        for slot in refused.slot.saturating_add(1)..knowledge.slots() {
+            if let Some(number) = knowledge.breaks(slot) {
+                self.write_broken(output, knowledge, Refused { number, slot })?;
+            }
+        }
+        Ok(())
+    }
+
+    /// Writes a further slot that breaks a rule.
+    fn write_broken<W: Write>(
+        &self,
+        output: &mut W,
+        knowledge: &Knowledge,
+        refused: Refused,
+    ) -> io::Result<()> {
+        let Some(insn) = Insn::at(self.judged.text, refused.slot as usize) else {
+            return Ok(());
+        };
+        let rule = format!(in self.alloc; "also {}", refused.fault())?;
+        self.paint.write(output, Part::Refused, rule.as_str())?;
+        writeln!(output)?;
+        self.write_insn(output, refused.slot, &insn)?;
+        let mut words = Vec::new(self.alloc);
+        let kinds = kinds_at(knowledge, refused.slot);
+        write_limits(&mut words, &self.judged, refused, &kinds)?;
+        match str::from_utf8(words.as_slice()) {
+            Ok(words) if !words.is_empty() => {
+                let words = words.trim_start_matches("; ");
+                let said = format!(in self.alloc; "slot {}: {words}", refused.slot)?;
+                fold(output, said.as_str())
+            }
+            _ => Ok(()),
+        }
+    }
+
+    /// How many whole slots the text has.
+    fn slots(&self) -> u32 {
+        u32::try_from(self.judged.text.len() / 8).unwrap_or(u32::MAX)
+    }
+
+    /// Writes what stands first in the line of a slot: its number and its bytes.
+    fn write_head<W: Write>(&self, line: &mut Line<'_, W>, slot: u32) -> io::Result<()> {
+        let mut head = format!(in self.alloc; "{slot:>4}  ")?;
+        let begin = 8 * slot as usize;
+        for byte in self.judged.text.get(begin..begin + 8).unwrap_or(&[]) {
+            head.push_str(format!(in self.alloc; "{byte:02x}")?.as_str())?;
+        }
+        let part = match self.told.refused {
+            Some(refused) if refused.slot <= slot => Part::Refused,
+            _ => Part::Beside,
+        };
+        line.write(part, head.as_str())
+    }
+
+    /// Writes the line of the second half of a wide instruction.
+    fn write_half<W: Write>(&self, output: &mut W, slot: u32) -> io::Result<()> {
+        let mut line = Line::begin(output, self.paint);
+        self.write_head(&mut line, slot)?;
+        line.end()
+    }
+
+    /// Writes the line of an instruction, and what is known there.
+    fn write_insn<W: Write>(&self, output: &mut W, slot: u32, insn: &Insn) -> io::Result<()> {
+        let assembly = AssemblyAt { insn: *insn, slot };
+        let assembly = format!(in self.alloc; "  {assembly}")?;
+        let mut line = Line::begin(output, self.paint);
+        self.write_head(&mut line, slot)?;
+        line.write(Part::Instruction, assembly.as_str())?;
+        if let Some(known) = &self.told.known {
+            if known.knowledge.reaches(slot) {
+                self.write_known(&mut line, slot, insn, known)?;
+            } else {
+                line.item(Part::Beside, "not reached")?;
+            }
+        }
+        if let Some(verified) = &self.told.verified {
+            self.write_frames(&mut line, slot, verified)?;
+        }
+        line.end()
+    }
+
+    /// Writes what is known at a slot, and where the ways that meet there say different things.
+    fn write_known<W: Write>(
+        &self,
+        line: &mut Line<'_, W>,
+        slot: u32,
+        insn: &Insn,
+        known: &Known,
+    ) -> io::Result<()> {
+        let knowledge = &known.knowledge;
+        let places = match self.detail {
+            Detail::Read => self.places_read(slot, insn, knowledge)?,
+            Detail::All => all_places(self.alloc)?,
+        };
+        let ways = known.ways.meeting(self.alloc, knowledge, slot)?;
+        for place in &places {
+            let fact = Fact::at(knowledge, slot, *place);
+            if fact.is_some() || self.detail == Detail::Read {
+                let item = self.item_of(*place, fact)?;
+                line.item(Part::Known, item.as_str())?;
+            }
+            if let Some(differing) = Differing::of(*place, ways.as_slice()) {
+                let item = format!(in self.alloc; "{differing}")?;
+                line.item(Part::Differs, item.as_str())?;
+            }
+        }
+        Ok(())
+    }
+
+    /// What is known of a place, as it is shown.
+    fn item_of(&self, place: Place, fact: Fact) -> io::Result<String> {
+        let item = match fact {
+            Fact::Register(None) => format!(in self.alloc; "{place} {fact}")?,
+            _ => format!(in self.alloc; "{place} = {fact}")?,
+        };
+        Ok(item)
+    }
+
+    /// What an instruction reads: registers, and then bytes of the stack. R10 is what it always is.
+    fn places_read(
+        &self,
+        slot: u32,
+        insn: &Insn,
+        knowledge: &Knowledge,
+    ) -> Result<Vec<Place>, AllocError> {
+        let mut places = Vec::new(self.alloc);
+        for register in registers_read(insn) {
+            let place = Place::Register(register);
+            if register < FRAME_POINTER && !places.contains(&place) {
+                places.push(place)?;
+            }
+        }
+        let value_size = self.named_value_size(slot, knowledge);
+        for register in registers_read(insn) {
+            if register > FRAME_POINTER {
+                continue;
+            }
+            let Some(kind) = knowledge.kind(slot, register) else {
+                continue;
+            };
+            let Some(seen) = Seen::by(insn, register, kind, value_size) else {
+                continue;
+            };
+            for eight in seen.first..seen.end {
+                places.push(Place::Stack(eight))?;
+            }
+        }
+        Ok(places)
+    }
+
+    /// How many bytes the values of the map have that R1 names.
+    fn named_value_size(&self, slot: u32, knowledge: &Knowledge) -> Option<u32> {
+        match knowledge.kind(slot, 1)? {
+            Kind::MapName(map) => Some(self.judged.shapes.get(map as usize)?.as_ref()?.value_size),
+            _ => None,
+        }
+    }
+
+    /// Writes how many frames an instruction may take, of how many that the rest may need from there on.
+    fn write_frames<W: Write>(
+        &self,
+        line: &mut Line<'_, W>,
+        slot: u32,
+        verified: &Verified,
+    ) -> io::Result<()> {
+        let reserve = verified.reserve(slot);
+        let cost = reserve.saturating_sub(verified.reserve(slot.saturating_add(1)));
+        if cost == 0 && (reserve == 0 || self.detail == Detail::Read) {
+            return Ok(());
+        }
+        let item = format!(in self.alloc; "frames {cost} of {reserve}")?;
+        line.item(Part::Known, item.as_str())
+    }
+}
+
+/// What is known of the registers at a slot.
+fn kinds_at(knowledge: &Knowledge, slot: u32) -> Kinds {
+    let mut kinds = [None; 11];
+    for register in 0..FRAME_POINTER + 1 {
+        kinds[usize::from(register)] = knowledge.kind(slot, register);
+    }
+    Kinds(kinds)
+}
+
+/// All registers, and behind them all of the stack.
+fn all_places(alloc: Global) -> Result<Vec<Place>, AllocError> {
+    let mut places = Vec::new(alloc);
+    for register in 0..FRAME_POINTER + 1 {
+        places.push(Place::Register(register))?;
+    }
+    for eight in 0..STACK_SLOTS {
+        places.push(Place::Stack(eight))?;
+    }
+    Ok(places)
+}
