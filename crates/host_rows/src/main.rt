@@ -5,16 +5,21 @@
 //! and last the exit status, or the words of a fault; it ends with the status of the last. The file `stdout` of
 //! this crate says what is wanted; rows are cheaper there than in tests, whose texts are proved. The output of a
 //! `$ full serve` takes nothing, and that of a `$ stuck serve` fails when it is asked to pass on what it took. In
-//! that of a `$ marked replay` or `$ marked serve` a line `~` stands where it passed on what it took.
+//! that of a `$ marked replay` or `$ marked serve` a line `~` stands where it passed on what it took. A `$ failing`
+//! request is answered again for each place at which a read or a write can fail (`faults.rt`), and that of a
+//! `$ cut replay` for each beginning of its file (`cuts.rt`).
 #![tactic(auto)]
 
-use engines::check::check;
-use engines::replay::replay;
+mod asked;
+mod cuts;
+mod faults;
+mod told;
+
+use asked::Asked;
 use engines::{status_of, write_fault};
+use faults::Whole;
 use host_file::FileFault;
 use requests::{Progress, answer_words};
-use serving::serve_file;
-use std::alloc::Global;
 use std::io;
 use std::io::{Input, Write};
 use std::process::ExitCode;
@@ -22,24 +27,28 @@ use std::rt::Files;
 use std::sync::Wait;
 use std::thread::Threads;
 use std::time::Clock;
+use told::Told;
 
-/// What the words of a check stand behind.
-const CHECK: &str = "$ check\t";
+/// What stands before a request.
+const MARK: &str = "$ ";
 
 /// What stands before the words of a command line, between spaces. Its files are those of the folder `data`.
-const WORDS: &str = "$ words ";
+const WORDS: &str = "words ";
 
-/// What a host file stands below that is to be served.
-const SERVE: &str = "$ serve";
+/// What stands before a request whose output takes nothing.
+const FULL: &str = "full ";
 
-/// What a host file stands below that is to be served into an output that takes nothing.
-const FULL: &str = "$ full serve";
-
-/// What a host file stands below that is to be served into an output that fails at its end.
-const STUCK: &str = "$ stuck serve";
+/// What stands before a request whose output fails at its end.
+const STUCK: &str = "stuck ";
 
 /// What stands before a request whose output is marked.
-const MARKED: &str = "$ marked ";
+const MARKED: &str = "marked ";
+
+/// What stands before a request whose reads and writes fail.
+const FAILING: &str = "failing ";
+
+/// What stands before a request whose file is cut.
+const CUT: &str = "cut ";
 
 /// An output with a line where it was asked to pass on what it took, if it took anything since the last one.
 #[derive(Drop)]
@@ -89,30 +98,7 @@ impl Write for Broken {
     }
 }
 
-/// What goes to the standard output and to standard error.
-#[derive(Drop)]
-struct Told {
-    output: Vec<u8>,
-    words: Vec<u8>,
-}
-
 impl Told {
-    /// Makes a check by its words, between tabs.
-    fn check(&mut self, alloc: Global, words: &str) -> Result<u8, FileFault> {
-        let mut fields = words.split('\t');
-        let hex = fields.next().unwrap_or("");
-        let context = fields.next().unwrap_or("0");
-        let shapes: Vec<&str> = fields.collect(alloc).map_err(FileFault::OutOfMemory)?;
-        check(
-            alloc,
-            hex,
-            shapes.as_slice(),
-            context,
-            &mut self.output,
-            &mut self.words,
-        )
-    }
-
     /// Does what the words of a command line ask for.
     fn command<R: AllocGlobal + Clock + Files + Threads + Wait + Sync>(
         &mut self,
@@ -135,45 +121,84 @@ impl Told {
         )
     }
 
-    /// Does what a request asks for, whose first line and the lines below are given.
+    /// Does what a request asks for, into an output of its own kind.
+    fn answer_into<R: AllocGlobal + Threads + Wait + Sync, W: Write>(
+        &mut self,
+        rt: &R,
+        line: &str,
+        below: &str,
+        output: &mut W,
+    ) -> Result<u8, FileFault> {
+        Asked::of(line).answer(rt, &mut below.as_bytes(), output, &mut self.words)
+    }
+
+    /// Does what a request asks for, into an output that is marked.
+    fn marked<R: AllocGlobal + Threads + Wait + Sync>(
+        &mut self,
+        rt: &R,
+        line: &str,
+        below: &str,
+    ) -> Result<u8, FileFault> {
+        let mut output = Marked {
+            taken: Vec::new(rt.alloc()),
+            passed: 0,
+        };
+        let answer = self.answer_into(rt, line, below, &mut output);
+        self.output = output.taken;
+        answer
+    }
+
+    /// Does what a request asks for, whose line behind the mark and the lines below are given.
     fn answer<R: AllocGlobal + Clock + Files + Threads + Wait + Sync>(
         &mut self,
         rt: &R,
-        head: &str,
+        line: &str,
         below: &str,
     ) -> Result<u8, FileFault> {
-        let alloc = rt.alloc();
-        if let Some(words) = head.strip_prefix(CHECK) {
-            return self.check(alloc, words);
+        if let Some(words) = line.strip_prefix(WORDS) {
+            self.command(rt, words)
+        } else if let Some(line) = line.strip_prefix(MARKED) {
+            self.marked(rt, line, below)
+        } else if let Some(line) = line.strip_prefix(FULL) {
+            self.answer_into(rt, line, below, &mut Broken::Full)
+        } else if let Some(line) = line.strip_prefix(STUCK) {
+            self.answer_into(rt, line, below, &mut Broken::Stuck)
+        } else {
+            self.take(rt, Asked::of(plain(line)), &mut below.as_bytes())
         }
-        if let Some(words) = head.strip_prefix(WORDS) {
-            return self.command(rt, words);
-        }
-        let mut file = below.as_bytes();
-        if let Some(head) = head.strip_prefix(MARKED) {
-            let mut output = Marked {
-                taken: Vec::new(alloc),
-                passed: 0,
-            };
-            let answer = if head.starts_with("serve") {
-                serve_file(rt, alloc, &mut file, &mut output, &mut self.words)
-            } else {
-                replay(alloc, &mut file, &mut output, &mut self.words)
-            };
-            self.output = output.taken;
-            return answer;
-        }
-        if head.starts_with(SERVE) {
-            return serve_file(rt, alloc, &mut file, &mut self.output, &mut self.words);
-        }
-        if head.starts_with(FULL) {
-            return serve_file(rt, alloc, &mut file, &mut Broken::Full, &mut self.words);
-        }
-        if head.starts_with(STUCK) {
-            return serve_file(rt, alloc, &mut file, &mut Broken::Stuck, &mut self.words);
-        }
-        replay(alloc, &mut file, &mut self.output, &mut self.words)
     }
+}
+
+/// A request without what says that it is to fail or that its file is to be cut.
+fn plain(line: &str) -> &str {
+    match line.strip_prefix(FAILING) {
+        Some(line) => line,
+        None => line.strip_prefix(CUT).unwrap_or(line),
+    }
+}
+
+/// Prints at how many places reads and writes fail as they should, where the request asks for that.
+fn print_faults<R>(rt: &R, line: &str, below: &str, told: &Told) -> io::Result<()>
+where
+    R: AllocGlobal + Print + Threads + Wait + Sync,
+{
+    let whole = Whole {
+        asked: Asked::of(plain(line)),
+        file: below.as_bytes(),
+        told,
+    };
+    if line.starts_with(CUT) {
+        let (files, bad) = whole.cuts(rt);
+        return println!(rt; "cut: {files} host files, {bad} bad files");
+    }
+    if line.starts_with(FAILING) {
+        if !below.is_empty() {
+            println!(rt; "reads that fail: {}", whole.unread(rt))?;
+        }
+        println!(rt; "writes that fail: {}", whole.unwritten(rt))?;
+        println!(rt; "flushes that fail: {}", whole.unpassed(rt))?;
+    }
+    Ok(())
 }
 
 /// Prints the lines of some bytes, each behind a mark.
@@ -190,12 +215,9 @@ fn print_answer<R: AllocGlobal + Clock + Files + Print + Threads + Wait + Sync>(
     head: &str,
     below: &str,
 ) -> io::Result<u8> {
-    let alloc = rt.alloc();
-    let mut told = Told {
-        output: Vec::new(alloc),
-        words: Vec::new(alloc),
-    };
-    let outcome = told.answer(rt, head, below);
+    let line = head.strip_prefix(MARK).unwrap_or(head);
+    let mut told = Told::new(rt.alloc());
+    let outcome = told.answer(rt, line, below);
     println!(rt; "{head}")?;
     print_lines(rt, "", told.output.as_slice())?;
     print_lines(rt, "! ", told.words.as_slice())?;
@@ -203,6 +225,7 @@ fn print_answer<R: AllocGlobal + Clock + Files + Print + Threads + Wait + Sync>(
         Ok(status) => println!(rt; "= {status}")?,
         Err(fault) => print_fault(rt, fault)?,
     }
+    print_faults(rt, line, below, &told)?;
     Ok(status_of(&outcome))
 }
 
@@ -222,7 +245,7 @@ fn main(rt: HostRuntime) -> io::Result<ExitCode> {
     let mut below = String::new(alloc);
     for line in rt.lines(alloc) {
         let line = line?;
-        if line.as_str().starts_with("$ ") {
+        if line.as_str().starts_with(MARK) {
             if !head.is_empty() {
                 print_answer(&rt, head.as_str(), below.as_str())?;
             }

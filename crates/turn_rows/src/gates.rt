@@ -11,20 +11,35 @@ use host_types::Fault;
 use std::alloc::Global;
 use std::sync::{Mutex, Wait};
 use tenant_runs::RunReply;
-use tenant_workers::{Gate, Open, ScanPlan, Shared};
+use tenant_workers::{Gate, Open, Shared};
 use test_inputs::texts::COUNTER;
-use turn::Seat;
+use turn::{ScanSeat, Seat};
 use verifier::Verified;
 
-/// A gate that makes visits of the scanner.
+/// The scanner, which visits two pages whenever it is asked to.
+#[derive(Drop)]
+struct Scanning<'a> {
+    shared: &'a Shared,
+    seat: ScanSeat,
+    ghost idle: { IsIdle shared.now seat },
+}
+
+impl<'a> Scanning<'a> {
+    fn scan(&mut self, rt: &impl Wait) {
+        let shared = self.shared;
+        shared.scan_batch(rt, &mut self.seat, 2);
+    }
+}
+
+/// A gate at which the scanner visits pages.
 #[derive(Drop)]
 struct Scanned<'a> {
-    plan: Mutex<ScanPlan<'a>>,
+    scanning: Mutex<Scanning<'a>>,
 }
 
 impl<'a> Gate for Scanned<'a> {
     fn at<R: Wait>(&self, rt: &R, _tenant: u32, _slot: u32) {
-        self.plan.lock(rt).scan(rt, &Open);
+        self.scanning.lock(rt).scan(rt);
     }
 }
 
@@ -46,13 +61,12 @@ pub(crate) fn runs_scanned(rt: &(impl Wait + AllocGlobal)) -> Result<Runs, Fault
         scanner,
         host: _host,
     } = two_tenants(alloc, 8)?;
-    let plan = ScanPlan {
+    let scanning = Scanning {
         shared: &shared,
         seat: scanner,
-        visits: 2,
     };
     let gate = Scanned {
-        plan: Mutex::new(plan),
+        scanning: Mutex::new(scanning),
     };
     let replies = [
         counted(rt, alloc, &shared, &mut first, &gate),

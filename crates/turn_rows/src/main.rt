@@ -60,6 +60,11 @@ fn main(rt: HostRuntime) -> io::Result<()> {
     tell(&rt, "always_out_of_memory", calls::answers(&rt))?;
     tell(&rt, "maps of a seat", calls::filled(&rt))?;
     tell(&rt, "no frame is free", refused::answers(&rt))?;
+    tell(
+        &rt,
+        "no frame is free for three counters",
+        refused::three_answers(&rt),
+    )?;
     tell(&rt, "turn_held_through_run", gates::runs_scanned(&rt))?;
     tell(&rt, "a gate runs another tenant", gates::run_overtaken(&rt))?;
     copy::tell_row(&rt)?;

@@ -2,12 +2,15 @@
 
 ghost use Rattle.std.specs.Prelude.{◌≡◌};
 
-use crate::runs::counted;
+use crate::numbers::with_numbers;
+use crate::runs::{counted, ran};
 use crate::tenants::{Two, two_tenants};
-use host_types::{Fault, MapNo};
+use host_types::{Fault, MapNo, Options};
 use std::sync::Wait;
 use tenant_runs::RunReply;
-use tenant_workers::Open;
+use tenant_workers::{Open, Shared};
+use test_inputs::texts::RETURN;
+use turn::Turn;
 
 /// What is answered where each frame has a page of its own, and when two of them are merged.
 #[derive(Debug, Drop)]
@@ -38,4 +41,24 @@ pub(crate) fn answers(rt: &(impl Wait + AllocGlobal)) -> Result<Crowded, Fault> 
         maps: [map, shared.create_map(rt, &mut first, 8, 1, true)],
         unmerged: shared.unmerge(rt, &mut host),
     })
+}
+
+/// What runs of three tenants answer whose pages have all frames: the counter's of each, and one of the first
+/// that needs no frame.
+pub(crate) fn three_answers(
+    rt: &(impl Wait + AllocGlobal),
+) -> Result<[Result<RunReply, Fault>; 4], Fault> {
+    let alloc = rt.alloc();
+    let memory = with_numbers(alloc, 4, 3, Options::standard())?;
+    let (turn, mut seats, _scanner, _host) = Turn::new(alloc, memory, 3)?;
+    let shared = Shared::new(turn);
+    let mut third = seats.remove(2);
+    let mut second = seats.remove(1);
+    let mut first = seats.remove(0);
+    Ok([
+        counted(rt, alloc, &shared, &mut first, &Open),
+        counted(rt, alloc, &shared, &mut second, &Open),
+        counted(rt, alloc, &shared, &mut third, &Open),
+        ran(rt, alloc, &shared, &mut first, &RETURN, &Open),
+    ])
 }

@@ -1,0 +1,54 @@
+//! What is told where a request is answered.
+
+use crate::asked::Asked;
+use host_file::FileFault;
+use std::alloc::Global;
+use std::io::Read;
+use std::sync::Wait;
+use std::thread::Threads;
+
+/// What goes to the standard output and to standard error.
+#[derive(Drop)]
+pub(crate) struct Told {
+    pub(crate) output: Vec<u8>,
+    pub(crate) words: Vec<u8>,
+}
+
+impl Told {
+    /// Nothing yet.
+    pub(crate) fn new(alloc: Global) -> Told {
+        Told {
+            output: Vec::new(alloc),
+            words: Vec::new(alloc),
+        }
+    }
+
+    /// Takes what a request is answered.
+    pub(crate) fn take<T, R>(
+        &mut self,
+        rt: &T,
+        asked: Asked,
+        reader: &mut R,
+    ) -> Result<u8, FileFault>
+    where
+        T: AllocGlobal + Threads + Wait + Sync,
+        R: Read,
+    {
+        asked.answer(rt, reader, &mut self.output, &mut self.words)
+    }
+
+    pub(crate) fn is_empty(&self) -> bool {
+        self.output.is_empty() && self.words.is_empty()
+    }
+
+    /// Whether it begins with an output and with words.
+    pub(crate) fn begins(&self, output: &[u8], words: &[u8]) -> bool {
+        self.output.as_slice().starts_with(output) && self.words.as_slice().starts_with(words)
+    }
+
+    /// Whether it is so many lines of an output, without words.
+    pub(crate) fn is_front(&self, lines: usize, output: &[u8]) -> bool {
+        let ends = self.output.iter().filter(|byte| **byte == b'\n').count();
+        self.words.is_empty() && ends == lines && output.starts_with(self.output.as_slice())
+    }
+}
