@@ -19,10 +19,7 @@ pub struct ToExplain<'a> {
 }
 
 /// What the words of `explain` ask for, the program's name being the first of them.
-pub fn explained_of<'a>(
-    alloc: Global,
-    words: &'a [String],
-) -> Result<ToExplain<'a>, WrongWords> {
+pub fn explained_of<'a>(alloc: Global, words: &'a [String]) -> Result<ToExplain<'a>, WrongWords> {
     let explain = command(alloc).map_err(WrongWords::OutOfMemory)?;
     let Ok(matches) = explain.try_get_matches_from(words) else {
         let told = told_of(alloc, NAME, words).map_err(WrongWords::OutOfMemory)?;

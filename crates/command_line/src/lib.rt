@@ -3,9 +3,8 @@
 
 mod explain;
 
-pub use explain::{ToExplain, explained_of};
-
 use clap::{Arg, ArgAction, ArgMatches, Command};
+pub use explain::{ToExplain, explained_of};
 use plain_text::quoted;
 use std::alloc::{AllocError, Global};
 

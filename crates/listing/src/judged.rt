@@ -90,7 +90,12 @@ fn verified_before(alloc: Global, judged: &Judged<'_>, refused: Refused) -> Opti
 }
 
 /// What is known at the slots of a text, if it is well formed and there is memory for it.
-fn known_in(alloc: Global, text: &[u8], shapes: &[Option<Shape>], context_size: u32) -> Option<Known>
+fn known_in(
+    alloc: Global,
+    text: &[u8],
+    shapes: &[Option<Shape>],
+    context_size: u32,
+) -> Option<Known>
     requires shapes { AreShapes shapes.now }
     requires context { IsContextSize context_size }
 {
