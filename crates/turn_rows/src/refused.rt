@@ -1,16 +1,19 @@
 //! Calls for which frames are missing. That they are refused needlessly, and with which numbers, a seat can't know.
 
-ghost use Rattle.std.specs.Prelude.{◌≡◌};
+ghost use Rattle.std.specs.Prelude.{◌≡◌, IfOk};
+ghost use Rattle.turn.specs.Seats.{IsIdle, own_part};
+ghost use Rattle.tenant_workers.specs.Runs.{IsResting};
 
 use crate::numbers::with_numbers;
 use crate::runs::{counted, ran};
 use crate::tenants::{Two, two_tenants};
 use host_types::{Fault, MapNo, Options};
+use std::alloc::Global;
 use std::sync::Wait;
 use tenant_runs::RunReply;
 use tenant_workers::{Open, Shared};
 use test_inputs::texts::RETURN;
-use turn::Turn;
+use turn::{Seat, Turn};
 
 /// What is answered where each frame has a page of its own, and when two of them are merged.
 #[derive(Debug, Drop)]
@@ -43,18 +46,30 @@ pub(crate) fn answers(rt: &(impl Wait + AllocGlobal)) -> Result<Crowded, Fault> 
     })
 }
 
+/// Three tenants of the same number on the frames that their pages take, and their seats, all at rest.
+fn lend_to_three(alloc: Global) -> Result<(Shared, Seat, Seat, Seat), Fault>
+    ensures first { IfOk result (λ lent. IsIdle lent.0 lent.1) }
+    ensures second { IfOk result (λ lent. IsIdle lent.0 lent.2) }
+    ensures third { IfOk result (λ lent. IsIdle lent.0 lent.3) }
+    ensures first_rests { IfOk result (λ lent. IsResting (own_part lent.1)) }
+    ensures second_rests { IfOk result (λ lent. IsResting (own_part lent.2)) }
+    ensures third_rests { IfOk result (λ lent. IsResting (own_part lent.3)) }
+{
+    let memory = with_numbers(alloc, 4, 3, Options::standard())?;
+    let (turn, mut seats, _scanner, _host) = Turn::new(alloc, memory, 3)?;
+    let third = seats.remove(2);
+    let second = seats.remove(1);
+    let first = seats.remove(0);
+    Ok((Shared::new(turn), first, second, third))
+}
+
 /// What runs of three tenants answer whose pages have all frames: the counter's of each, and one of the first
 /// that needs no frame.
 pub(crate) fn three_answers(
     rt: &(impl Wait + AllocGlobal),
 ) -> Result<[Result<RunReply, Fault>; 4], Fault> {
     let alloc = rt.alloc();
-    let memory = with_numbers(alloc, 4, 3, Options::standard())?;
-    let (turn, mut seats, _scanner, _host) = Turn::new(alloc, memory, 3)?;
-    let shared = Shared::new(turn);
-    let mut third = seats.remove(2);
-    let mut second = seats.remove(1);
-    let mut first = seats.remove(0);
+    let (shared, mut first, mut second, mut third) = lend_to_three(alloc)?;
     Ok([
         counted(rt, alloc, &shared, &mut first, &Open),
         counted(rt, alloc, &shared, &mut second, &Open),

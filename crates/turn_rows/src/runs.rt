@@ -5,7 +5,6 @@ ghost use Rattle.turn.specs.Seats.{IsIdle, own_part};
 ghost use Rattle.tenant_workers.specs.Runs.{IsResting};
 
 use host_types::Fault;
-use interp::Run;
 use std::alloc::Global;
 use std::sync::Wait;
 use tenant_runs::RunReply;
@@ -28,8 +27,7 @@ pub(crate) fn ran(
     ensures resting { IsResting (own_part seat.new) }
 {
     let program = shared.load_program(rt, alloc, seat, text, 0)?;
-    let run = Run::begin(alloc, &program, &[])?;
-    shared.run(rt, seat, &program, run, gate)
+    shared.run_program(rt, alloc, seat, &program, &[], gate)
 }
 
 /// What a run of the counter by a seat answers, with a gate.
