@@ -50,20 +50,16 @@ fn value_of<'a>(lines: &'a str, key: &str) -> Option<&'a str> {
 
 /// How many lines an event prints that isn't refused; `None` where the lines are none.
 fn lines_of_event(lines: &str) -> Option<usize> {
-    let (keys, printed): (&[&str], usize) = match value_of(lines, "do")? {
-        "\"map\"" => (&["tenant", "value_size", "entries"], 0),
-        "\"load\"" => (&["tenant", "hex", "context"], 0),
-        "\"run\"" => (&["tenant", "program", "context"], 1),
-        "\"lookup\"" => (&["tenant", "map", "key"], 1),
-        "\"counters\"" => (&[], COUNTERS),
-        "\"visit\"" => (&[], 0),
+    let (is_whole, printed) = match value_of(lines, "do")? {
+        "\"map\"" => (has_keys(lines, &["tenant", "value_size", "entries"]), 0),
+        "\"load\"" => (has_keys(lines, &["tenant", "hex", "context"]), 0),
+        "\"run\"" => (has_keys(lines, &["tenant", "program", "context"]), 1),
+        "\"lookup\"" => (has_keys(lines, &["tenant", "map", "key"]), 1),
+        "\"counters\"" => (has_keys(lines, &[]), COUNTERS),
+        "\"visit\"" => (has_keys(lines, &[]), 0),
         _ => return None,
     };
-    if has_keys(lines, keys) {
-        Some(printed)
-    } else {
-        None
-    }
+    if is_whole { Some(printed) } else { None }
 }
 
 /// How many lines the events of a text print that aren't refused; `None` where it is no host file.

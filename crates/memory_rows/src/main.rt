@@ -121,9 +121,12 @@ fn main(rt: HostRuntime) -> io::Result<()> {
         }
     }
     match found_again(rt.alloc()) {
-        Ok(Some([paired, joined])) => println!(rt;
-            "1000 contents on two pages each: {paired} pairs, and {joined} of them found again"
-        )?,
+        Ok(Some(found)) => {
+            let [paired, joined] = found;
+            println!(rt;
+                "1000 contents on two pages each: {paired} pairs, and {joined} of them found again"
+            )?
+        }
         Ok(None) => println!(rt; "1000 contents: the memory differs")?,
         Err(AllocError) => println!(rt; "1000 contents: no memory")?,
     }
