@@ -33,7 +33,7 @@ is_of_frames n = n == 31 || n == 44
 -- which tenants, maps, elements, programs and runs there are
 abbrev pub is_of_tenants : ℕ → Bool
 is_of_tenants n =
-    n == 34 || (n == 35 || (n == 36 || (n == 37 || (n == 38 || (n == 42 || n == 45)))))
+    n == 34 || (n == 35 || (n == 36 || (n == 37 || (n == 38 || (n == 42 || (n == 43 || n == 45))))))
 
 -- a refusal by this number can be answered
 abbrev pub is_answered : ℕ → Bool

@@ -40,7 +40,7 @@ pub fn on_value_size() -> Advice {
 pub fn on_map_count() -> Advice {
     Advice {
         wrong: "the tenant has eight maps",
-        mend: "make fewer, with more elements or larger values",
+        mend: "make fewer, with more elements or larger values; or drop one first, after its programs",
     }
 }
 

@@ -12,7 +12,7 @@ pub fn on_limits(number: u32) -> Option<Advice>
     let (wrong, mend) = match number {
         32 => (
             "a tenant would have more than eight maps, or `check` is given more than eight V:E",
-            "use fewer, with more elements or larger values",
+            "use fewer, with more elements or larger values; or drop one first, after its programs",
         ),
         33 => (
             "`frames` isn't from 2 to 4096, `tenants` not from 1 to 16, no map has such a shape, or a \
@@ -67,27 +67,37 @@ pub fn on_tenants(number: u32) -> Option<Advice>
     let (wrong, mend) = match number {
         34 => (
             "the tenant has no map of this number",
-            "count maps from 0, in the order in which they were made, without the refused ones",
+            "count maps from 0: each that is made takes the least number that is free, a dropped map's \
+            too; a refused one takes none",
         ),
         35 => (
             "the map has no element of this key",
             "count keys from 0; the last is one less than the map's `entries`",
         ),
         36 => (
-            "the tenant has an open run: until its end no map is made, no program loaded, no other run \
-            begun and no value written",
+            "the tenant has an open run: until its end no map is made or dropped, no program loaded or \
+            unloaded, no other run begun and no value written",
             "finish it first",
         ),
         37 => ("there is no open run to step", "begin one"),
         38 => (
             "the tenant has no program of this number",
-            "count programs from 0, in the order of their loads, without the refused ones",
+            "count programs from 0: each load takes the least number that is free, an unloaded \
+            program's too; a refused one takes none",
         ),
         42 => (
             "there is no such tenant",
             "count tenants from 0; the last is one less than `tenants`",
         ),
-        45 => ("the tenant has eight programs", "load fewer"),
+        43 => (
+            "the map can't be dropped while a loaded program of the tenant names it, also by an \
+            instruction that is never reached",
+            "unload the programs that name it first, then drop it",
+        ),
+        45 => (
+            "the tenant has eight programs",
+            "load fewer, or unload one that is done with first",
+        ),
         _ => return None,
     };
     Some(Advice { wrong, mend })

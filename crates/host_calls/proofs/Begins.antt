@@ -1,6 +1,6 @@
 -- Why a run doesn't begin: what admission says of the memory, said of the program and of the frames told.
 use Rattle.host_types.specs.declared.fault.Fault.{Fault}
-use Rattle.host_types.specs.declared.fault.Fault.TheVariants.{Program, NoFrames, TooManyMaps, BadShape, NoMap, NoElement, Busy, NoRun, NoProgram, BadContext, BadOption, OutOfMemory, BadTenant, PagesShared, TooManyPrograms}
+use Rattle.host_types.specs.declared.fault.Fault.TheVariants.{Program, NoFrames, TooManyMaps, BadShape, NoMap, NoElement, Busy, NoRun, NoProgram, BadContext, BadOption, OutOfMemory, BadTenant, InUse, PagesShared, TooManyPrograms}
 use Rattle.page_table.specs.State.{MemoryState}
 use Rattle.verifier.specs.Reserve.{reserve_from}
 use Rattle.verifier.specs.Verified.{Accepted}
@@ -23,6 +23,7 @@ module _ (memory : MemoryState) (v : Accepted) where
   begin_refused BadOption impossible = absurd impossible
   begin_refused OutOfMemory impossible = absurd impossible
   begin_refused BadTenant impossible = absurd impossible
+  begin_refused InUse impossible = absurd impossible
   begin_refused PagesShared impossible = absurd impossible
   begin_refused TooManyPrograms impossible = absurd impossible
 
@@ -40,5 +41,6 @@ module _ (memory : MemoryState) (v : Accepted) where
   begin_told BadOption impossible = absurd impossible
   begin_told OutOfMemory impossible = absurd impossible
   begin_told BadTenant impossible = absurd impossible
+  begin_told InUse impossible = absurd impossible
   begin_told PagesShared impossible = absurd impossible
   begin_told TooManyPrograms impossible = absurd impossible

@@ -1,7 +1,7 @@
 -- Why a map isn't made: what a memory says of it, said of the tenant's part alone.
 use Rattle.std.proofs.Common.{◌≡◌, ℕ, ◌*◌, length}
 use Rattle.host_types.specs.declared.fault.Fault.{Fault}
-use Rattle.host_types.specs.declared.fault.Fault.TheVariants.{Program, NoFrames, TooManyMaps, BadShape, NoMap, NoElement, Busy, NoRun, NoProgram, BadContext, BadOption, OutOfMemory, BadTenant, PagesShared, TooManyPrograms}
+use Rattle.host_types.specs.declared.fault.Fault.TheVariants.{Program, NoFrames, TooManyMaps, BadShape, NoMap, NoElement, Busy, NoRun, NoProgram, BadContext, BadOption, OutOfMemory, BadTenant, InUse, PagesShared, TooManyPrograms}
 use Rattle.host_types.specs.declared.shape.Shape.{Shape}
 use Rattle.page_table.specs.State.{MemoryState, part}
 use Rattle.page_table.specs.Changes.{RefusesMap}
@@ -23,6 +23,7 @@ module _ (memory : MemoryState) (t : ℕ) (shape : Shape) where
   new_map_refused BadOption all impossible = absurd impossible
   new_map_refused OutOfMemory all fits = record { numbered = fits.numbered; shaped = fits.shaped }
   new_map_refused BadTenant all past = tenant-missing memory t all past
+  new_map_refused InUse all impossible = absurd impossible
   new_map_refused PagesShared all impossible = absurd impossible
   new_map_refused TooManyPrograms all impossible = absurd impossible
 
@@ -40,6 +41,7 @@ module _ (memory : MemoryState) (t : ℕ) (shape : Shape) where
   new_map_told BadOption impossible = absurd impossible
   new_map_told OutOfMemory fits = tt
   new_map_told BadTenant past = tt
+  new_map_told InUse impossible = absurd impossible
   new_map_told PagesShared impossible = absurd impossible
   new_map_told TooManyPrograms impossible = absurd impossible
 
@@ -57,5 +59,6 @@ module _ (memory : MemoryState) (t : ℕ) (shape : Shape) where
   new_map_framed BadOption impossible = absurd impossible
   new_map_framed OutOfMemory fits = fits.framed
   new_map_framed BadTenant past = tt
+  new_map_framed InUse impossible = absurd impossible
   new_map_framed PagesShared impossible = absurd impossible
   new_map_framed TooManyPrograms impossible = absurd impossible

@@ -6,7 +6,7 @@ use Rattle.std.proofs.lemmas.List.{length-set}
 use Rattle.std.proofs.lemmas.List.Quantifiers.{position-Some}
 use Rattle.std.proofs.lemmas.Option.{IfSome_then}
 use Rattle.host_types.specs.declared.fault.Fault.{Fault}
-use Rattle.host_types.specs.declared.fault.Fault.TheVariants.{Program, NoFrames, TooManyMaps, BadShape, NoMap, NoElement, Busy, NoRun, NoProgram, BadContext, BadOption, OutOfMemory, BadTenant, PagesShared, TooManyPrograms}
+use Rattle.host_types.specs.declared.fault.Fault.TheVariants.{Program, NoFrames, TooManyMaps, BadShape, NoMap, NoElement, Busy, NoRun, NoProgram, BadContext, BadOption, OutOfMemory, BadTenant, InUse, PagesShared, TooManyPrograms}
 use Rattle.host_types.specs.declared.helper.MapHelper.TheVariants.{Update}
 use Rattle.host_types.specs.declared.shape.Shape.{Shape}
 use Rattle.host_types.specs.Bytes.{with_part}
@@ -179,6 +179,7 @@ module _ (memory : MemoryState) (x : System) (tenant : Tenant) (shape : Shape) (
   refuses_create BadOption refuses tells framed = absurd refuses
   refuses_create OutOfMemory refuses tells framed = (idle, refuses, subst (λ n. page_count shape ≤ n) have framed)
   refuses_create BadTenant refuses tells framed = (idle, refuses, tt)
+  refuses_create InUse refuses tells framed = absurd refuses
   refuses_create PagesShared refuses tells framed = absurd refuses
   refuses_create TooManyPrograms refuses tells framed = absurd refuses
 
@@ -267,6 +268,7 @@ module _ (memory : MemoryState) (x : System) (tenant : Tenant) (m key : ℕ) (va
   refuses_update BadOption refuses tells = absurd refuses
   refuses_update OutOfMemory refuses tells = absurd refuses
   refuses_update BadTenant refuses tells = (idle, refuses, tt)
+  refuses_update InUse refuses tells = absurd refuses
   refuses_update PagesShared refuses tells = absurd refuses
   refuses_update TooManyPrograms refuses tells = absurd refuses
 

@@ -2,7 +2,7 @@
 use Rattle.std.specs.Prelude.{ℕ, nat_le, List, [], ◌++◌, if◌then◌else◌, ◌==◌, codes, decimal}
 use Rattle.host_types.specs.Rules.{bad_length, unknown_opcode, bad_field, bad_register, cut_wide, back_jump, jump_out, falls_off, unset_register, wrong_kind, outside_context, outside_stack, unset_stack, outside_map, misaligned, null_not_checked, frame_written, unknown_helper, unknown_map, pointer_leaks}
 use Rattle.host_types.specs.declared.fault.Fault.{Fault}
-use Rattle.host_types.specs.declared.fault.Fault.TheVariants.{Program, NoFrames, TooManyMaps, BadShape, NoMap, NoElement, Busy, NoRun, NoProgram, BadContext, BadOption, OutOfMemory, BadTenant, PagesShared, TooManyPrograms}
+use Rattle.host_types.specs.declared.fault.Fault.TheVariants.{Program, NoFrames, TooManyMaps, BadShape, NoMap, NoElement, Busy, NoRun, NoProgram, BadContext, BadOption, OutOfMemory, BadTenant, InUse, PagesShared, TooManyPrograms}
 
 -- the word that is printed for a rule's number; another number is that of want of memory
 abbrev pub rule_name : ℕ → List ℕ
@@ -42,6 +42,7 @@ fault_number BadContext = 39
 fault_number BadOption = 40
 fault_number OutOfMemory = 41
 fault_number BadTenant = 42
+fault_number InUse = 43
 fault_number PagesShared = 44
 fault_number TooManyPrograms = 45
 
@@ -59,6 +60,7 @@ fault_name BadContext = codes "BadContext"
 fault_name BadOption = codes "BadOption"
 fault_name OutOfMemory = codes "OutOfMemory"
 fault_name BadTenant = codes "BadTenant"
+fault_name InUse = codes "InUse"
 fault_name PagesShared = codes "PagesShared"
 fault_name TooManyPrograms = codes "TooManyPrograms"
 

@@ -42,6 +42,8 @@ pub enum Fault {
     OutOfMemory,
     /// 42: there is no such tenant.
     BadTenant,
+    /// 43: a loaded program of the tenant names the map.
+    InUse,
     /// 44: the option is fixed while pages share frames.
     PagesShared,
     /// 45: the tenant has all its programs.
@@ -122,6 +124,7 @@ impl Fault {
             Fault::BadOption => 40,
             Fault::OutOfMemory => 41,
             Fault::BadTenant => 42,
+            Fault::InUse => 43,
             Fault::PagesShared => 44,
             Fault::TooManyPrograms => 45,
         }
@@ -145,6 +148,7 @@ impl Fault {
             Fault::BadOption => "BadOption",
             Fault::OutOfMemory => "OutOfMemory",
             Fault::BadTenant => "BadTenant",
+            Fault::InUse => "InUse",
             Fault::PagesShared => "PagesShared",
             Fault::TooManyPrograms => "TooManyPrograms",
         }

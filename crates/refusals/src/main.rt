@@ -39,6 +39,7 @@ fn fault_of(number: u32) -> Option<Fault>
         40 => Some(Fault::BadOption),
         41 => Some(Fault::OutOfMemory),
         42 => Some(Fault::BadTenant),
+        43 => Some(Fault::InUse),
         44 => Some(Fault::PagesShared),
         45 => Some(Fault::TooManyPrograms),
         _ => None,
