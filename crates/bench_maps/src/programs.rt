@@ -20,6 +20,8 @@ pub(crate) enum Work {
     Access,
     /// One load and one store.
     OneAccess,
+    /// The counter of the examples, which adds nothing here, so that the page stays as it is.
+    Counter,
     /// Looks an element up.
     Lookup,
     /// Updates an element.
@@ -29,10 +31,11 @@ pub(crate) enum Work {
 }
 
 /// What is measured.
-pub(crate) const WORKS: [Work; 6] = [
+pub(crate) const WORKS: [Work; 7] = [
     Work::Arithmetic,
     Work::Access,
     Work::OneAccess,
+    Work::Counter,
     Work::Lookup,
     Work::Update,
     Work::OneUpdate,
@@ -72,6 +75,13 @@ const ADD: [u64; 1] = [0x07090000_01000000];
 /// R1 = [R0]; [R0] = R1.
 const ACCESS: [u64; 2] = [0x79010000_00000000, 0x7b100000_00000000];
 
+/// R1 = [R0]; R1 += 0; [R0] = R1.
+const COUNT: [u64; 3] = [
+    0x79010000_00000000,
+    0x07010000_00000000,
+    0x7b100000_00000000,
+];
+
 /// Lookup of key 0.
 const LOOKUP: [u64; 4] = [
     0x18110000_00000000,
@@ -97,6 +107,7 @@ impl Work {
             Work::Arithmetic => "sums in a register",
             Work::Access => "loads and stores through a value",
             Work::OneAccess => "one lookup, load and store",
+            Work::Counter => "the counter",
             Work::Lookup => "lookups, with two moves each",
             Work::Update => "updates, with four moves each",
             Work::OneUpdate => "one update",
@@ -109,6 +120,7 @@ impl Work {
             Work::Arithmetic => (&NUMBER, &ADD, 2000),
             Work::Access => (&FIND, &ACCESS, 1000),
             Work::OneAccess => (&FIND, &ACCESS, 1),
+            Work::Counter => (&FIND, &COUNT, 1),
             Work::Lookup => (&[], &LOOKUP, 700),
             Work::Update => (&[], &UPDATE, 500),
             Work::OneUpdate => (&[], &UPDATE, 1),
