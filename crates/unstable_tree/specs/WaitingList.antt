@@ -20,3 +20,7 @@ no_waiter = record { place = 0; frame = 0; fingerprint = 0 }
 -- no page from a place on and before another has the recorded fingerprint
 abbrev pub AreOthers : ℕ → List Waiter → ℕ → ℕ → Type 0
 AreOthers fingerprint waiters first end = (i : ℕ) → first ≤ i → i < end → (slice_index_or waiters i no_waiter).fingerprint ≢ fingerprint
+
+-- the page of a place isn't one of those from a place on and before another
+abbrev pub AreElsewhere : ℕ → List Waiter → ℕ → ℕ → Type 0
+AreElsewhere place waiters first end = (i : ℕ) → first ≤ i → i < end → (slice_index_or waiters i no_waiter).place ≢ place

@@ -1,6 +1,6 @@
 ghost use Rattle.std.specs.Prelude.{◌≡◌, ◌++◌, ◌∷◌, [], ◌==◌, ◌+◌, ◌<◌, ◌≤◌, ◌&&◌, nat_le, nat_lt, not, false, filter, find, length, max, All, OnOk, OnErr};
 ghost use Rattle.frame_arena.specs.Pages.{page_at};
-ghost use Rattle.unstable_tree.specs.WaitingList.{WaitingList, AreOthers, is_match};
+ghost use Rattle.unstable_tree.specs.WaitingList.{WaitingList, AreOthers, AreElsewhere, is_match};
 
 use frame_arena::FrameArena;
 use std::alloc::{AllocError, Global};
@@ -51,6 +51,41 @@ fn is_in_step(waiters: &[Waiter], at: usize, fingerprint: u64) -> bool
         || waiters[at + 1].fingerprint == fingerprint
         || waiters[at + 2].fingerprint == fingerprint
         || waiters[at + 3].fingerprint == fingerprint
+}
+
+/// A place before which no page is the one of another place: one of the four there is it, or fewer are left.
+fn elsewhere(waiters: &[Waiter], place: usize) -> usize
+    ensures within { result ≤ length waiters.now }
+    ensures others { AreElsewhere place waiters.now 0 result }
+{
+    let mut at = 0;
+    while waiters.len() - at >= STEP && !is_one_in_step(waiters, at, place) {
+        at += STEP;
+    }
+    at
+}
+
+/// Whether one of the four pages from a place on is the one of another place.
+#[inline(always)]
+fn is_one_in_step(waiters: &[Waiter], at: usize, place: usize) -> bool
+    requires { at + 4 ≤ length waiters.now }
+    ensures { result ≡ false → AreElsewhere place waiters.now at (at + 4) }
+{
+    waiters[at].place == place
+        || waiters[at + 1].place == place
+        || waiters[at + 2].place == place
+        || waiters[at + 3].place == place
+}
+
+/// Whether the page at a place waits.
+fn waits(waiters: &[Waiter], place: usize) -> bool
+    ensures { result ≡ false → AreElsewhere place waiters.now 0 (length waiters.now) }
+{
+    let mut at = elsewhere(waiters, place);
+    while at < waiters.len() && waiters[at].place != place {
+        at += 1;
+    }
+    at < waiters.len()
 }
 
 /// The first page with this recorded fingerprint and the bytes of a frame.
@@ -146,7 +181,9 @@ impl UnstableTree {
           listed = filter (λ w. not (w.place == place)) self.old.listed;
         } }
     {
-        self.waiters.retain(|waiter| waiter.place != place);
+        if waits(&self.waiters, place) {
+            self.waiters.retain(|waiter| waiter.place != place);
+        }
     }
 
     /// Takes out the pages that wait at the places from `first` on and before `end`, in one walk of
