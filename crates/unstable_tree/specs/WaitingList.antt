@@ -1,6 +1,6 @@
 -- The pages that wait for another page of the same bytes (this project's own rule, in the manner of
 -- the unstable tree of Linux's KSM).
-use Rattle.std.specs.Prelude.{ℕ, ◌==◌, ◌&&◌, Bool, List}
+use Rattle.std.specs.Prelude.{ℕ, ◌≢◌, ◌==◌, ◌&&◌, Bool, List, ◌<◌, ◌≤◌, slice_index_or}
 use Rattle.std.specs.Str.{bytes_eq}
 use Rattle.frame_arena.specs.Pages.{page_at}
 use Rattle.unstable_tree.specs.declared.tree.Waiter.{Waiter}
@@ -13,3 +13,14 @@ pub record WaitingList : Type 0 where
 -- a waiting page has the recorded fingerprint, and its frame has the bytes
 abbrev pub is_match : List (List ℕ) → ℕ → List ℕ → Waiter → Bool
 is_match arena fingerprint bytes waiter = waiter.fingerprint == fingerprint && bytes_eq (page_at arena waiter.frame) bytes
+
+abbrev pub no_waiter : Waiter
+no_waiter = record { place = 0; frame = 0; fingerprint = 0 }
+
+-- no page from a place on and before another has the recorded fingerprint
+abbrev pub AreOthers : ℕ → List Waiter → ℕ → ℕ → Type 0
+AreOthers fingerprint waiters first end = (i : ℕ) → first ≤ i → i < end → (slice_index_or waiters i no_waiter).fingerprint ≢ fingerprint
+
+-- the page of a place isn't one of those from a place on and before another
+abbrev pub AreElsewhere : ℕ → List Waiter → ℕ → ℕ → Type 0
+AreElsewhere place waiters first end = (i : ℕ) → first ≤ i → i < end → (slice_index_or waiters i no_waiter).place ≢ place

@@ -1,6 +1,6 @@
-ghost use Rattle.std.specs.Prelude.{◌≡◌, ◌++◌, ◌∷◌, [], ◌==◌, ◌<◌, ◌&&◌, nat_le, nat_lt, not, filter, find, length, max, All, OnOk, OnErr};
+ghost use Rattle.std.specs.Prelude.{◌≡◌, ◌++◌, ◌∷◌, [], ◌==◌, ◌+◌, ◌<◌, ◌≤◌, ◌&&◌, nat_le, nat_lt, not, false, filter, find, length, max, All, OnOk, OnErr};
 ghost use Rattle.frame_arena.specs.Pages.{page_at};
-ghost use Rattle.unstable_tree.specs.WaitingList.{WaitingList, is_match};
+ghost use Rattle.unstable_tree.specs.WaitingList.{WaitingList, AreOthers, AreElsewhere, is_match};
 
 use frame_arena::FrameArena;
 use std::alloc::{AllocError, Global};
@@ -24,6 +24,87 @@ impl Waiter {
     {
         self.fingerprint == fingerprint && arena.same(self.frame, frame)
     }
+}
+
+/// How many pages are looked at for one branch back, since a list is long where no page waits for another.
+const STEP: usize = 4;
+
+/// A place before which no page has a fingerprint: one of the four there has it, or fewer are left.
+fn without(waiters: &[Waiter], fingerprint: u64) -> usize
+    ensures within { result ≤ length waiters.now }
+    ensures others { AreOthers fingerprint waiters.now 0 result }
+{
+    let mut at = 0;
+    while waiters.len() - at >= STEP && !is_in_step(waiters, at, fingerprint) {
+        at += STEP;
+    }
+    at
+}
+
+/// Whether one of the four pages from a place on has a fingerprint.
+#[inline(always)]
+fn is_in_step(waiters: &[Waiter], at: usize, fingerprint: u64) -> bool
+    requires { at + 4 ≤ length waiters.now }
+    ensures { result ≡ false → AreOthers fingerprint waiters.now at (at + 4) }
+{
+    waiters[at].fingerprint == fingerprint
+        || waiters[at + 1].fingerprint == fingerprint
+        || waiters[at + 2].fingerprint == fingerprint
+        || waiters[at + 3].fingerprint == fingerprint
+}
+
+/// A place before which no page is the one of another place: one of the four there is it, or fewer are left.
+fn elsewhere(waiters: &[Waiter], place: usize) -> usize
+    ensures within { result ≤ length waiters.now }
+    ensures others { AreElsewhere place waiters.now 0 result }
+{
+    let mut at = 0;
+    while waiters.len() - at >= STEP && !is_one_in_step(waiters, at, place) {
+        at += STEP;
+    }
+    at
+}
+
+/// Whether one of the four pages from a place on is the one of another place.
+#[inline(always)]
+fn is_one_in_step(waiters: &[Waiter], at: usize, place: usize) -> bool
+    requires { at + 4 ≤ length waiters.now }
+    ensures { result ≡ false → AreElsewhere place waiters.now at (at + 4) }
+{
+    waiters[at].place == place
+        || waiters[at + 1].place == place
+        || waiters[at + 2].place == place
+        || waiters[at + 3].place == place
+}
+
+/// Whether the page at a place waits.
+fn waits(waiters: &[Waiter], place: usize) -> bool
+    ensures { result ≡ false → AreElsewhere place waiters.now 0 (length waiters.now) }
+{
+    let mut at = elsewhere(waiters, place);
+    while at < waiters.len() && waiters[at].place != place {
+        at += 1;
+    }
+    at < waiters.len()
+}
+
+/// The first page with this recorded fingerprint and the bytes of a frame.
+fn first_match(
+    waiters: &[Waiter],
+    arena: &FrameArena,
+    fingerprint: u64,
+    frame: u32,
+) -> Option<Waiter>
+    requires frame { frame < length arena.now }
+    requires waiting { All (λ w. w.frame < length arena.now) waiters.now }
+    ensures { result ≡ find (is_match arena.now fingerprint (page_at arena.now frame)) waiters.now }
+{
+    for waiter in waiters {
+        if waiter.is_match(arena, fingerprint, frame) {
+            return Some(*waiter);
+        }
+    }
+    None
 }
 
 /// The pages that wait. Contracts see them in order of insertion, and for how many there is room.
@@ -80,12 +161,9 @@ impl UnstableTree {
         requires listed { All (λ w. w.frame < length arena.now) self.now.listed }
         ensures { result ≡ find (is_match arena.now fingerprint (page_at arena.now frame)) self.now.listed }
     {
-        for waiter in &self.waiters {
-            if waiter.is_match(arena, fingerprint, frame) {
-                return Some(*waiter);
-            }
-        }
-        None
+        let waiters = self.waiters.as_slice();
+        let first = without(waiters, fingerprint);
+        first_match(&waiters[first..], arena, fingerprint, frame)
     }
 
     /// Puts a page behind all others. It takes no memory.
@@ -103,7 +181,9 @@ impl UnstableTree {
           listed = filter (λ w. not (w.place == place)) self.old.listed;
         } }
     {
-        self.waiters.retain(|waiter| waiter.place != place);
+        if waits(&self.waiters, place) {
+            self.waiters.retain(|waiter| waiter.place != place);
+        }
     }
 
     /// Takes out the pages that wait at the places from `first` on and before `end`, in one walk of
