@@ -47,10 +47,6 @@ slice_get-there [] k x e = absurd (cc)
 slice_get-there (y ∷ xs) zero x e = ap Some e
 slice_get-there (y ∷ xs) (suc k) x e = slice_get-there xs k x e
 
--- where something is, its place is one of the list
-pub there-within : {A : Type 0} (xs : List (Option A)) (k : ℕ) (x : A) → get_or xs k None ≡ Some x → k < length xs
-there-within xs k x e = slice_get_within xs k (Some x) (slice_get-there xs k x e)
-
 -- what is said of all that is there holds of what is at a place
 pub all-at : {A : Type 0} (P : A → Type 0) (xs : List (Option A)) (k : ℕ) (x : A) → All (λ place. IfSome place P) xs → slice_get xs k ≡ Some (Some x) → P x
 all-at P xs k x all e = subst (λ place. IfSome place P) (get_or_from_slice_get xs k (Some x) None e) (all k None (slice_get_within xs k (Some x) e))

@@ -1,6 +1,5 @@
-use Rattle.std.proofs.Common.{◌≡◌, option_copied, set, is_some, true, false, None, Some, Option, ◌∙◌, sym, ap, subst}
+use Rattle.std.proofs.Common.{◌≡◌, option_copied, set, is_some, true, false, None, ◌∙◌, sym, ap, subst}
 use Rattle.host_types.specs.declared.fault.Fault.TheVariants.{NoProgram}
-use Rattle.verifier.specs.Verified.{Accepted}
 use Rattle.host_core.specs.declared.event.Event.TheVariants.{Unload}
 use Rattle.host_core.specs.declared.event.Reply.TheVariants.{Done, Refused}
 use Rattle.host_core.specs.HostView.{TenantView, IsServed}
