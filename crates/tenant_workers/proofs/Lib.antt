@@ -1,5 +1,6 @@
 pub mod Answered
 pub mod Driven
+pub mod Drops
 pub mod Jobs
 pub mod Kept
 pub mod Options

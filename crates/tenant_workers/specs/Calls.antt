@@ -1,14 +1,18 @@
 -- What a call leaves of its seat, and what its turn did to the memory.
-use Rattle.std.specs.Prelude.{◌≡◌, ◌*◌, ℕ, Bool, false, List, [], ◌∷◌, ◌++◌, length, All}
+use Rattle.std.specs.Prelude.{◌≡◌, ◌*◌, ℕ, Bool, false, List, [], ◌∷◌, ◌++◌, length, All, IsNone}
+use Rattle.host_types.specs.declared.fault.Fault.{Fault}
+use Rattle.host_types.specs.declared.fault.Fault.TheVariants.{NoMap}
+use Rattle.host_types.specs.Memory.{map_at}
 use Rattle.host_types.specs.Pages.{map_place}
 use Rattle.host_types.specs.Unmerging.{with_option, unmerged}
-use Rattle.host_types.specs.Visits.{visit}
+use Rattle.host_types.specs.Tenant.{TenantPart}
+use Rattle.host_types.specs.Visits.{visit, dropped}
 use Rattle.host_types.specs.declared.options.Opt.{Opt}
 use Rattle.host_types.specs.declared.shape.Shape.{Shape}
 use Rattle.host_types.specs.declared.visited.Visited.{Visited}
 use Rattle.page_table.specs.Limits.{page_count}
-use Rattle.page_table.specs.State.{MemoryState}
-use Rattle.page_table.specs.Changes.{contents_now, with_new_pages, IsKeptBut, KeepsSettings}
+use Rattle.page_table.specs.State.{MemoryState, part}
+use Rattle.page_table.specs.Changes.{contents_now, with_new_pages, pages_of_map, IsKeptBut, KeepsSettings}
 use Rattle.turn.specs.Seats.{SeatState}
 
 -- a seat that holds nothing, as it knows the memory after so many turns
@@ -49,6 +53,18 @@ pub record HasMap (tenant m : ℕ) (shape : Shape) (mergeable : Bool) (old new :
   pub sharing : new.sharing ≡ with_new_pages old.sharing (map_place tenant m * 256) (page_count shape) mergeable
   pub others : IsKeptBut tenant old new
   pub settings : KeepsSettings old new
+
+-- A map of a tenant was dropped: its pages left their groups, the frame of zeros and the waiting list, and the pass
+-- ended if no page behind the cursor may be merged; nothing else changed of which pages share frames, and no other
+-- tenant's part.
+pub record HasDropped (tenant m : ℕ) (old new : MemoryState) : Type 0 where
+  pub sharing : new.sharing ≡ dropped old.sharing (map_place tenant m * 256) (pages_of_map (part old tenant) m)
+  pub others : IsKeptBut tenant old new
+  pub settings : KeepsSettings old new
+
+-- why a map isn't dropped: the tenant has no map of the number
+abbrev pub LacksMap : TenantPart → ℕ → Fault → Type 0
+LacksMap owned m fault = (fault ≡ NoMap) × IsNone (map_at owned.maps m)
 
 -- the scanner made one visit
 pub record IsVisit (old new : MemoryState) : Type 0 where

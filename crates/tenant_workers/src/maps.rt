@@ -1,11 +1,13 @@
-ghost use Rattle.std.specs.Prelude.{◌≡◌, Some, OnOk, IfOk, IfErr, OnErr};
+ghost use Rattle.std.specs.Prelude.{◌≡◌, Some, OnOk, IfOk, IfErr, OnErr, IsSome};
+ghost use Rattle.host_types.specs.Memory.{map_at};
+ghost use Rattle.host_types.specs.Tenant.{part_dropped};
 ghost use Rattle.page_table.specs.Changes.{part_created};
 ghost use Rattle.page_table.specs.Limits.{shape_of};
 ghost use Rattle.page_table.specs.State.{free_number};
 ghost use Rattle.map_helpers.specs.Updates.{part_updated};
 ghost use Rattle.host_calls.specs.Calls.{FitsNewMap, FitsValue, IsValue, RefusesNewMap, RefusesUpdate, RefusesLookup, TellsHave, HasFrames};
 ghost use Rattle.turn.specs.Seats.{IsIdle, own_part};
-ghost use Rattle.tenant_workers.specs.Calls.{IsSameSeat, memory_left, HasChanged, HasMap, IsUnchanged};
+ghost use Rattle.tenant_workers.specs.Calls.{IsSameSeat, memory_left, HasChanged, HasDropped, HasMap, IsUnchanged, LacksMap};
 
 use crate::shared::Shared;
 use host_calls::{host_create_map, host_lookup, host_update};
@@ -48,6 +50,34 @@ impl Shared {
         let tenant = seat.tenant();
         let mut held = self.turn.take(rt, seat);
         let answer = host_create_map(held.memory_mut(), tenant, value_size, entries, mergeable);
+        self.turn.give(seat, held);
+        answer
+    }
+
+    /// Takes a map of the seat's tenant away, whatever programs name it; its number is free then. Its pages leave
+    /// their groups, the zero frame and the waiting list, and a frame on which no other page lies is free. The call
+    /// takes no memory. A run of a program that names the map is answered 38 from then on, until the tenant has a map
+    /// of this number and shape again.
+    ///
+    /// The one refusal is 34, just where the tenant has no such map, and it changes nothing; 42 never, as a seat's
+    /// tenant is there.
+    #[tactic(auto, using(crate::proofs::Drops::refused_there))]
+    pub fn drop_map(&self, rt: &impl Wait, seat: &mut Seat, map: MapNo) -> Result<(), Fault>
+        requires idle { IsIdle self.now seat.old }
+        ensures idle { IsIdle self.now seat.new }
+        ensures same { IsSameSeat seat.old seat.new }
+        ensures there { OnOk result (IsSome (map_at (own_part seat.old).maps map)) }
+        ensures dropped { OnOk result (own_part seat.new ≡ part_dropped (own_part seat.old) map) }
+        ensures made { OnOk result (HasChanged (HasDropped seat.old.view.first map) seat.old seat.new) }
+        ensures refused { IfErr result (LacksMap (own_part seat.old) map) }
+        ensures kept { OnErr result (own_part seat.new ≡ own_part seat.old) }
+        ensures unchanged { OnErr result (HasChanged IsUnchanged seat.old seat.new) }
+    {
+        seat.facts();
+        let tenant = seat.tenant();
+        let mut held = self.turn.take(rt, seat);
+        held.memory().facts();
+        let answer = held.memory_mut().drop_map(tenant, map);
         self.turn.give(seat, held);
         answer
     }

@@ -47,7 +47,7 @@ fn loaded(
 }
 
 /// How many bytes an element of a map has, and how many of them are zeros.
-fn read(
+pub(crate) fn read(
     rt: &impl Wait,
     alloc: Global,
     shared: &Shared,

@@ -5,6 +5,7 @@
 
 mod calls;
 mod copy;
+mod drops;
 mod ends;
 mod gates;
 mod numbers;
@@ -68,6 +69,7 @@ fn main(rt: HostRuntime) -> io::Result<()> {
     tell(&rt, "turn_held_through_run", gates::runs_scanned(&rt))?;
     tell(&rt, "a gate runs another tenant", gates::run_overtaken(&rt))?;
     copy::tell_row(&rt)?;
+    tell(&rt, "a map goes and comes again", drops::answers(&rt))?;
     tell(
         &rt,
         "tenants that meet within their runs",
