@@ -69,7 +69,7 @@ impl Both {
     /// Lets an event happen to both, and counts the reply. It answers whether it is the same.
     fn replies_agree(&mut self, event: &Event, tally: &mut Tally) -> bool {
         let told = self.host.apply(event);
-        tally.count(&told);
+        tally.count(event, &told);
         self.was_refused = matches!(told, Reply::Refused(_));
         told == self.plain.apply(event)
     }

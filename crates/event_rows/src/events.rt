@@ -16,6 +16,9 @@ const VISITS: u32 = 24;
 /// One more than the most loads that follow one: a tenant has room for eight programs.
 const LOADS: u32 = 12;
 
+/// One more than the most events that follow one with which a tenant begins to give back what it has.
+const RETURNS: u32 = 5;
+
 /// The shape with a number: four that most maps of a list may have, and then a large one and a wrong one.
 fn shape_of(number: u32) -> Shape {
     let (value_size, entries) = match number {
@@ -57,8 +60,8 @@ fn bytes_of(alloc: Global, len: u32, byte: u8) -> Result<Vec<u8>, AllocError> {
     Ok(bytes)
 }
 
-/// Draws the events of a list: how many maps and programs were drawn first, and how many steps of a tenant, visits
-/// and loads of a tenant are left of those that are drawn together.
+/// Draws the events of a list: how many maps and programs were drawn first, and how many steps of a tenant, visits,
+/// loads of a tenant, and unloads and drops of a tenant are left of those that are drawn together.
 #[derive(Drop)]
 pub(crate) struct Events {
     draws: Draws,
@@ -70,6 +73,8 @@ pub(crate) struct Events {
     visits: u32,
     loading: u32,
     loads: u32,
+    returning: u32,
+    returns: u32,
 }
 
 impl Events {
@@ -85,6 +90,8 @@ impl Events {
             visits: 0,
             loading: 0,
             loads: 0,
+            returning: 0,
+            returns: 0,
         }
     }
 
@@ -119,6 +126,10 @@ impl Events {
         if self.loads > 0 {
             self.loads -= 1;
             return self.load(alloc, self.loading);
+        }
+        if self.returns > 0 {
+            self.returns -= 1;
+            return Ok(self.give_back());
         }
         let tenant = self.opened / 2;
         if tenant < self.tenants {
@@ -161,7 +172,31 @@ impl Events {
             37..=38 => Ok(self.lookup(tenant)),
             39..=40 => Ok(self.set()),
             41 => Ok(Event::Unmerge),
+            42..=51 => Ok(self.returns()),
             _ => Ok(self.visits()),
+        }
+    }
+
+    /// The first of some events in which a tenant gives back what it has.
+    fn returns(&mut self) -> Event {
+        self.returning = self.tenant();
+        self.returns = self.draws.below(RETURNS);
+        self.give_back()
+    }
+
+    /// Programs that are unloaded, the first one last, then a map that is dropped, and mostly a new one.
+    fn give_back(&mut self) -> Event {
+        let tenant = self.returning;
+        match self.returns {
+            0 if self.draws.below(3) > 0 => self.create_map(tenant),
+            0 | 1 => Event::DropMap {
+                tenant,
+                map: self.draws.below(8) / 6,
+            },
+            left => Event::Unload {
+                tenant,
+                program: left.saturating_sub(2),
+            },
         }
     }
 

@@ -1,5 +1,5 @@
 //! A host beside the plain host, over lists of events that a fixed generator draws: maps, loads, runs, steps,
-//! visits, updates, options and unmergings of 1 to 16 tenants. After each event both have to give the same
+//! visits, updates, options, unmergings, unloads and drops of 1 to 16 tenants. After each event both have to give the same
 //! reply and to tell the same counters, and after each list the same values. The file `stdout` says that they
 //! do, and tells of the lists how much happened in them.
 #![tactic(auto)]

@@ -8,7 +8,8 @@ use std::io;
 const NUMBERS: usize = 46;
 
 /// How many runs ended, how many pages came to share a frame in each way, how many of them got a frame of
-/// their own by a write, and how many events were refused by each number.
+/// their own by a write, how many unloads and drops there were and how many of them were done, and how many events
+/// were refused by each number.
 #[derive(Clone, Copy, Drop)]
 pub(crate) struct Tally {
     ended: u32,
@@ -16,12 +17,24 @@ pub(crate) struct Tally {
     paired: u32,
     zeroed: u32,
     parted: u32,
+    unloads: u32,
+    unloaded: u32,
+    drops: u32,
+    dropped: u32,
     refused: [u32; NUMBERS],
 }
 
 /// Adds one.
 fn count(number: &mut u32) {
     *number = number.saturating_add(1);
+}
+
+/// Counts one, and whether it was done.
+fn count_both(number: &mut u32, done: &mut u32, is_done: bool) {
+    count(number);
+    if is_done {
+        count(done);
+    }
 }
 
 /// How many pages share frames or lie on the zero frame, by the counters.
@@ -43,16 +56,30 @@ impl Tally {
             paired: 0,
             zeroed: 0,
             parted: 0,
+            unloads: 0,
+            unloaded: 0,
+            drops: 0,
+            dropped: 0,
             refused: [0; NUMBERS],
         }
     }
 
-    /// Counts a reply.
-    pub(crate) fn count(&mut self, reply: &Reply) {
+    /// Counts the reply to an event.
+    pub(crate) fn count(&mut self, event: &Event, reply: &Reply) {
+        self.count_return(event, *reply == Reply::Done);
         match reply {
             Reply::Ended { .. } => count(&mut self.ended),
             Reply::Visited(visited) => self.count_visit(*visited),
             Reply::Refused(fault) => self.count_refusal(fault.number()),
+            _ => {}
+        }
+    }
+
+    /// Counts an unload or a drop, and whether it was done.
+    fn count_return(&mut self, event: &Event, is_done: bool) {
+        match event {
+            Event::Unload { .. } => count_both(&mut self.unloads, &mut self.unloaded, is_done),
+            Event::DropMap { .. } => count_both(&mut self.drops, &mut self.dropped, is_done),
             _ => {}
         }
     }
@@ -81,11 +108,15 @@ impl Tally {
         }
     }
 
-    /// Prints two lines.
+    /// Prints three lines.
     pub(crate) fn print(&self, rt: &impl Print) -> io::Result<()> {
         println!(rt;
             "  {} runs ended; {} pages joined a group, {} were paired, {} zeroed, {} parted by writes",
             self.ended, self.joined, self.paired, self.zeroed, self.parted
+        )?;
+        println!(rt;
+            "  {} of {} unloads and {} of {} drops were done",
+            self.unloaded, self.unloads, self.dropped, self.drops
         )?;
         print!(rt; "  refusals by number:")?;
         for (number, count) in self.refused.iter().enumerate() {

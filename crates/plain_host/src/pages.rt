@@ -95,6 +95,18 @@ impl Pages {
         Ok(())
     }
 
+    /// Takes the pages of a map away.
+    pub(crate) fn remove(&mut self, tenant: u32, map: usize, count: u32) {
+        let first = self.first_place(tenant, map);
+        if first.checked_add(count as usize).is_none() {
+            return;
+        }
+        self.sharing.drop_pages(first, count);
+        for content in self.contents.iter_mut().skip(first).take(count as usize) {
+            content.clear();
+        }
+    }
+
     /// Bytes of a tenant's map were written, which are these now: each page that they lie in is broken.
     pub(crate) fn written(&mut self, tenant: u32, map: usize, range: PageRange, bytes: &[u8]) {
         let first = self.first_place(tenant, map);

@@ -7,7 +7,7 @@ ghost use Rattle.verifier.specs.Subject.{IsContextSize};
 
 use bpf_decode::{FRAME_POINTER, Insn, Operation, decode};
 use host_types::limits::MAX_MAPS;
-use host_types::{Fault, MapHelper, Shape};
+use host_types::{Fault, MapHelper, MapNo, Shape};
 use plain_machine::ArrayMap;
 use plain_verifier::{Judged, Table, judge_forward};
 use std::alloc::{AllocError, Global};
@@ -33,6 +33,32 @@ impl PlainProgram {
         }
         sum
     }
+
+    /// Whether an instruction, reached or not, names a map.
+    fn names(&self, map: MapNo) -> bool {
+        for slot in 0..self.text.len() / 8 {
+            if names_at(&self.text, slot, map) {
+                return true;
+            }
+        }
+        false
+    }
+}
+
+/// Whether the instruction at a slot names a map: it is the wide one, and asks by src 1 for the map's name or by
+/// src 2 for an address in its first value. In an accepted text no second slot looks like a wide instruction.
+fn names_at(text: &[u8], slot: usize, map: MapNo) -> bool {
+    let Some(insn) = Insn::at(text, slot) else {
+        return false;
+    };
+    Operation::of(insn.opcode) == Some(Operation::LoadImmediate)
+        && (insn.src == 1 || insn.src == 2)
+        && i64::from(insn.imm) == i64::from(map)
+}
+
+/// Whether one of a tenant's programs names a map.
+pub(crate) fn names_map(programs: &[Option<PlainProgram>], map: MapNo) -> bool {
+    programs.iter().flatten().any(|program| program.names(map))
 }
 
 /// The shape of a tenant's map, if it is there.

@@ -5,11 +5,11 @@ use crate::maps::{
 };
 use crate::pages::Pages;
 use crate::places;
-use crate::programs::{Programs, judge};
+use crate::programs::{Programs, judge, names_map};
 use crate::runs::{PlainRun, Written, next_written, start, step};
 use host_core::{Event, Reply};
 use host_types::limits::{MAX_CONTEXT, MAX_MAPS, MAX_PROGRAMS};
-use host_types::{Fault, Shape};
+use host_types::{Fault, MapNo, Shape};
 use plain_machine::{ArrayMap, Machine, Made};
 use std::alloc::{AllocError, Global};
 
@@ -96,6 +96,8 @@ impl PlainTenant {
                 value,
                 ..
             } => self.update(pages, *map as usize, *key, value.as_slice(), have),
+            Event::Unload { program, .. } => self.unload(*program as usize),
+            Event::DropMap { map, .. } => self.drop_map(pages, *map),
             _ => Err(Fault::BadTenant),
         }
     }
@@ -263,6 +265,32 @@ impl PlainTenant {
                 PageRange::of(at, value.len()),
                 now.bytes(),
             );
+        }
+        Ok(Reply::Done)
+    }
+
+    /// Takes a program from its place.
+    fn unload(&mut self, program: usize) -> Result<Reply, Fault> {
+        match self.programs.get_mut(program) {
+            Some(place) if place.is_some() => *place = None,
+            _ => return Err(Fault::NoProgram),
+        }
+        Ok(Reply::Done)
+    }
+
+    /// Takes a map away that no program names.
+    fn drop_map(&mut self, pages: &mut Pages, number: MapNo) -> Result<Reply, Fault> {
+        let map = number as usize;
+        let shape = self.shape(map)?;
+        if names_map(&self.programs, number) {
+            return Err(Fault::InUse);
+        }
+        if !shape.is_valid() {
+            return Err(Fault::NoMap);
+        }
+        pages.remove(self.number, map, page_count(shape));
+        if let Some(place) = self.maps.get_mut(map) {
+            *place = None;
         }
         Ok(Reply::Done)
     }

@@ -1,6 +1,7 @@
 //! Lists of events of two tenants, which share pages while frames are few.
 
 use host_core::{Bytes, Event};
+use host_types::MapNo;
 use std::alloc::{AllocError, Global};
 use test_inputs::texts::{COUNTER, UPDATE};
 
@@ -67,6 +68,12 @@ impl List {
         })
     }
 
+    /// A tenant's program that counts in map 0.
+    fn load_counter(&mut self, tenant: u32) -> Result<(), AllocError> {
+        let text = COUNTER.to_vec(self.alloc)?;
+        self.load(tenant, text.into())
+    }
+
     /// A run of a tenant's program on no context, and then the counters.
     fn run(&mut self, tenant: u32, program: u32, steps: u32) -> Result<(), AllocError> {
         self.add(Event::Begin {
@@ -109,19 +116,44 @@ impl List {
         self.run(0, program, 12)
     }
 
+    /// A tenant's program is unloaded.
+    fn unload(&mut self, tenant: u32, program: u32) -> Result<(), AllocError> {
+        self.add(Event::Unload { tenant, program })
+    }
+
+    /// A tenant's map is dropped, and then the counters.
+    fn drop_map(&mut self, tenant: u32, map: MapNo) -> Result<(), AllocError> {
+        self.add(Event::DropMap { tenant, map })?;
+        self.add(Event::Counters)
+    }
+
     /// Two tenants share a page, and part again, each by a run.
     pub(crate) fn parting(&mut self) -> Result<(), AllocError> {
         self.maps(8, 1)?;
-        for tenant in 0..2 {
-            let text = COUNTER.to_vec(self.alloc)?;
-            self.load(tenant, text.into())?;
-        }
+        self.load_counter(0)?;
+        self.load_counter(1)?;
         self.visits(2)?;
         self.visits(2)?;
         self.run(0, 0, 11)?;
         self.run(1, 0, 11)?;
         self.lookup(0, 0)?;
         self.lookup(1, 0)
+    }
+
+    /// Two tenants share a page. One of them gives its program and its map back, and makes them anew.
+    pub(crate) fn returning(&mut self) -> Result<(), AllocError> {
+        self.maps(8, 1)?;
+        self.load_counter(0)?;
+        self.visits(4)?;
+        self.unload(0, 0)?;
+        self.drop_map(0, 0)?;
+        self.map(0, 8, 1)?;
+        self.load_counter(0)?;
+        self.run(0, 0, 11)?;
+        self.lookup(0, 0)?;
+        self.unload(0, 0)?;
+        self.drop_map(0, 0)?;
+        self.drop_map(1, 0)
     }
 
     /// Updates of a value that lies in two pages, each of which two tenants share, and of none.

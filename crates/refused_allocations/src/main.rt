@@ -16,6 +16,7 @@ use std::io;
 #[derive(Clone, Copy, Drop)]
 enum Kind {
     Parting,
+    Returning,
     Updating,
     Crowding,
 }
@@ -24,7 +25,7 @@ impl Kind {
     /// How many frames there are.
     fn frames(self) -> u32 {
         match self {
-            Kind::Parting => 4,
+            Kind::Parting | Kind::Returning => 4,
             Kind::Updating => 8,
             Kind::Crowding => 3,
         }
@@ -33,6 +34,7 @@ impl Kind {
     fn name(self) -> &'static str {
         match self {
             Kind::Parting => "two tenants share a page and part again",
+            Kind::Returning => "a tenant gives its program and its map back and makes them anew",
             Kind::Updating => "updates of a value in two pages",
             Kind::Crowding => "four pages in two frames",
         }
@@ -44,6 +46,7 @@ fn list_of(alloc: Global, kind: Kind) -> Result<List, AllocError> {
     let mut list = List::new(alloc);
     match kind {
         Kind::Parting => list.parting()?,
+        Kind::Returning => list.returning()?,
         Kind::Updating => list.updating()?,
         Kind::Crowding => list.crowding()?,
     }
@@ -59,7 +62,12 @@ fn is_right(alloc: Global, kind: Kind) -> bool {
 }
 
 fn main(rt: HostRuntime) -> io::Result<()> {
-    for kind in [Kind::Parting, Kind::Updating, Kind::Crowding] {
+    for kind in [
+        Kind::Parting,
+        Kind::Returning,
+        Kind::Updating,
+        Kind::Crowding,
+    ] {
         let name = kind.name();
         let told = if is_right(rt.alloc(), kind) {
             "agree"

@@ -29,6 +29,8 @@ set_none (happens.HostLookup tenant map key) host none = refl
 set_none (Set option value) host none = absurd (none option value refl)
 set_none Unmerge host none = refl
 set_none Counters host none = refl
+set_none (happens.Unload tenant program) host none = refl
+set_none (happens.DropMap tenant map) host none = refl
 
 named-none : (t : ℕ) → None ≡ Some t → ⊥
 named-none t same = absurd (omega (arith, ap (λ o. unwrap_or o (suc t)) same))
