@@ -4,6 +4,7 @@
 
 mod maps;
 mod need;
+mod on_maps;
 mod run;
 mod way;
 

@@ -1,5 +1,5 @@
 -- A run that goes on while its loads and stores are met, from one thing that it asks beside them to the next.
-use Rattle.std.proofs.Common.{◌≡◌, ◌≤◌, ◌+◌, inl, inr, ℕ, zero, suc, List, length, refl, sym, ap, ◌∙◌, arith, add-zero}
+use Rattle.std.proofs.Common.{◌≡◌, ◌≤◌, ◌+◌, inl, inr, ℕ, zero, suc, length, refl, ap, ◌∙◌, arith}
 use Rattle.std.proofs.lemmas.List.{length-set}
 use Rattle.host_types.specs.Tenant.{TenantPart}
 use Rattle.bpf_decode.specs.declared.operation.Size.{Size}
@@ -10,13 +10,13 @@ use Rattle.verifier.specs.Reserve.{reserve_from}
 use Rattle.verifier.specs.Verified.{Accepted}
 use Rattle.interp.specs.declared.need.Need.{Need}
 use Rattle.interp.specs.declared.need.Need.TheVariants.{Private, Ended, Load, Store, Lookup, Update, Delete}
-use Rattle.interp.specs.Machine.{MachineState, Outcome, Next, Exits}
+use Rattle.interp.specs.Machine.{MachineState, Next, Exits}
 use Rattle.interp.specs.Runs.{Reaches}
 use Rattle.interp.specs.StandsFor.{Running, Asks}
 use Rattle.interp.specs.OnMaps.{IsRoomy, StandsOn, IsMet, ReachesOn, FollowsOn}
 use Rattle.tenant_runs.specs.Meeting.{KeepsSizes}
 use Rattle.tenant_runs.specs.Storing.{maps_of, HasStored}
-use Rattle.tenant_runs.specs.UnderWay.{IsUnderWay, IsAsking, part_with_have}
+use Rattle.tenant_runs.specs.UnderWay.{IsUnderWay, part_with_have}
 use Rattle.tenant_runs.proofs.Rooms.{keeps_after}
 use Rattle.tenant_runs.proofs.Finishing.{IsAskedOn, IsFollowed, reaches_on}
 
@@ -106,11 +106,11 @@ pub record IsEndedLater (v : Accepted) (tenant : ℕ) (s : MachineState) (number
 
 pub ended_later : (v : Accepted) (tenant : ℕ) (start run after : Running) (s : MachineState) (number n : ℕ) (owned : TenantPart) (old new : MemoryState) → (followed : IsFollowed v start run s owned)
     → FollowsOn (maps_of tenant) have_of (HasStored tenant) v followed.state old n (Ended number) after new → after.steps ≡ run.steps + n → IsEndedLater v tenant s number start after old new
-ended_later v tenant start run after s number n owned old new followed (made, t, count, reaches, makes, few) more =
+ended_later v tenant start run after s number n owned old new followed (made, t, count, reaches, same, makes, flat, few) more =
     let counted = followed.steps in
     record {
       count = followed.count + n;
-      reaches = reaches_on v.subject.text s followed.state followed.count n (Exits number (part new tenant).maps) followed.reaches (rw count (t, steps_reach v tenant followed.state old made t new reaches, makes));
+      reaches = reaches_on v.subject.text s followed.state followed.count n (Exits number (part new tenant).maps) followed.reaches (rw (count, same) (t, steps_reach v tenant followed.state old made t new reaches, makes));
       steps = omega (arith, more, counted);
       few = few;
       keeps = steps_keep v tenant followed.state old made t new reaches;

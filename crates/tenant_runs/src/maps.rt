@@ -31,5 +31,6 @@ impl MapMemory for TenantMaps {
     #[inline(always)]
     fn store(&self, memory: &mut Memory, map: MapNo, at: u32, size: Size, value: u64) {
         store(memory, self.tenant, map, at, size.bytes(), value);
+        memory.facts();
     }
 }
