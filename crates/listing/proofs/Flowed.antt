@@ -6,11 +6,11 @@ use Rattle.bpf_decode.specs.Text.{slots_of, IsInstruction, IsWellFormed}
 use Rattle.verifier_kinds.specs.declared.description.Description.{Description}
 use Rattle.verifier_kinds.specs.Descriptions.{start_description, IsDescription}
 use Rattle.verifier.specs.Subject.{Subject}
-use Rattle.verifier.specs.Table.{Table, described, flows_by, flows_from, known_with, arrived, incoming, tight_up_to, tight_table}
+use Rattle.verifier.specs.Table.{Table, described, flows_by, flows_from, known_with, arrived, incoming, tight_table}
 use Rattle.verifier.specs.declared.flow.Target.{Target}
 use Rattle.verifier.specs.declared.flow.Onward.{Onward}
 use Rattle.verifier.specs.Flow.{flow}
-use Rattle.verifier.specs.Pass.{AreDescribed, FlowDescribed, target_in, targets_in, flow_in}
+use Rattle.verifier.specs.Pass.{AreDescribed, target_in, targets_in, flow_in}
 use Rattle.verifier.proofs.Tables.{if_same, below_next, arrived-elsewhere, IsDescription-incoming}
 use Rattle.verifier.proofs.Flows.{IsAhead, flow_ahead}
 use Rattle.verifier.proofs.Passes.{described_read}

@@ -1,5 +1,5 @@
 -- What is read of a table that is known to be the tight one.
-use Rattle.std.proofs.Common.{◌≡◌, ℕ, ◌<◌, List, length, get_or, IfSome, Option, Some, None, Result, Ok, Err, refl, sym, ap, subst, ◌∙◌, arith}
+use Rattle.std.proofs.Common.{◌≡◌, ℕ, ◌<◌, get_or, IfSome, Option, Some, None, Ok, Err, sym, ap, subst, ◌∙◌, arith}
 use Rattle.bpf_decode.specs.Text.{slots_of, IsInstruction, IsWellFormed}
 use Rattle.verifier_kinds.specs.declared.description.Description.{Description}
 use Rattle.verifier_kinds.specs.Descriptions.{IsDescription}

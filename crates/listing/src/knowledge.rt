@@ -55,13 +55,13 @@ fn enter(slots: &mut Vec<Option<Description>>, slot: u32, coming: &Description)
 }
 
 /// The same of a target, if there is one.
-fn arrive(slots: &mut Vec<Option<Description>>, target: Option<Target>)
-    requires { IfSome target (λ t. t.slot < length slots.old.items) }
+fn arrive(slots: &mut Vec<Option<Description>>, target: &Option<Target>)
+    requires { IfSome target.now (λ t. t.slot < length slots.old.items) }
     ensures len { length slots.new.items ≡ length slots.old.items }
-    ensures arrived { (s : ℕ) → described slots.new.items s ≡ arrived s (described slots.old.items s) (target_in target) }
+    ensures arrived { (s : ℕ) → described slots.new.items s ≡ arrived s (described slots.old.items s) (target_in target.now) }
 {
     if let Some(Target { slot, description }) = target {
-        enter(slots, slot, &description);
+        enter(slots, *slot, description);
     }
 }
 
@@ -116,8 +116,8 @@ fn pass_slot(slots: &mut Vec<Option<Description>>, candidate: &Candidate, slot: 
     ensures { HasFlowed candidate.now slots.new.items (slot + 1) }
 {
     let onward = leads(candidate, slot, &slots[slot as usize]);
-    arrive(slots, onward.next);
-    arrive(slots, onward.jump);
+    arrive(slots, &onward.next);
+    arrive(slots, &onward.jump);
 }
 
 /// The rule that a slot breaks with what is known there, if it breaks one.

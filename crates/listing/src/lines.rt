@@ -13,6 +13,9 @@ const ITEMS: usize = 56;
 /// Where an item begins in a line below it that has no room behind that column.
 const BELOW: usize = 24;
 
+/// What stands between the text of a line and its items.
+const SPACES: [u8; COLUMNS] = [b' '; COLUMNS];
+
 /// A line that is being written, and the lines below it that its items need.
 #[derive(Drop)]
 pub struct Line<'a, W> {
@@ -57,10 +60,9 @@ impl<'a, W: Write> Line<'a, W> {
 
     /// Writes an item at a column.
     fn write_at(&mut self, from: usize, part: Part, item: &str) -> io::Result<()> {
-        for _ in self.used..from {
-            write!(self.output, " ")?;
-        }
-        write!(self.output, "; ")?;
+        let gap = from.saturating_sub(self.used).min(COLUMNS);
+        self.output.write_all(&SPACES[..gap])?;
+        self.output.write_all(b"; ")?;
         self.paint.write(self.output, part, item)?;
         self.used = from.saturating_add(item.len()).saturating_add(2);
         self.has_items = true;

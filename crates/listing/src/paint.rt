@@ -40,7 +40,7 @@ impl Paint {
     pub fn write<W: Write>(self, output: &mut W, part: Part, text: &str) -> io::Result<()> {
         match (self, part.colour()) {
             (Paint::Colours, Some(colour)) => write!(output, "\u{1b}[{colour}m{text}\u{1b}[0m"),
-            _ => write!(output, "{text}"),
+            _ => output.write_all(text.as_bytes()),
         }
     }
 }

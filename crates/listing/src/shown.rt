@@ -120,11 +120,12 @@ impl<'a> Listing<'a> {
 
     /// Writes what stands first in the line of a slot: its number and its bytes.
     fn write_head<W: Write>(&self, line: &mut Line<'_, W>, slot: u32) -> io::Result<()> {
-        let mut head = format!(in self.alloc; "{slot:>4}  ")?;
         let begin = 8 * slot as usize;
-        for byte in self.judged.text.get(begin..begin + 8).unwrap_or(&[]) {
-            head.push_str(format!(in self.alloc; "{byte:02x}")?.as_str())?;
-        }
+        let bytes = self.judged.text.get(begin..begin + 8).unwrap_or(&[]);
+        let number = bytes
+            .iter()
+            .fold(0u64, |number, byte| number << 8 | u64::from(*byte));
+        let head = format!(in self.alloc; "{slot:>4}  {number:016x}")?;
         let part = match self.told.refused {
             Some(refused) if refused.slot <= slot => Part::Refused,
             _ => Part::Beside,
@@ -172,6 +173,9 @@ impl<'a> Listing<'a> {
             Detail::Read => self.places_read(slot, insn, knowledge)?,
             Detail::All => all_places(self.alloc)?,
         };
+        if places.is_empty() {
+            return Ok(());
+        }
         let ways = known.ways.meeting(self.alloc, knowledge, slot)?;
         for place in &places {
             let fact = Fact::at(knowledge, slot, *place);
