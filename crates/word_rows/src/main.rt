@@ -1,9 +1,11 @@
 //! Reads command lines from the standard input, whose words bars set apart, and prints what each asks for, or
-//! what is said of words that ask for nothing. The file `stdout` of this crate says what is wanted.
+//! what is said of words that ask for nothing. Words behind `explain` are that program's, and others `bpf_host`'s. The
+//! file `stdout` of this crate says what is wanted.
 #![tactic(auto)]
 
-use command_line::{WrongWords, request_of};
+use command_line::{WrongWords, explained_of, request_of};
 use std::alloc::{AllocError, Global};
+use std::fmt::Debug;
 use std::io;
 use std::io::Input;
 
@@ -22,10 +24,19 @@ fn words_of(alloc: Global, line: &str) -> Result<Vec<String>, AllocError> {
 
 /// Prints what a line asks for, or what is said of it.
 fn print_asked(rt: &(impl AllocGlobal + Print), line: &str) -> io::Result<()> {
-    let words = words_of(rt.alloc(), line)?;
     println!(rt; "$ {}", line.escape_debug())?;
-    match request_of(rt.alloc(), words.as_slice()) {
-        Ok(request) => println!(rt; "{request:?}"),
+    if let Some(words) = line.strip_prefix("explain") {
+        let words = words_of(rt.alloc(), words.trim_start())?;
+        return print_answer(rt, explained_of(rt.alloc(), words.as_slice()));
+    }
+    let words = words_of(rt.alloc(), line)?;
+    print_answer(rt, request_of(rt.alloc(), words.as_slice()))
+}
+
+/// Prints what words ask for, or what is said of them.
+fn print_answer<A: Debug + Drop>(rt: &impl Print, answer: Result<A, WrongWords>) -> io::Result<()> {
+    match answer {
+        Ok(asked) => println!(rt; "{asked:?}"),
         Err(WrongWords::Usage(said)) => print_said(rt, said.as_str()),
         Err(WrongWords::OutOfMemory(_)) => println!(rt; "out of memory"),
     }
