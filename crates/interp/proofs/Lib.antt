@@ -34,3 +34,4 @@ pub mod Leading
 pub mod Advancing
 pub mod Beginning
 pub mod Driving
+pub mod OnMaps

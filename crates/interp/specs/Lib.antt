@@ -6,3 +6,4 @@ pub mod Fits
 pub mod Needs
 pub mod StandsFor
 pub mod OwnNumbers
+pub mod OnMaps

@@ -2,9 +2,12 @@
 //! is the standard's (RFC 9669, sections 4 and 5).
 #![tactic(auto)]
 
+mod maps;
 mod need;
+mod on_maps;
 mod run;
 mod way;
 
+pub use maps::MapMemory;
 pub use need::Need;
 pub use run::Run;

@@ -4,3 +4,4 @@ pub mod Finishing
 pub mod WholeRuns
 pub mod Roomy
 pub mod Undone
+pub mod OnMaps

@@ -1,2 +1,3 @@
 pub mod Meeting
 pub mod UnderWay
+pub mod Storing

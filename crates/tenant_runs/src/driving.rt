@@ -8,7 +8,9 @@ ghost use Rattle.interp.specs.Runs.{Reaches};
 ghost use Rattle.tenant_runs.specs.Meeting.{sharing_met, KeepsSizes};
 ghost use Rattle.tenant_runs.specs.UnderWay.{IsUnderWay, IsAsking, part_with_have};
 
+use crate::maps::TenantMaps;
 use crate::meeting::meet;
+use admission::release;
 use interp::{Need, Run};
 use page_table::Memory;
 use verifier::{Verified, reserve_falls};
@@ -57,8 +59,11 @@ pub fn finish(memory: &mut Memory, tenant: u32, program: &Verified, run: &mut Ru
     ensures sizes { KeepsSizes memory.old memory.new }
 {
     program.facts();
+    let maps = TenantMaps { tenant };
     loop {
-        match run.advance(program, program.instructions()) {
+        // All that is reserved for the run may be had while it makes its steps.
+        release(memory, tenant);
+        match run.advance_on(program, &maps, memory, program.instructions()) {
             Need::Ended(ret) => {
                 return RunReply {
                     ret,

@@ -4,11 +4,13 @@
 #![tactic(auto)]
 
 mod driving;
+mod maps;
 mod meeting;
 mod opening;
 mod running;
 
 pub use driving::{RunReply, answer, finish};
+pub use maps::TenantMaps;
 pub use meeting::meet;
 pub use opening::open_run;
 pub use running::{has_shapes, run};
