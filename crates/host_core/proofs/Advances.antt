@@ -1,14 +1,16 @@
 -- What an open run does in one go, by what it asked in the end.
-use Rattle.std.proofs.Common.{◌≡◌, ℕ, suc, ◌+◌, ◌<◌, ◌≤◌, min, ◌==◌, Bool, true, false, if◌then◌else◌, List, get_or, Option, Some, None, sym, ap, refl, ◌∙◌, subst, arith}
+use Rattle.std.proofs.Common.{◌≡◌, ℕ, zero, suc, ◌+◌, ◌<◌, ◌≤◌, min, ◌==◌, inl, inr, Bool, true, false, if◌then◌else◌, List, [], length, sum_by, get_or, Option, Some, None, sym, ap, refl, ◌∙◌, subst, arith}
 use Rattle.std.specs.List.{slice_get}
 use Rattle.std.proofs.lemmas.Option.{get_or_from_slice_get}
 use Rattle.host_types.specs.Helpers.{update_answer, element_at}
 use Rattle.host_types.specs.Memory.{FlatMap, map_at}
-use Rattle.host_types.specs.Sharing.{Sharing}
+use Rattle.host_types.specs.Sharing.{Sharing, frames_free}
 use Rattle.host_types.specs.Tenant.{TenantPart}
 use Rattle.bpf_decode.specs.Text.{instructions_of, instructions_before}
-use Rattle.page_table.specs.Changes.{with_reserve}
-use Rattle.page_table.specs.State.{MemoryState, part}
+use Rattle.page_table.specs.declared.tenant.Tenant.{Tenant as Recorded}
+use Rattle.page_table.specs.Changes.{with_reserve, with_record, KeepsSettings}
+use Rattle.page_table.specs.Reads.{ReadsAs}
+use Rattle.page_table.specs.State.{MemoryState, part, have_of, free_of}
 use Rattle.write_break.specs.Stores.{stored_sharing}
 use Rattle.map_helpers.specs.Updates.{sharing_in}
 use Rattle.verifier.specs.Reserve.{reserve_from}
@@ -17,14 +19,17 @@ use Rattle.interp.specs.declared.need.Need.{Need}
 use Rattle.interp.specs.declared.need.Need.TheVariants.{Private, Ended, Load, Store, Lookup, Update, Delete}
 use Rattle.interp.specs.Machine.{MachineState, Next, step}
 use Rattle.interp.specs.Needs.{map_of, answer_of}
-use Rattle.interp.specs.StandsFor.{Running, StandsFor, Asks, IsNoMore, ReachesQuietly, FollowsSteps, value_of}
+use Rattle.interp.specs.OnMaps.{IsRoomy, StandsOn, IsMet, ReachesOn, FollowsOn}
+use Rattle.interp.specs.StandsFor.{Running, StandsFor, Asks, value_of}
 use Rattle.interp.specs.Written.{written_by}
 use Rattle.tenant_runs.specs.Meeting.{sharing_met}
-use Rattle.tenant_runs.specs.UnderWay.{IsUnderWay, IsAsking}
+use Rattle.tenant_runs.specs.Storing.{maps_of, HasStored}
+use Rattle.tenant_runs.specs.UnderWay.{IsUnderWay, IsAsking, part_with_have}
+use Rattle.tenant_runs.proofs.OnMaps.{Keeps, steps_keep}
 use Rattle.tenant_runs.proofs.Roomy.{answered_slot}
 use Rattle.host_core.specs.declared.tenant.OpenRun.{OpenRun as KeptRun}
 use Rattle.host_core.specs.Happens.{sharing_after}
-use Rattle.host_core.specs.Stretches.{IsUnderWayAt, HasAdvanced, quiet, answered, ended, part_in}
+use Rattle.host_core.specs.Stretches.{IsUnderWayAt, HasAdvanced, AreMade, AreMadeFrom, went_on, answered, ended, part_in, reserved_of}
 use Rattle.host_core.proofs.Instructions.{instructions_before-within}
 
 -- the program that was taken is the one that stands at the place
@@ -40,71 +45,202 @@ some_instruction v run s verified stands =
     let few = subst (λ slot. run.steps ≤ instructions_before v.subject.text slot) stands.slot stands.steps in
     omega (arith, within, few)
 
--- steps that write to no map, after which just what is left of the run is reserved
-pub private_advanced : (programs : List (Option Accepted)) (kept : KeptRun) (v : Accepted) (s : MachineState) (t limit many : ℕ) (run : Running) (before after : MemoryState)
-    → IsUnderWayAt programs kept v s (part before t) → IsVerified v → 0 < limit → many ≡ min (instructions_of v.subject.text) limit
-    → (n : ℕ) × FollowsSteps v s n Private run × (run.steps ≡ kept.run.steps + n) → run.steps ≡ kept.run.steps + many
-    → part after t ≡ with_reserve (reserve_from v run.slot) (part before t) → after.sharing ≡ before.sharing
+-- The beginning of a stretch: what was reserved for the run may be had, so that as much may be had as the rest of it may need.
+pub record IsStarted (v : Accepted) (t : ℕ) (s : MachineState) (before released : MemoryState) : Type 0 where
+  pub sharing : released.sharing ≡ before.sharing
+  pub frames : length released.arena ≡ length before.arena
+  pub eight : length (part released t).maps ≡ 8
+  pub all : reserved_of before ≡ reserved_of released + reserve_from v s.slot
+  pub reads : ReadsAs released
+  pub roomy : IsRoomy (maps_of t) have_of v s released
+
+pub started : (programs : List (Option Accepted)) (kept : KeptRun) (v : Accepted) (s : MachineState) (t : ℕ) (before released : MemoryState) → IsUnderWayAt programs kept v s (part before t) → ReadsAs before → ReadsAs released
+    → part released t ≡ with_reserve 0 (part before t) → have_of released ≡ have_of before + (part before t).reserve → released ≡ with_record before t 0 → IsStarted v t s before released
+started programs kept v s t before released under reads reads' recorded have all =
+    let maps : maps_of t released ≡ s.memory.maps = ap (λ (owned : TenantPart). owned.maps) recorded ∙ under.maps in
+    let sharing : released.sharing ≡ before.sharing = ap (λ (memory : MemoryState). memory.sharing) all in
+    let frames : length released.arena ≡ length before.arena = ap (λ (memory : MemoryState). length memory.arena) all in
+    let free : free_of released ≡ free_of before = ap (λ (memory : MemoryState). free_of memory) all in
+    let most = reads.reserved in
+    let least = reads'.reserved in
+    let own = under.reserve in
+    record {
+      sharing = sharing;
+      frames = frames;
+      eight = ap length maps ∙ under.stands.state.maps.eight;
+      all = omega (arith, have, most, least, free, own);
+      reads = reads';
+      roomy = record { maps = maps; room = omega (arith, have, own) };
+    }
+
+-- what steps that are met make of a memory
+record IsChained (v : Accepted) (t all mine : ℕ) (s : MachineState) (first : MemoryState) (n : ℕ) (u : MachineState) (memory : MemoryState) : Type 0 where
+  made : AreMade v t all mine (length first.arena) s first.sharing n u memory.sharing
+  room : reserve_from v u.slot ≤ have_of memory
+  reads : ReadsAs memory
+  settings : KeepsSettings first memory
+
+-- as many frames are free as are reserved for the others and the rest of the run may need
+enough_free : (all mine least : ℕ) (first memory : MemoryState) → all ≡ reserved_of first + mine → KeepsSettings first memory → ReadsAs memory → least ≤ have_of memory → all + least ≤ frames_free (length first.arena) memory.sharing + mine
+enough_free all mine least first memory whole settings reads room =
+    let most = reads.reserved in
+    let reserved : reserved_of memory ≡ reserved_of first = ap (λ tenants. sum_by (λ (tenant : Recorded). tenant.reserve) tenants) settings.tenants in
+    let free : free_of memory ≡ frames_free (length first.arena) memory.sharing = ap (λ k. frames_free k memory.sharing) settings.frames in
+    omega (arith, whole, most, reserved, free, room)
+
+chained : (v : Accepted) (t all mine : ℕ) (s : MachineState) (first : MemoryState) (n : ℕ) (u : MachineState) (memory : MemoryState) → ReadsAs first → all ≡ reserved_of first + mine → reserve_from v s.slot ≤ have_of first
+    → ReachesOn (HasStored t) v s first n u memory → IsChained v t all mine s first n u memory
+chained v t all mine s first zero u memory reads whole room (here, same) = rw (here, same) record { made = (refl, refl); room = room; reads = reads; settings = record { tenants = refl; frames = refl } }
+chained v t all mine s first (suc n) u memory reads whole room (w, between, reaches, makes, met) = by (chained v t all mine s first n w between reads whole room reaches) met
+  where
+    by : IsChained v t all mine s first n w between → IsMet (HasStored t) v w between u memory → IsChained v t all mine s first (suc n) u memory
+    by before (inl private) =
+        let same = private.same in
+        let less = private.less in
+        let had = before.room in
+        let left : reserve_from v u.slot ≤ have_of memory = rw same (omega (arith, less, had)) in
+        let settings : KeepsSettings first memory = rw same before.settings in
+        let reads' : ReadsAs memory = rw same before.reads in
+        record {
+          made = (
+            w,
+            between.sharing,
+            before.made,
+            record {
+              makes = makes;
+              need = Private;
+              value = [];
+              maps = private.maps;
+              shares = ap (λ (m : MemoryState). m.sharing) same ∙ ap (sharing_after between.sharing t) (sym private.quiet);
+              enough = enough_free all mine (reserve_from v u.slot) first memory whole settings reads' left;
+            },
+          );
+          room = left;
+          reads = reads';
+          settings = settings;
+        }
+    by before (inr stores) =
+        let stored = stores.stored in
+        let charged = stores.charged in
+        let had = before.room in
+        let taken = stored.room in
+        let left : reserve_from v u.slot ≤ have_of memory = omega (arith, charged, had, taken) in
+        let settings : KeepsSettings first memory = record { tenants = stored.settings.tenants ∙ before.settings.tenants; frames = stored.settings.frames ∙ before.settings.frames } in
+        record {
+          made = (
+            w,
+            between.sharing,
+            before.made,
+            record {
+              makes = makes;
+              need = Store stores.map stores.at stores.size stores.number;
+              value = [];
+              maps = stores.maps;
+              shares = stored.sharing ∙ ap (sharing_after between.sharing t) (sym stores.writes);
+              enough = enough_free all mine (reserve_from v u.slot) first memory whole settings stored.reads left;
+            },
+          );
+          room = left;
+          reads = stored.reads;
+          settings = settings;
+        }
+
+-- so they are steps from the memory with what was reserved
+made_from : (v : Accepted) (s : MachineState) (n t : ℕ) (before released : MemoryState) (u : MachineState) (memory : MemoryState) → IsStarted v t s before released → ReachesOn (HasStored t) v s released n u memory → AreMadeFrom v s n t before u memory.sharing
+made_from v s n t before released u memory start reaches =
+    let whole = chained v t (reserved_of before) (reserve_from v s.slot) s released n u memory start.reads start.all start.roomy.room reaches in
+    let framed = subst (λ k. AreMade v t (reserved_of before) (reserve_from v s.slot) k s released.sharing n u memory.sharing) start.frames whole.made in
+    subst (λ sharing. AreMade v t (reserved_of before) (reserve_from v s.slot) (length before.arena) s sharing n u memory.sharing) start.sharing framed
+
+-- the run stands where it starts
+pub stands_at : (programs : List (Option Accepted)) (kept : KeptRun) (v : Accepted) (s : MachineState) (t : ℕ) (before released : MemoryState) → IsUnderWayAt programs kept v s (part before t) → IsStarted v t s before released → StandsOn (maps_of t) have_of v kept.run s released
+stands_at programs kept v s t before released under start = record { stands = under.stands; roomy = start.roomy }
+
+-- a tenant still has eight places for maps
+still_eight : (v : Accepted) (t : ℕ) (s : MachineState) (before released : MemoryState) (n : ℕ) (u : MachineState) (memory : MemoryState) → IsStarted v t s before released → ReachesOn (HasStored t) v s released n u memory → length (part memory t).maps ≡ 8
+still_eight v t s before released n u memory start reaches = (steps_keep v t s released n u memory reaches).maps ∙ start.eight
+
+-- what is asked of a run that neither goes on nor ends
+pub record IsAskedAt (v : Accepted) (t : ℕ) (s : MachineState) (n : ℕ) (need : Need) (run : Running) (released memory : MemoryState) : Type 0 where
+  pub made : ℕ
+  pub here : MachineState
+  pub last : n ≡ suc made
+  pub reached : ReachesOn (HasStored t) v s released made here memory
+  pub roomy : IsRoomy (maps_of t) have_of v here memory
+  pub asks : Asks v here need run
+
+asked_by : (v : Accepted) (t : ℕ) (s : MachineState) (n : ℕ) (need : Need) (run : Running) (released memory : MemoryState) → (made : ℕ) × (here : MachineState) × (n ≡ suc made) × ReachesOn (HasStored t) v s released made here memory
+    × IsRoomy (maps_of t) have_of v here memory × Asks v here need run → IsAskedAt v t s n need run released memory
+asked_by v t s n need run released memory (made, here, last, reached, roomy, asks) = record { made = made; here = here; last = last; reached = reached; roomy = roomy; asks = asks }
+
+pub asked_at : (v : Accepted) (t : ℕ) (s : MachineState) (n : ℕ) (need : Need) (run : Running) (released memory : MemoryState) → (need ≡ Private → ⊥) → ((number : ℕ) → need ≡ Ended number → ⊥)
+    → FollowsOn (maps_of t) have_of (HasStored t) v s released n need run memory → IsAskedAt v t s n need run released memory
+asked_at v t s n Private run released memory some going follows = absurd (some refl)
+asked_at v t s n (Ended number) run released memory some going follows = absurd (going number refl)
+asked_at v t s n (Load m at size) run released memory some going follows = absurd follows
+asked_at v t s n (Store m at size number) run released memory some going follows = absurd follows
+asked_at v t s n (Lookup m key) run released memory some going follows = asked_by v t s n (Lookup m key) run released memory follows
+asked_at v t s n (Update m key flags) run released memory some going follows = asked_by v t s n (Update m key flags) run released memory follows
+asked_at v t s n (Delete m key) run released memory some going follows = asked_by v t s n (Delete m key) run released memory follows
+
+-- it asks of its tenant's part
+pub asking_at : (v : Accepted) (t : ℕ) (s : MachineState) (n : ℕ) (need : Need) (run : Running) (before released memory : MemoryState) → IsStarted v t s before released → (asked : IsAskedAt v t s n need run released memory) → IsAsking v asked.here need run (part_with_have memory t)
+asking_at v t s n need run before released memory start asked =
+    let room = asked.roomy.room in
+    record {
+      asks = asked.asks;
+      eight = still_eight v t s before released asked.made asked.here memory start asked.reached;
+      maps = asked.roomy.maps;
+      reserve = omega (arith, room);
+    }
+
+-- what is kept until it asks, goes on or ends
+pub kept_on : (v : Accepted) (t : ℕ) (s : MachineState) (n : ℕ) (need : Need) (run : Running) (before released memory : MemoryState) → IsStarted v t s before released → FollowsOn (maps_of t) have_of (HasStored t) v s released n need run memory
+    → Keeps t released memory × (length (part memory t).maps ≡ 8)
+kept_on v t s n Private run before released memory start (next, reaches, on) = (steps_keep v t s released n next memory reaches, still_eight v t s before released n next memory start reaches)
+kept_on v t s n (Ended number) run before released memory start (made, here, last, reaches, same, makes, flat, few) = (steps_keep v t s released made here memory reaches, still_eight v t s before released made here memory start reaches)
+kept_on v t s n (Load m at size) run before released memory start follows = absurd follows
+kept_on v t s n (Store m at size number) run before released memory start follows = absurd follows
+kept_on v t s n (Lookup m key) run before released memory start (made, here, last, reaches, roomy, asks) = (steps_keep v t s released made here memory reaches, still_eight v t s before released made here memory start reaches)
+kept_on v t s n (Update m key flags) run before released memory start (made, here, last, reaches, roomy, asks) = (steps_keep v t s released made here memory reaches, still_eight v t s before released made here memory start reaches)
+kept_on v t s n (Delete m key) run before released memory start (made, here, last, reaches, roomy, asks) = (steps_keep v t s released made here memory reaches, still_eight v t s before released made here memory start reaches)
+
+-- what the rest of a run may need may be had
+pub private_room : (v : Accepted) (t : ℕ) (s : MachineState) (n : ℕ) (run : Running) (released memory : MemoryState) → FollowsOn (maps_of t) have_of (HasStored t) v s released n Private run memory → reserve_from v run.slot ≤ have_of memory
+private_room v t s n run released memory (next, reaches, on) = rw on.stands.slot on.roomy.room
+
+-- steps after which just what is left of the run is reserved
+pub private_advanced : (programs : List (Option Accepted)) (kept : KeptRun) (v : Accepted) (s : MachineState) (t limit many : ℕ) (run : Running) (before released memory after : MemoryState)
+    → IsUnderWayAt programs kept v s (part before t) → IsStarted v t s before released → IsVerified v → 0 < limit → many ≡ min (instructions_of v.subject.text) limit
+    → (n : ℕ) × FollowsOn (maps_of t) have_of (HasStored t) v s released n Private run memory × (run.steps ≡ kept.run.steps + n) → run.steps ≡ kept.run.steps + many
+    → part after t ≡ with_reserve (reserve_from v run.slot) (part memory t) → after.sharing ≡ memory.sharing
     → HasAdvanced v s t limit kept.run before None run after
-private_advanced programs kept v s t limit many run before after under verified some least (n, (next, reached, maps, less, stands), made) whole recorded sharing =
+private_advanced programs kept v s t limit many run before released memory after under start verified some least (n, (next, reaches, on), made) whole recorded sharing =
     let more = some_instruction v kept.run s verified under.stands in
-    let owned : part after t ≡ part_in v next = recorded ∙ ap (λ m. record { maps = m; reserve = reserve_from v run.slot }) (under.maps ∙ sym maps) ∙ ap (λ slot. record { maps = next.memory.maps; reserve = reserve_from v slot }) stands.slot in (
+    let owned : part after t ≡ part_in v next = recorded ∙ ap (λ m. record { maps = m; reserve = reserve_from v run.slot }) on.roomy.maps ∙ ap (λ slot. record { maps = next.memory.maps; reserve = reserve_from v slot }) on.stands.slot in
+    let reached = subst (AreMadeFrom v s n t before next) (sym sharing) (made_from v s n t before released next memory start reaches) in (
       n,
       omega (arith, made, whole, least, more, some),
       omega (arith, made, whole, least),
       made,
-      quiet (record { next = next; reached = reached; maps = maps; stands = stands; owned = owned; sharing = sharing }),
+      went_on (record { next = next; reached = reached; stands = on.stands; owned = owned }),
     )
 
--- no more is reserved for what is left of it than before
-pub private_lowers : (programs : List (Option Accepted)) (kept : KeptRun) (v : Accepted) (s : MachineState) (t n : ℕ) (run : Running) (before : MemoryState)
-    → IsUnderWayAt programs kept v s (part before t) → FollowsSteps v s n Private run → reserve_from v run.slot ≤ (part before t).reserve
-private_lowers programs kept v s t n run before under (next, reached, maps, less, stands) = rw (under.reserve, stands.slot) less
-
 -- steps with the last of which the run ends
-pub ended_advanced : (programs : List (Option Accepted)) (kept : KeptRun) (v : Accepted) (s : MachineState) (t limit many number : ℕ) (run : Running) (before after : MemoryState)
-    → IsUnderWayAt programs kept v s (part before t) → many ≡ min (instructions_of v.subject.text) limit
-    → (n : ℕ) × FollowsSteps v s n (Ended number) run × (run.steps ≡ kept.run.steps + n) → run.steps ≤ kept.run.steps + many
-    → part after t ≡ with_reserve 0 (part before t) → after.sharing ≡ before.sharing
+pub ended_advanced : (programs : List (Option Accepted)) (kept : KeptRun) (v : Accepted) (s : MachineState) (t limit many number : ℕ) (run : Running) (before released memory after : MemoryState)
+    → IsStarted v t s before released → many ≡ min (instructions_of v.subject.text) limit
+    → (n : ℕ) × FollowsOn (maps_of t) have_of (HasStored t) v s released n (Ended number) run memory × (run.steps ≡ kept.run.steps + n) → run.steps ≤ kept.run.steps + many
+    → part after t ≡ with_reserve 0 (part memory t) → after.sharing ≡ memory.sharing
     → HasAdvanced v s t limit kept.run before (Some number) run after
-ended_advanced programs kept v s t limit many number run before after under least (n, (made, here, last, reached, maps, makes, few), counted) most recorded sharing =
-    let owned : part after t ≡ record { maps = s.memory.maps; reserve = 0 } = recorded ∙ ap (λ m. record { maps = m; reserve = 0 }) under.maps in (
+ended_advanced programs kept v s t limit many number run before released memory after start least (n, (made, here, last, reaches, same, makes, flat, few), counted) most recorded sharing =
+    let owned : part after t ≡ record { maps = here.memory.maps; reserve = 0 } = recorded ∙ ap (λ m. record { maps = m; reserve = 0 }) same in
+    let reached = subst (AreMadeFrom v s made t before here) (sym sharing) (made_from v s made t before released here memory start reaches) in (
       n,
       omega (arith, last),
       omega (arith, counted, most, least),
       counted,
-      ended number (record { made = made; last = last; here = here; reached = reached; maps = maps; makes = makes; few = few; owned = owned; sharing = sharing }),
+      ended number (record { made = made; last = last; here = here; reached = reached; makes = makes; flat = flat; few = few; owned = owned }),
     )
-
--- what a run asks after steps that write to no map
-pub record IsAskedAt (v : Accepted) (s : MachineState) (n : ℕ) (need : Need) (run : Running) : Type 0 where
-  pub made : ℕ
-  pub here : MachineState
-  pub last : n ≡ suc made
-  pub reached : ReachesQuietly v s made here
-  pub maps : here.memory.maps ≡ s.memory.maps
-  pub less : IsNoMore v s here
-  pub asks : Asks v here need run
-
--- neither do the steps go on in private nor does the run end: it asks
-pub asked_at : (v : Accepted) (s : MachineState) (n : ℕ) (need : Need) (run : Running) → (need ≡ Private → ⊥) → ((number : ℕ) → need ≡ Ended number → ⊥) → FollowsSteps v s n need run → IsAskedAt v s n need run
-asked_at v s n Private run some going follows = absurd (some refl)
-asked_at v s n (Ended number) run some going follows = absurd (going number refl)
-asked_at v s n (Load m at size) run some going (made, here, last, reached, maps, less, asks) = record { made = made; here = here; last = last; reached = reached; maps = maps; less = less; asks = asks }
-asked_at v s n (Store m at size number) run some going (made, here, last, reached, maps, less, asks) = record { made = made; here = here; last = last; reached = reached; maps = maps; less = less; asks = asks }
-asked_at v s n (Lookup m key) run some going (made, here, last, reached, maps, less, asks) = record { made = made; here = here; last = last; reached = reached; maps = maps; less = less; asks = asks }
-asked_at v s n (Update m key flags) run some going (made, here, last, reached, maps, less, asks) = record { made = made; here = here; last = last; reached = reached; maps = maps; less = less; asks = asks }
-asked_at v s n (Delete m key) run some going (made, here, last, reached, maps, less, asks) = record { made = made; here = here; last = last; reached = reached; maps = maps; less = less; asks = asks }
-
--- it asks of its tenant's part
-pub asking_at : (programs : List (Option Accepted)) (kept : KeptRun) (v : Accepted) (s : MachineState) (n : ℕ) (need : Need) (run : Running) (owned : TenantPart)
-    → IsUnderWayAt programs kept v s owned → (asked : IsAskedAt v s n need run) → IsAsking v asked.here need run owned
-asking_at programs kept v s n need run owned under asked = record {
-  asks = asked.asks;
-  eight = rw under.maps under.stands.state.maps.eight;
-  maps = under.maps ∙ sym asked.maps;
-  reserve = rw under.reserve asked.less;
-}
 
 -- the pages of an update are those of its value, where it writes one
 update_shares : (sharing : Sharing) (t m key flags : ℕ) (flat : FlatMap) (b : Bool)
@@ -124,23 +260,23 @@ shares_alike owned sharing t (Lookup m key) flat there = refl
 shares_alike owned sharing t (Delete m key) flat there = refl
 shares_alike owned sharing t (Update m key flags) flat there = rw there (update_shares sharing t m key flags flat (update_answer flat.shape key flags == 0))
 
--- steps that write to no map, and one more that asks, with its answer
-pub asked_advanced : (programs : List (Option Accepted)) (kept : KeptRun) (v : Accepted) (s : MachineState) (t limit many : ℕ) (need : Need) (run after_run : Running) (before after : MemoryState)
-    → IsUnderWayAt programs kept v s (part before t) → many ≡ min (instructions_of v.subject.text) limit
+-- steps, and one more that asks, with its answer
+pub asked_advanced : (kept : KeptRun) (v : Accepted) (s : MachineState) (t limit many : ℕ) (need : Need) (run after_run : Running) (before released memory after : MemoryState)
+    → IsStarted v t s before released → many ≡ min (instructions_of v.subject.text) limit
     → (need ≡ Private → ⊥) → ((number : ℕ) → need ≡ Ended number → ⊥)
-    → (n : ℕ) × FollowsSteps v s n need run × (run.steps ≡ kept.run.steps + n) → run.steps ≤ kept.run.steps + many
-    → ((here : MachineState) → IsAsking v here need run (part before t) → (next : MachineState) × (step v.subject.text here ≡ Some (Next next)) × IsUnderWay v after_run next (part after t))
-    → (part after t).reserve ≡ reserve_from v run.slot → after_run.steps ≡ run.steps → after.sharing ≡ sharing_met (part before t) before.sharing t need
+    → (n : ℕ) × FollowsOn (maps_of t) have_of (HasStored t) v s released n need run memory × (run.steps ≡ kept.run.steps + n) → run.steps ≤ kept.run.steps + many
+    → ((here : MachineState) → IsAsking v here need run (part_with_have memory t) → (next : MachineState) × (step v.subject.text here ≡ Some (Next next)) × IsUnderWay v after_run next (part after t))
+    → (part after t).reserve ≡ reserve_from v run.slot → after_run.steps ≡ run.steps → after.sharing ≡ sharing_met (part memory t) memory.sharing t need
     → HasAdvanced v s t limit kept.run before None after_run after
-asked_advanced programs kept v s t limit many need run after_run before after under least some going (n, follows, counted) most goes_on reserve steps sharing =
-    let asked = asked_at v s n need run some going follows in
+asked_advanced kept v s t limit many need run after_run before released memory after start least some going (n, follows, counted) most goes reserve steps sharing =
+    let asked = asked_at v t s n need run released memory some going follows in
     let asks = asked.asks in
-    let (next, makes, way) = goes_on asked.here (asking_at programs kept v s n need run (part before t) under asked) in
+    let (next, makes, way) = goes asked.here (asking_at v t s n need run before released memory start asked) in
     let alike : Some (Next next) ≡ Some (Next asks.next) = sym makes ∙ asks.makes in
     let same : next ≡ asks.next = cc in
     let slot : run.slot ≡ next.slot = sym (answered_slot run.awaited run (answer_of need asks.flat)) ∙ asks.stands.slot ∙ ap (λ (u : MachineState). u.slot) (sym same) in
     let owned : part after t ≡ part_in v next = ap (λ m. record { maps = m; reserve = (part after t).reserve }) way.maps ∙ ap (λ k. record { maps = next.memory.maps; reserve = k }) (reserve ∙ ap (reserve_from v) slot) in
-    let there : map_at (part before t).maps (map_of need) ≡ Some asks.flat = ap (λ maps. map_at maps (map_of need)) (under.maps ∙ sym asked.maps) ∙ asks.there in
+    let there : map_at (part memory t).maps (map_of need) ≡ Some asks.flat = ap (λ maps. map_at maps (map_of need)) asked.roomy.maps ∙ asks.there in
     let last = asked.last in (
       n,
       omega (arith, last),
@@ -150,8 +286,8 @@ asked_advanced programs kept v s t limit many need run after_run before after un
         made = asked.made;
         last = asked.last;
         here = asked.here;
-        reached = asked.reached;
-        maps = asked.maps;
+        between = memory.sharing;
+        reached = made_from v s asked.made t before released asked.here memory start asked.reached;
         next = next;
         makes = makes;
         need = need;
@@ -159,6 +295,6 @@ asked_advanced programs kept v s t limit many need run after_run before after un
         writes = ap (λ (u : MachineState). u.memory.maps) same ∙ asks.maps;
         stands = way.stands;
         owned = owned;
-        sharing = sharing ∙ shares_alike (part before t) before.sharing t need asks.flat there ∙ ap (sharing_after before.sharing t) (sym asks.writes);
+        sharing = sharing ∙ shares_alike (part memory t) memory.sharing t need asks.flat there ∙ ap (sharing_after memory.sharing t) (sym asks.writes);
       }),
     )

@@ -15,6 +15,7 @@ use Rattle.host_types.specs.Tenant.{TenantPart, AreFlatMaps}
 use Rattle.bpf_decode.specs.declared.operation.Operation.{Operation}
 use Rattle.bpf_decode.specs.declared.operation.Operation.TheVariants.{Alu, Load, Store, LoadImmediate, Jump, Branch, Call, Exit}
 use Rattle.bpf_decode.specs.Text.{instructions_of, instructions_before, insn_at}
+use Rattle.page_table.specs.declared.tenant.Tenant.{Tenant as Recorded}
 use Rattle.page_table.specs.Changes.{IsKeptBut}
 use Rattle.page_table.specs.Reads.{ReadsAs}
 use Rattle.page_table.specs.State.{MemoryState, part}
@@ -26,7 +27,7 @@ use Rattle.interp.specs.declared.need.Need.TheVariants.{Private, Ended as NeedEn
 use Rattle.interp.specs.Fits.{HaveShapes}
 use Rattle.interp.specs.Machine.{MachineState, Outcome, Next, Exits, operation_at, step, step_by, step_store, step_call, fallen}
 use Rattle.interp.specs.Needs.{map_stored, maps_after}
-use Rattle.interp.specs.StandsFor.{Running, StandsFor, IsNoMore, ReachesQuietly}
+use Rattle.interp.specs.StandsFor.{Running, StandsFor}
 use Rattle.interp.specs.Written.{written, written_by_operation}
 use Rattle.tenant_runs.specs.Meeting.{KeepsSizes}
 use Rattle.host_core.specs.declared.event.Event.{Event}
@@ -37,9 +38,9 @@ use Rattle.host_core.specs.declared.tenant.OpenRun.{OpenRun as KeptRun}
 use Rattle.host_core.specs.World.{Beginning, started, met, Leads, OpenRun, Tenant, System, IsTenant, IsOpenRun, IsCovered, accepted_of, reserve_of, reserved_in, owned_by}
 use Rattle.host_core.specs.Happens.{Answers, StepHappens, Happens, IsPromised, IsPromisedOf, AllHappen, StepsHappen, changed_system, sharing_after}
 use Rattle.host_core.specs.HostView.{TenantView, EachProgram, StandsForRun, StandsForAnyRun, StandsForTenant, StandsForMemory, IsKept, HasMadeSteps, steps_of}
-use Rattle.host_core.specs.Stretches.{IsUnderWayAt, HasAdvanced, HasDone, IsQuiet, IsAnswered, IsEnded, quiet, answered, ended, part_in}
+use Rattle.host_core.specs.Stretches.{IsUnderWayAt, HasAdvanced, HasDone, AreMade, AreMadeFrom, IsOn, IsAnswered, IsEnded, went_on, answered, ended, part_in, reserved_of}
 use Rattle.host_core.proofs.Worlds.{slice_get-set, OfTenant-there, changed_system-same, changed_system-twice}
-use Rattle.host_core.proofs.Systems.{part_stands, covered, changed_stands}
+use Rattle.host_core.proofs.Systems.{part_stands, reserved_stands, covered, changed_stands}
 use Rattle.host_core.proofs.Joined.{AllHappen-join}
 use Rattle.host_core.proofs.Places.{all-at}
 use Rattle.host_core.proofs.Advances.{some_instruction}
@@ -129,15 +130,14 @@ have_alike shapes maps later same have m = by (get_or shapes m None) (map_at map
 all_have_alike : (programs : List (Option Accepted)) (maps later : FlatMaps) → ((j : ℕ) → shape_in later j ≡ shape_in maps j) → EachProgram (λ accepted. HaveShapes (named_shapes accepted.subject) maps) programs → EachProgram (λ accepted. HaveShapes (named_shapes accepted.subject) later) programs
 all_have_alike programs maps later same all k d less = IfSome_then (get_or programs k d) (all k d less) (λ v. have_alike (named_shapes v.subject) maps later same)
 
--- a system stays covered where a tenant needs no more than before
-pub covered-changed : (x : System) (t : ℕ) (tenant next : Tenant) → slice_get x.world t ≡ Some tenant → IsCovered x → reserve_of next.run ≤ reserve_of tenant.run → IsCovered (changed_system x t next x.sharing)
-covered-changed x t tenant next there covers less =
+-- a system is covered after a step of a tenant, where enough frames are free
+pub covered-step : (x : System) (t : ℕ) (tenant next : Tenant) (sharing : Sharing) → slice_get x.world t ≡ Some tenant → reserved_in x.world + reserve_of next.run ≤ frames_free x.frames sharing + reserve_of tenant.run → IsCovered (changed_system x t next sharing)
+covered-step x t tenant next sharing there enough =
     let need : Tenant → ℕ = λ one. reserve_of one.run in
     let sums = sum_by-set need x.world t next tenant (slice_get_within x.world t tenant there) in
     let found = get_or_from_slice_get x.world t tenant tenant there in
     let here : reserved_in (set x.world t next) + reserve_of tenant.run ≡ reserved_in x.world + reserve_of next.run = subst (λ one. sum_by need (set x.world t next) + need one ≡ sum_by need x.world + need next) found sums in
-    let before : reserved_in x.world ≤ frames_free x.frames x.sharing = covers in
-    omega (arith, here, before, less)
+    omega (arith, here, enough)
 
 -- what happens at a step of an open run, and what is promised of it
 step-open : (x : System) (t : ℕ) (tenant : Tenant) (r : OpenRun) (reply : Reply) (x' : System) → slice_get x.world t ≡ Some tenant → tenant.run ≡ Some r → StepHappens x t tenant r reply x' → IsPromisedOf r t reply x'.world
@@ -209,26 +209,36 @@ tenant_at-same tenant r u is_open maps same =
     let whole : with_both r.state.memory.maps (Some r) ≡ tenant = ap (λ m. with_both m (Some r)) (sym maps) ∙ ap (with_both tenant.maps) (sym is_open) in
     rw (same, add-zero r.steps) whole
 
--- steps that write to no map, and where they lead
-steps-on : (x : System) (t : ℕ) (tenant : Tenant) (r : OpenRun) (n : ℕ) (u : MachineState) → slice_get x.world t ≡ Some tenant → tenant.run ≡ Some r → tenant.maps ≡ r.state.memory.maps → IsCovered x
-    → Leads r.program.text r.beginning r.steps (Next r.state) → ReachesQuietly (accepted_of r.program) r.state n u → r.steps + n < instructions_of r.program.text
-    → AllHappen x (replicate n (Step t)) (replicate n Stepped) (changed_system x t (tenant_at tenant r (r.steps + n) u) x.sharing) × Leads r.program.text r.beginning (r.steps + n) (Next u) × IsNoMore (accepted_of r.program) r.state u
-steps-on x t tenant r zero u there is_open maps covers reached led few =
-    let here : u ≡ r.state = led in
+-- steps, and where they lead
+steps-on : (x : System) (t : ℕ) (tenant : Tenant) (r : OpenRun) (n : ℕ) (u : MachineState) (sharing : Sharing) → slice_get x.world t ≡ Some tenant → tenant.run ≡ Some r → tenant.maps ≡ r.state.memory.maps
+    → Leads r.program.text r.beginning r.steps (Next r.state) → AreMade (accepted_of r.program) t (reserved_in x.world) (reserve_of tenant.run) x.frames r.state x.sharing n u sharing → r.steps + n < instructions_of r.program.text
+    → AllHappen x (replicate n (Step t)) (replicate n Stepped) (changed_system x t (tenant_at tenant r (r.steps + n) u) sharing) × Leads r.program.text r.beginning (r.steps + n) (Next u) × ((j : ℕ) → shape_in u.memory.maps j ≡ shape_in tenant.maps j)
+steps-on x t tenant r zero u sharing there is_open maps reached (here, kept) few =
     let same = tenant_at-same tenant r u is_open maps here in
-    let less : reserve_from (accepted_of r.program) r.state.slot ≤ reserve_from (accepted_of r.program) r.state.slot = omega arith in
-    (ap (λ one. changed_system x t one x.sharing) same ∙ changed_system-same x t tenant there, rw (add-zero r.steps, here) reached, rw here less)
-steps-on x t tenant r (suc n) u there is_open maps covers reached (v, led, makes, writes, less) few =
-    let (before, come, fewer) = steps-on x t tenant r n v there is_open maps covers reached led (omega (arith, few)) in
+    let still : changed_system x t (tenant_at tenant r (r.steps + 0) u) sharing ≡ x = ap (λ one. changed_system x t one sharing) same ∙ ap (changed_system x t tenant) kept ∙ changed_system-same x t tenant there in
+    (still, rw (add-zero r.steps, here) reached, λ j. ap (λ (state : MachineState). shape_in state.memory.maps j) here ∙ ap (λ m. shape_in m j) (sym maps))
+steps-on x t tenant r (suc n) u sharing there is_open maps reached (v, between, made, last) few =
+    let (before, come, shapes) = steps-on x t tenant r n v between there is_open maps reached made (omega (arith, few)) in
     let here = tenant_at tenant r (r.steps + n) v in
     let next = tenant_at tenant r (suc (r.steps + n)) u in
-    let shares : x.sharing ≡ sharing_after x.sharing t (written r.program.text v) = ap (sharing_after x.sharing t) (sym writes) in
-    let one = step-on (changed_system x t here x.sharing) t here (run_at r (r.steps + n) v) u x.sharing (slice_get-set x.world t tenant here there) refl come makes shares (omega (arith, few)) in
-    let twice = changed_system-twice x t here next x.sharing x.sharing in
-    let now : reserve_from (accepted_of r.program) u.slot ≤ reserve_of tenant.run = rw is_open (omega (arith, less, fewer)) in
-    let covers' = subst IsCovered (sym twice) (covered-changed x t tenant next there covers now) in
-    let all = push-same x (changed_system x t here x.sharing) (changed_system (changed_system x t here x.sharing) t next x.sharing) n (Step t) Stepped before one covers' in
-    rw (add-suc r.steps n) (subst (λ y. AllHappen x (replicate (suc n) (Step t)) (replicate (suc n) Stepped) y) twice all, led-more r.program.text r.beginning (r.steps + n) v (Next u) come makes, omega (arith, less, fewer))
+    let one = step-on (changed_system x t here between) t here (run_at r (r.steps + n) v) u sharing (slice_get-set x.world t tenant here there) refl come last.makes last.shares (omega (arith, few)) in
+    let twice = changed_system-twice x t here next between sharing in
+    let covers = subst IsCovered (sym twice) (covered-step x t tenant next sharing there last.enough) in
+    let all = push-same x (changed_system x t here between) (changed_system (changed_system x t here between) t next sharing) n (Step t) Stepped before one covers in (
+      rw (add-suc r.steps n) (subst (λ y. AllHappen x (replicate (suc n) (Step t)) (replicate (suc n) Stepped) y) twice all),
+      rw (add-suc r.steps n) (led-more r.program.text r.beginning (r.steps + n) v (Next u) come last.makes),
+      λ j. ap (λ m. shape_in m j) last.maps ∙ after_shapes last.need last.value v.memory.maps j ∙ shapes j,
+    )
+
+-- steps from a memory are steps from the system for which it stands
+made-moved : (v p : Accepted) (t all all' mine mine' frames frames' : ℕ) (s : MachineState) (before before' : Sharing) (n : ℕ) (u : MachineState) (after : Sharing) → v ≡ p → all ≡ all' → mine ≡ mine' → frames ≡ frames' → before ≡ before'
+    → AreMade v t all mine frames s before n u after → AreMade p t all' mine' frames' s before' n u after
+made-moved v p t all all' mine mine' frames frames' s before before' n u after program many own framed shared made =
+    subst (λ q. AreMade q t all' mine' frames' s before' n u after) program (
+    subst (λ k. AreMade v t k mine' frames' s before' n u after) many (
+    subst (λ k. AreMade v t all k frames' s before' n u after) own (
+    subst (λ k. AreMade v t all mine k s before' n u after) framed (
+    subst (λ sharing. AreMade v t all mine frames s sharing n u after) shared made))))
 
 -- the maps of a tenant are those of its run
 maps_of_run : (tenant : Tenant) (r : OpenRun) → IsTenant tenant → tenant.run ≡ Some r → tenant.maps ≡ r.state.memory.maps
@@ -304,13 +314,24 @@ stood-on programs kept after tenant r n u stood run same_program stands shapes c
 owned-on : (tenant : Tenant) (r : OpenRun) (v : Accepted) (n : ℕ) (u : MachineState) → accepted_of r.program ≡ v → part_in v u ≡ owned_by (tenant_at tenant r n u)
 owned-on tenant r v n u same = ap (λ p. record { maps = u.memory.maps; reserve = reserve_from p u.slot }) (sym same)
 
--- quiet steps of a kept run
-made-quiet : (programs : List (Option Accepted)) (kept after : KeptRun) (t n : ℕ) (before later : MemoryState) (x : System) (tenant : Tenant) (r : OpenRun)
+-- the steps of a kept run in its system
+made-in : (programs : List (Option Accepted)) (kept : KeptRun) (t n : ℕ) (before : MemoryState) (x : System) (tenant : Tenant) (r : OpenRun) (u : MachineState) (after : Sharing)
+    → StandsForTenant (record { programs = programs; run = Some kept }) tenant → StandsForMemory before x → tenant.run ≡ Some r → (run : StandsForRun programs kept r)
+    → AreMadeFrom run.accepted r.state n t before u after → AreMade (accepted_of r.program) t (reserved_in x.world) (reserve_of tenant.run) x.frames r.state x.sharing n u after
+made-in programs kept t n before x tenant r u after stood stands is_open run made =
+    let v = run.accepted in
+    let same = program-same programs kept r stood.verified run in
+    let all : reserved_of before ≡ reserved_in x.world = ap (λ tenants. sum_by (λ (one : Recorded). one.reserve) tenants) stands.recorded ∙ reserved_stands x.world in
+    let mine : reserve_from v r.state.slot ≡ reserve_of tenant.run = ap (λ q. reserve_from q r.state.slot) (sym same) ∙ ap reserve_of (sym is_open) in
+    made-moved v (accepted_of r.program) t (reserved_of before) (reserved_in x.world) (reserve_from v r.state.slot) (reserve_of tenant.run) _ x.frames r.state before.sharing x.sharing n u after (sym same) all mine stands.frames stands.sharing made
+
+-- steps of a kept run
+made-goes_on : (programs : List (Option Accepted)) (kept after : KeptRun) (t n : ℕ) (before later : MemoryState) (x : System) (tenant : Tenant) (r : OpenRun)
     → slice_get x.world t ≡ Some tenant → StandsForTenant (record { programs = programs; run = Some kept }) tenant → StandsForMemory before x → tenant.run ≡ Some r → (run : StandsForRun programs kept r)
-    → ReadsAs before → ReadsAs later → IsKeptBut t before later → KeepsSizes before later → after.program ≡ kept.program → after.run.steps ≡ kept.run.steps + n
-    → IsQuiet run.accepted r.state n t before after.run later
+    → ReadsAs later → IsKeptBut t before later → KeepsSizes before later → after.program ≡ kept.program → after.run.steps ≡ kept.run.steps + n
+    → IsOn run.accepted r.state n t before after.run later
     → (next : Tenant) × (sharing : Sharing) × StandsForTenant (record { programs = programs; run = Some after }) next × StandsForMemory later (changed_system x t next sharing) × StepsHappen x t n None (changed_system x t next sharing)
-made-quiet programs kept after t n before later x tenant r there stood stands is_open run reads reads' others sizes same_program made did =
+made-goes_on programs kept after t n before later x tenant r there stood stands is_open run reads' others sizes same_program made did =
     let u = did.next in
     let v = run.accepted in
     let same = program-same programs kept r stood.verified run in
@@ -319,20 +340,20 @@ made-quiet programs kept after t n before later x tenant r there stood stands is
     let counted : after.run.steps ≡ r.steps + n = made ∙ ap (λ k. k + n) run.steps in
     let most = some_instruction v after.run u verified did.stands in
     let few : r.steps + n < instructions_of r.program.text = subst (λ q. r.steps + n < instructions_of q.text) (sym run.program) (omega (arith, most, counted)) in
-    let led = subst (λ p. ReachesQuietly p r.state n u) (sym same) did.reached in
-    let (happen, come, less) = steps-on x t tenant r n u there is_open maps (covered before x reads stands) (run_reached tenant r stood.meets is_open).reached led few in
+    let led = made-in programs kept t n before x tenant r u later.sharing stood stands is_open run did.reached in
+    let (happen, come, shapes) = steps-on x t tenant r n u later.sharing there is_open maps (run_reached tenant r stood.meets is_open).reached led few in
     let next = tenant_at tenant r (r.steps + n) u in
-    let stood' = stood-on programs kept after tenant r (r.steps + n) u stood run same_program did.stands (λ j. ap (λ m. shape_in m j) (did.maps ∙ sym maps)) counted come in
-    let stands' = changed_stands before later x t tenant next x.sharing stands there sizes.tenants sizes.frames reads' did.stands.state.maps.eight (did.owned ∙ owned-on tenant r v (r.steps + n) u same) others (did.sharing ∙ stands.sharing) in
-    (next, x.sharing, stood', stands', (replicate n (Step t), replicate n Stepped, (refl, refl), happen))
+    let stood' = stood-on programs kept after tenant r (r.steps + n) u stood run same_program did.stands shapes counted come in
+    let stands' = changed_stands before later x t tenant next later.sharing stands there sizes.tenants sizes.frames reads' did.stands.state.maps.eight (did.owned ∙ owned-on tenant r v (r.steps + n) u same) others refl in
+    (next, later.sharing, stood', stands', (replicate n (Step t), replicate n Stepped, (refl, refl), happen))
 
--- quiet steps, and one more that asks something of the tenant's maps
+-- steps, and one more that asks something of the tenant's maps
 made-answered : (programs : List (Option Accepted)) (kept after : KeptRun) (t n : ℕ) (before later : MemoryState) (x : System) (tenant : Tenant) (r : OpenRun)
     → slice_get x.world t ≡ Some tenant → StandsForTenant (record { programs = programs; run = Some kept }) tenant → StandsForMemory before x → tenant.run ≡ Some r → (run : StandsForRun programs kept r)
-    → ReadsAs before → ReadsAs later → IsKeptBut t before later → KeepsSizes before later → after.program ≡ kept.program → after.run.steps ≡ kept.run.steps + n
+    → ReadsAs later → IsKeptBut t before later → KeepsSizes before later → after.program ≡ kept.program → after.run.steps ≡ kept.run.steps + n
     → IsAnswered run.accepted r.state n t before after.run later
     → (next : Tenant) × (sharing : Sharing) × StandsForTenant (record { programs = programs; run = Some after }) next × StandsForMemory later (changed_system x t next sharing) × StepsHappen x t n None (changed_system x t next sharing)
-made-answered programs kept after t n before later x tenant r there stood stands is_open run reads reads' others sizes same_program made did =
+made-answered programs kept after t n before later x tenant r there stood stands is_open run reads' others sizes same_program made did =
     let m = did.made in
     let h = did.here in
     let u = did.next in
@@ -344,81 +365,81 @@ made-answered programs kept after t n before later x tenant r there stood stands
     let counted : after.run.steps ≡ suc (r.steps + m) = let stepped = run.steps in omega (arith, made, last, stepped) in
     let most = some_instruction v after.run u verified did.stands in
     let few : suc (r.steps + m) < instructions_of r.program.text = subst (λ q. suc (r.steps + m) < instructions_of q.text) (sym run.program) (omega (arith, most, counted)) in
-    let led = subst (λ p. ReachesQuietly p r.state m h) (sym same) did.reached in
-    let (happen, come, less) = steps-on x t tenant r m h there is_open maps (covered before x reads stands) (run_reached tenant r stood.meets is_open).reached led (omega (arith, few)) in
+    let led = made-in programs kept t m before x tenant r h did.between stood stands is_open run did.reached in
+    let (happen, come, shaped) = steps-on x t tenant r m h did.between there is_open maps (run_reached tenant r stood.meets is_open).reached led (omega (arith, few)) in
     let makes = subst (λ q. step q.text h ≡ Some (Next u)) (sym run.program) did.makes in
     let middle = tenant_at tenant r (r.steps + m) h in
     let next = tenant_at tenant r (suc (r.steps + m)) u in
-    let sharing = sharing_after x.sharing t (written r.program.text h) in
-    let shares : later.sharing ≡ sharing = did.sharing ∙ ap (λ old. sharing_after old t (written v.subject.text h)) stands.sharing ∙ ap (λ q. sharing_after x.sharing t (written q.text h)) (sym run.program) in
-    let one = step-on (changed_system x t middle x.sharing) t middle (run_at r (r.steps + m) h) u sharing (slice_get-set x.world t tenant middle there) refl come makes refl few in
-    let twice = changed_system-twice x t middle next x.sharing sharing in
-    let shapes : (j : ℕ) → shape_in u.memory.maps j ≡ shape_in tenant.maps j = λ j. ap (λ m. shape_in m j) did.writes ∙ after_shapes did.need did.value h.memory.maps j ∙ ap (λ m. shape_in m j) (did.maps ∙ sym maps) in
+    let sharing = sharing_after did.between t (written r.program.text h) in
+    let shares : later.sharing ≡ sharing = did.sharing ∙ ap (λ q. sharing_after did.between t (written q.text h)) (sym run.program) in
+    let one = step-on (changed_system x t middle did.between) t middle (run_at r (r.steps + m) h) u sharing (slice_get-set x.world t tenant middle there) refl come makes refl few in
+    let twice = changed_system-twice x t middle next did.between sharing in
+    let shapes : (j : ℕ) → shape_in u.memory.maps j ≡ shape_in tenant.maps j = λ j. ap (λ m. shape_in m j) did.writes ∙ after_shapes did.need did.value h.memory.maps j ∙ shaped j in
     let stood' = stood-on programs kept after tenant r (suc (r.steps + m)) u stood run same_program did.stands shapes counted (led-more r.program.text r.beginning (r.steps + m) h (Next u) come makes) in
     let stands' = changed_stands before later x t tenant next sharing stands there sizes.tenants sizes.frames reads' did.stands.state.maps.eight (did.owned ∙ owned-on tenant r v (suc (r.steps + m)) u same) others shares in
     let covers = subst IsCovered (sym twice) (covered later (changed_system x t next sharing) reads' stands') in
-    let all = push-same x (changed_system x t middle x.sharing) (changed_system (changed_system x t middle x.sharing) t next sharing) m (Step t) Stepped happen one covers in
+    let all = push-same x (changed_system x t middle did.between) (changed_system (changed_system x t middle did.between) t next sharing) m (Step t) Stepped happen one covers in
     let all' = subst (λ y. AllHappen x (replicate (suc m) (Step t)) (replicate (suc m) Stepped) y) twice all in
     (next, sharing, stood', stands', (replicate n (Step t), replicate n Stepped, (refl, refl), subst (λ k. AllHappen x (replicate k (Step t)) (replicate k Stepped) (changed_system x t next sharing)) (sym last) all'))
 
--- quiet steps, and one more with which the run ends
+-- steps, and one more with which the run ends
 made-ended : (programs : List (Option Accepted)) (kept : KeptRun) (run_after : Running) (t n number steps : ℕ) (before later : MemoryState) (x : System) (tenant : Tenant) (r : OpenRun)
     → slice_get x.world t ≡ Some tenant → StandsForTenant (record { programs = programs; run = Some kept }) tenant → StandsForMemory before x → tenant.run ≡ Some r → (run : StandsForRun programs kept r)
-    → ReadsAs before → ReadsAs later → IsKeptBut t before later → KeepsSizes before later → run_after.steps ≡ kept.run.steps + n → steps ≡ run_after.steps
+    → ReadsAs later → IsKeptBut t before later → KeepsSizes before later → run_after.steps ≡ kept.run.steps + n → steps ≡ run_after.steps
     → IsEnded run.accepted r.state n t number before run_after later
     → (next : Tenant) × (sharing : Sharing) × StandsForTenant (record { programs = programs; run = None }) next × StandsForMemory later (changed_system x t next sharing) × StepsHappen x t n (Some (Ended number steps)) (changed_system x t next sharing)
-made-ended programs kept run_after t n number steps before later x tenant r there stood stands is_open run reads reads' others sizes made told did =
+made-ended programs kept run_after t n number steps before later x tenant r there stood stands is_open run reads' others sizes made told did =
     let m = did.made in
     let h = did.here in
     let v = run.accepted in
     let last = did.last in
-    let final = r.state.memory.maps in
-    let same = program-same programs kept r stood.verified run in
+    let final = h.memory.maps in
     let maps = maps_of_run tenant r stood.meets is_open in
     let counted : run_after.steps ≡ suc (r.steps + m) = let stepped = run.steps in omega (arith, made, last, stepped) in
     let few' = did.few in
     let few : suc (r.steps + m) ≤ instructions_of r.program.text = subst (λ q. suc (r.steps + m) ≤ instructions_of q.text) (sym run.program) (omega (arith, few', counted)) in
-    let led = subst (λ p. ReachesQuietly p r.state m h) (sym same) did.reached in
-    let (happen, come, less) = steps-on x t tenant r m h there is_open maps (covered before x reads stands) (run_reached tenant r stood.meets is_open).reached led (omega (arith, few)) in
+    let sharing = later.sharing in
+    let led = made-in programs kept t m before x tenant r h sharing stood stands is_open run did.reached in
+    let (happen, come, shapes) = steps-on x t tenant r m h sharing there is_open maps (run_reached tenant r stood.meets is_open).reached led (omega (arith, few)) in
     let makes = subst (λ q. step q.text h ≡ Some (Exits number final)) (sym run.program) did.makes in
     let middle = tenant_at tenant r (r.steps + m) h in
     let next = tenant_after tenant final in
-    let one = step-last (changed_system x t middle x.sharing) t middle (run_at r (r.steps + m) h) number final (slice_get-set x.world t tenant middle there) refl come makes few in
-    let twice = changed_system-twice x t middle next x.sharing x.sharing in
+    let one = step-last (changed_system x t middle sharing) t middle (run_at r (r.steps + m) h) number final (slice_get-set x.world t tenant middle there) refl come makes few in
+    let twice = changed_system-twice x t middle next sharing sharing in
     let stood' : StandsForTenant (record { programs = programs; run = None }) next = record {
       programs = stood.programs;
       verified = stood.verified;
-      shapes = all_have_alike programs tenant.maps final (λ j. ap (λ m. shape_in m j) (sym maps)) stood.shapes;
+      shapes = all_have_alike programs tenant.maps final shapes stood.shapes;
       run = tt;
-      meets = record { maps = subst AreFlatMaps maps stood.meets.maps; places = stood.meets.places; run = tt; same = tt };
+      meets = record { maps = did.flat; places = stood.meets.places; run = tt; same = tt };
     } in
-    let stands' = changed_stands before later x t tenant next x.sharing stands there sizes.tenants sizes.frames reads' stood'.meets.maps.eight did.owned others (did.sharing ∙ stands.sharing) in
-    let covers = subst IsCovered (sym twice) (covered later (changed_system x t next x.sharing) reads' stands') in
-    let all = AllHappen-push x (changed_system x t middle x.sharing) (changed_system (changed_system x t middle x.sharing) t next x.sharing) (replicate m (Step t)) (replicate m Stepped) (Step t) (Ended number (suc (r.steps + m))) happen one covers in
+    let stands' = changed_stands before later x t tenant next sharing stands there sizes.tenants sizes.frames reads' stood'.meets.maps.eight did.owned others refl in
+    let covers = subst IsCovered (sym twice) (covered later (changed_system x t next sharing) reads' stands') in
+    let all = AllHappen-push x (changed_system x t middle sharing) (changed_system (changed_system x t middle sharing) t next sharing) (replicate m (Step t)) (replicate m Stepped) (Step t) (Ended number (suc (r.steps + m))) happen one covers in
     let all' = subst (λ y. AllHappen x (replicate m (Step t) ++ Step t ∷ []) (replicate m Stepped ++ Ended number (suc (r.steps + m)) ∷ []) y) twice all in
     let tells : suc (r.steps + m) ≡ steps = sym counted ∙ sym told in
-    let happened = subst (λ k. AllHappen x (replicate m (Step t) ++ Step t ∷ []) (replicate m Stepped ++ Ended number k ∷ []) (changed_system x t next x.sharing)) tells all' in
-    (next, x.sharing, stood', stands', (replicate m (Step t) ++ Step t ∷ [], replicate m Stepped ++ Ended number steps ∷ [], (m, omega (arith, last), (λ e. cc), refl, refl), happened))
+    let happened = subst (λ k. AllHappen x (replicate m (Step t) ++ Step t ∷ []) (replicate m Stepped ++ Ended number k ∷ []) (changed_system x t next sharing)) tells all' in
+    (next, sharing, stood', stands', (replicate m (Step t) ++ Step t ∷ [], replicate m Stepped ++ Ended number steps ∷ [], (m, omega (arith, last), (λ e. cc), refl, refl), happened))
 
 -- steps after which a run goes on
 made-on : (programs : List (Option Accepted)) (kept after : KeptRun) (t n : ℕ) (before later : MemoryState) (x : System) (tenant : Tenant) (r : OpenRun)
     → slice_get x.world t ≡ Some tenant → StandsForTenant (record { programs = programs; run = Some kept }) tenant → StandsForMemory before x → tenant.run ≡ Some r → (run : StandsForRun programs kept r)
-    → ReadsAs before → ReadsAs later → IsKeptBut t before later → KeepsSizes before later → after.program ≡ kept.program → after.run.steps ≡ kept.run.steps + n
+    → ReadsAs later → IsKeptBut t before later → KeepsSizes before later → after.program ≡ kept.program → after.run.steps ≡ kept.run.steps + n
     → HasDone run.accepted r.state n t before after.run later None
     → MadeSteps x t n None (record { programs = programs; run = Some after }) later
-made-on programs kept after t n before later x tenant r there stood stands is_open run reads reads' others sizes same_program made (quiet did) =
-    made-quiet programs kept after t n before later x tenant r there stood stands is_open run reads reads' others sizes same_program made did
-made-on programs kept after t n before later x tenant r there stood stands is_open run reads reads' others sizes same_program made (answered did) =
-    made-answered programs kept after t n before later x tenant r there stood stands is_open run reads reads' others sizes same_program made did
+made-on programs kept after t n before later x tenant r there stood stands is_open run reads' others sizes same_program made (went_on did) =
+    made-goes_on programs kept after t n before later x tenant r there stood stands is_open run reads' others sizes same_program made did
+made-on programs kept after t n before later x tenant r there stood stands is_open run reads' others sizes same_program made (answered did) =
+    made-answered programs kept after t n before later x tenant r there stood stands is_open run reads' others sizes same_program made did
 
 -- steps with the last of which it ends
 made-off : (programs : List (Option Accepted)) (kept : KeptRun) (run_after : Running) (t n number steps : ℕ) (before later : MemoryState) (x : System) (tenant : Tenant) (r : OpenRun)
     → slice_get x.world t ≡ Some tenant → StandsForTenant (record { programs = programs; run = Some kept }) tenant → StandsForMemory before x → tenant.run ≡ Some r → (run : StandsForRun programs kept r)
-    → ReadsAs before → ReadsAs later → IsKeptBut t before later → KeepsSizes before later → run_after.steps ≡ kept.run.steps + n → steps ≡ run_after.steps
+    → ReadsAs later → IsKeptBut t before later → KeepsSizes before later → run_after.steps ≡ kept.run.steps + n → steps ≡ run_after.steps
     → HasDone run.accepted r.state n t before run_after later (Some number)
     → MadeSteps x t n (Some (Ended number steps)) (record { programs = programs; run = None }) later
-made-off programs kept run_after t n number steps before later x tenant r there stood stands is_open run reads reads' others sizes made told (ended k did) =
-    made-ended programs kept run_after t n k steps before later x tenant r there stood stands is_open run reads reads' others sizes made told did
+made-off programs kept run_after t n number steps before later x tenant r there stood stands is_open run reads' others sizes made told (ended k did) =
+    made-ended programs kept run_after t n k steps before later x tenant r there stood stands is_open run reads' others sizes made told did
 
 -- steps that were made in one go, after which a kept run goes on
 pub made-steps : (programs : List (Option Accepted)) (kept after : KeptRun) (t limit steps : ℕ) (before later : MemoryState)
@@ -430,7 +451,7 @@ made-steps programs kept after t limit steps before later reads reads' others si
     let (n, some, few, made, done) = advanced run.accepted r.state (under-way programs kept t before x tenant r there stood stands is_open run) in
     let whole : n ≡ steps = omega (arith, made, counted) in
     subst (λ k. MadeSteps x t k None (record { programs = programs; run = Some after }) later) whole
-    (made-on programs kept after t n before later x tenant r there stood stands is_open run reads reads' others sizes same_program made done)
+    (made-on programs kept after t n before later x tenant r there stood stands is_open run reads' others sizes same_program made done)
 
 -- steps that were made in one go, with the last of which it ended
 pub made-last_step : (programs : List (Option Accepted)) (kept : KeptRun) (run_after : Running) (t limit number made total : ℕ) (before later : MemoryState)
@@ -442,7 +463,7 @@ made-last_step programs kept run_after t limit number made total before later re
     let (n, some, few, stepped, done) = advanced run.accepted r.state (under-way programs kept t before x tenant r there stood stands is_open run) in
     let whole : n ≡ made = omega (arith, stepped, counted) in
     subst (λ k. MadeSteps x t k (Some (Ended number total)) (record { programs = programs; run = None }) later) whole
-    (made-off programs kept run_after t n number total before later x tenant r there stood stands is_open run reads reads' others sizes stepped told done)
+    (made-off programs kept run_after t n number total before later x tenant r there stood stands is_open run reads' others sizes stepped told done)
 
 -- a kept run that advanced made one step at least, and no more than its limit
 pub advanced-some : (programs : List (Option Accepted)) (kept : KeptRun) (after : Running) (t limit : ℕ) (last : Option ℕ) (before later : MemoryState)

@@ -1,14 +1,16 @@
 -- Steps of an open run that are made in one go.
-use Rattle.std.specs.Prelude.{◌≡◌, ℕ, suc, ◌+◌, ◌≤◌, List, slice_get, Option, Some, None}
-use Rattle.host_types.specs.Tenant.{TenantPart}
+use Rattle.std.specs.Prelude.{◌≡◌, ℕ, zero, suc, ◌+◌, ◌≤◌, List, length, sum_by, slice_get, Option, Some, None}
+use Rattle.host_types.specs.Sharing.{Sharing, frames_free}
+use Rattle.host_types.specs.Tenant.{TenantPart, AreFlatMaps}
 use Rattle.bpf_decode.specs.Text.{instructions_of}
+use Rattle.page_table.specs.declared.tenant.Tenant.{Tenant as Recorded}
 use Rattle.page_table.specs.State.{MemoryState, part}
 use Rattle.verifier.specs.Reserve.{reserve_from}
 use Rattle.verifier.specs.Verified.{Accepted}
 use Rattle.interp.specs.declared.need.Need.{Need}
 use Rattle.interp.specs.Needs.{maps_after}
 use Rattle.interp.specs.Machine.{MachineState, Next, Exits, step}
-use Rattle.interp.specs.StandsFor.{Running, StandsFor, ReachesQuietly}
+use Rattle.interp.specs.StandsFor.{Running, StandsFor}
 use Rattle.interp.specs.Written.{written}
 use Rattle.host_core.specs.declared.tenant.OpenRun.{OpenRun as KeptRun}
 use Rattle.host_core.specs.Happens.{sharing_after}
@@ -25,23 +27,44 @@ pub record IsUnderWayAt (programs : List (Option Accepted)) (kept : KeptRun) (v 
 abbrev pub part_in : Accepted → MachineState → TenantPart
 part_in v s = record { maps = s.memory.maps; reserve = reserve_from v s.slot }
 
--- n steps that write to no map, after which the run stands for a later state
-pub record IsQuiet (v : Accepted) (s : MachineState) (n t : ℕ) (before : MemoryState) (run : Running) (after : MemoryState) : Type 0 where
+-- how many frames are recorded as reserved for open runs
+abbrev pub reserved_of : MemoryState → ℕ
+reserved_of memory = sum_by (λ (tenant : Recorded). tenant.reserve) memory.tenants
+
+-- One step of an open run of the tenant t after which it goes on: it changes the maps as what it asks does, and the pages that it writes are
+-- broken. `all` frames were reserved, `mine` of them for this run: as many are free as the others have and the rest of this one may need.
+pub record IsMade (v : Accepted) (t all mine frames : ℕ) (s : MachineState) (before : Sharing) (next : MachineState) (after : Sharing) : Type 0 where
+  pub makes : step v.subject.text s ≡ Some (Next next)
+  pub need : Need
+  pub value : List ℕ
+  pub maps : next.memory.maps ≡ maps_after need value s.memory.maps
+  pub shares : after ≡ sharing_after before t (written v.subject.text s)
+  pub enough : all + reserve_from v next.slot ≤ frames_free frames after + mine
+
+-- n such steps
+abbrev pub AreMade : Accepted → ℕ → ℕ → ℕ → ℕ → MachineState → Sharing → ℕ → MachineState → Sharing → Type 0
+AreMade v t all mine frames s before zero next after = (next ≡ s) × (after ≡ before)
+AreMade v t all mine frames s before (suc n) next after =
+    (u : MachineState) × (between : Sharing) × AreMade v t all mine frames s before n u between × IsMade v t all mine frames u between next after
+
+-- n steps of a run for which just what it may need was reserved
+abbrev pub AreMadeFrom : Accepted → MachineState → ℕ → ℕ → MemoryState → MachineState → Sharing → Type 0
+AreMadeFrom v s n t before next after = AreMade v t (reserved_of before) (reserve_from v s.slot) (length before.arena) s before.sharing n next after
+
+-- n steps, after which the run stands for a later state
+pub record IsOn (v : Accepted) (s : MachineState) (n t : ℕ) (before : MemoryState) (run : Running) (after : MemoryState) : Type 0 where
   pub next : MachineState
-  pub reached : ReachesQuietly v s n next
-  pub maps : next.memory.maps ≡ s.memory.maps
+  pub reached : AreMadeFrom v s n t before next after.sharing
   pub stands : StandsFor v run next
   pub owned : part after t ≡ part_in v next
-  pub sharing : after.sharing ≡ before.sharing
 
--- Steps that write to no map, and one more that asks something of the tenant's maps: the pages that it
--- writes are broken.
+-- steps, and one more that asks something of the tenant's maps: the pages that it writes are broken
 pub record IsAnswered (v : Accepted) (s : MachineState) (n t : ℕ) (before : MemoryState) (run : Running) (after : MemoryState) : Type 0 where
   pub made : ℕ
   pub last : n ≡ suc made
   pub here : MachineState
-  pub reached : ReachesQuietly v s made here
-  pub maps : here.memory.maps ≡ s.memory.maps
+  pub between : Sharing
+  pub reached : AreMadeFrom v s made t before here between
   pub next : MachineState
   pub makes : step v.subject.text here ≡ Some (Next next)
   pub need : Need
@@ -49,23 +72,22 @@ pub record IsAnswered (v : Accepted) (s : MachineState) (n t : ℕ) (before : Me
   pub writes : next.memory.maps ≡ maps_after need value here.memory.maps
   pub stands : StandsFor v run next
   pub owned : part after t ≡ part_in v next
-  pub sharing : after.sharing ≡ sharing_after before.sharing t (written v.subject.text here)
+  pub sharing : after.sharing ≡ sharing_after between t (written v.subject.text here)
 
--- steps that write to no map, and one more with which the run ends
+-- steps, and one more with which the run ends
 pub record IsEnded (v : Accepted) (s : MachineState) (n t : ℕ) (number : ℕ) (before : MemoryState) (run : Running) (after : MemoryState) : Type 0 where
   pub made : ℕ
   pub last : n ≡ suc made
   pub here : MachineState
-  pub reached : ReachesQuietly v s made here
-  pub maps : here.memory.maps ≡ s.memory.maps
-  pub makes : step v.subject.text here ≡ Some (Exits number s.memory.maps)
+  pub reached : AreMadeFrom v s made t before here after.sharing
+  pub makes : step v.subject.text here ≡ Some (Exits number here.memory.maps)
+  pub flat : AreFlatMaps here.memory.maps
   pub few : run.steps ≤ instructions_of v.subject.text
-  pub owned : part after t ≡ record { maps = s.memory.maps; reserve = 0 }
-  pub sharing : after.sharing ≡ before.sharing
+  pub owned : part after t ≡ record { maps = here.memory.maps; reserve = 0 }
 
 -- what a stretch of steps did, by what the run returned, if it ended
 pub data HasDone (v : Accepted) (s : MachineState) (n t : ℕ) (before : MemoryState) (run : Running) (after : MemoryState) : Option ℕ → Type 0 where
-  quiet : IsQuiet v s n t before run after → HasDone v s n t before run after None
+  went_on : IsOn v s n t before run after → HasDone v s n t before run after None
   answered : IsAnswered v s n t before run after → HasDone v s n t before run after None
   ended : (number : ℕ) → IsEnded v s n t number before run after → HasDone v s n t before run after (Some number)
 

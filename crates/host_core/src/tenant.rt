@@ -4,7 +4,7 @@ ghost use Rattle.host_core.specs.HostView.{steps_of};
 
 use crate::event::{Event, Reply};
 use crate::host::told;
-use admission::{lower, release};
+use admission::release;
 use host_calls::{host_create_map, host_lookup, host_shapes, host_update, judge};
 use host_types::limits::MAX_PROGRAMS;
 use host_types::{Fault, MapNo};
@@ -12,7 +12,7 @@ use interp::{Need, Run};
 use page_table::Memory;
 use std::alloc::Global;
 use std::marker::Model;
-use tenant_runs::{answer, open_run};
+use tenant_runs::{TenantMaps, answer, open_run};
 use verifier::{Verified, is_context_size};
 
 /// A tenant: its eight places for programs, and its open run, if it has one. Its maps are the memory's.
@@ -261,8 +261,8 @@ impl Tenant {
         None
     }
 
-    /// Makes steps of the open run in one go, at most up to a limit: all up to the first that asks something
-    /// of the tenant's maps or with which the run ends.
+    /// Makes steps of the open run in one go, at most up to a limit: all up to the first that asks a helper of the
+    /// tenant's maps or with which the run ends.
     fn stretch(&mut self, memory: &mut Memory, number: u32, limit: u64) -> Stretch
         requires some { 0 < limit }
         requires kept { IsKept number self.old memory.old }
@@ -308,8 +308,8 @@ impl OpenRun {
     ghost use Rattle.tenant_runs.specs.Meeting.{KeepsSizes};
     ghost use Rattle.host_core.specs.Stretches.{IsUnderWayAt, HasAdvanced};
 
-    /// Makes steps up to a limit, and none behind the first that asks something of the tenant's maps: what the
-    /// run returned, where it ended. What is reserved afterwards is what the rest of the run may need.
+    /// Makes steps up to a limit, and none behind the first that asks a helper of the tenant's maps: what the run
+    /// returned, where it ended. What is reserved afterwards is what the rest of the run may need.
     fn advance(
         &mut self,
         programs: &[Option<Verified>],
@@ -329,12 +329,15 @@ impl OpenRun {
             unreachable!();
         };
         program.facts();
-        match self
-            .run
-            .advance(program, lesser(program.instructions(), limit))
-        {
+        memory.facts();
+        // All that is reserved for the run may be had while it makes its steps.
+        release(memory, number);
+        memory.facts();
+        let maps = TenantMaps { tenant: number };
+        let steps = lesser(program.instructions(), limit);
+        match self.run.advance_on(program, &maps, memory, steps) {
             Need::Private => {
-                lower(memory, number, program.reserve(self.run.slot()));
+                memory.record(number, program.reserve(self.run.slot()));
                 None
             }
             Need::Ended(ret) => {
