@@ -1,8 +1,7 @@
-ghost use Rattle.std.specs.Prelude.{◌≡◌, ◌≤◌, ◌+◌, ◌/◌, ◌%◌, ℕ, length};
+ghost use Rattle.std.specs.Prelude.{◌≡◌, ◌≤◌, ◌+◌, ◌/◌, ◌%◌, length};
 ghost use Rattle.bpf_decode.specs.Opcodes.{byte_count};
 ghost use Rattle.page_table.specs.Changes.{IsOwn};
 ghost use Rattle.page_table.specs.State.{part, map_bytes, have_of};
-ghost use Rattle.write_break.specs.Stores.{store_frames};
 ghost use Rattle.tenant_runs.specs.Storing.{maps_of, HasStored};
 
 use bpf_decode::Size;
