@@ -11,7 +11,7 @@ use Rattle.host_types.specs.Helpers.{update_answer, element_at, map_updated, map
 use Rattle.host_types.specs.Bytes.{with_part}
 use Rattle.host_types.specs.Memory.{FlatMap, FlatMaps, map_at, ◌>>=◌}
 use Rattle.host_types.specs.Sharing.{Sharing, frames_free}
-use Rattle.host_types.specs.Tenant.{TenantPart, AreFlatMaps}
+use Rattle.host_types.specs.Tenant.{TenantPart}
 use Rattle.bpf_decode.specs.declared.operation.Operation.{Operation}
 use Rattle.bpf_decode.specs.declared.operation.Operation.TheVariants.{Alu, Load, Store, LoadImmediate, Jump, Branch, Call, Exit}
 use Rattle.bpf_decode.specs.Text.{instructions_of, instructions_before, insn_at}

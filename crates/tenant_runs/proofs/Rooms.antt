@@ -1,12 +1,12 @@
 -- What a run asks has its room: no more frames are needed than are charged.
-use Rattle.std.proofs.Common.{◌≡◌, ◌≤◌, ◌<◌, ◌+◌, ◌%◌, inl, inr, ℕ, List, length, Option, Some, None, option_map, unwrap_or, refl, sym, ap, ◌∙◌, arith}
+use Rattle.std.proofs.Common.{◌≡◌, ◌≤◌, ◌<◌, ◌+◌, ◌%◌, false, IfSome, inl, inr, ℕ, List, length, Option, Some, None, option_map, unwrap_or, refl, sym, ap, ◌∙◌, arith}
 use Rattle.std.proofs.lemmas.Bool.{cases_lt}
 use Rattle.std.proofs.lemmas.List.{get_or_past, length-set}
 use Rattle.host_types.specs.declared.shape.Shape.{Shape}
 use Rattle.host_types.specs.declared.helper.MapHelper.TheVariants.{Update as Updates}
 use Rattle.host_types.specs.Helpers.{helper}
 use Rattle.host_types.specs.Memory.{FlatMap, FlatMaps, map_at}
-use Rattle.host_types.specs.Sharing.{Sharing}
+use Rattle.host_types.specs.Sharing.{Sharing, PageState, is_shared, is_shared_page}
 use Rattle.host_types.specs.Tenant.{TenantPart, IsFlatMap, AreFlatMaps}
 use Rattle.bpf_decode.specs.declared.operation.Size.{Size}
 use Rattle.bpf_decode.specs.declared.operation.Size.TheVariants.{Byte, HalfWord, Word, DoubleWord}
@@ -20,20 +20,33 @@ use Rattle.map_helpers.proofs.Updates.{charge-enough}
 use Rattle.interp.specs.declared.need.Need.TheVariants.{Store, Update}
 use Rattle.tenant_runs.specs.Meeting.{MayMeet, answer_in, charge_in, KeepsSizes}
 
--- a store lies in one page
+-- aligned bytes lie in one page
+pub in_page : (at : ℕ) (size : Size) → at % byte_count size ≡ 0 → at % 4096 + byte_count size ≤ 4096
+in_page at Byte h = omega arith
+in_page at HalfWord h = omega arith
+in_page at Word h = omega arith
+in_page at DoubleWord h = omega arith
+
+-- a store takes one frame at most
 pub store_room : (sharing : Sharing) (tenant m at : ℕ) (size : Size) → at % byte_count size ≡ 0 → store_frames sharing tenant m at (byte_count size) ≤ 1
 store_room sharing tenant m at size aligned =
     let few = cost_from-few sharing (place_of_byte tenant m at) (touched at (byte_count size)) in
-    let one = touched-within at (byte_count size) (in_page size aligned) in
+    let one = touched-within at (byte_count size) (in_page at size aligned) in
     omega (arith, few, one)
-  where
-    in_page : (size : Size) → at % byte_count size ≡ 0 → at % 4096 + byte_count size ≤ 4096
-    in_page Byte h = omega arith
-    in_page HalfWord h = omega arith
-    in_page Word h = omega arith
-    in_page DoubleWord h = omega arith
 
--- one frame is charged for it
+-- a load or a store has some bytes, and no more than eight
+pub some_bytes : (size : Size) → (1 ≤ byte_count size) × (byte_count size ≤ 8)
+some_bytes Byte = (omega arith, omega arith)
+some_bytes HalfWord = (omega arith, omega arith)
+some_bytes Word = (omega arith, omega arith)
+some_bytes DoubleWord = (omega arith, omega arith)
+
+-- a page with a frame of its own shares none
+pub own_page : (state : Option PageState) → IfSome state (λ one. is_shared one.status ≡ false) → is_shared_page state ≡ false
+own_page None own = refl
+own_page (Some state) own = own
+
+-- one frame is charged for a store
 pub store_charged : (owned : TenantPart) (m at number : ℕ) (size : Size) (value : List ℕ) → MayMeet owned (Store m at size number) value → (charge_in owned (Store m at size number) ≡ 1) × (at % byte_count size ≡ 0)
 store_charged owned m at number size value may = by_map (map_at owned.maps m) refl
   where

@@ -1,9 +1,13 @@
-ghost use Rattle.std.specs.Prelude.{◌≡◌, ◌≤◌, ℕ};
-ghost use Rattle.page_table.specs.State.{have_of};
+ghost use Rattle.std.specs.Prelude.{◌≡◌, ◌≤◌, ◌+◌, ◌/◌, ◌%◌, length};
+ghost use Rattle.bpf_decode.specs.Opcodes.{byte_count};
+ghost use Rattle.page_table.specs.Changes.{IsOwn};
+ghost use Rattle.page_table.specs.State.{part, map_bytes, have_of};
 ghost use Rattle.tenant_runs.specs.Storing.{maps_of, HasStored};
 
 use bpf_decode::Size;
-use host_types::MapNo;
+use byteorder::{ByteOrder, LittleEndian};
+use host_types::limits::PAGE_SIZE;
+use host_types::{MapNo, Page};
 use interp::MapMemory;
 use page_table::Memory;
 use write_break::{load, store};
@@ -30,7 +34,49 @@ impl MapMemory for TenantMaps {
 
     #[inline(always)]
     fn store(&self, memory: &mut Memory, map: MapNo, at: u32, size: Size, value: u64) {
-        store(memory, self.tenant, map, at, size.bytes(), value);
-        memory.facts();
+        let page = page_of(self.tenant, map, at);
+        if memory.entry(page).protected {
+            store_apart(memory, self.tenant, map, at, size, value);
+        } else {
+            store_own(memory, self.tenant, map, at, size, value);
+        }
     }
+}
+
+/// The page of a tenant's map that a byte is in.
+#[inline(always)]
+fn page_of(tenant: u32, map: MapNo, at: u32) -> Page
+    ensures { result ≡ record { tenant = tenant; map = map; number = at / 4096 } }
+{
+    Page {
+        tenant,
+        map,
+        number: at / PAGE_SIZE,
+    }
+}
+
+/// Stores the low bytes of a number to a page that may share its frame: it is taken out before.
+fn store_apart(memory: &mut Memory, tenant: u32, map: MapNo, at: u32, size: Size, value: u64)
+    requires within { at + byte_count size ≤ length (map_bytes (part memory.old tenant) map) }
+    requires aligned { at % byte_count size ≡ 0 }
+    requires room { 1 ≤ have_of memory.old }
+    ensures { HasStored tenant memory.old map at size value memory.new }
+{
+    store(memory, tenant, map, at, size.bytes(), value);
+    memory.facts();
+}
+
+/// Stores the low bytes of a number to a page that has a frame of its own: as many bytes as the code says, behind no call.
+#[inline(always)]
+fn store_own(memory: &mut Memory, tenant: u32, map: MapNo, at: u32, size: Size, value: u64)
+    requires within { at + byte_count size ≤ length (map_bytes (part memory.old tenant) map) }
+    requires aligned { at % byte_count size ≡ 0 }
+    requires own { IsOwn memory.old (record { tenant = tenant; map = map; number = at / 4096 }) }
+    ensures { HasStored tenant memory.old map at size value memory.new }
+{
+    let mut word = [0; 8];
+    LittleEndian::write_u64(&mut word, value);
+    let bytes = &word[..size.bytes() as usize];
+    memory.put(page_of(tenant, map, at), at % PAGE_SIZE, bytes);
+    memory.facts();
 }

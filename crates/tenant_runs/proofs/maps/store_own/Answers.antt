@@ -1,0 +1,32 @@
+use Rattle.std.proofs.Common.{◌≡◌, ◌∙◌, ◌+◌, ◌*◌, ◌/◌, ◌%◌, take, sym, ap, arith}
+use Rattle.host_types.specs.Bytes.{bytes_of}
+use Rattle.host_types.specs.Sharing.{state_at}
+use Rattle.host_types.proofs.Bytes.{bytes_low_first-bytes_of}
+use Rattle.host_types.proofs.Unmerging.{broken-own}
+use Rattle.bpf_decode.specs.Opcodes.{byte_count}
+use Rattle.write_break.specs.Stores.{place_of_byte}
+use Rattle.write_break.proofs.Numbers.{take-bytes_of}
+use Rattle.write_break.proofs.Stores.{sharing-one, have-kept}
+use Rattle.tenant_runs.proofs.Rooms.{in_page, some_bytes, own_page}
+use Rattle.tenant_runs.proofs.maps.store_own.Goals as goal
+
+pub returns : goal.returns
+returns c =
+    let sharing = c.args.memory.now.sharing in
+    let size = byte_count c.args.size in
+    let (least, most) = some_bytes c.args.size in
+    let within = in_page c.args.at c.args.size c.requires.aligned in
+    let word : take size c.write_u64.new.buf ≡ bytes_of size c.args.value =
+    ap (take size) (c.write_u64.ensures ∙ bytes_low_first-bytes_of 8 c.args.value) ∙ take-bytes_of size 8 c.args.value most in
+    let place : c.args.at / 4096 * 4096 + c.args.at % 4096 ≡ c.args.at = omega arith in
+    let apart = own_page (state_at sharing (place_of_byte c.args.tenant c.args.map c.args.at)) c.requires.own in
+    let unbroken = sharing-one sharing c.args.tenant c.args.map c.args.at size (omega (arith, least)) within ∙ broken-own sharing (place_of_byte c.args.tenant c.args.map c.args.at) apart in
+    let have = have-kept c.args.memory.now c.put.new.self c.put.ensures.sharing c.put.ensures.settings in
+    record {
+      owned = rw (c.page_of.ensures, c.bytes.ensures, word, place) at c.put.ensures.written;
+      others = rw c.page_of.ensures at c.put.ensures.others;
+      sharing = c.put.ensures.sharing ∙ sym unbroken;
+      settings = c.put.ensures.settings;
+      room = omega (arith, have);
+      reads = c.facts.ensures;
+    }
