@@ -12,7 +12,7 @@ use Rattle.host_file.specs.declared.fault.FileFault.{FileFault}
 use Rattle.host_file.specs.declared.fault.FileFault.TheVariants as fault
 use Rattle.host_file.specs.Faults.{MeansNone, Refutes}
 use Rattle.host_file.specs.HostFile.{HasString, IsEvent, IsBeginning, IsOptionData, IsEventArray}
-use Rattle.host_file.specs.Kinds.{Kind, map, load, begin, step, finish, run, visit, update, lookup, set, unmerge, counters, word_of, IsComplete}
+use Rattle.host_file.specs.Kinds.{Kind, map, load, begin, step, finish, run, visit, update, lookup, set, unmerge, counters, unload, drop, word_of, IsComplete}
 
 -- a number by a word's first three letters, in which the words of all kinds differ
 abbrev letters : List ℕ → ℕ
@@ -33,6 +33,8 @@ kind_of_word lookup lookup e = refl
 kind_of_word set set e = refl
 kind_of_word unmerge unmerge e = refl
 kind_of_word counters counters e = refl
+kind_of_word unload unload e = refl
+kind_of_word drop drop e = refl
 kind_of_word _ _ e = absurd (omega (arith, ap letters e))
 
 -- the kind of an event, which says so, and all that it needs
@@ -57,6 +59,8 @@ event_shown ms (command.Apply (event.HostLookup tenant m number)) h =
 event_shown ms (command.Apply (event.Set opt value)) h = (set, h.0.0, (h.0.1, (opt, h.1), (value, h.2)))
 event_shown ms (command.Apply event.Unmerge) h = (unmerge, h.0, h.1)
 event_shown ms (command.Apply event.Counters) h = (counters, h.0, h.1)
+event_shown ms (command.Apply (event.Unload tenant program)) h = (unload, h.0.0, (h.0.1, (tenant, h.1), (program, h.2)))
+event_shown ms (command.Apply (event.DropMap tenant m)) h = (drop, h.0.0, (h.0.1, (tenant, h.1), (m, h.2)))
 event_shown ms (command.Apply _) h = absurd h
 event_shown ms (command.Step tenant count) h = (step, h.0.0, (h.0.1, (tenant, h.1), (count, h.2)))
 event_shown ms (command.Finish tenant) h = (finish, h.0.0, (h.0.1, (tenant, h.1)))

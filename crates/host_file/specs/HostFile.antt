@@ -5,7 +5,7 @@ use Rattle.host_types.specs.declared.options.Options.{Options}
 use Rattle.host_types.specs.OptionTable.{default_options, option_name}
 use Rattle.hex.specs.Hex.{decode_of}
 use Rattle.host_core.specs.declared.event.Event.{Event}
-use Rattle.host_core.specs.declared.event.Event.TheVariants.{CreateMap, Load, Begin, HostUpdate, HostLookup, Set, Unmerge, Counters}
+use Rattle.host_core.specs.declared.event.Event.TheVariants.{CreateMap, Load, Begin, HostUpdate, HostLookup, Set, Unmerge, Counters, Unload, DropMap}
 use Rattle.toml.specs.Parse.{parse_document}
 use Rattle.toml.specs.Data.{Data, string, integer, boolean, array, table, Items, no_items, item, Members, no_members, member, get_member}
 use Rattle.host_file.specs.declared.key.Key.{Key}
@@ -128,6 +128,12 @@ IsHostEvent ms (Set opt value) =
     IsRow ms (codes "set") (key.Do ∷ key.Option ∷ key.Value ∷ []) × HasOption ms opt × HasNumber ms key.Value value
 IsHostEvent ms Unmerge = IsRow ms (codes "unmerge") (key.Do ∷ [])
 IsHostEvent ms Counters = IsRow ms (codes "counters") (key.Do ∷ [])
+IsHostEvent ms (Unload tenant program) =
+    IsRow ms (codes "unload") (key.Do ∷ key.Tenant ∷ key.Program ∷ [])
+    × HasNumber ms key.Tenant tenant × HasNumber ms key.Program program
+IsHostEvent ms (DropMap tenant map) =
+    IsRow ms (codes "drop") (key.Do ∷ key.Tenant ∷ key.Map ∷ [])
+    × HasNumber ms key.Tenant tenant × HasNumber ms key.Map map
 IsHostEvent ms _ = ⊥
 
 -- the table of an event, by what it does

@@ -20,6 +20,8 @@ pub data Kind : Type 0 where
   set : Kind
   unmerge : Kind
   counters : Kind
+  unload : Kind
+  drop : Kind
 
 -- the word for it at `do`
 abbrev pub word_of : Kind → List ℕ
@@ -35,6 +37,8 @@ word_of lookup = codes "lookup"
 word_of set = codes "set"
 word_of unmerge = codes "unmerge"
 word_of counters = codes "counters"
+word_of unload = codes "unload"
+word_of drop = codes "drop"
 
 -- some number, or some bytes, stand at a key
 abbrev pub SomeNumber : Members → Key → Type 0
@@ -73,3 +77,6 @@ IsComplete ms set =
     HasOnly ms (key.Do ∷ key.Option ∷ key.Value ∷ []) × ((opt : Opt) × HasOption ms opt) × SomeNumber ms key.Value
 IsComplete ms unmerge = HasOnly ms (key.Do ∷ [])
 IsComplete ms counters = HasOnly ms (key.Do ∷ [])
+IsComplete ms unload =
+    HasOnly ms (key.Do ∷ key.Tenant ∷ key.Program ∷ []) × SomeNumber ms key.Tenant × SomeNumber ms key.Program
+IsComplete ms drop = HasOnly ms (key.Do ∷ key.Tenant ∷ key.Map ∷ []) × SomeNumber ms key.Tenant × SomeNumber ms key.Map

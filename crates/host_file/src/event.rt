@@ -32,6 +32,8 @@ pub fn command_of(alloc: Global, event: &Section<'_>) -> Result<Command, FileFau
         "set" => set(alloc, event),
         "unmerge" => unmerge(alloc, event),
         "counters" => counters(alloc, event),
+        "unload" => unload(alloc, event),
+        "drop" => drop_map(alloc, event),
         other => Err(event.bad(Cause::UnknownEvent(quoted(alloc, other)?))),
     }
 }
@@ -205,4 +207,28 @@ fn counters(alloc: Global, event: &Section<'_>) -> Result<Command, FileFault>
 {
     event.require_only(alloc, &[Key::Do])?;
     Ok(Command::Apply(Event::Counters))
+}
+
+fn unload(alloc: Global, event: &Section<'_>) -> Result<Command, FileFault>
+    requires { HasString (members_of event.now) Key.Do (codes "unload") }
+    ensures read { IfOk result (IsEvent (members_of event.now)) }
+    ensures bad { IfErr result (Refutes (IsComplete (members_of event.now) kind.unload)) }
+{
+    event.require_only(alloc, &[Key::Do, Key::Tenant, Key::Program])?;
+    Ok(Command::Apply(Event::Unload {
+        tenant: event.number(Key::Tenant)?,
+        program: event.number(Key::Program)?,
+    }))
+}
+
+fn drop_map(alloc: Global, event: &Section<'_>) -> Result<Command, FileFault>
+    requires { HasString (members_of event.now) Key.Do (codes "drop") }
+    ensures read { IfOk result (IsEvent (members_of event.now)) }
+    ensures bad { IfErr result (Refutes (IsComplete (members_of event.now) kind.drop)) }
+{
+    event.require_only(alloc, &[Key::Do, Key::Tenant, Key::Map])?;
+    Ok(Command::Apply(Event::DropMap {
+        tenant: event.number(Key::Tenant)?,
+        map: event.number(Key::Map)?,
+    }))
 }

@@ -93,7 +93,7 @@ pub enum Cause {
     NotTable(Key),
     #[error("`{0}` is no array of tables")]
     NotTables(Key),
-    #[error("no event does `{0}`; an event does map, load, begin, step, finish, run, visit, update, lookup, set, unmerge or counters")]
+    #[error("no event does `{0}`; an event does map, load, begin, step, finish, run, visit, update, lookup, set, unmerge, counters, unload or drop")]
     UnknownEvent(String),
     #[error("no option is `{0}`; the options are pages_to_scan, run, use_zero_pages and max_page_sharing")]
     UnknownOption(String),

@@ -53,7 +53,9 @@ fn served_event(tenants: u32, event: &Event) -> Result<(), Cause>
         | Event::Step { .. }
         | Event::Visit
         | Event::Unmerge
-        | Event::Counters => Err(Cause::NotServed),
+        | Event::Counters
+        | Event::Unload { .. }
+        | Event::DropMap { .. } => Err(Cause::NotServed),
     }
 }
 
