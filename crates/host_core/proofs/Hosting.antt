@@ -13,7 +13,7 @@ use Rattle.ksm_counters.specs.Counters.{counters_of}
 use Rattle.page_table.specs.Changes.{KeepsSettings}
 use Rattle.page_table.specs.State.{MemoryState, have_of}
 use Rattle.host_core.specs.declared.event.Event.{Event}
-use Rattle.host_core.specs.declared.event.Event.TheVariants.{CreateMap, Load, Begin, Step, Visit, HostUpdate, HostLookup, Set, Unmerge, Counters}
+use Rattle.host_core.specs.declared.event.Event.TheVariants.{CreateMap, Load, Begin, Step, Visit, HostUpdate, HostLookup, Set, Unmerge, Counters, Unload, DropMap}
 use Rattle.host_core.specs.declared.event.Reply.{Reply}
 use Rattle.host_core.specs.declared.event.Reply.TheVariants.{Visited as WasVisited, Done, Counters as AreCounters, Refused}
 use Rattle.host_core.specs.World.{System, all_maps, have_in, IsCovered}
@@ -149,6 +149,8 @@ no_tenant (Load s text size) t x named missing = (OfTenant-missing x s _ x _ (mi
 no_tenant (Begin s k context) t x named missing = (OfTenant-missing x s _ x _ (missing_at s t x named missing) (refl, refl), tt)
 no_tenant (HostUpdate s m key value) t x named missing = (OfTenant-missing x s _ x _ (missing_at s t x named missing) (refl, refl), tt)
 no_tenant (HostLookup s m key) t x named missing = (OfTenant-missing x s _ x _ (missing_at s t x named missing) (refl, refl), tt)
+no_tenant (Unload s k) t x named missing = (OfTenant-missing x s _ x _ (missing_at s t x named missing) (refl, refl), tt)
+no_tenant (DropMap s m) t x named missing = (OfTenant-missing x s _ x _ (missing_at s t x named missing) (refl, refl), tt)
 no_tenant (Step s) t x named missing =
     let none = missing_at s t x named missing in
     (OfTenant-missing x s _ x _ none (refl, refl), subst (λ found. IfSome found (λ tenant. IfSome tenant.run (λ r. IsPromisedOf r s (Refused fault.BadTenant) x.world))) (sym none) tt)

@@ -9,6 +9,7 @@ pub mod Starting
 pub mod Serving
 pub mod Opening
 pub mod Loading
+pub mod Leaving
 pub mod Advances
 pub mod Stepping
 pub mod Making

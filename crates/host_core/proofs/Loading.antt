@@ -109,7 +109,7 @@ load_refusal-none : (tenant : Tenant) (size k : ℕ) → is_some tenant.run ≡ 
 load_refusal-none tenant size k idle room fits = rw (idle, room, fits) refl
 
 -- no open run, whatever the programs are
-run-closed : (programs more : List (Option Accepted)) (kept : Option KeptRun) (r : Option OpenRun) → is_some kept ≡ false → StandsForAnyRun programs kept r → StandsForAnyRun more kept r
+pub run-closed : (programs more : List (Option Accepted)) (kept : Option KeptRun) (r : Option OpenRun) → is_some kept ≡ false → StandsForAnyRun programs kept r → StandsForAnyRun more kept r
 run-closed programs more None None idle stands = tt
 run-closed programs more None (Some r) idle stands = absurd stands
 run-closed programs more (Some kept) r idle stands = absurd (cc)

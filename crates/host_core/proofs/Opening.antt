@@ -48,7 +48,7 @@ pub lent-at : (kept : TenantView) (lent : List (Option Accepted)) (k : ℕ) {tol
 lent-at kept lent k same tells = ap (λ programs. slice_index_or programs k None) (sym same) ∙ sym tells
 
 -- the same program is at each place
-program_at-kept : (kept : TenantView) (tenant : Tenant) (k : ℕ) → StandsForTenant kept tenant → program_at tenant k ≡ option_map (λ (v : Accepted). v.subject) (accepted_at kept k)
+pub program_at-kept : (kept : TenantView) (tenant : Tenant) (k : ℕ) → StandsForTenant kept tenant → program_at tenant k ≡ option_map (λ (v : Accepted). v.subject) (accepted_at kept k)
 program_at-kept kept tenant k stands = ap (λ programs. slice_index_or programs k None) stands.programs ∙ get_or-there (λ (v : Accepted). v.subject) kept.programs k
 
 -- what is said of each program holds of the one at a place
@@ -167,6 +167,7 @@ module _ (t k : ℕ) (old : TenantView) (context : List ℕ) (v : Accepted) (idl
   begin-not_opened memory BadOption refuses = absurd refuses
   begin-not_opened memory OutOfMemory (fits, enough) = begin-lacks_memory memory fits enough
   begin-not_opened memory BadTenant refuses = absurd refuses
+  begin-not_opened memory InUse refuses = absurd refuses
   begin-not_opened memory PagesShared refuses = absurd refuses
   begin-not_opened memory TooManyPrograms refuses = absurd refuses
 

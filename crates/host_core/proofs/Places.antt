@@ -1,8 +1,9 @@
 -- Lists of places, at each of which something is or isn't.
-use Rattle.std.proofs.Common.{◌≡◌, ℕ, zero, suc, ◌+◌, List, [], ◌∷◌, map, set, get_or, not, Option, Some, None, is_none, IfSome, ap, refl, subst}
-use Rattle.std.specs.List.{slice_get, All, position, prefix_len}
+use Rattle.std.proofs.Common.{◌≡◌, ℕ, zero, suc, ◌+◌, ◌<◌, Bool, true, false, ◌||◌, List, [], ◌∷◌, length, map, set, get_or, not, Option, Some, None, is_none, IfSome, ap, refl, subst}
+use Rattle.std.specs.List.{slice_get, All, list_any, position, prefix_len}
 use Rattle.std.specs.Option.{option_map}
 use Rattle.std.proofs.lemmas.List.{length-map}
+use Rattle.std.proofs.lemmas.List.Folds.{list_any_at}
 use Rattle.std.proofs.lemmas.Option.{get_or_from_slice_get, slice_get_within}
 
 module _ {A B : Type 0} (f : A → B) where
@@ -20,6 +21,19 @@ module _ {A B : Type 0} (f : A → B) where
   -- the same place is the first that is free
   pub first_free-map : (xs : List (Option A)) → position (λ (place : Option B). is_none place) (map (option_map f) xs) ≡ position (λ (place : Option A). is_none place) xs
   first_free-map xs = rw (same_prefix xs, length-map xs (option_map f)) refl
+
+-- a test of what is made of the things of a list
+pub list_any-map : {A B : Type 0} (test : B → Bool) (f : A → B) (xs : List A) → list_any test (map f xs) ≡ list_any (λ x. test (f x)) xs
+list_any-map test f [] = refl
+list_any-map test f (x ∷ xs) = ap (λ (b : Bool). test (f x) || b) (list_any-map test f xs)
+
+-- where a test holds of none of a list, it doesn't hold of what is at a place
+pub none-at : {A : Type 0} (test : A → Bool) (xs : List A) (k : ℕ) (d : A) → list_any test xs ≡ false → k < length xs → test (get_or xs k d) ≡ false
+none-at test xs k d none less = chosen (test (get_or xs k d)) refl
+  where
+    chosen : (b : Bool) → test (get_or xs k d) ≡ b → b ≡ false
+    chosen false is = refl
+    chosen true is = let some : list_any test xs ≡ true = list_any_at test xs k d less is in absurd (cc)
 
 -- a list that is changed at a place, and made another
 pub map-set : {A B : Type 0} (f : A → B) (xs : List A) (k : ℕ) (x : A) → map f (set xs k x) ≡ set (map f xs) k (f x)

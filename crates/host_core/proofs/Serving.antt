@@ -31,7 +31,7 @@ use Rattle.host_core.specs.declared.event.Reply.TheVariants.{Map, Done, Value, R
 use Rattle.host_core.specs.declared.tenant.OpenRun.{OpenRun as KeptRun}
 use Rattle.host_core.specs.World.{OpenRun, Tenant, System, owned_by, have_in}
 use Rattle.host_core.specs.Happens.{Happens, IsPromised, RefusesCreate, RefusesHostUpdate, changed_system}
-use Rattle.host_core.specs.HostView.{TenantView, StandsForAnyRun, StandsForTenant, StandsForMemory, IsKept, IsServed}
+use Rattle.host_core.specs.HostView.{TenantView, EachProgram, StandsForAnyRun, StandsForTenant, StandsForMemory, IsKept, IsServed}
 use Rattle.host_core.proofs.Worlds.{changed_system-same, OfTenant-there}
 use Rattle.host_core.proofs.Systems.{part_stands, have_stands, changed_stands}
 
@@ -113,16 +113,23 @@ updated_shape key value flat = chosen (update_answer flat.shape key 0 == 0) (wit
     chosen true bytes = refl
     chosen false bytes = refl
 
--- a tenant without an open run, whose maps became others that have the shapes that its programs use
-with_maps : (old : TenantView) (tenant : Tenant) (maps : FlatMaps) → IsNone tenant.run → StandsForTenant old tenant → AreFlatMaps maps
-    → ((shapes : List (Option Shape)) → HaveShapes shapes tenant.maps → HaveShapes shapes maps) → StandsForTenant old (record tenant { maps = maps })
-with_maps old tenant maps idle stands flat have = record {
+-- a tenant without an open run, whose maps became others, of which those that its programs name have the shapes that they ask
+pub with_named_maps : (old : TenantView) (tenant : Tenant) (maps : FlatMaps) → IsNone tenant.run → StandsForTenant old tenant → AreFlatMaps maps
+    → EachProgram (λ accepted. HaveShapes (named_shapes accepted.subject) maps) old.programs → StandsForTenant old (record tenant { maps = maps })
+with_named_maps old tenant maps idle stands flat have = record {
   programs = stands.programs;
   verified = stands.verified;
-  shapes = λ k d less. IfSome_then (slice_index_or old.programs k d) (stands.shapes k d less) (λ accepted. have (named_shapes accepted.subject));
+  shapes = have;
   run = stands.run;
   meets = record { maps = flat; places = stands.meets.places; run = stands.meets.run; same = if_idle tenant.run (λ r. maps ≡ r.state.memory.maps) idle };
 }
+
+-- a tenant without an open run, whose maps became others that have the shapes that its programs use
+with_maps : (old : TenantView) (tenant : Tenant) (maps : FlatMaps) → IsNone tenant.run → StandsForTenant old tenant → AreFlatMaps maps
+    → ((shapes : List (Option Shape)) → HaveShapes shapes tenant.maps → HaveShapes shapes maps) → StandsForTenant old (record tenant { maps = maps })
+with_maps old tenant maps idle stands flat have =
+    with_named_maps old tenant maps idle stands flat
+    (λ k d less. IfSome_then (slice_index_or old.programs k d) (stands.shapes k d less) (λ accepted. have (named_shapes accepted.subject)))
 
 -- what is known once a map was made
 pub record HasCreated (t : ℕ) (before after : MemoryState) (shape : Shape) (mergeable : Bool) (m : ℕ) : Type 0 where

@@ -8,14 +8,14 @@ use Rattle.host_types.specs.declared.options.Opt.{Opt}
 use Rattle.host_types.specs.declared.shape.Shape.{Shape}
 use Rattle.host_types.specs.declared.visited.Visited.{Visited}
 use Rattle.host_types.specs.Helpers.{helper}
-use Rattle.host_types.specs.Memory.{FlatMaps}
+use Rattle.host_types.specs.Memory.{FlatMaps, map_at}
 use Rattle.host_types.specs.OptionTable.{MayBe}
 use Rattle.host_types.specs.Pages.{map_place}
 use Rattle.host_types.specs.Sharing.{Sharing}
 use Rattle.host_types.specs.Unmerging.{unmerged, unmerge_need, with_option, MaySet, RefusesSet}
-use Rattle.host_types.specs.Visits.{contents_in, visit}
+use Rattle.host_types.specs.Visits.{contents_in, dropped, visit}
 use Rattle.bpf_decode.specs.Text.{IsWellFormed, IsFirstFault, instructions_of}
-use Rattle.page_table.specs.Changes.{zero_map, with_new_pages}
+use Rattle.page_table.specs.Changes.{pages_of_map, zero_map, with_new_pages}
 use Rattle.page_table.specs.Limits.{page_count, shape_of}
 use Rattle.page_table.specs.State.{free_number}
 use Rattle.write_break.specs.Stores.{stored_sharing}
@@ -29,10 +29,10 @@ use Rattle.interp.specs.Written.{Written, written}
 use Rattle.host_calls.specs.Calls.{FitsNewMap, FitsValue, IsCharged, IsValue, RefusesNewMap, RefusesUpdate, RefusesLookup}
 use Rattle.host_calls.specs.Programs.{subject_of}
 use Rattle.host_core.specs.declared.event.Event.{Event}
-use Rattle.host_core.specs.declared.event.Event.TheVariants.{CreateMap, Load, Begin, Step, Visit, HostUpdate, HostLookup, Set, Unmerge, Counters}
+use Rattle.host_core.specs.declared.event.Event.TheVariants.{CreateMap, Load, Begin, Step, Visit, HostUpdate, HostLookup, Set, Unmerge, Counters, Unload, DropMap}
 use Rattle.host_core.specs.declared.event.Reply.{Reply}
 use Rattle.host_core.specs.declared.event.Reply.TheVariants.{Map, Program, Begun, Stepped, Ended, Visited as WasVisited, Done, Value, Counters as AreCounters, Refused}
-use Rattle.host_core.specs.World.{Leads, OpenRun, Tenant, World, System, program_at, free_place, begun_run, all_maps, accepted_of, owned_by, have_in, IsCovered}
+use Rattle.host_core.specs.World.{Leads, OpenRun, Tenant, World, System, program_at, free_place, is_used, begun_run, all_maps, accepted_of, owned_by, have_in, IsCovered}
 
 -- an event was answered so, and changed nothing
 abbrev pub Answers : System → Reply → Reply → System → Type 0
@@ -168,6 +168,29 @@ UpdateHappens x t tenant m key value reply x' =
 abbrev pub LookupHappens : System → Tenant → ℕ → ℕ → Reply → System → Type 0
 LookupHappens x tenant m key reply x' = (bytes : List ℕ) × IsValue (owned_by tenant) m key bytes × Answers x (Value bytes) reply x'
 
+-- what is refused of a program that is to be unloaded
+abbrev pub unload_refusal : Tenant → ℕ → Option Fault
+unload_refusal tenant k = first_refusal (
+    (is_some tenant.run, fault.Busy)
+    ∷ (is_none (program_at tenant k), fault.NoProgram) ∷ [])
+
+-- a program is no longer at its place
+abbrev pub UnloadHappens : System → ℕ → Tenant → ℕ → Reply → System → Type 0
+UnloadHappens x t tenant k reply x' = Leaves x t (record tenant { programs = slice_set tenant.programs k None }) x.sharing Done reply x'
+
+-- what is refused of a map that is to be dropped
+abbrev pub drop_refusal : Tenant → ℕ → Option Fault
+drop_refusal tenant m = first_refusal (
+    (is_some tenant.run, fault.Busy)
+    ∷ (is_none (map_at tenant.maps m), fault.NoMap)
+    ∷ (is_used tenant m, fault.InUse) ∷ [])
+
+-- a map is no longer there, and its pages share no frame and wait for none
+abbrev pub DropHappens : System → ℕ → Tenant → ℕ → Reply → System → Type 0
+DropHappens x t tenant m reply x' =
+    Leaves x t (record tenant { maps = slice_set tenant.maps m None })
+    (dropped x.sharing (map_place t m * 256) (pages_of_map (owned_by tenant) m)) Done reply x'
+
 -- one visit of the scanner: no tenant changes
 abbrev pub VisitHappens : System → Reply → System → Type 0
 VisitHappens x reply x' =
@@ -200,6 +223,10 @@ Happens x (HostUpdate t m key value) reply x' = OfTenant x t reply x' (λ tenant
     RefusesOr (RefusesHostUpdate x tenant m key value) x reply x' (UpdateHappens x t tenant m key value reply x'))
 Happens x (HostLookup t m key) reply x' = OfTenant x t reply x' (λ tenant.
     RefusesOr (RefusesLookup (owned_by tenant) m key) x reply x' (LookupHappens x tenant m key reply x'))
+Happens x (Unload t k) reply x' = OfTenant x t reply x' (λ tenant.
+    RefusedOr (unload_refusal tenant k) x reply x' (UnloadHappens x t tenant k reply x'))
+Happens x (DropMap t m) reply x' = OfTenant x t reply x' (λ tenant.
+    RefusedOr (drop_refusal tenant m) x reply x' (DropHappens x t tenant m reply x'))
 Happens x (Set option value) reply x' = SetHappens x option value reply x'
 Happens x Unmerge reply x' = UnmergeHappens x reply x'
 Happens x Counters reply x' = Answers x (AreCounters (counters_of x.frames (contents_in (all_maps x.world)) x.sharing)) reply x'

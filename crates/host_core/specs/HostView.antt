@@ -1,5 +1,5 @@
 -- What a host keeps, and which systems it stands for.
-use Rattle.std.specs.Prelude.{◌≡◌, ℕ, ◌+◌, List, length, map, slice_get, option_map, IfSome, Option, Some, None, Result, Ok, Err}
+use Rattle.std.specs.Prelude.{◌≡◌, ℕ, ◌+◌, Bool, List, length, map, slice_get, option_map, IfSome, Option, Some, None, Result, Ok, Err}
 use Rattle.std.specs.List.{AllZip, All}
 use Rattle.host_types.specs.declared.fault.Fault.{Fault}
 use Rattle.host_types.specs.Sharing.{Sharing}
@@ -10,11 +10,11 @@ use Rattle.verifier.specs.Verified.{Accepted, IsVerified}
 use Rattle.interp.specs.Fits.{HaveShapes}
 use Rattle.interp.specs.StandsFor.{StandsFor}
 use Rattle.host_core.specs.declared.event.Event.{Event}
-use Rattle.host_core.specs.declared.event.Event.TheVariants.{CreateMap, Load, Begin, Step, HostUpdate, HostLookup}
+use Rattle.host_core.specs.declared.event.Event.TheVariants.{CreateMap, Load, Begin, Step, HostUpdate, HostLookup, Unload, DropMap}
 use Rattle.host_core.specs.declared.event.Reply.{Reply}
 use Rattle.host_core.specs.declared.event.Reply.TheVariants.{Refused}
 use Rattle.host_core.specs.declared.tenant.OpenRun.{OpenRun as KeptRun}
-use Rattle.host_core.specs.World.{OpenRun, Tenant, System, IsTenant, all_maps, reserve_of}
+use Rattle.host_core.specs.World.{OpenRun, Tenant, System, IsTenant, all_maps, names_there, reserve_of}
 use Rattle.host_core.specs.Happens.{Happens, IsPromised, StepsHappen, changed_system}
 
 -- a tenant as a host keeps it: its accepted programs by place, and its open run, if it has one
@@ -30,6 +30,10 @@ pub record HostView : Type 0 where
 -- what is said of a program holds of each that is there
 abbrev pub EachProgram : (Accepted → Type 0) → List (Option Accepted) → Type 0
 EachProgram Holds programs = All (λ slot. IfSome slot Holds) programs
+
+-- a program is kept at a place, and one of its instructions, reached or not, names the map
+abbrev pub names_in : ℕ → Option Accepted → Bool
+names_in m slot = names_there m (option_map (λ accepted. accepted.subject) slot)
 
 -- An open run stands for one of the system: it is a run of the program at its place, stands for its state,
 -- and made as many steps.
@@ -82,6 +86,8 @@ tenant_of (Begin t k context) = Some t
 tenant_of (Step t) = Some t
 tenant_of (HostUpdate t m key value) = Some t
 tenant_of (HostLookup t m key) = Some t
+tenant_of (Unload t k) = Some t
+tenant_of (DropMap t m) = Some t
 tenant_of event = None
 
 -- a refusal is a reply too

@@ -1,12 +1,14 @@
 -- What a host is, without any of its machinery: each tenant's private memory, programs and open run, and
 -- which pages share frames.
-use Rattle.std.specs.Prelude.{◌≡◌, ℕ, ◌+◌, ◌-◌, ◌*◌, ◌≤◌, List, flat_map, length, position, replicate, slice_get, slice_index_or, sum_by, is_none, IfSome, Option, None, Some}
+use Rattle.std.specs.Prelude.{◌≡◌, ℕ, ◌+◌, ◌-◌, ◌*◌, ◌≤◌, Bool, false, List, flat_map, length, position, replicate, slice_get, slice_index_or, sum_by, is_none, IfSome, Option, None, Some}
+use Rattle.std.specs.List.{list_any}
 use Rattle.host_types.specs.declared.options.Options.{Options}
 use Rattle.host_types.specs.Memory.{FlatMaps}
 use Rattle.host_types.specs.Sharing.{Sharing, frames_free}
 use Rattle.host_types.specs.Tenant.{AreFlatMaps, TenantPart}
 use Rattle.bpf_decode.specs.Text.{instructions_before}
 use Rattle.page_table.specs.State.{no_sharing}
+use Rattle.verifier.specs.Named.{names}
 use Rattle.verifier.specs.Reserve.{reserve_from}
 use Rattle.verifier.specs.Subject.{Subject}
 use Rattle.verifier.specs.Table.{tight_table}
@@ -55,6 +57,15 @@ program_at tenant k = slice_index_or tenant.programs k None
 -- the first of a tenant's places where no program is
 abbrev pub free_place : Tenant → Option ℕ
 free_place tenant = position (λ (slot : Option Subject). is_none slot) tenant.programs
+
+-- a program stands at a place, and one of its instructions, reached or not, names the map
+abbrev pub names_there : ℕ → Option Subject → Bool
+names_there m None = false
+names_there m (Some p) = names p.text m
+
+-- one of a tenant's programs names the map
+abbrev pub is_used : Tenant → ℕ → Bool
+is_used tenant m = list_any (names_there m) tenant.programs
 
 -- a tenant of a new host has eight places for maps and eight for programs, none of them taken, and no run
 abbrev pub new_tenant : Tenant

@@ -42,6 +42,23 @@ pub enum Event {
         map: MapNo,
         key: u32,
     },
+    /// Takes a loaded program from a tenant. A program that is loaded later may have its number.
+    ///
+    /// Refusals in their order: 42 where there is no such tenant, 36 while its run is open, 38 where it has no
+    /// such program.
+    Unload {
+        tenant: u32,
+        program: u32,
+    },
+    /// Takes a map from a tenant. Its pages leave their groups, the zero frame and the waiting list, and
+    /// frames on which no other page lies are free. A map that is made later may have its number.
+    ///
+    /// Refusals in their order: 42 where there is no such tenant, 36 while its run is open, 34 where it has no
+    /// such map, 43 where an instruction of one of its programs, reached or not, names the map.
+    DropMap {
+        tenant: u32,
+        map: MapNo,
+    },
     /// Sets an option of the scanner.
     Set {
         option: Opt,
@@ -92,7 +109,9 @@ impl Event {
             | Event::Begin { tenant, .. }
             | Event::Step { tenant }
             | Event::HostUpdate { tenant, .. }
-            | Event::HostLookup { tenant, .. } => Some(*tenant),
+            | Event::HostLookup { tenant, .. }
+            | Event::Unload { tenant, .. }
+            | Event::DropMap { tenant, .. } => Some(*tenant),
             Event::Visit | Event::Set { .. } | Event::Unmerge | Event::Counters => None,
         }
     }

@@ -168,7 +168,9 @@ impl Host {
             | Event::Begin { .. }
             | Event::Step { .. }
             | Event::HostUpdate { .. }
-            | Event::HostLookup { .. } => unreachable!(),
+            | Event::HostLookup { .. }
+            | Event::Unload { .. }
+            | Event::DropMap { .. } => unreachable!(),
         }
     }
 }

@@ -1,6 +1,7 @@
 ghost use Rattle.std.specs.Prelude.{◌≡◌, ◌<◌, min, length, position, slice_index_or, option_copied, is_none, Option, None, IfSome};
+ghost use Rattle.std.specs.List.{list_any};
 ghost use Rattle.verifier.specs.Verified.{Accepted};
-ghost use Rattle.host_core.specs.HostView.{steps_of};
+ghost use Rattle.host_core.specs.HostView.{names_in, steps_of};
 
 use crate::event::{Event, Reply};
 use crate::host::told;
@@ -47,7 +48,7 @@ impl Model for Tenant {
 
 impl Tenant {
     ghost use Rattle.std.specs.Prelude.{◌≡◌, Some, IsSome, ◌<◌, ◌≤◌};
-    ghost use Rattle.host_core.specs.declared.event.Event.TheVariants.{CreateMap, Load, Begin, Step, HostUpdate, HostLookup};
+    ghost use Rattle.host_core.specs.declared.event.Event.TheVariants.{CreateMap, Load, Begin, Step, HostUpdate, HostLookup, Unload, DropMap};
     ghost use Rattle.host_core.specs.World.{new_tenant};
     ghost use Rattle.host_core.specs.HostView.{StandsForTenant, IsKept, IsServed, HasMadeSteps, HasCounted, reply_of, tenant_of};
 
@@ -112,6 +113,8 @@ impl Tenant {
                 ..
             } => self.update(memory, number, *map, *key, value.as_slice()),
             Event::HostLookup { map, key, .. } => self.lookup(alloc, memory, number, *map, *key),
+            Event::Unload { program, .. } => self.unload(memory, number, *program),
+            Event::DropMap { map, .. } => self.drop_map(memory, number, *map),
             Event::Visit | Event::Set { .. } | Event::Unmerge | Event::Counters => unreachable!(),
         }
     }
@@ -224,6 +227,43 @@ impl Tenant {
     {
         let value = host_lookup(alloc, memory, number, map, key)?;
         Ok(Reply::Value(value.into()))
+    }
+
+    /// Takes a program from its place.
+    fn unload(&mut self, memory: &Memory, number: u32, program: u32) -> Result<Reply, Fault>
+        requires kept { IsKept number self.old memory.now }
+        ensures { IsServed number self.old memory.now (Unload number program) (reply_of result) self.new memory.now }
+    {
+        if self.run.is_some() {
+            return Err(Fault::Busy);
+        }
+        let Some(_) = program_of(self.programs.as_slice(), program) else {
+            return Err(Fault::NoProgram);
+        };
+        memory.facts();
+        self.programs[program as usize] = None;
+        Ok(Reply::Done)
+    }
+
+    /// Takes a map away that no program names.
+    fn drop_map(&self, memory: &mut Memory, number: u32, map: MapNo) -> Result<Reply, Fault>
+        requires kept { IsKept number self.now memory.old }
+        ensures { IsServed number self.now memory.old (DropMap number map) (reply_of result) self.now memory.new }
+    {
+        if self.run.is_some() {
+            return Err(Fault::Busy);
+        }
+        // A map that isn't there is told before its use.
+        if memory.shape(number, map).is_none() {
+            return Err(Fault::NoMap);
+        }
+        if is_used(self.programs.as_slice(), map) {
+            return Err(Fault::InUse);
+        }
+        memory.drop_map(number, map)?;
+        memory.facts();
+        memory.maps_are_flat();
+        Ok(Reply::Done)
     }
 
     /// Makes a step of the open run.
@@ -365,6 +405,23 @@ fn first_free(programs: &[Option<Verified>]) -> Option<usize>
     ensures inside { IfSome result (λ place. place < length programs.now) }
 {
     programs.iter().position(|slot| slot.is_none())
+}
+
+/// Whether one of the programs, by an instruction reached or not, names a map.
+fn is_used(programs: &[Option<Verified>], map: MapNo) -> bool
+    ensures { result ≡ list_any (names_in map) programs.now }
+{
+    programs.iter().any(|slot| names(slot, map))
+}
+
+/// Whether a program stands at a place and names a map.
+fn names(slot: &Option<Verified>, map: MapNo) -> bool
+    ensures { result ≡ names_in map slot.now }
+{
+    match slot {
+        Some(program) => program.names(map),
+        None => false,
+    }
 }
 
 /// How many steps an open run made, and 0 without one.

@@ -27,3 +27,15 @@ returns-in-HostUpdate c =
     let same : c.in-HostUpdate.tenant ≡ c.args.number = cc in
     let bytes : c.as_slice-in-HostUpdate.result.now ≡ c.in-HostUpdate.value = c.as_slice-in-HostUpdate.ensures in
     rw (c.in-HostUpdate.is, same, sym bytes) c.update.ensures
+
+pub returns-in-Unload : goal.returns-in-Unload
+returns-in-Unload c =
+    let named : ◌≡◌ {A = Option ℕ} (Some c.in-Unload.tenant) (Some c.args.number) = rw c.in-Unload.is at c.requires.named in
+    let same : c.in-Unload.tenant ≡ c.args.number = cc in
+    rw (c.in-Unload.is, same) c.unload.ensures
+
+pub returns-in-DropMap : goal.returns-in-DropMap
+returns-in-DropMap c =
+    let named : ◌≡◌ {A = Option ℕ} (Some c.in-DropMap.tenant) (Some c.args.number) = rw c.in-DropMap.is at c.requires.named in
+    let same : c.in-DropMap.tenant ≡ c.args.number = cc in
+    rw (c.in-DropMap.is, same) c.drop_map.ensures
