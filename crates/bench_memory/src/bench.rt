@@ -210,6 +210,7 @@ impl Bench {
     }
 }
 
-fn refusal(fault: Fault) -> anyhow::Error {
+/// A refusal as the program's error.
+pub(crate) fn refusal(fault: Fault) -> anyhow::Error {
     anyhow!("{fault}")
 }

@@ -1,16 +1,18 @@
 //! How long visits, merges, breaks, helpers, loads and stores take, in a memory of 4,096 frames whose
-//! 16 tenants share 100, 1,000 and 4,000 pages. The one argument is the number of rounds; without it
-//! nothing is measured or printed.
+//! 16 tenants share 100, 1,000 and 4,000 pages; and 100,000 maps that one of them makes and drops. The one
+//! argument is the number of rounds; without it nothing is measured or printed.
 #![tactic(auto)]
 
 ghost use Rattle.std.specs.Prelude.{◌≤◌};
 
 mod bench;
+mod drops;
 mod runs;
 mod steps;
 
 use anyhow::Result;
 use bench::Bench;
+use drops::print_drops;
 use std::rt::Clock;
 use steps::{COUNT, steps};
 use test_inputs::rounds_of;
@@ -58,5 +60,6 @@ fn main(rt: HostRuntime) -> Result<()> {
     let small = column(&rt, 100, rounds)?;
     let middle = column(&rt, 1000, rounds)?;
     let large = column(&rt, 4000, rounds)?;
-    print_rows(&rt, &small, &middle, &large)
+    print_rows(&rt, &small, &middle, &large)?;
+    print_drops(&rt)
 }
