@@ -120,9 +120,12 @@ fn main(rt: HostRuntime) -> io::Result<()> {
         }
     }
     match found_again(rt.alloc()) {
-        Ok([paired, joined]) => println!(rt;
-            "{CONTENTS} contents on two pages each: {paired} pairs, and {joined} found again"
-        )?,
+        Ok(found) => {
+            let [paired, joined] = found;
+            println!(rt;
+                "{CONTENTS} contents on two pages each: {paired} pairs, and {joined} found again"
+            )?
+        }
         Err(_) => println!(rt; "{CONTENTS} contents: a map or a memory is refused")?,
     }
     match passes_at_their_end(rt.alloc()) {
