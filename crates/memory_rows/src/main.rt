@@ -1,14 +1,16 @@
 //! The memory beside the plain program of pages that share frames, over operations that a fixed
 //! generator draws: new maps and dropped ones, stores, visits, options and unmergings. After each one both
-//! have to tell the same, the counters too, and all bytes are those of a plain copy. At last the plain program counts passes
-//! up to the largest number. The file `stdout` says what is wanted.
+//! have to tell the same, the counters too, and all bytes are those of a plain copy. Then 1,000 contents are paired, and each
+//! is found again. At last the plain program counts passes up to the largest number. The file `stdout` says what is wanted.
 #![tactic(auto)]
 
 ghost use Rattle.std.specs.Prelude.{◌<◌, ◌≤◌};
 
 mod both;
+mod contents;
 
 use both::{Both, MAPS, TENANTS};
+use contents::{CONTENTS, found_again};
 use host_types::Options;
 use plain_sharing::PlainSharing;
 use std::alloc::{AllocError, Global};
@@ -116,6 +118,15 @@ fn main(rt: HostRuntime) -> io::Result<()> {
             Ok(Some(number)) => println!(rt; "{frames} frames: operation {number} differs")?,
             Err(AllocError) => println!(rt; "{frames} frames: no memory")?,
         }
+    }
+    match found_again(rt.alloc()) {
+        Ok(found) => {
+            let [paired, joined] = found;
+            println!(rt;
+                "{CONTENTS} contents on two pages each: {paired} pairs, and {joined} found again"
+            )?
+        }
+        Err(_) => println!(rt; "{CONTENTS} contents: a map or a memory is refused")?,
     }
     match passes_at_their_end(rt.alloc()) {
         Ok(passes) => println!(rt; "passes: {passes:?}")?,
