@@ -6,3 +6,4 @@ pub mod Without
 pub mod Next
 pub mod Visits
 pub mod Elements
+pub mod Pins

@@ -14,7 +14,8 @@ pub record PageState : Type 0 where
 
 -- The pages by place; the groups in order of creation, a group being the list of its pages' places
 -- in their order; the waiting pages, each with its recorded fingerprint, in order of insertion; the
--- place of the page visited last in this pass, none at its start; the options; the passes ended.
+-- place of the page visited last in this pass, none at its start; the options; the passes ended;
+-- for each place whether its page is pinned: an open run took it out, and it stays its own till then.
 pub record Sharing : Type 0 where
   pub pages : List (Option PageState)
   pub groups : List (List ℕ)
@@ -22,6 +23,7 @@ pub record Sharing : Type 0 where
   pub cursor : Option ℕ
   pub options : Options
   pub full_scans : ℕ
+  pub pins : List Bool
 
 -- the page at a place
 abbrev pub state_at : Sharing → ℕ → Option PageState
