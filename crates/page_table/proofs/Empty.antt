@@ -75,11 +75,11 @@ module _ (frames tenants : ℕ) (options : Options) (limits : AreLimits frames t
       pages : (k : ℕ) (shape : Option Shape) → shape ≡ None → ArePages shape (part_of (contents_of table) (k * 256) 256)
       pages k shape e = rw e (λ n. part_nothing (contents_of table) (k * 256) 256 n (λ i. ap (λ l. slice_index_or l i []) no_contents ∙ nothing (tenants * 2048) i))
 
-  pub view_new : view_of table (replicate (tenants * 8) None) (replicate tenants unreserved_tenant) (new_pass frames options) ≡ new_memory frames tenants options
+  pub view_new : view_of table (replicate (tenants * 8) None) (replicate tenants unreserved_tenant) (new_pass frames (tenants * 2048) options) ≡ new_memory frames tenants options
   unfolding view_of groups_of new_memory
   view_new = rw (no_maps (tenants * 8) (contents_of table), map-replicate {X = Option Entry} (option_map state_of) (tenants * 2048) None, map-replicate {X = Option Entry} (option_map (λ (entry : Entry). entry.frame)) (tenants * 2048) None) refl
 
-  pub pass_new : IsPass table (new_pass frames options)
+  pub pass_new : IsPass table (new_pass frames (tenants * 2048) options)
   pass_new =
       let long = length-replicate frames zero_page in
       record { waiters = tt; room = omega (arith, long); cursor = tt }

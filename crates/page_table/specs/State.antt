@@ -1,5 +1,5 @@
 -- What a memory is to its callers: the maps of all tenants, which pages share frames, and the pages of the frames.
-use Rattle.std.specs.Prelude.{ℕ, ◌-◌, ◌*◌, List, [], length, replicate, sum_by, slice_index_or, Option, None, option_map, unwrap_or, is_none, position}
+use Rattle.std.specs.Prelude.{ℕ, false, ◌-◌, ◌*◌, List, [], length, replicate, sum_by, slice_index_or, Option, None, option_map, unwrap_or, is_none, position}
 use Rattle.host_types.specs.declared.options.Options.{Options}
 use Rattle.host_types.specs.declared.shape.Page.{Page}
 use Rattle.host_types.specs.Bytes.{part_of}
@@ -25,7 +25,7 @@ unreserved_tenant = record { reserve = 0 }
 -- the state of sharing without pages
 abbrev pub no_sharing : ℕ → Options → Sharing
 no_sharing places options =
-    record { pages = replicate places None; groups = []; waiting = []; cursor = None; options = options; full_scans = 0 }
+    record { pages = replicate places None; groups = []; waiting = []; cursor = None; options = options; full_scans = 0; pins = replicate places false }
 
 -- a memory without maps: each tenant has eight map numbers, each map 256 pages
 unfoldable pub new_memory : ℕ → ℕ → Options → MemoryState

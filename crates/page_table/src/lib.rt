@@ -10,6 +10,7 @@ mod memory;
 mod order;
 mod page_list;
 mod pass;
+mod pins;
 mod search;
 mod table;
 mod tally;

@@ -138,10 +138,11 @@ impl Memory {
         requires { AreLimits frames tenants }
         ensures { IfOk result (λ memory. memory ≡ new_memory frames tenants options) }
     {
-        let table = Table::new(alloc, frames, tenants * 2048)?;
+        let places = tenants * 2048;
+        let table = Table::new(alloc, frames, places)?;
         let shapes = vec![in alloc; None; tenants as usize * MAX_MAPS]?;
         let tenants = vec![in alloc; Tenant { reserve: 0 }; tenants as usize]?;
-        let pass = Pass::new(alloc, frames, options)?;
+        let pass = Pass::new(alloc, frames, places, options)?;
         Ok(Memory {
             table,
             shapes,
