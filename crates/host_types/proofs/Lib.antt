@@ -7,3 +7,4 @@ pub mod Next
 pub mod Visits
 pub mod Elements
 pub mod Pins
+pub mod Pinned

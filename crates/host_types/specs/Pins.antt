@@ -1,9 +1,9 @@
 -- Pinned pages, and the reserve that they cap (this project's own rules). A page that a store of a tenant's open run
 -- takes out of a group or off the frame of zeros is pinned until that run ends: it isn't merged again before.
-use Rattle.std.specs.Prelude.{◌≡◌, ℕ, zero, suc, ◌+◌, ◌*◌, ◌&&◌, min, Bool, true, false, if◌then◌else◌, replicate, slice_index_or, slice_set}
+use Rattle.std.specs.Prelude.{◌≡◌, ℕ, zero, suc, ◌+◌, ◌*◌, ◌&&◌, min, Bool, true, false, if◌then◌else◌, List, length, replicate, slice_index_or, slice_set, Option, None, IsSomeAnd}
+use Rattle.host_types.specs.declared.status.Status.TheVariants.{Volatile}
 use Rattle.host_types.specs.Bytes.{with_part}
-use Rattle.host_types.specs.Sharing.{Sharing, state_at, is_shared_page, broken}
-use Rattle.std.specs.Prelude.{List}
+use Rattle.host_types.specs.Sharing.{Sharing, PageState, state_at, is_shared_page, broken}
 
 -- the page at a place is pinned; behind all places there is none that could be taken out
 abbrev pub is_pinned : List Bool → ℕ → Bool
@@ -30,6 +30,11 @@ released sharing tenant = record sharing { pins = with_part sharing.pins (tenant
 -- a page that lies on a frame that isn't its own isn't pinned
 abbrev pub PinsOwn : Sharing → Type 0
 PinsOwn sharing = (i : ℕ) → is_shared_page (state_at sharing i) ≡ true → is_pinned sharing.pins i ≡ false
+
+-- A pinned page is there, and has a frame of its own: its run took it out, and neither a visit nor a write changes that.
+pub record PinsFit (pages : List (Option PageState)) (pins : List Bool) : Type 0 where
+  pub as_many : length pins ≡ length pages
+  pub volatile : (i : ℕ) → slice_index_or pins i false ≡ true → IsSomeAnd (slice_index_or pages i None) (λ (state : PageState). state.status ≡ Volatile)
 
 -- how many of the n pages from a place on aren't pinned
 unfoldable pub unpinned_from : List Bool → ℕ → ℕ → ℕ

@@ -109,9 +109,9 @@ unfoldable pub cost_from : Sharing → ℕ → ℕ → ℕ
 cost_from sharing i zero = 0
 cost_from sharing i (suc n) = break_cost sharing i + cost_from (broken sharing i) (i + 1) n
 
--- A page that isn't there any more, as its map was dropped: it left its group or the frame of zeros.
+-- A page that isn't there any more, as its map was dropped: it left its group or the frame of zeros, and isn't pinned.
 unfoldable pub gone : Sharing → ℕ → Sharing
-gone sharing i = let left = broken sharing i in record left { pages = slice_set left.pages i None }
+gone sharing i = let left = broken sharing i in record left { pages = slice_set left.pages i None; pins = slice_set left.pins i false }
 
 -- n pages that aren't there any more, one after another in page order
 unfoldable pub gone_from : Sharing → ℕ → ℕ → Sharing
