@@ -1,7 +1,7 @@
 //! Calls that may answer 41. A body that always does meets its contract, as memory may run out.
 
 ghost use Rattle.std.specs.Prelude.{◌≡◌};
-ghost use Rattle.turn.specs.Seats.{IsIdle};
+ghost use Rattle.turn.specs.Seats.{IsIdle, own_part};
 
 use crate::runs::counted;
 use crate::tenants::{Two, two_tenants};
@@ -56,7 +56,8 @@ pub(crate) fn read(
     key: u32,
 ) -> Result<(usize, usize), Fault>
     requires { IsIdle shared.now seat.old }
-    ensures { IsIdle shared.now seat.new }
+    ensures idle { IsIdle shared.now seat.new }
+    ensures kept { own_part seat.new ≡ own_part seat.old }
 {
     let value = shared.read(rt, alloc, seat, map, key)?;
     let zeros = value.iter().filter(|byte| **byte == 0).count();
