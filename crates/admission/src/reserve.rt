@@ -1,6 +1,6 @@
-ghost use Rattle.std.specs.Prelude.{◌≡◌, ◌+◌, ◌≤◌, length, OnOk, IfErr, OnErr};
+ghost use Rattle.std.specs.Prelude.{◌≡◌, ◌+◌, ◌≤◌, false, length, OnOk, IfErr, OnErr};
 ghost use Rattle.page_table.specs.State.{part, have_of};
-ghost use Rattle.page_table.specs.Changes.{IsKeptBut, with_reserve, with_record};
+ghost use Rattle.page_table.specs.Changes.{IsKeptBut, with_reserve, with_run, without_run, with_record, opened, ended};
 ghost use Rattle.verifier.specs.Reserve.{reserve_from};
 ghost use Rattle.admission.specs.Refusals.{RefusesFrames};
 
@@ -8,8 +8,8 @@ use host_types::Fault;
 use page_table::Memory;
 use verifier::Verified;
 
-/// How many frames the rest of a run may take from a slot on, whichever pages share frames: what is
-/// reserved for a run that stands there. It is told in constant time.
+/// How many frames the rest of a run may take from a slot on, whichever pages share frames and however
+/// often it writes to one. It is told in constant time.
 #[inline]
 pub fn breaks(program: &Verified, slot: u32) -> u32
     ensures { result ≡ reserve_from program.now slot }
@@ -17,16 +17,17 @@ pub fn breaks(program: &Verified, slot: u32) -> u32
     program.reserve(slot)
 }
 
-/// Reserves frames for a run that a tenant wants to begin. Nothing is recorded of the tenant before.
+/// Opens a run of a tenant that has none, and reserves frames for it.
 ///
 /// 31 just where the need is above `have()`; it tells both numbers, and changes nothing.
 pub fn admit(memory: &mut Memory, tenant: u32, need: u32) -> Result<(), Fault>
     requires there { length (part memory.old tenant).maps ≡ 8 }
-    requires none { (part memory.old tenant).reserve ≡ 0 }
+    requires none { (part memory.old tenant).running ≡ false }
+    requires unreserved { (part memory.old tenant).reserve ≡ 0 }
     ensures enough { OnOk result (need ≤ have_of memory.old) }
-    ensures recorded { OnOk result (part memory.new tenant ≡ with_reserve need (part memory.old tenant)) }
+    ensures recorded { OnOk result (part memory.new tenant ≡ with_run need (part memory.old tenant)) }
     ensures have { OnOk result (have_of memory.new + need ≡ have_of memory.old) }
-    ensures all { OnOk result (memory.new ≡ with_record memory.old tenant need) }
+    ensures all { OnOk result (memory.new ≡ opened memory.old tenant need) }
     ensures others { IsKeptBut tenant memory.old memory.new }
     ensures err { IfErr result (RefusesFrames memory.old need) }
     ensures unchanged { OnErr result (memory.new ≡ memory.old) }
@@ -35,7 +36,7 @@ pub fn admit(memory: &mut Memory, tenant: u32, need: u32) -> Result<(), Fault>
     if have < need {
         return Err(Fault::NoFrames { need, have });
     }
-    memory.record(tenant, need);
+    memory.begin_run(tenant, need);
     Ok(())
 }
 
@@ -52,13 +53,13 @@ pub fn lower(memory: &mut Memory, tenant: u32, left: u32)
     memory.record(tenant, left);
 }
 
-/// Ends what is reserved for a tenant's run, as at its end.
+/// Ends a tenant's run: nothing is reserved for it any more, and none of the tenant's pages is pinned.
 pub fn release(memory: &mut Memory, tenant: u32)
     requires there { length (part memory.old tenant).maps ≡ 8 }
-    ensures recorded { part memory.new tenant ≡ with_reserve 0 (part memory.old tenant) }
+    ensures recorded { part memory.new tenant ≡ without_run (part memory.old tenant) }
     ensures have { have_of memory.new ≡ have_of memory.old + (part memory.old tenant).reserve }
-    ensures all { memory.new ≡ with_record memory.old tenant 0 }
+    ensures all { memory.new ≡ ended memory.old tenant }
     ensures others { IsKeptBut tenant memory.old memory.new }
 {
-    memory.record(tenant, 0);
+    memory.end_run(tenant);
 }

@@ -5,6 +5,9 @@
 //!     map TENANT VALUE_SIZE ENTRIES         a map whose pages may be merged
 //!     fixed TENANT VALUE_SIZE ENTRIES       a map whose pages may not
 //!     drop TENANT MAP                       a map is taken away
+//!     begin TENANT FRAMES                   a run of the tenant begins, for which frames are reserved
+//!     end TENANT                            its run ends
+//!     unpinned TENANT                       how many pages of the tenant's first map aren't pinned
 //!     store TENANT VALUE                    eight bytes at the beginning of the tenant's first map
 //!     fill TENANT AT LEN BYTE               bytes of the tenant's first map
 //!     look TENANT AT                        the number in eight bytes of the tenant's first map
@@ -23,7 +26,7 @@ mod pages;
 use host_types::{Fault, Opt, Options};
 use ksm_counters::{counters, text};
 use page_table::Memory;
-use pages::{cost, fill, number_at, page, pair, zero};
+use pages::{begin, cost, end, fill, number_at, page, pair, zero};
 use scanner::{set, unmerge_all, visit};
 use std::alloc::Global;
 use std::io;
@@ -130,6 +133,9 @@ fn obey_on_pages<W: Write>(
             pair(memory, page(first, second), page(third, fourth)),
         ),
         "zero" => tell_done(writer, zero(memory, page(first, second))),
+        "begin" => tell_done(writer, begin(memory, first, second)),
+        "end" => tell_done(writer, end(memory, first)),
+        "unpinned" => writeln!(writer, "{}", memory.unpinned(first, 0)),
         "fill" => match fill(alloc, memory, first, second, third, (fourth % 256) as u8) {
             Ok(done) => tell_done(writer, done),
             Err(fault) => tell(writer, Err(fault)),

@@ -37,13 +37,13 @@ fn is_there(memory: &Memory, page: Page) -> bool
     page.number < memory.byte_len(page.tenant, page.map).div_ceil(4096)
 }
 
-/// Whether a page may be merged and has a frame of its own.
+/// Whether a page may be merged, has a frame of its own and isn't pinned.
 fn may_merge(memory: &Memory, page: Page) -> bool
     requires { IsPageOf memory.now page }
     ensures { IsTrue result → MayMerge memory.now page }
 {
     let entry = memory.entry(page);
-    entry.mergeable && !entry.protected
+    entry.mergeable && !entry.protected && !memory.is_pinned(page)
 }
 
 /// Whether two pages have the same bytes.
@@ -95,6 +95,26 @@ pub(crate) fn zero(memory: &mut Memory, page: Page) -> bool {
         return false;
     }
     memory.zero(page);
+    true
+}
+
+/// Begins a run of a tenant that has none, where so many frames may be reserved.
+pub(crate) fn begin(memory: &mut Memory, tenant: u32, frames: u32) -> bool {
+    memory.maps_are_flat();
+    if tenant >= memory.tenants() || memory.is_running(tenant) || frames > memory.have() {
+        return false;
+    }
+    memory.begin_run(tenant, frames);
+    true
+}
+
+/// Ends a tenant's run.
+pub(crate) fn end(memory: &mut Memory, tenant: u32) -> bool {
+    memory.maps_are_flat();
+    if tenant >= memory.tenants() || !memory.is_running(tenant) {
+        return false;
+    }
+    memory.end_run(tenant);
     true
 }
 

@@ -11,7 +11,7 @@ use Rattle.host_types.specs.declared.shape.Shape.{Shape}
 use Rattle.host_types.specs.Shapes.{IsShape}
 use Rattle.bpf_decode.specs.Text.{slots_of, instructions_of}
 use Rattle.verifier.specs.Subject.{Subject, IsContextSize}
-use Rattle.verifier.specs.Reserve.{reserve_from}
+use Rattle.admission.specs.Reserve.{unpinned_need}
 use Rattle.verifier.specs.Verified.{Accepted, AreShapes, IsVerified}
 use Rattle.host_calls.specs.Programs.{IsJudgement, subject_for}
 use Rattle.engines.specs.declared.check.question.Question.{Question}
@@ -58,9 +58,9 @@ abbrev pub acceptance_text : ℕ → ℕ → ℕ → List ℕ
 acceptance_text slots instructions reserve =
     codes "accepted slots " ++ decimal slots ++ codes " instructions " ++ decimal instructions ++ codes " reserve " ++ decimal reserve
 
--- what is told of an accepted program; its reserve is that from slot 0 on
+-- what is told of an accepted program; its reserve is that of a whole run, where no page is pinned
 abbrev pub acceptance_of : Accepted → List ℕ
-acceptance_of v = acceptance_text (slots_of v.subject.text) (instructions_of v.subject.text) (reserve_from v 0)
+acceptance_of v = acceptance_text (slots_of v.subject.text) (instructions_of v.subject.text) (unpinned_need v)
 
 -- A status and a line tell the judgement: 0 that the program is accepted; 1 that it is refused, with the refusal
 -- that was found, which may be want of memory.

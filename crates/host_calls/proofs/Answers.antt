@@ -1,11 +1,18 @@
 -- What an update without a flag answers.
-use Rattle.std.proofs.Common.{◌≡◌, ◌∙◌, ℕ, ◌<◌, nat_le, false, List, length, Option, Some, None, IsSomeAnd, refl, sym, ap, arith}
+use Rattle.std.proofs.Common.{◌≡◌, ◌∙◌, ℕ, ◌*◌, ◌<◌, ◌==◌, nat_le, if◌then◌else◌, Bool, true, false, List, length, Option, Some, None, IsSomeAnd, refl, sym, ap, arith}
 use Rattle.std.proofs.lemmas.Bool.Decides.{nat_tests}
 use Rattle.host_types.specs.declared.helper.MapHelper.TheVariants.{Update}
 use Rattle.host_types.specs.declared.shape.Shape.{Shape}
-use Rattle.host_types.specs.Helpers.{helper, update_answer, maps_updated}
+use Rattle.host_types.specs.Bytes.{part_of}
+use Rattle.host_types.specs.Helpers.{helper, element_at, update_answer, maps_updated}
 use Rattle.host_types.specs.Memory.{FlatMap, FlatMaps, map_at}
+use Rattle.host_types.specs.Sharing.{Sharing}
 use Rattle.host_types.specs.Tenant.{TenantPart}
+use Rattle.page_table.specs.Changes.{with_pins}
+use Rattle.page_table.specs.State.{MemoryState, part}
+use Rattle.write_break.specs.Stores.{touched, place_of_byte, pinned_as, stored_sharing}
+use Rattle.write_break.proofs.Stores.{pins-none}
+use Rattle.map_helpers.specs.Updates.{part_updated, sharing_in, updated_sharing}
 use Rattle.host_calls.specs.Calls.{FitsValue}
 
 -- it is 0 where the element is there
@@ -32,3 +39,22 @@ helps owned m key value answer after fits helped = by_map (map_at owned.maps m) 
         let is : helper Update owned.maps m key value 0 ≡ Some (update_answer flat.shape key 0, maps_updated owned.maps m key value 0) = rw (e) refl in
         let same : answer ≡ 0 = ap answer-in (sym helped ∙ is) ∙ zero in
         helped ∙ ap (λ (n : ℕ). Some (n, after)) same
+
+-- an update by no open run pins nothing
+pins-none_open : (found : Option FlatMap) (running : Bool) (s : Sharing) (t m key flags : ℕ) → running ≡ false → (sharing_in found running s t m key flags).pins ≡ s.pins
+unfolding sharing_in
+pins-none_open None running s t m key flags none = refl
+pins-none_open (Some flat) running s t m key flags none = either (update_answer flat.shape key flags == 0)
+  where
+    either : (b : Bool) → (if b then stored_sharing running s t m (element_at flat.shape key) flat.shape.value_size else s).pins ≡ s.pins
+    either true = rw none (pins-none s (place_of_byte t m (element_at flat.shape key)) (touched (element_at flat.shape key) flat.shape.value_size))
+    either false = refl
+
+-- so the tenant's part is what the update makes of it
+pub unpinned : (old new : MemoryState) (t m key flags : ℕ) (value : List ℕ) → new.sharing ≡ updated_sharing (part old t) old.sharing t m key flags
+    → (part old t).running ≡ false → pinned_as new.sharing t (part_updated (part old t) m key value flags) ≡ part_updated (part old t) m key value flags
+unfolding part
+unpinned old new t m key flags value shares none =
+    let pins : new.sharing.pins ≡ old.sharing.pins =
+    ap (λ (s : Sharing). s.pins) shares ∙ pins-none_open (map_at (part old t).maps m) (part old t).running old.sharing t m key flags none in
+    ap (λ (pins : List Bool). with_pins (part_of pins (t * 2048) 2048) (part_updated (part old t) m key value flags)) pins

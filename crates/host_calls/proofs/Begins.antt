@@ -1,15 +1,16 @@
 -- Why a run doesn't begin: what admission says of the memory, said of the program and of the frames told.
 use Rattle.host_types.specs.declared.fault.Fault.{Fault}
 use Rattle.host_types.specs.declared.fault.Fault.TheVariants.{Program, NoFrames, TooManyMaps, BadShape, NoMap, NoElement, Busy, NoRun, NoProgram, BadContext, BadOption, OutOfMemory, BadTenant, InUse, PagesShared, TooManyPrograms}
+use Rattle.host_types.specs.Tenant.{TenantPart}
 use Rattle.page_table.specs.State.{MemoryState}
-use Rattle.verifier.specs.Reserve.{reserve_from}
 use Rattle.verifier.specs.Verified.{Accepted}
 use Rattle.admission.specs.Refusals.{RefusesFrames}
+use Rattle.admission.specs.Reserve.{needed_from}
 use Rattle.host_calls.specs.Calls.{TellsHave}
 use Rattle.host_calls.specs.Programs.{RefusesBegin}
 
-module _ (memory : MemoryState) (v : Accepted) where
-  pub begin_refused : (fault : Fault) → RefusesFrames memory (reserve_from v 0) fault → RefusesBegin v fault
+module _ (memory : MemoryState) (v : Accepted) (owned : TenantPart) where
+  pub begin_refused : (fault : Fault) → RefusesFrames memory (needed_from v owned 0) fault → RefusesBegin v owned fault
   begin_refused (Program refused) impossible = absurd impossible
   begin_refused (NoFrames need have) (is_need, is_have, less) = (is_need, less)
   begin_refused TooManyMaps impossible = absurd impossible
@@ -27,7 +28,7 @@ module _ (memory : MemoryState) (v : Accepted) where
   begin_refused PagesShared impossible = absurd impossible
   begin_refused TooManyPrograms impossible = absurd impossible
 
-  pub begin_told : (fault : Fault) → RefusesFrames memory (reserve_from v 0) fault → TellsHave memory fault
+  pub begin_told : (fault : Fault) → RefusesFrames memory (needed_from v owned 0) fault → TellsHave memory fault
   begin_told (Program refused) impossible = absurd impossible
   begin_told (NoFrames need have) (is_need, is_have, less) = is_have
   begin_told TooManyMaps impossible = absurd impossible

@@ -8,9 +8,9 @@ use Rattle.host_types.specs.Memory.{FlatMap, FlatMaps}
 use Rattle.host_types.specs.Tenant.{TenantPart}
 use Rattle.bpf_decode.specs.Text.{IsWellFormed, IsFirstFault}
 use Rattle.verifier.specs.Subject.{Subject, IsContextSize, padded}
-use Rattle.verifier.specs.Reserve.{reserve_from}
 use Rattle.verifier.specs.Table.{IsRefusal}
 use Rattle.verifier.specs.Verified.{Accepted}
+use Rattle.admission.specs.Reserve.{needed_from}
 
 -- the shapes of a tenant's maps by number: none where it has no such map
 abbrev pub shapes_of : FlatMaps → List (Option Shape)
@@ -35,7 +35,7 @@ abbrev pub RefusesProgram : Subject → Fault → Type 0
 RefusesProgram p fault =
     ((fault ≡ BadContext) × ¬ (IsContextSize p.context_size)) ⊎ (IsContextSize p.context_size × IsJudgement p fault)
 
--- when a run doesn't begin for want of frames: fewer may be had than are reserved for the whole program
-abbrev pub RefusesBegin : Accepted → Fault → Type 0
-RefusesBegin v (NoFrames need have) = (need ≡ reserve_from v 0) × (have < need)
-RefusesBegin v _ = ⊥
+-- when a run doesn't begin for want of frames: fewer may be had than the tenant's whole run of the program may need
+abbrev pub RefusesBegin : Accepted → TenantPart → Fault → Type 0
+RefusesBegin v owned (NoFrames need have) = (need ≡ needed_from v owned 0) × (have < need)
+RefusesBegin v owned _ = ⊥

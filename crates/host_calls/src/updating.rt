@@ -1,8 +1,9 @@
-ghost use Rattle.std.specs.Prelude.{◌≡◌, ◌+◌, ◌≤◌, Some, OnOk, IfErr, OnErr};
+ghost use Rattle.std.specs.Prelude.{◌≡◌, ◌+◌, ◌≤◌, Some, false, OnOk, IfErr, OnErr};
 ghost use Rattle.host_types.specs.declared.helper.MapHelper.TheVariants.{Update};
 ghost use Rattle.host_types.specs.Helpers.{helper};
 ghost use Rattle.page_table.specs.State.{part, have_of};
 ghost use Rattle.page_table.specs.Changes.{IsKeptBut, AreMapsKeptBut, KeepsSettings};
+ghost use Rattle.write_break.specs.Stores.{pinned_as};
 ghost use Rattle.map_helpers.specs.Updates.{part_updated, update_frames, updated_sharing};
 ghost use Rattle.host_calls.specs.Calls.{FitsValue, IsCharged, RefusesUpdate, TellsHave};
 
@@ -15,7 +16,8 @@ use page_table::Memory;
 const ANY: u64 = 0;
 
 /// Writes a value to an element of a tenant's map, as the update helper does without a flag. Each page of the
-/// value that shares its frame is taken out before. What is recorded for the tenant's open run stays.
+/// value that shares its frame is taken out before, and pinned only where the tenant has an open run. What is
+/// recorded for that run stays.
 ///
 /// Refusals in their order: 42 where there is no such tenant, 34 where it has no such map, 35 where the map
 /// has no such element, 33 where the value has another size than the map's, 31 just where what is charged
@@ -30,8 +32,10 @@ pub fn host_update(
 ) -> Result<(), Fault>
     ensures fits { OnOk result (FitsValue (part memory.old tenant) map key value.now) }
     ensures charged { OnOk result (IsCharged (part memory.old tenant) map (have_of memory.old)) }
-    ensures updated { OnOk result
-        (part memory.new tenant ≡ part_updated (part memory.old tenant) map key value.now 0) }
+    ensures updated { OnOk result (part memory.new tenant
+        ≡ pinned_as memory.new.sharing tenant (part_updated (part memory.old tenant) map key value.now 0)) }
+    ensures unpinned { OnOk result ((part memory.old tenant).running ≡ false
+        → part memory.new tenant ≡ part_updated (part memory.old tenant) map key value.now 0) }
     ensures helped { OnOk result (helper Update (part memory.old tenant).maps map key value.now 0
         ≡ Some (0, (part memory.new tenant).maps)) }
     ensures other_maps { AreMapsKeptBut map (part memory.old tenant) (part memory.new tenant) }

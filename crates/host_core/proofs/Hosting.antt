@@ -10,7 +10,7 @@ use Rattle.host_types.specs.Sharing.{Sharing}
 use Rattle.host_types.specs.Unmerging.{unmerged, unmerge_need, with_option, MaySet, RefusesSet, RefusesUnmerge}
 use Rattle.host_types.specs.Visits.{contents_in, visit}
 use Rattle.ksm_counters.specs.Counters.{counters_of}
-use Rattle.page_table.specs.Changes.{KeepsSettings}
+use Rattle.page_table.specs.Changes.{AreKept, KeepsSettings}
 use Rattle.page_table.specs.State.{MemoryState, have_of}
 use Rattle.host_core.specs.declared.event.Event.{Event}
 use Rattle.host_core.specs.declared.event.Event.TheVariants.{CreateMap, Load, Begin, Step, Visit, HostUpdate, HostLookup, Set, Unmerge, Counters, Unload, DropMap}
@@ -38,20 +38,20 @@ pub hosts_on : (old new : HostView) (Happening : System → System → Type 0) �
 hosts_on old new Happening leads (x, stands) = let after = leads x stands in (after.0, after.1)
 
 -- what stands for a system of which only the pages that share frames changed
-shared : (tenants : List TenantView) (before after : MemoryState) (x : System) → StandsForSystem (record { tenants = tenants; memory = before }) x → KeepsSettings before after → after.maps ≡ before.maps
+shared : (tenants : List TenantView) (before after : MemoryState) (x : System) → StandsForSystem (record { tenants = tenants; memory = before }) x → KeepsSettings before after → AreKept before after → after.maps ≡ before.maps
     → StandsForSystem (record { tenants = tenants; memory = after }) (record x { sharing = after.sharing })
-shared tenants before after x stands kept maps = record {
-  memory = shares_stands before after x after.sharing stands.memory kept maps refl;
+shared tenants before after x stands kept parts maps = record {
+  memory = shares_stands before after x after.sharing stands.memory kept parts maps refl;
   tenants = stands.tenants;
 }
 
 -- a visit
-pub hosts-visit : (tenants : List TenantView) (before after : MemoryState) (visited : Visited) → visit (contents_in before.maps) before.sharing ≡ (visited, after.sharing) → KeepsSettings before after → after.maps ≡ before.maps
+pub hosts-visit : (tenants : List TenantView) (before after : MemoryState) (visited : Visited) → visit (contents_in before.maps) before.sharing ≡ (visited, after.sharing) → KeepsSettings before after → AreKept before after → after.maps ≡ before.maps
     → Hosts (record { tenants = tenants; memory = before }) Visit (WasVisited visited) (record { tenants = tenants; memory = after })
-hosts-visit tenants before after visited is kept maps x stands =
+hosts-visit tenants before after visited is kept parts maps x stands =
     let here : visit (contents_in (all_maps x.world)) x.sharing ≡ (visited, after.sharing) =
     ap (λ m. visit (contents_in m) x.sharing) (sym stands.memory.maps) ∙ ap (λ s. visit (contents_in before.maps) s) (sym stands.memory.sharing) ∙ is in
-    (record x { sharing = after.sharing }, shared tenants before after x stands kept maps, (visited, (after.sharing, here, (refl, refl))), tt)
+    (record x { sharing = after.sharing }, shared tenants before after x stands kept parts maps, (visited, (after.sharing, here, (refl, refl))), tt)
 
 -- counters that are told
 pub hosts-counters : (tenants : List TenantView) (memory : MemoryState)
@@ -69,14 +69,14 @@ Sets option value reply x next = SetHappens x option value reply next
 
 -- an option that is set
 pub leads-set : (tenants : List TenantView) (before after : MemoryState) (option : Opt) (value : ℕ) → MayBe option value → MaySet before.sharing option
-    → after ≡ record before { sharing = record before.sharing { options = with_option before.sharing.options option value } }
+    → after ≡ record before { sharing = record before.sharing { options = with_option before.sharing.options option value } } → AreKept before after
     → Leads (record { tenants = tenants; memory = before }) (Sets option value Done) (record { tenants = tenants; memory = after })
-leads-set tenants before after option value may_be may_set is x stands =
+leads-set tenants before after option value may_be may_set is parts x stands =
     let kept : KeepsSettings before after = record { tenants = ap (λ m. m.tenants) is; frames = ap (λ m. length m.arena) is } in
     let sharing : after.sharing ≡ record x.sharing { options = with_option x.sharing.options option value } =
     ap (λ m. m.sharing) is ∙ ap (λ (s : Sharing). record s { options = with_option s.options option value }) stands.memory.sharing in (
       record x { sharing = after.sharing },
-      shared tenants before after x stands kept (ap (λ m. m.maps) is),
+      shared tenants before after x stands kept parts (ap (λ m. m.maps) is),
       inr (may_be, subst (λ s. MaySet s option) stands.memory.sharing may_set, (refl, ap (λ s. record x { sharing = s }) sharing)),
     )
 
@@ -94,13 +94,13 @@ abbrev pub Unmerges : Reply → System → System → Type 0
 Unmerges reply x next = UnmergeHappens x reply next
 
 -- pages that no longer share frames
-pub leads-unmerge : (tenants : List TenantView) (before after : MemoryState) → unmerge_need before.sharing ≤ have_of before → after.sharing ≡ unmerged before.sharing → KeepsSettings before after → after.maps ≡ before.maps
+pub leads-unmerge : (tenants : List TenantView) (before after : MemoryState) → unmerge_need before.sharing ≤ have_of before → after.sharing ≡ unmerged before.sharing → KeepsSettings before after → AreKept before after → after.maps ≡ before.maps
     → Leads (record { tenants = tenants; memory = before }) (Unmerges Done) (record { tenants = tenants; memory = after })
-leads-unmerge tenants before after enough is kept maps x stands =
+leads-unmerge tenants before after enough is kept parts maps x stands =
     let have = have_stands before x stands.memory in
     let needed : unmerge_need x.sharing ≤ have_in x = subst (λ s. unmerge_need s ≤ have_in x) stands.memory.sharing (subst (λ n. unmerge_need before.sharing ≤ n) have enough) in
     let sharing : after.sharing ≡ unmerged x.sharing = is ∙ ap unmerged stands.memory.sharing in
-    (record x { sharing = after.sharing }, shared tenants before after x stands kept maps, inr (needed, (refl, ap (λ s. record x { sharing = s }) sharing)))
+    (record x { sharing = after.sharing }, shared tenants before after x stands kept parts maps, inr (needed, (refl, ap (λ s. record x { sharing = s }) sharing)))
 
 -- too few frames for that
 unmerge_refused : (x : System) (sharing : Sharing) (have : ℕ) (refusal : Fault) → sharing ≡ x.sharing → have ≡ have_in x → RefusesUnmerge sharing have refusal → UnmergeHappens x (Refused refusal) x

@@ -3,7 +3,7 @@ use Rattle.std.proofs.Common.{◌≡◌, ◌≢◌, ℕ, ◌*◌, ◌<◌, Bool,
 use Rattle.std.specs.List.{list_any}
 use Rattle.std.specs.Option.{option_map}
 use Rattle.std.proofs.lemmas.Bool.Decides.{eqb_tells}
-use Rattle.std.proofs.lemmas.List.{length-map, length-set}
+use Rattle.std.proofs.lemmas.List.{length-set}
 use Rattle.std.proofs.lemmas.List.Elements.{All-set}
 use Rattle.std.proofs.lemmas.Option.{slice_get_within}
 use Rattle.host_types.specs.declared.fault.Fault.{Fault}
@@ -26,11 +26,11 @@ use Rattle.host_core.specs.declared.event.Event.TheVariants.{Unload, DropMap}
 use Rattle.host_core.specs.declared.event.Reply.TheVariants.{Done, Refused}
 use Rattle.host_core.specs.World.{Tenant, System, names_there, is_used, owned_by, program_at}
 use Rattle.host_core.specs.Happens.{unload_refusal, drop_refusal, changed_system}
-use Rattle.host_core.specs.HostView.{TenantView, EachProgram, StandsForTenant, IsKept, IsServed, names_in, recorded_of}
+use Rattle.host_core.specs.HostView.{TenantView, EachProgram, StandsForTenant, IsKept, IsServed, names_in}
 use Rattle.host_core.proofs.Places.{list_any-map, map-set, none-at}
 use Rattle.host_core.proofs.Worlds.{OfTenant-there, RefusedOr-refused, RefusedOr-else}
-use Rattle.host_core.proofs.Systems.{part_stands, changed_stands}
-use Rattle.host_core.proofs.Serving.{is_some-run, served-same, with_named_maps}
+use Rattle.host_core.proofs.Systems.{part_stands, many_stands, changed_stands}
+use Rattle.host_core.proofs.Serving.{is_some-run, served-same, still_idle, with_named_maps}
 use Rattle.host_core.proofs.Opening.{accepted_at, program_at-kept}
 use Rattle.host_core.proofs.Loading.{run-closed}
 
@@ -85,7 +85,7 @@ module _ (t k : ℕ) (old : TenantView) (memory : MemoryState) where
         next,
         x.sharing,
         unloaded_stands tenant idle stands,
-        changed_stands memory memory x t tenant next x.sharing holds there refl refl reads stands.meets.maps.eight (part_stands memory x t tenant holds there) (λ j other. refl) holds.sharing,
+        changed_stands memory memory x t tenant next x.sharing x.sharing holds there refl refl reads stands.meets.maps.eight (part_stands memory x t tenant holds there) (λ j other. refl) holds.sharing,
         OfTenant-there x t Done x' _ tenant there (RefusedOr-else (unload_refusal tenant k) x Done x' _ none (refl, refl)),
         tt,
       )
@@ -146,7 +146,7 @@ each_kept programs old new m unused others have k d less = by (slice_index_or pr
 pub kept-inside : (t : ℕ) (kept : TenantView) (memory : MemoryState) → IsKept t kept memory → t < length memory.tenants
 kept-inside t kept memory (x, tenant, there, stands, holds) =
     let within : t < length x.world = slice_get_within x.world t tenant there in
-    let many : length memory.tenants ≡ length x.world = ap length holds.recorded ∙ length-map x.world recorded_of in
+    let many = many_stands memory x holds in
     omega (arith, within, many)
 
 -- what is known once a map was dropped
@@ -165,36 +165,37 @@ pub drop-done : (t : ℕ) (old : TenantView) (before after : MemoryState) (m : �
     → HasDropped t before after m → IsServed t old before (DropMap t m) Done old after
 drop-done t old before after m idle unused gone x tenant there stands holds =
     let none : IsNone tenant.run = is_some-run old.programs old.run tenant.run stands.run ∙ idle in
-    let owned : part before t ≡ owned_by tenant = part_stands before x t tenant holds there in
+    let owned : part before t ≡ owned_by x.sharing t tenant = part_stands before x t tenant holds there in
     let next : Tenant = record tenant { maps = slice_set tenant.maps m None } in
-    let is : part after t ≡ owned_by next = gone.taken ∙ ap (λ o. part_dropped o m) owned in
+    let became = gone.taken ∙ ap (λ o. part_dropped o m) owned in
+    let is : part after t ≡ owned_by after.sharing t next = still_idle after t x.sharing tenant next.maps none (ap (λ (o : TenantPart). o.maps) became) (ap (λ (o : TenantPart). o.reserve) became) (ap (λ (o : TenantPart). o.running) became) in
     let eight : length next.maps ≡ 8 = length-set tenant.maps m None ∙ stands.meets.maps.eight in
     let flat : AreFlatMaps next.maps = subst (λ (o : TenantPart). AreFlatMaps o.maps) is (gone.flat (ap (λ (o : TenantPart). length o.maps) is ∙ eight)) in
-    let others : (j : ℕ) → j ≢ m → map_at next.maps j ≡ map_at tenant.maps j = subst (λ o. AreMapsKeptBut m o (owned_by next)) owned (subst (λ o. AreMapsKeptBut m (part before t) o) is gone.other_maps) in
-    let sharing : Sharing = dropped x.sharing (map_place t m * 256) (pages_of_map (owned_by tenant) m) in
+    let others : (j : ℕ) → j ≢ m → map_at next.maps j ≡ map_at tenant.maps j = subst (λ o. AreMapsKeptBut m o (owned_by after.sharing t next)) owned (subst (λ o. AreMapsKeptBut m (part before t) o) is gone.other_maps) in
+    let sharing : Sharing = dropped x.sharing (map_place t m * 256) (pages_of_map (owned_by x.sharing t tenant) m) in
     let shares : after.sharing ≡ sharing =
-    gone.sharing ∙ ap (λ o. dropped before.sharing (map_place t m * 256) (pages_of_map o m)) owned ∙ ap (λ s. dropped s (map_place t m * 256) (pages_of_map (owned_by tenant) m)) holds.sharing in
+    gone.sharing ∙ ap (λ o. dropped before.sharing (map_place t m * 256) (pages_of_map o m)) owned ∙ ap (λ s. dropped s (map_place t m * 256) (pages_of_map (owned_by x.sharing t tenant) m)) holds.sharing in
     let found : is_some (map_at tenant.maps m) ≡ true = subst (λ (o : TenantPart). is_some (map_at o.maps m) ≡ true) owned gone.there in
     let x' : System = changed_system x t next sharing in
     let allowed = drop_refusal-none tenant m none found (used-kept old tenant m stands ∙ unused) in (
       next,
       sharing,
       with_named_maps old tenant next.maps none stands flat (each_kept old.programs tenant.maps next.maps m unused others stands.shapes),
-      changed_stands before after x t tenant next sharing holds there (ap length gone.settings.tenants) gone.settings.frames gone.reads eight is gone.others shares,
+      changed_stands before after x t tenant next sharing after.sharing holds there (ap length gone.settings.tenants) gone.settings.frames gone.reads eight is gone.others shares,
       OfTenant-there x t Done x' _ tenant there (RefusedOr-else (drop_refusal tenant m) x Done x' _ allowed (refl, refl)),
       tt,
     )
 
 module _ (t m : ℕ) (old : TenantView) (memory : MemoryState) where
-  drop-refused : (f : Fault) → ((tenant : Tenant) → StandsForTenant old tenant → part memory t ≡ owned_by tenant → drop_refusal tenant m ≡ Some f) → IsServed t old memory (DropMap t m) (Refused f) old memory
-  drop-refused f seen =
+  drop-refused : (f : Fault) → ((seen : Sharing) (tenant : Tenant) → StandsForTenant old tenant → part memory t ≡ owned_by seen t tenant → drop_refusal tenant m ≡ Some f) → IsServed t old memory (DropMap t m) (Refused f) old memory
+  drop-refused f refused =
       served-same t old memory (DropMap t m) (Refused f) (λ x tenant there stands holds.
       let owned = part_stands memory x t tenant holds there in
-      (OfTenant-there x t (Refused f) x _ tenant there (RefusedOr-refused (drop_refusal tenant m) x (Refused f) x _ f (seen tenant stands owned) (refl, refl)), tt))
+      (OfTenant-there x t (Refused f) x _ tenant there (RefusedOr-refused (drop_refusal tenant m) x (Refused f) x _ f (refused x.sharing tenant stands owned) (refl, refl)), tt))
 
   -- a drop while a run is open
   pub drop-busy : is_some old.run ≡ true → IsServed t old memory (DropMap t m) (Refused Busy) old memory
-  drop-busy busy = drop-refused Busy (λ tenant stands owned. drop_refusal-busy tenant m (is_some-run old.programs old.run tenant.run stands.run ∙ busy))
+  drop-busy busy = drop-refused Busy (λ seen tenant stands owned. drop_refusal-busy tenant m (is_some-run old.programs old.run tenant.run stands.run ∙ busy))
 
   module _ (idle : is_some old.run ≡ false) where
     none-open : (tenant : Tenant) → StandsForTenant old tenant → is_some tenant.run ≡ false
@@ -203,13 +204,13 @@ module _ (t m : ℕ) (old : TenantView) (memory : MemoryState) where
     -- a drop of a map that isn't there
     pub drop-missing : is_some (map_at (part memory t).maps m) ≡ false → IsServed t old memory (DropMap t m) (Refused NoMap) old memory
     drop-missing missing =
-        drop-refused NoMap (λ tenant stands owned.
+        drop-refused NoMap (λ seen tenant stands owned.
         drop_refusal-no_map tenant m (none-open tenant stands) (subst (λ (o : TenantPart). is_some (map_at o.maps m) ≡ false) owned missing))
 
     -- a drop of a map that a program names
     pub drop-in_use : is_some (map_at (part memory t).maps m) ≡ true → list_any (names_in m) old.programs ≡ true → IsServed t old memory (DropMap t m) (Refused InUse) old memory
     drop-in_use there used =
-        drop-refused InUse (λ tenant stands owned.
+        drop-refused InUse (λ seen tenant stands owned.
         drop_refusal-in_use tenant m (none-open tenant stands) (subst (λ (o : TenantPart). is_some (map_at o.maps m) ≡ true) owned there)
         (used-kept old tenant m stands ∙ used))
 

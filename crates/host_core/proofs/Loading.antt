@@ -10,6 +10,7 @@ use Rattle.host_types.specs.declared.fault.Fault.{Fault}
 use Rattle.host_types.specs.declared.fault.Fault.TheVariants.{Busy, TooManyPrograms, BadContext}
 use Rattle.host_types.specs.declared.shape.Shape.{Shape}
 use Rattle.host_types.specs.Memory.{FlatMap, map_at}
+use Rattle.host_types.specs.Sharing.{Sharing}
 use Rattle.host_types.specs.Tenant.{TenantPart}
 use Rattle.bpf_decode.specs.Text.{IsWellFormed}
 use Rattle.page_table.specs.Reads.{ReadsAs}
@@ -149,8 +150,8 @@ module _ (t : ℕ) (old : TenantView) (memory : MemoryState) (text : List ℕ) (
         allowed tenant stands = load_refusal-none tenant size k (none-open tenant stands) (room-left tenant stands) (size-fits size fits)
 
         -- a load that changes nothing, and that nothing forbids
-        load-tried : (f : Fault) → ((x : System) (tenant : Tenant) → part memory t ≡ owned_by tenant
-            → LoadHappens x t tenant (subject_of (owned_by tenant) text size) (Refused f) x)
+        load-tried : (f : Fault) → ((x : System) (tenant : Tenant) → part memory t ≡ owned_by x.sharing t tenant
+            → LoadHappens x t tenant (subject_of (owned_by x.sharing t tenant) text size) (Refused f) x)
             → IsServed t old memory (Load t text size) (Refused f) old memory
         load-tried f happens =
             served-same t old memory (Load t text size) (Refused f) (λ x tenant there stands holds.
@@ -165,13 +166,13 @@ module _ (t : ℕ) (old : TenantView) (memory : MemoryState) (text : List ℕ) (
             load-tried f (λ x tenant owned. LoadHappens.unlawful well refusal (subst (λ o. IsRefusal (subject_of o text size) refusal) owned unlawful) (ap Refused is, refl))
 
         -- a tenant with one more program
-        loaded_stands : (v : Accepted) (tenant : Tenant) → part memory t ≡ owned_by tenant → v.subject ≡ subject_of (part memory t) text size → IsVerified v → StandsForTenant old tenant
-            → StandsForTenant (record old { programs = set old.programs k (Some v) }) (record tenant { programs = set tenant.programs k (Some (subject_of (owned_by tenant) text size)) })
-        loaded_stands v tenant owned is verified stands =
-            let p : Subject = subject_of (owned_by tenant) text size in
+        loaded_stands : (v : Accepted) (seen : Sharing) (tenant : Tenant) → part memory t ≡ owned_by seen t tenant → v.subject ≡ subject_of (part memory t) text size → IsVerified v → StandsForTenant old tenant
+            → StandsForTenant (record old { programs = set old.programs k (Some v) }) (record tenant { programs = set tenant.programs k (Some (subject_of (owned_by seen t tenant) text size)) })
+        loaded_stands v seen tenant owned is verified stands =
+            let p : Subject = subject_of (owned_by seen t tenant) text size in
             let same : p ≡ v.subject = sym (is ∙ ap (λ o. subject_of o text size) owned) in
             let Fitting : Accepted → Type 0 = λ a. HaveShapes (named_shapes a.subject) tenant.maps in
-            let have : Fitting v = subst (λ (q : Subject). HaveShapes (named_shapes q) tenant.maps) same (have_named (owned_by tenant) text size) in
+            let have : Fitting v = subst (λ (q : Subject). HaveShapes (named_shapes q) tenant.maps) same (have_named (owned_by seen t tenant) text size) in
             let subjects : List (Option Accepted) → List (Option Subject) = map (option_map (λ (a : Accepted). a.subject)) in
             let listed : set (subjects old.programs) k (Some p) ≡ subjects (set old.programs k (Some v)) =
             ap (λ q. set (subjects old.programs) k (Some q)) same ∙ sym (map-set (option_map (λ (a : Accepted). a.subject)) old.programs k (Some v)) in
@@ -187,8 +188,8 @@ module _ (t : ℕ) (old : TenantView) (memory : MemoryState) (text : List ℕ) (
         pub load-accepted : (v : Accepted) → v.subject ≡ subject_of (part memory t) text size → IsWellFormed text → IsVerified v → ReadsAs memory
             → IsServed t old memory (Load t text size) (Program k) (record old { programs = set old.programs k (Some v) }) memory
         load-accepted v is well verified reads x tenant there stands holds =
-            let owned : part memory t ≡ owned_by tenant = part_stands memory x t tenant holds there in
-            let p : Subject = subject_of (owned_by tenant) text size in
+            let owned : part memory t ≡ owned_by x.sharing t tenant = part_stands memory x t tenant holds there in
+            let p : Subject = subject_of (owned_by x.sharing t tenant) text size in
             let same : p ≡ v.subject = sym (is ∙ ap (λ o. subject_of o text size) owned) in
             let next : Tenant = record tenant { programs = set tenant.programs k (Some p) } in
             let reply = Program k in
@@ -197,8 +198,8 @@ module _ (t : ℕ) (old : TenantView) (memory : MemoryState) (text : List ℕ) (
             let happens : LoadHappens x t tenant p reply x' = LoadHappens.loaded well v.table tight k (room-left tenant stands) (refl, refl) in (
               next,
               x.sharing,
-              loaded_stands v tenant owned is verified stands,
-              changed_stands memory memory x t tenant next x.sharing holds there refl refl reads stands.meets.maps.eight owned (λ j other. refl) holds.sharing,
+              loaded_stands v x.sharing tenant owned is verified stands,
+              changed_stands memory memory x t tenant next x.sharing x.sharing holds there refl refl reads stands.meets.maps.eight owned (λ j other. refl) holds.sharing,
               OfTenant-there x t reply x' _ tenant there (RefusedOr-else (load_refusal tenant size) x reply x' _ (allowed tenant stands) happens),
               tt,
             )

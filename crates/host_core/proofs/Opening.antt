@@ -1,15 +1,17 @@
 -- What the beginning of a run does to a tenant and to each system that it stands in.
-use Rattle.std.proofs.Common.{◌≡◌, ◌≢◌, ℕ, ◌<◌, ◌≤◌, ◌==◌, true, false, List, length, slice_index_or, inl, inr, Option, Some, None, is_some, IsNone, sym, ap, refl, ◌∙◌, subst, eq-eqb, ne_eqb, arith}
+use Rattle.std.proofs.Common.{◌≡◌, ◌≢◌, ℕ, ◌<◌, ◌≤◌, ◌==◌, true, false, List, length, slice_index_or, inl, inr, Option, Some, None, is_some, sym, ap, refl, ◌∙◌, subst, eq-eqb, ne_eqb, arith}
+use Rattle.std.specs.List.{slice_get}
 use Rattle.std.specs.Option.{option_map}
 use Rattle.std.proofs.lemmas.List.{ext_get_or}
 use Rattle.host_types.specs.declared.fault.Fault.{Fault}
 use Rattle.host_types.specs.declared.fault.Fault.TheVariants.{Program, NoFrames, TooManyMaps, BadShape, NoMap, NoElement, Busy, NoRun, NoProgram, BadContext, BadOption, OutOfMemory, BadTenant, InUse, PagesShared, TooManyPrograms}
+use Rattle.host_types.specs.Tenant.{TenantPart}
 use Rattle.bpf_decode.specs.Text.{slots_of}
-use Rattle.page_table.specs.Changes.{IsKeptBut, with_record, with_reserve}
+use Rattle.page_table.specs.Changes.{IsKeptBut, with_run, opened}
 use Rattle.page_table.specs.Reads.{ReadsAs}
 use Rattle.page_table.specs.State.{MemoryState, part, have_of}
 use Rattle.verifier.specs.Named.{named_shapes}
-use Rattle.verifier.specs.Reserve.{reserve_from}
+use Rattle.admission.specs.Reserve.{needed_from}
 use Rattle.verifier.specs.Subject.{Subject}
 use Rattle.verifier.specs.Table.{described, tight_table}
 use Rattle.verifier.specs.Verified.{Accepted, IsVerified}
@@ -18,14 +20,15 @@ use Rattle.verifier.proofs.Tight.{length-tight, tight_is_tight}
 use Rattle.interp.specs.Fits.{HaveShapes}
 use Rattle.interp.specs.StandsFor.{Running, IsBegun}
 use Rattle.tenant_runs.specs.UnderWay.{RefusesOpen}
-use Rattle.tenant_runs.proofs.Rooms.{record_keeps}
+use Rattle.tenant_runs.proofs.Rooms.{opened_keeps}
 use Rattle.host_core.specs.declared.event.Event.TheVariants.{Begin}
 use Rattle.host_core.specs.declared.event.Reply.TheVariants.{Begun, Refused}
-use Rattle.host_core.specs.World.{OpenRun, Tenant, System, program_at, begun_run, accepted_of, owned_by, reserve_of, have_in}
+use Rattle.host_core.specs.World.{Tenant, System, program_at, begun_run, accepted_of, pins_of, owned_by, have_in}
 use Rattle.host_core.specs.Happens.{BeginHappens, Leaves, MayLackFrames, MayLackMemory, begin_refusal, changed_system}
-use Rattle.host_core.specs.HostView.{TenantView, EachProgram, StandsForTenant, IsKept, IsServed}
+use Rattle.host_core.specs.HostView.{TenantView, EachProgram, StandsForTenant, StandsForMemory, IsKept, IsServed}
 use Rattle.host_core.proofs.Places.{get_or-there, slice_get-there, all-at}
 use Rattle.host_core.proofs.Worlds.{OfTenant-there, RefusedOr-refused, RefusedOr-else}
+use Rattle.host_core.proofs.Memories.{reserve-idle}
 use Rattle.host_core.proofs.Systems.{part_stands, have_stands, changed_stands}
 use Rattle.host_core.proofs.Serving.{is_some-run, served-same}
 
@@ -55,14 +58,15 @@ program_at-kept kept tenant k stands = ap (λ programs. slice_index_or programs 
 each-at : (P : Accepted → Type 0) (kept : TenantView) (k : ℕ) (v : Accepted) → EachProgram P kept.programs → accepted_at kept k ≡ Some v → P v
 each-at P kept k v all found = all-at P kept.programs k v all (slice_get-there kept.programs k v found)
 
--- for a tenant that is kept nothing is reserved where it has no open run
-reserve-idle : (r : Option OpenRun) → IsNone r → reserve_of r ≡ 0
-reserve-idle None idle = refl
-reserve-idle (Some r) idle = absurd (cc)
-
+-- for a tenant that is kept nothing is reserved where it has no open run, and none is open in the memory
 pub kept-idle : (t : ℕ) (kept : TenantView) (memory : MemoryState) → IsKept t kept memory → is_some kept.run ≡ false → (part memory t).reserve ≡ 0
 kept-idle t kept memory (x, tenant, there, stands, holds) idle =
-    ap (λ owned. owned.reserve) (part_stands memory x t tenant holds there) ∙ reserve-idle tenant.run (is_some-run kept.programs kept.run tenant.run stands.run ∙ idle)
+    ap (λ (owned : TenantPart). owned.reserve) (part_stands memory x t tenant holds there)
+    ∙ reserve-idle (pins_of x.sharing t) tenant.maps tenant.run (is_some-run kept.programs kept.run tenant.run stands.run ∙ idle)
+
+pub kept-resting : (t : ℕ) (kept : TenantView) (memory : MemoryState) → IsKept t kept memory → is_some kept.run ≡ false → (part memory t).running ≡ false
+kept-resting t kept memory (x, tenant, there, stands, holds) idle =
+    ap (λ (owned : TenantPart). owned.running) (part_stands memory x t tenant holds there) ∙ is_some-run kept.programs kept.run tenant.run stands.run ∙ idle
 
 -- a run that begins while another is open
 begin_refusal-busy : (tenant : Tenant) (k : ℕ) (context : List ℕ) → is_some tenant.run ≡ true → begin_refusal tenant k context ≡ Some Busy
@@ -121,39 +125,42 @@ module _ (t k : ℕ) (old : TenantView) (context : List ℕ) (v : Accepted) (idl
       begin_refusal-context tenant k context v.subject (none-open tenant stands) (numbered tenant stands) other)
 
   -- what frames the run needs, as the system's tenant has it
-  charged : (tenant : Tenant) → StandsForTenant old tenant → reserve_from v 0 ≡ reserve_from (accepted_of v.subject) 0
-  charged tenant stands = ap (λ a. reserve_from a 0) (sym (accepted-tight v (each-at IsVerified old k v stands.verified found)))
+  charged : (memory : MemoryState) (x : System) (tenant : Tenant) → slice_get x.world t ≡ Some tenant → StandsForTenant old tenant → StandsForMemory memory x
+      → needed_from v (part memory t) 0 ≡ needed_from (accepted_of v.subject) (owned_by x.sharing t tenant) 0
+  charged memory x tenant there stands holds =
+      ap (λ o. needed_from v o 0) (part_stands memory x t tenant holds there)
+      ∙ ap (λ a. needed_from a (owned_by x.sharing t tenant) 0) (sym (accepted-tight v (each-at IsVerified old k v stands.verified found)))
 
   -- a run that nothing forbids, and that isn't opened
   begin-tried : (memory : MemoryState) (f : Fault) → length context ≡ v.subject.context_size
-      → ((x : System) (tenant : Tenant) → reserve_from v 0 ≡ reserve_from (accepted_of v.subject) 0 → have_of memory ≡ have_in x
-      → MayLackFrames x (reserve_from (accepted_of v.subject) 0) (Refused f) x (MayLackMemory x (Refused f) x (Leaves x t (record tenant { run = Some (begun_run v.subject context tenant.maps) }) x.sharing Begun (Refused f) x)))
+      → ((x : System) (tenant : Tenant) → needed_from v (part memory t) 0 ≡ needed_from (accepted_of v.subject) (owned_by x.sharing t tenant) 0 → have_of memory ≡ have_in x
+      → MayLackFrames x (needed_from (accepted_of v.subject) (owned_by x.sharing t tenant) 0) (Refused f) x (MayLackMemory x (Refused f) x (Leaves x t (record tenant { run = Some (begun_run v.subject context tenant.maps) }) x.sharing Begun (Refused f) x)))
       → IsServed t old memory (Begin t k context) (Refused f) old memory
   begin-tried memory f fits lacks =
       served-same t old memory (Begin t k context) (Refused f) (λ x tenant there stands holds.
       let none = begin_refusal-none tenant k context v.subject (none-open tenant stands) (numbered tenant stands) fits in
-      let happens : BeginHappens x t tenant k context (Refused f) x = (v.subject, numbered tenant stands, lacks x tenant (charged tenant stands) (have_stands memory x holds)) in
+      let happens : BeginHappens x t tenant k context (Refused f) x = (v.subject, numbered tenant stands, lacks x tenant (charged memory x tenant there stands holds) (have_stands memory x holds)) in
       (OfTenant-there x t (Refused f) x _ tenant there (RefusedOr-else (begin_refusal tenant k context) x (Refused f) x _ none happens), tt))
 
   -- a run for which there is no memory
-  begin-lacks_memory : (memory : MemoryState) → length context ≡ v.subject.context_size → reserve_from v 0 ≤ have_of memory → IsServed t old memory (Begin t k context) (Refused OutOfMemory) old memory
+  begin-lacks_memory : (memory : MemoryState) → length context ≡ v.subject.context_size → needed_from v (part memory t) 0 ≤ have_of memory → IsServed t old memory (Begin t k context) (Refused OutOfMemory) old memory
   begin-lacks_memory memory fits enough =
       begin-tried memory OutOfMemory fits (λ x tenant charge had.
-      inr (subst (λ n. n ≤ have_in x) charge (subst (λ n. reserve_from v 0 ≤ n) had enough), inl (refl, refl)))
+      inr (subst (λ n. n ≤ have_in x) charge (subst (λ n. needed_from v (part memory t) 0 ≤ n) had enough), inl (refl, refl)))
 
   -- a run for which frames are missing
-  begin-lacks_frames : (memory : MemoryState) (need have : ℕ) → length context ≡ v.subject.context_size → need ≡ reserve_from v 0 → have ≡ have_of memory → have < need
+  begin-lacks_frames : (memory : MemoryState) (need have : ℕ) → length context ≡ v.subject.context_size → need ≡ needed_from v (part memory t) 0 → have ≡ have_of memory → have < need
       → IsServed t old memory (Begin t k context) (Refused (NoFrames need have)) old memory
   begin-lacks_frames memory need have fits needs has less =
       begin-tried memory (NoFrames need have) fits (λ x tenant charge had.
       let needed = needs ∙ charge in
       let there = has ∙ had in
-      let reply : Refused (NoFrames need have) ≡ Refused (NoFrames (reserve_from (accepted_of v.subject) 0) (have_in x)) =
-      ap (λ n. Refused (NoFrames n have)) needed ∙ ap (λ n. Refused (NoFrames (reserve_from (accepted_of v.subject) 0) n)) there in
+      let reply : Refused (NoFrames need have) ≡ Refused (NoFrames (needed_from (accepted_of v.subject) (owned_by x.sharing t tenant) 0) (have_in x)) =
+      ap (λ n. Refused (NoFrames n have)) needed ∙ ap (λ n. Refused (NoFrames (needed_from (accepted_of v.subject) (owned_by x.sharing t tenant) 0) n)) there in
       inl (subst (λ n. have_in x < n) needed (subst (λ n. n < need) there less), (reply, refl)))
 
   -- a run that isn't opened
-  pub begin-not_opened : (memory : MemoryState) (f : Fault) → RefusesOpen v context memory f → IsServed t old memory (Begin t k context) (Refused f) old memory
+  pub begin-not_opened : (memory : MemoryState) (f : Fault) → RefusesOpen v context memory t f → IsServed t old memory (Begin t k context) (Refused f) old memory
   begin-not_opened memory (Program refused) refuses = absurd refuses
   begin-not_opened memory (NoFrames need have) (fits, needs, has, less) = begin-lacks_frames memory need have fits needs has less
   begin-not_opened memory TooManyMaps refuses = absurd refuses
@@ -173,9 +180,9 @@ module _ (t k : ℕ) (old : TenantView) (context : List ℕ) (v : Accepted) (idl
 
 -- what is known once a run was admitted
 pub record HasAdmitted (t : ℕ) (before after : MemoryState) (v : Accepted) : Type 0 where
-  pub enough : reserve_from v 0 ≤ have_of before
-  pub recorded : part after t ≡ with_reserve (reserve_from v 0) (part before t)
-  pub all : after ≡ with_record before t (reserve_from v 0)
+  pub enough : needed_from v (part before t) 0 ≤ have_of before
+  pub recorded : part after t ≡ with_run (needed_from v (part before t) 0) (part before t)
+  pub all : after ≡ opened before t (needed_from v (part before t) 0)
   pub others : IsKeptBut t before after
   pub reads : ReadsAs after
 
@@ -203,11 +210,14 @@ pub begin-begun : (t k : ℕ) (old : TenantView) (before after : MemoryState) (c
 begin-begun t k old before after context run v idle found fits begun none_made admits x tenant there stands holds =
     let next : Tenant = record tenant { run = Some (begun_run v.subject context tenant.maps) } in
     let tight : accepted_of v.subject ≡ v = accepted-tight v (each-at IsVerified old k v stands.verified found) in
-    let charge : reserve_from v 0 ≡ reserve_from (accepted_of v.subject) 0 = ap (λ a. reserve_from a 0) (sym tight) in
-    let is : part after t ≡ owned_by next =
-    admits.recorded ∙ ap (with_reserve (reserve_from v 0)) (part_stands before x t tenant holds there) ∙ ap (λ n. with_reserve n (owned_by tenant)) charge in
-    let enough : reserve_from (accepted_of v.subject) 0 ≤ have_in x = subst (λ n. n ≤ have_in x) charge (subst (λ n. reserve_from v 0 ≤ n) (have_stands before x holds) admits.enough) in
-    let sizes = record_keeps before after t (reserve_from v 0) admits.all in
+    let owned : part before t ≡ owned_by x.sharing t tenant = part_stands before x t tenant holds there in
+    let charge : needed_from v (part before t) 0 ≡ needed_from (accepted_of v.subject) (owned_by x.sharing t tenant) 0 =
+    ap (λ o. needed_from v o 0) owned ∙ ap (λ a. needed_from a (owned_by x.sharing t tenant) 0) (sym tight) in
+    let is : part after t ≡ owned_by x.sharing t next =
+    admits.recorded ∙ ap (λ n. with_run n (part before t)) charge ∙ ap (with_run (needed_from (accepted_of v.subject) (owned_by x.sharing t tenant) 0)) owned in
+    let enough : needed_from (accepted_of v.subject) (owned_by x.sharing t tenant) 0 ≤ have_in x =
+    subst (λ n. n ≤ have_in x) charge (subst (λ n. needed_from v (part before t) 0 ≤ n) (have_stands before x holds) admits.enough) in
+    let sizes = opened_keeps before after t (needed_from v (part before t) 0) admits.all in
     let shares : after.sharing ≡ x.sharing = ap (λ (memory : MemoryState). memory.sharing) admits.all ∙ holds.sharing in
     let none = begin_refusal-none tenant k context v.subject (none-open t k old context v idle found tenant stands) (numbered t k old context v idle found tenant stands) fits in
     let x' : System = changed_system x t next x.sharing in
@@ -215,7 +225,7 @@ begin-begun t k old before after context run v idle found fits begun none_made a
       next,
       x.sharing,
       begun_stands k old tenant context run v found begun none_made stands,
-      changed_stands before after x t tenant next x.sharing holds there sizes.tenants sizes.frames admits.reads stands.meets.maps.eight is admits.others shares,
+      changed_stands before after x t tenant next x.sharing x.sharing holds there sizes.tenants sizes.frames admits.reads stands.meets.maps.eight is admits.others shares,
       OfTenant-there x t Begun x' _ tenant there (RefusedOr-else (begin_refusal tenant k context) x Begun x' _ none happens),
       tt,
     )

@@ -19,6 +19,7 @@ use Rattle.page_table.specs.Changes.{IsKeptBut, AreMapsKeptBut, KeepsSettings, p
 use Rattle.page_table.specs.Limits.{page_count, shape_of}
 use Rattle.page_table.specs.Reads.{ReadsAs}
 use Rattle.page_table.specs.State.{MemoryState, part, free_number, have_of}
+use Rattle.write_break.specs.Stores.{pinned_as}
 use Rattle.map_helpers.specs.Updates.{part_updated, updated_sharing}
 use Rattle.verifier.specs.Named.{named_shapes}
 use Rattle.verifier.specs.Verified.{Accepted}
@@ -29,10 +30,11 @@ use Rattle.host_core.specs.declared.event.Event.TheVariants.{CreateMap, HostUpda
 use Rattle.host_core.specs.declared.event.Reply.{Reply}
 use Rattle.host_core.specs.declared.event.Reply.TheVariants.{Map, Done, Value, Refused}
 use Rattle.host_core.specs.declared.tenant.OpenRun.{OpenRun as KeptRun}
-use Rattle.host_core.specs.World.{OpenRun, Tenant, System, owned_by, have_in}
+use Rattle.host_core.specs.World.{OpenRun, Tenant, System, pins_of, owned_by, have_in}
 use Rattle.host_core.specs.Happens.{Happens, IsPromised, RefusesCreate, RefusesHostUpdate, changed_system}
 use Rattle.host_core.specs.HostView.{TenantView, EachProgram, StandsForAnyRun, StandsForTenant, StandsForMemory, IsKept, IsServed}
 use Rattle.host_core.proofs.Worlds.{changed_system-same, OfTenant-there}
+use Rattle.host_core.proofs.Memories.{reserve-idle, owned-idle}
 use Rattle.host_core.proofs.Systems.{part_stands, have_stands, changed_stands}
 
 -- there is an open run on both sides, or on none
@@ -131,6 +133,19 @@ with_maps old tenant maps idle stands flat have =
     with_named_maps old tenant maps idle stands flat
     (λ k d less. IfSome_then (slice_index_or old.programs k d) (stands.shapes k d less) (λ accepted. have (named_shapes accepted.subject)))
 
+-- the part of a tenant without an open run, whose maps became others
+pub still_idle : (memory : MemoryState) (t : ℕ) (seen : Sharing) (tenant : Tenant) (maps : FlatMaps) → IsNone tenant.run
+    → (part memory t).maps ≡ maps → (part memory t).reserve ≡ (owned_by seen t tenant).reserve → (part memory t).running ≡ (owned_by seen t tenant).running
+    → part memory t ≡ owned_by memory.sharing t (record tenant { maps = maps })
+still_idle memory t seen tenant maps idle has reserve running =
+    owned-idle memory t (record tenant { maps = maps }) idle has
+    (reserve ∙ reserve-idle (pins_of seen t) tenant.maps tenant.run idle)
+    (running ∙ closed tenant.run idle)
+  where
+    closed : (r : Option OpenRun) → IsNone r → is_some r ≡ false
+    closed None idle = refl
+    closed (Some r) idle = absurd (cc)
+
 -- what is known once a map was made
 pub record HasCreated (t : ℕ) (before after : MemoryState) (shape : Shape) (mergeable : Bool) (m : ℕ) : Type 0 where
   pub fits : FitsNewMap (part before t) shape
@@ -150,29 +165,30 @@ pub create-made : (t : ℕ) (old : TenantView) (before after : MemoryState) (val
 create-made t old before after value_size entries mergeable m idle made x tenant there stands holds =
     let shape : Shape = shape_of value_size entries in
     let none : IsNone tenant.run = is_some-run old.programs old.run tenant.run stands.run ∙ idle in
-    let owned : part before t ≡ owned_by tenant = part_stands before x t tenant holds there in
+    let owned : part before t ≡ owned_by x.sharing t tenant = part_stands before x t tenant holds there in
     let next : Tenant = record tenant { maps = slice_set tenant.maps m (Some (zero_map shape)) } in
-    let is : part after t ≡ owned_by next = made.created ∙ ap (λ o. part_created o m shape) owned in
+    let became = made.created ∙ ap (λ o. part_created o m shape) owned in
+    let is : part after t ≡ owned_by after.sharing t next = still_idle after t x.sharing tenant next.maps none (ap (λ (o : TenantPart). o.maps) became) (ap (λ (o : TenantPart). o.reserve) became) (ap (λ (o : TenantPart). o.running) became) in
     let eight : length next.maps ≡ 8 = length-set tenant.maps m (Some (zero_map shape)) ∙ stands.meets.maps.eight in
     let flat : AreFlatMaps next.maps = subst (λ (o : TenantPart). AreFlatMaps o.maps) is (made.flat (ap (λ (o : TenantPart). length o.maps) is ∙ eight)) in
-    let free : free_number (owned_by tenant) ≡ Some m = subst (λ o. free_number o ≡ Some m) owned made.number in
-    let others : (j : ℕ) → j ≢ m → map_at next.maps j ≡ map_at tenant.maps j = subst (λ o. AreMapsKeptBut m o (owned_by next)) owned (subst (λ o. AreMapsKeptBut m (part before t) o) is made.other_maps) in
+    let free : free_number (owned_by x.sharing t tenant) ≡ Some m = subst (λ o. free_number o ≡ Some m) owned made.number in
+    let others : (j : ℕ) → j ≢ m → map_at next.maps j ≡ map_at tenant.maps j = subst (λ o. AreMapsKeptBut m o (owned_by after.sharing t next)) owned (subst (λ o. AreMapsKeptBut m (part before t) o) is made.other_maps) in
     let have : (shapes : List (Option Shape)) → HaveShapes shapes tenant.maps → HaveShapes shapes next.maps =
-    λ shapes. shapes_kept shapes tenant.maps next.maps m others (λ s had. absurd (free_shapeless (owned_by tenant) m s free had)) in
+    λ shapes. shapes_kept shapes tenant.maps next.maps m others (λ s had. absurd (free_shapeless (owned_by x.sharing t tenant) m s free had)) in
     let sharing : Sharing = with_new_pages x.sharing (map_place t m * 256) (page_count shape) mergeable in
     let shares : after.sharing ≡ sharing = made.sharing ∙ ap (λ s. with_new_pages s (map_place t m * 256) (page_count shape) mergeable) holds.sharing in
     let enough : page_count shape ≤ have_in x = subst (λ n. page_count shape ≤ n) (have_stands before x holds) made.enough in
-    let fits : FitsNewMap (owned_by tenant) shape = subst (λ o. FitsNewMap o shape) owned made.fits in (
+    let fits : FitsNewMap (owned_by x.sharing t tenant) shape = subst (λ o. FitsNewMap o shape) owned made.fits in (
       next,
       sharing,
       with_maps old tenant next.maps none stands flat have,
-      changed_stands before after x t tenant next sharing holds there (ap length made.settings.tenants) made.settings.frames made.reads eight is made.others shares,
+      changed_stands before after x t tenant next sharing after.sharing holds there (ap length made.settings.tenants) made.settings.frames made.reads eight is made.others shares,
       OfTenant-there x t (Map m) (changed_system x t next sharing) _ tenant there (inr (none, fits, enough, (m, free, (refl, refl)))),
       tt,
     )
 
-module _ (memory : MemoryState) (x : System) (tenant : Tenant) (shape : Shape) (idle : IsNone tenant.run) (have : have_of memory ≡ have_in x) where
-  refuses_create : (f : Fault) → RefusesNewMap (owned_by tenant) shape f → TellsHave memory f → HasFrames memory shape f → RefusesCreate x tenant shape f
+module _ (memory : MemoryState) (x : System) (t : ℕ) (tenant : Tenant) (shape : Shape) (idle : IsNone tenant.run) (have : have_of memory ≡ have_in x) where
+  refuses_create : (f : Fault) → RefusesNewMap (owned_by x.sharing t tenant) shape f → TellsHave memory f → HasFrames memory shape f → RefusesCreate x t tenant shape f
   refuses_create (Program refused) refuses tells framed = absurd refuses
   refuses_create (NoFrames need most) refuses tells framed = (idle, refuses, tells ∙ have)
   refuses_create TooManyMaps refuses tells framed = (idle, refuses, tt)
@@ -198,7 +214,7 @@ create-refused t old memory value_size entries mergeable f idle refuses tells fr
     served-same t old memory (CreateMap t value_size entries mergeable) (Refused f) (λ x tenant there stands holds.
     let none : IsNone tenant.run = is_some-run old.programs old.run tenant.run stands.run ∙ idle in
     let here = subst (λ o. RefusesNewMap o (shape_of value_size entries) f) (part_stands memory x t tenant holds there) refuses in
-    let why = refuses_create memory x tenant (shape_of value_size entries) none (have_stands memory x holds) f here tells framed in
+    let why = refuses_create memory x t tenant (shape_of value_size entries) none (have_stands memory x holds) f here tells framed in
     (OfTenant-there x t (Refused f) x _ tenant there (inl (f, why, (refl, refl))), tt))
 
 -- a map that isn't made while a run is open
@@ -213,7 +229,7 @@ create-busy t old memory value_size entries mergeable busy =
 pub record HasUpdated (t : ℕ) (before after : MemoryState) (m key : ℕ) (value : List ℕ) : Type 0 where
   pub fits : FitsValue (part before t) m key value
   pub charged : IsCharged (part before t) m (have_of before)
-  pub updated : part after t ≡ part_updated (part before t) m key value 0
+  pub updated : part after t ≡ pinned_as after.sharing t (part_updated (part before t) m key value 0)
   pub helped : helper Update (part before t).maps m key value 0 ≡ Some (0, (part after t).maps)
   pub other_maps : AreMapsKeptBut m (part before t) (part after t)
   pub others : IsKeptBut t before after
@@ -237,31 +253,32 @@ pub update-done : (t : ℕ) (old : TenantView) (before after : MemoryState) (m k
     → HasUpdated t before after m key value → IsServed t old before (HostUpdate t m key value) Done old after
 update-done t old before after m key value idle made x tenant there stands holds =
     let none : IsNone tenant.run = is_some-run old.programs old.run tenant.run stands.run ∙ idle in
-    let owned : part before t ≡ owned_by tenant = part_stands before x t tenant holds there in
+    let owned : part before t ≡ owned_by x.sharing t tenant = part_stands before x t tenant holds there in
     let next : Tenant = record tenant { maps = maps_updated tenant.maps m key value 0 } in
-    let is : part after t ≡ owned_by next = made.updated ∙ ap (λ o. part_updated o m key value 0) owned in
+    let became = made.updated ∙ ap (λ o. pinned_as after.sharing t (part_updated o m key value 0)) owned in
+    let is : part after t ≡ owned_by after.sharing t next = still_idle after t x.sharing tenant next.maps none (ap (λ (o : TenantPart). o.maps) became) (ap (λ (o : TenantPart). o.reserve) became) (ap (λ (o : TenantPart). o.running) became) in
     let eight : length next.maps ≡ 8 = length-updated tenant.maps m key value ∙ stands.meets.maps.eight in
     let flat : AreFlatMaps next.maps = subst (λ (o : TenantPart). AreFlatMaps o.maps) is (made.flat (ap (λ (o : TenantPart). length o.maps) is ∙ eight)) in
-    let others : (j : ℕ) → j ≢ m → map_at next.maps j ≡ map_at tenant.maps j = subst (λ o. AreMapsKeptBut m o (owned_by next)) owned (subst (λ o. AreMapsKeptBut m (part before t) o) is made.other_maps) in
+    let others : (j : ℕ) → j ≢ m → map_at next.maps j ≡ map_at tenant.maps j = subst (λ o. AreMapsKeptBut m o (owned_by after.sharing t next)) owned (subst (λ o. AreMapsKeptBut m (part before t) o) is made.other_maps) in
     let have : (shapes : List (Option Shape)) → HaveShapes shapes tenant.maps → HaveShapes shapes next.maps =
     λ shapes. shapes_kept shapes tenant.maps next.maps m others (λ s had. updated_shapes tenant.maps m key value s had) in
-    let sharing : Sharing = updated_sharing (owned_by tenant) x.sharing t m key 0 in
+    let sharing : Sharing = updated_sharing (owned_by x.sharing t tenant) x.sharing t m key 0 in
     let shares : after.sharing ≡ sharing =
-    made.sharing ∙ ap (λ o. updated_sharing o before.sharing t m key 0) owned ∙ ap (λ s. updated_sharing (owned_by tenant) s t m key 0) holds.sharing in
-    let fits : FitsValue (owned_by tenant) m key value = subst (λ o. FitsValue o m key value) owned made.fits in
-    let charged : IsCharged (owned_by tenant) m (have_in x) = subst (λ n. IsCharged (owned_by tenant) m n) (have_stands before x holds) (subst (λ o. IsCharged o m (have_of before)) owned made.charged) in
+    made.sharing ∙ ap (λ o. updated_sharing o before.sharing t m key 0) owned ∙ ap (λ s. updated_sharing (owned_by x.sharing t tenant) s t m key 0) holds.sharing in
+    let fits : FitsValue (owned_by x.sharing t tenant) m key value = subst (λ o. FitsValue o m key value) owned made.fits in
+    let charged : IsCharged (owned_by x.sharing t tenant) m (have_in x) = subst (λ n. IsCharged (owned_by x.sharing t tenant) m n) (have_stands before x holds) (subst (λ o. IsCharged o m (have_of before)) owned made.charged) in
     let helped : helper Update tenant.maps m key value 0 ≡ Some (0, next.maps) =
     subst (λ (o : TenantPart). helper Update o.maps m key value 0 ≡ Some (0, next.maps)) owned (subst (λ (o : TenantPart). helper Update (part before t).maps m key value 0 ≡ Some (0, o.maps)) is made.helped) in (
       next,
       sharing,
       with_maps old tenant next.maps none stands flat have,
-      changed_stands before after x t tenant next sharing holds there (ap length made.settings.tenants) made.settings.frames made.reads eight is made.others shares,
+      changed_stands before after x t tenant next sharing after.sharing holds there (ap length made.settings.tenants) made.settings.frames made.reads eight is made.others shares,
       OfTenant-there x t Done (changed_system x t next sharing) _ tenant there (inr (none, fits, charged, (next.maps, helped, (refl, refl)))),
       tt,
     )
 
-module _ (memory : MemoryState) (x : System) (tenant : Tenant) (m key : ℕ) (value : List ℕ) (idle : IsNone tenant.run) (have : have_of memory ≡ have_in x) where
-  refuses_update : (f : Fault) → RefusesUpdate (owned_by tenant) m key value f → TellsHave memory f → RefusesHostUpdate x tenant m key value f
+module _ (memory : MemoryState) (x : System) (t : ℕ) (tenant : Tenant) (m key : ℕ) (value : List ℕ) (idle : IsNone tenant.run) (have : have_of memory ≡ have_in x) where
+  refuses_update : (f : Fault) → RefusesUpdate (owned_by x.sharing t tenant) m key value f → TellsHave memory f → RefusesHostUpdate x t tenant m key value f
   refuses_update (Program refused) refuses tells = absurd refuses
   refuses_update (NoFrames need most) refuses tells = (idle, refuses, tells ∙ have)
   refuses_update TooManyMaps refuses tells = absurd refuses
@@ -286,7 +303,7 @@ update-refused t old memory m key value f idle refuses tells =
     served-same t old memory (HostUpdate t m key value) (Refused f) (λ x tenant there stands holds.
     let none : IsNone tenant.run = is_some-run old.programs old.run tenant.run stands.run ∙ idle in
     let here = subst (λ o. RefusesUpdate o m key value f) (part_stands memory x t tenant holds there) refuses in
-    let why = refuses_update memory x tenant m key value none (have_stands memory x holds) f here tells in
+    let why = refuses_update memory x t tenant m key value none (have_stands memory x holds) f here tells in
     (OfTenant-there x t (Refused f) x _ tenant there (inl (f, why, (refl, refl))), tt))
 
 -- a value that isn't written while a run is open

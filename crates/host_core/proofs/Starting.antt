@@ -1,5 +1,5 @@
 -- A new host and a new system.
-use Rattle.std.proofs.Common.{◌≡◌, ℕ, zero, suc, ◌+◌, ◌*◌, List, [], ◌∷◌, ◌++◌, map, replicate, Option, None, sym, ap, refl, ◌∙◌, subst, arith}
+use Rattle.std.proofs.Common.{◌≡◌, ℕ, zero, suc, ◌+◌, ◌*◌, List, [], ◌∷◌, ◌++◌, replicate, Option, None, sym, ap, refl, ◌∙◌, subst, arith}
 use Rattle.std.specs.List.{AllZip}
 use Rattle.std.proofs.lemmas.List.{length-replicate, replicate_more, replicate-append-replicate}
 use Rattle.std.proofs.lemmas.List.Elements.{All-replicate}
@@ -7,9 +7,10 @@ use Rattle.std.proofs.lemmas.Slice.Zip.{all_zipped_more}
 use Rattle.host_types.specs.declared.options.Options.{Options}
 use Rattle.host_types.specs.Memory.{FlatMap, FlatMaps}
 use Rattle.host_types.specs.Pages.{zero_page}
-use Rattle.page_table.specs.State.{MemoryState, new_memory, unreserved_tenant as new_record}
+use Rattle.host_types.specs.Sharing.{Sharing}
+use Rattle.page_table.specs.State.{MemoryState, new_memory, no_sharing, unreserved_tenant as new_record}
 use Rattle.host_core.specs.World.{all_maps, new_tenant, new_system}
-use Rattle.host_core.specs.HostView.{TenantView, StandsForTenant, StandsForMemory, StandsForSystem, recorded_of}
+use Rattle.host_core.specs.HostView.{TenantView, StandsForTenant, StandsForMemory, StandsForSystem, recorded_in}
 use Rattle.host_core.proofs.Memories.{IsEight}
 
 -- no tenant has a map
@@ -20,10 +21,11 @@ new_maps (suc n) =
     let more : suc n * 8 ≡ 8 + n * 8 = omega arith in
     ap (λ k. replicate k none) more ∙ sym (replicate-append-replicate 8 (n * 8) none) ∙ ap (λ xs. replicate 8 none ++ xs) (new_maps n)
 
--- nothing is reserved
-new_records : (n : ℕ) → replicate n new_record ≡ map recorded_of (replicate n new_tenant)
-new_records zero = refl
-new_records (suc n) = ap (λ xs. new_record ∷ xs) (new_records n)
+-- nothing is reserved, and no run is open
+new_records : (sharing : Sharing) (t n : ℕ) → replicate n new_record ≡ recorded_in sharing t (replicate n new_tenant)
+unfolding recorded_in
+new_records sharing t zero = refl
+new_records sharing t (suc n) = ap (λ xs. new_record ∷ xs) (new_records sharing (suc t) n)
 
 -- a new memory stands for a new system
 pub new_stands : (frames tenants : ℕ) (options : Options) → StandsForMemory (new_memory frames tenants options) (new_system frames tenants options)
@@ -33,7 +35,7 @@ new_stands frames tenants options = record {
   eight = All-replicate IsEight tenants new_tenant refl;
   sharing = refl;
   frames = length-replicate frames zero_page;
-  recorded = new_records tenants;
+  recorded = new_records (no_sharing (tenants * 2048) options) 0 tenants;
 }
 
 -- one more new tenant

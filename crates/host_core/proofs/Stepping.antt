@@ -1,16 +1,16 @@
 -- Steps of a tenant's open run, one and many, and the Step events of a system that they are.
-use Rattle.std.proofs.Common.{◌≡◌, ℕ, zero, suc, ◌+◌, ◌<◌, ◌≤◌, ◌==◌, Bool, true, false, if◌then◌else◌, List, [], ◌∷◌, ◌++◌, replicate, set, sum_by, get_or, Option, Some, None, IfSome, IsSomeAnd, MatchOption, sym, ap, refl, ◌∙◌, subst, arith, add-one, add-zero, add-suc}
+use Rattle.std.proofs.Common.{◌≡◌, ℕ, zero, suc, ◌+◌, ◌<◌, ◌≤◌, ◌==◌, Bool, true, false, if◌then◌else◌, List, [], ◌∷◌, ◌++◌, replicate, set, sum_by, get_or, Option, Some, None, is_some, IfSome, IsSomeAnd, MatchOption, sym, ap, refl, ◌∙◌, subst, arith, add-one, add-zero, add-suc}
 use Rattle.std.specs.List.{slice_get}
 use Rattle.std.specs.Option.{option_map}
 use Rattle.std.proofs.lemmas.List.{replicate_more}
-use Rattle.std.proofs.lemmas.List.Sums.{sum_by-set}
-use Rattle.std.proofs.lemmas.Option.{IfSome_then, get_or_from_slice_get, slice_get_within}
+use Rattle.std.proofs.lemmas.Option.{IfSome_then}
 use Rattle.host_types.specs.declared.fault.Fault.TheVariants as fault
 use Rattle.host_types.specs.declared.shape.Shape.{Shape}
 use Rattle.host_types.specs.Helpers.{update_answer, element_at, map_updated, maps_updated}
 use Rattle.host_types.specs.Bytes.{with_part}
 use Rattle.host_types.specs.Memory.{FlatMap, FlatMaps, map_at, ◌>>=◌}
-use Rattle.host_types.specs.Sharing.{Sharing, frames_free}
+use Rattle.host_types.specs.Pins.{released}
+use Rattle.host_types.specs.Sharing.{Sharing}
 use Rattle.host_types.specs.Tenant.{TenantPart}
 use Rattle.bpf_decode.specs.declared.operation.Operation.{Operation}
 use Rattle.bpf_decode.specs.declared.operation.Operation.TheVariants.{Alu, Load, Store, LoadImmediate, Jump, Branch, Call, Exit}
@@ -20,7 +20,7 @@ use Rattle.page_table.specs.Changes.{IsKeptBut}
 use Rattle.page_table.specs.Reads.{ReadsAs}
 use Rattle.page_table.specs.State.{MemoryState, part}
 use Rattle.verifier.specs.Named.{named_shapes}
-use Rattle.verifier.specs.Reserve.{reserve_from}
+use Rattle.admission.specs.Reserve.{needed_from}
 use Rattle.verifier.specs.Verified.{Accepted, IsVerified}
 use Rattle.interp.specs.declared.need.Need.{Need}
 use Rattle.interp.specs.declared.need.Need.TheVariants.{Private, Ended as NeedEnded, Load as AskLoad, Store as AskStore, Lookup as AskLookup, Update as AskUpdate, Delete as AskDelete}
@@ -35,12 +35,13 @@ use Rattle.host_core.specs.declared.event.Event.TheVariants.{Step}
 use Rattle.host_core.specs.declared.event.Reply.{Reply}
 use Rattle.host_core.specs.declared.event.Reply.TheVariants.{Stepped, Ended, Refused}
 use Rattle.host_core.specs.declared.tenant.OpenRun.{OpenRun as KeptRun}
-use Rattle.host_core.specs.World.{Beginning, started, met, Leads, OpenRun, Tenant, System, IsTenant, IsOpenRun, IsCovered, accepted_of, reserve_of, reserved_in, owned_by}
+use Rattle.host_core.specs.World.{Beginning, started, met, Leads, OpenRun, Tenant, System, IsTenant, IsOpenRun, IsCovered, accepted_of, pins_of, reserve_of, reserved_in, owned_by}
 use Rattle.host_core.specs.Happens.{Answers, StepHappens, Happens, IsPromised, IsPromisedOf, AllHappen, StepsHappen, changed_system, sharing_after}
 use Rattle.host_core.specs.HostView.{TenantView, EachProgram, StandsForRun, StandsForAnyRun, StandsForTenant, StandsForMemory, IsKept, HasMadeSteps, steps_of}
-use Rattle.host_core.specs.Stretches.{IsUnderWayAt, HasAdvanced, HasDone, AreMade, AreMadeFrom, IsOn, IsAnswered, IsEnded, went_on, answered, ended, part_in, reserved_of}
+use Rattle.host_core.specs.Stretches.{IsUnderWayAt, KeepsPins, needed_in, HasAdvanced, HasDone, AreMade, AreMadeFrom, IsOn, IsAnswered, IsEnded, went_on, answered, ended, part_in, reserved_of}
 use Rattle.host_core.proofs.Worlds.{slice_get-set, OfTenant-there, changed_system-same, changed_system-twice}
-use Rattle.host_core.proofs.Systems.{part_stands, reserved_stands, covered, changed_stands}
+use Rattle.host_core.proofs.Memories.{owned-idle}
+use Rattle.host_core.proofs.Systems.{part_stands, reserved_stands, covered, covered-step, changed_stands}
 use Rattle.host_core.proofs.Joined.{AllHappen-join}
 use Rattle.host_core.proofs.Places.{all-at}
 use Rattle.host_core.proofs.Advances.{some_instruction}
@@ -130,15 +131,6 @@ have_alike shapes maps later same have m = by (get_or shapes m None) (map_at map
 all_have_alike : (programs : List (Option Accepted)) (maps later : FlatMaps) → ((j : ℕ) → shape_in later j ≡ shape_in maps j) → EachProgram (λ accepted. HaveShapes (named_shapes accepted.subject) maps) programs → EachProgram (λ accepted. HaveShapes (named_shapes accepted.subject) later) programs
 all_have_alike programs maps later same all k d less = IfSome_then (get_or programs k d) (all k d less) (λ v. have_alike (named_shapes v.subject) maps later same)
 
--- a system is covered after a step of a tenant, where enough frames are free
-pub covered-step : (x : System) (t : ℕ) (tenant next : Tenant) (sharing : Sharing) → slice_get x.world t ≡ Some tenant → reserved_in x.world + reserve_of next.run ≤ frames_free x.frames sharing + reserve_of tenant.run → IsCovered (changed_system x t next sharing)
-covered-step x t tenant next sharing there enough =
-    let need : Tenant → ℕ = λ one. reserve_of one.run in
-    let sums = sum_by-set need x.world t next tenant (slice_get_within x.world t tenant there) in
-    let found = get_or_from_slice_get x.world t tenant tenant there in
-    let here : reserved_in (set x.world t next) + reserve_of tenant.run ≡ reserved_in x.world + reserve_of next.run = subst (λ one. sum_by need (set x.world t next) + need one ≡ sum_by need x.world + need next) found sums in
-    omega (arith, here, enough)
-
 -- what happens at a step of an open run, and what is promised of it
 step-open : (x : System) (t : ℕ) (tenant : Tenant) (r : OpenRun) (reply : Reply) (x' : System) → slice_get x.world t ≡ Some tenant → tenant.run ≡ Some r → StepHappens x t tenant r reply x' → IsPromisedOf r t reply x'.world
     → Happens x (Step t) reply x' × IsPromised x (Step t) reply x'
@@ -176,14 +168,15 @@ step-on x t tenant r u sharing there is_open reached makes shares few =
     (Next u, makes, (refl, ap (changed_system x t next) shares))
     (u, led-more r.program.text r.beginning r.steps r.state (Next u) reached makes, few, subst (λ o. IsSomeAnd o (λ one. one.maps ≡ u.memory.maps)) (sym (slice_get-set x.world t tenant next there)) refl)
 
--- a step with which an open run ends
-step-last : (x : System) (t : ℕ) (tenant : Tenant) (r : OpenRun) (number : ℕ) (maps : FlatMaps) → slice_get x.world t ≡ Some tenant → tenant.run ≡ Some r → Leads r.program.text r.beginning r.steps (Next r.state)
-    → step r.program.text r.state ≡ Some (Exits number maps) → suc r.steps ≤ instructions_of r.program.text
-    → Happens x (Step t) (Ended number (suc r.steps)) (changed_system x t (tenant_after tenant maps) x.sharing) × IsPromised x (Step t) (Ended number (suc r.steps)) (changed_system x t (tenant_after tenant maps) x.sharing)
-step-last x t tenant r number maps there is_open reached makes few =
+-- a step with which an open run ends, and with it its pins
+step-last : (x : System) (t : ℕ) (tenant : Tenant) (r : OpenRun) (number : ℕ) (maps : FlatMaps) (sharing : Sharing) → slice_get x.world t ≡ Some tenant → tenant.run ≡ Some r → Leads r.program.text r.beginning r.steps (Next r.state)
+    → step r.program.text r.state ≡ Some (Exits number maps) → sharing ≡ released x.sharing t → suc r.steps ≤ instructions_of r.program.text
+    → Happens x (Step t) (Ended number (suc r.steps)) (changed_system x t (tenant_after tenant maps) sharing) × IsPromised x (Step t) (Ended number (suc r.steps)) (changed_system x t (tenant_after tenant maps) sharing)
+step-last x t tenant r number maps sharing there is_open reached makes ends few =
     let next = tenant_after tenant maps in
-    let shares : x.sharing ≡ sharing_after x.sharing t (written r.program.text r.state) = ap (sharing_after x.sharing t) (sym (exit_writes r.program.text r.state number maps makes)) in
-    step-open x t tenant r (Ended number (suc r.steps)) (changed_system x t next x.sharing) there is_open
+    let shares : sharing ≡ released (sharing_after x.sharing t (written r.program.text r.state)) t =
+    ends ∙ ap (λ w. released (sharing_after x.sharing t w) t) (sym (exit_writes r.program.text r.state number maps makes)) in
+    step-open x t tenant r (Ended number (suc r.steps)) (changed_system x t next sharing) there is_open
     (Exits number maps, makes, (refl, ap (changed_system x t next) shares))
     (maps, led-more r.program.text r.beginning r.steps r.state (Exits number maps) reached makes, few, subst (λ o. IsSomeAnd o (λ one. one.maps ≡ maps)) (sym (slice_get-set x.world t tenant next there)) refl)
 
@@ -211,23 +204,26 @@ tenant_at-same tenant r u is_open maps same =
 
 -- steps, and where they lead
 steps-on : (x : System) (t : ℕ) (tenant : Tenant) (r : OpenRun) (n : ℕ) (u : MachineState) (sharing : Sharing) → slice_get x.world t ≡ Some tenant → tenant.run ≡ Some r → tenant.maps ≡ r.state.memory.maps
-    → Leads r.program.text r.beginning r.steps (Next r.state) → AreMade (accepted_of r.program) t (reserved_in x.world) (reserve_of tenant.run) x.frames r.state x.sharing n u sharing → r.steps + n < instructions_of r.program.text
+    → Leads r.program.text r.beginning r.steps (Next r.state) → AreMade (accepted_of r.program) t (reserved_in x) (owned_by x.sharing t tenant).reserve x.frames r.state x.sharing n u sharing → r.steps + n < instructions_of r.program.text
     → AllHappen x (replicate n (Step t)) (replicate n Stepped) (changed_system x t (tenant_at tenant r (r.steps + n) u) sharing) × Leads r.program.text r.beginning (r.steps + n) (Next u) × ((j : ℕ) → shape_in u.memory.maps j ≡ shape_in tenant.maps j)
+    × KeepsPins t x.sharing sharing
 steps-on x t tenant r zero u sharing there is_open maps reached (here, kept) few =
     let same = tenant_at-same tenant r u is_open maps here in
     let still : changed_system x t (tenant_at tenant r (r.steps + 0) u) sharing ≡ x = ap (λ one. changed_system x t one sharing) same ∙ ap (changed_system x t tenant) kept ∙ changed_system-same x t tenant there in
-    (still, rw (add-zero r.steps, here) reached, λ j. ap (λ (state : MachineState). shape_in state.memory.maps j) here ∙ ap (λ m. shape_in m j) (sym maps))
+    (still, rw (add-zero r.steps, here) reached, λ j. ap (λ (state : MachineState). shape_in state.memory.maps j) here ∙ ap (λ m. shape_in m j) (sym maps), λ k other. ap (λ s. pins_of s k) kept)
 steps-on x t tenant r (suc n) u sharing there is_open maps reached (v, between, made, last) few =
-    let (before, come, shapes) = steps-on x t tenant r n v between there is_open maps reached made (omega (arith, few)) in
+    let (before, come, shapes, pins) = steps-on x t tenant r n v between there is_open maps reached made (omega (arith, few)) in
     let here = tenant_at tenant r (r.steps + n) v in
     let next = tenant_at tenant r (suc (r.steps + n)) u in
     let one = step-on (changed_system x t here between) t here (run_at r (r.steps + n) v) u sharing (slice_get-set x.world t tenant here there) refl come last.makes last.shares (omega (arith, few)) in
     let twice = changed_system-twice x t here next between sharing in
-    let covers = subst IsCovered (sym twice) (covered-step x t tenant next sharing there last.enough) in
+    let kept : KeepsPins t x.sharing sharing = λ k other. last.others k other ∙ pins k other in
+    let covers = subst IsCovered (sym twice) (covered-step x t tenant next sharing there kept last.enough) in
     let all = push-same x (changed_system x t here between) (changed_system (changed_system x t here between) t next sharing) n (Step t) Stepped before one covers in (
       rw (add-suc r.steps n) (subst (λ y. AllHappen x (replicate (suc n) (Step t)) (replicate (suc n) Stepped) y) twice all),
       rw (add-suc r.steps n) (led-more r.program.text r.beginning (r.steps + n) v (Next u) come last.makes),
       λ j. ap (λ m. shape_in m j) last.maps ∙ after_shapes last.need last.value v.memory.maps j ∙ shapes j,
+      kept,
     )
 
 -- steps from a memory are steps from the system for which it stands
@@ -257,13 +253,18 @@ pub under-way : (programs : List (Option Accepted)) (kept : KeptRun) (t : ℕ) (
     → StandsForTenant (record { programs = programs; run = Some kept }) tenant → StandsForMemory memory x → tenant.run ≡ Some r → (run : StandsForRun programs kept r)
     → IsUnderWayAt programs kept run.accepted r.state (part memory t)
 under-way programs kept t memory x tenant r there stood stands is_open run =
-    let owned : part memory t ≡ owned_by tenant = part_stands memory x t tenant stands there in
+    let owned : part memory t ≡ owned_by x.sharing t tenant = part_stands memory x t tenant stands there in
+    let maps : (part memory t).maps ≡ r.state.memory.maps = ap (λ (o : TenantPart). o.maps) owned ∙ maps_of_run tenant r stood.meets is_open in
     let same = program-same programs kept r stood.verified run in
     record {
       numbered = run.numbered;
       stands = run.state;
-      maps = ap (λ (o : TenantPart). o.maps) owned ∙ maps_of_run tenant r stood.meets is_open;
-      reserve = ap (λ (o : TenantPart). o.reserve) owned ∙ ap reserve_of is_open ∙ ap (λ v. reserve_from v r.state.slot) same;
+      maps = maps;
+      running = ap (λ (o : TenantPart). o.running) owned ∙ ap is_some is_open;
+      reserve = ap (λ (o : TenantPart). o.reserve) owned
+          ∙ ap (reserve_of (pins_of x.sharing t) tenant.maps) is_open
+          ∙ ap (λ v. needed_from v (record { maps = tenant.maps; reserve = 0; running = true; pins = pins_of x.sharing t }) r.state.slot) same
+          ∙ sym (ap (λ o. needed_from run.accepted o r.state.slot) owned);
     }
 
 -- a kept run is under way somewhere
@@ -311,19 +312,25 @@ stood-on programs kept after tenant r n u stood run same_program stands shapes c
     }
 
 -- what belongs to it
-owned-on : (tenant : Tenant) (r : OpenRun) (v : Accepted) (n : ℕ) (u : MachineState) → accepted_of r.program ≡ v → part_in v u ≡ owned_by (tenant_at tenant r n u)
-owned-on tenant r v n u same = ap (λ p. record { maps = u.memory.maps; reserve = reserve_from p u.slot }) (sym same)
+owned-on : (tenant : Tenant) (r : OpenRun) (v : Accepted) (n t : ℕ) (sharing : Sharing) (u : MachineState) → accepted_of r.program ≡ v → part_in v t sharing u ≡ owned_by sharing t (tenant_at tenant r n u)
+owned-on tenant r v n t sharing u same = ap (λ p. part_in p t sharing u) (sym same)
+
+-- what is reserved for an open run
+mine-open : (sharing : Sharing) (t : ℕ) (tenant : Tenant) (r : OpenRun) → tenant.run ≡ Some r → tenant.maps ≡ r.state.memory.maps → (owned_by sharing t tenant).reserve ≡ needed_in (accepted_of r.program) t sharing r.state
+mine-open sharing t tenant r is_open maps =
+    ap (reserve_of (pins_of sharing t) tenant.maps) is_open ∙ ap (λ m. reserve_of (pins_of sharing t) m (Some r)) maps
 
 -- the steps of a kept run in its system
 made-in : (programs : List (Option Accepted)) (kept : KeptRun) (t n : ℕ) (before : MemoryState) (x : System) (tenant : Tenant) (r : OpenRun) (u : MachineState) (after : Sharing)
     → StandsForTenant (record { programs = programs; run = Some kept }) tenant → StandsForMemory before x → tenant.run ≡ Some r → (run : StandsForRun programs kept r)
-    → AreMadeFrom run.accepted r.state n t before u after → AreMade (accepted_of r.program) t (reserved_in x.world) (reserve_of tenant.run) x.frames r.state x.sharing n u after
+    → AreMadeFrom run.accepted r.state n t before u after → AreMade (accepted_of r.program) t (reserved_in x) (owned_by x.sharing t tenant).reserve x.frames r.state x.sharing n u after
 made-in programs kept t n before x tenant r u after stood stands is_open run made =
     let v = run.accepted in
     let same = program-same programs kept r stood.verified run in
-    let all : reserved_of before ≡ reserved_in x.world = ap (λ tenants. sum_by (λ (one : Recorded). one.reserve) tenants) stands.recorded ∙ reserved_stands x.world in
-    let mine : reserve_from v r.state.slot ≡ reserve_of tenant.run = ap (λ q. reserve_from q r.state.slot) (sym same) ∙ ap reserve_of (sym is_open) in
-    made-moved v (accepted_of r.program) t (reserved_of before) (reserved_in x.world) (reserve_from v r.state.slot) (reserve_of tenant.run) _ x.frames r.state before.sharing x.sharing n u after (sym same) all mine stands.frames stands.sharing made
+    let all : reserved_of before ≡ reserved_in x = ap (λ tenants. sum_by (λ (one : Recorded). one.reserve) tenants) stands.recorded ∙ reserved_stands x.sharing 0 x.world in
+    let mine : needed_in v t before.sharing r.state ≡ (owned_by x.sharing t tenant).reserve =
+    ap (λ s. needed_in v t s r.state) stands.sharing ∙ ap (λ q. needed_in q t x.sharing r.state) (sym same) ∙ sym (mine-open x.sharing t tenant r is_open (maps_of_run tenant r stood.meets is_open)) in
+    made-moved v (accepted_of r.program) t (reserved_of before) (reserved_in x) (needed_in v t before.sharing r.state) (owned_by x.sharing t tenant).reserve _ x.frames r.state before.sharing x.sharing n u after (sym same) all mine stands.frames stands.sharing made
 
 -- steps of a kept run
 made-goes_on : (programs : List (Option Accepted)) (kept after : KeptRun) (t n : ℕ) (before later : MemoryState) (x : System) (tenant : Tenant) (r : OpenRun)
@@ -341,10 +348,10 @@ made-goes_on programs kept after t n before later x tenant r there stood stands 
     let most = some_instruction v after.run u verified did.stands in
     let few : r.steps + n < instructions_of r.program.text = subst (λ q. r.steps + n < instructions_of q.text) (sym run.program) (omega (arith, most, counted)) in
     let led = made-in programs kept t n before x tenant r u later.sharing stood stands is_open run did.reached in
-    let (happen, come, shapes) = steps-on x t tenant r n u later.sharing there is_open maps (run_reached tenant r stood.meets is_open).reached led few in
+    let (happen, come, shapes, pins) = steps-on x t tenant r n u later.sharing there is_open maps (run_reached tenant r stood.meets is_open).reached led few in
     let next = tenant_at tenant r (r.steps + n) u in
     let stood' = stood-on programs kept after tenant r (r.steps + n) u stood run same_program did.stands shapes counted come in
-    let stands' = changed_stands before later x t tenant next later.sharing stands there sizes.tenants sizes.frames reads' did.stands.state.maps.eight (did.owned ∙ owned-on tenant r v (r.steps + n) u same) others refl in
+    let stands' = changed_stands before later x t tenant next later.sharing later.sharing stands there sizes.tenants sizes.frames reads' did.stands.state.maps.eight (did.owned ∙ owned-on tenant r v (r.steps + n) t later.sharing u same) others refl in
     (next, later.sharing, stood', stands', (replicate n (Step t), replicate n Stepped, (refl, refl), happen))
 
 -- steps, and one more that asks something of the tenant's maps
@@ -366,7 +373,7 @@ made-answered programs kept after t n before later x tenant r there stood stands
     let most = some_instruction v after.run u verified did.stands in
     let few : suc (r.steps + m) < instructions_of r.program.text = subst (λ q. suc (r.steps + m) < instructions_of q.text) (sym run.program) (omega (arith, most, counted)) in
     let led = made-in programs kept t m before x tenant r h did.between stood stands is_open run did.reached in
-    let (happen, come, shaped) = steps-on x t tenant r m h did.between there is_open maps (run_reached tenant r stood.meets is_open).reached led (omega (arith, few)) in
+    let (happen, come, shaped, pins) = steps-on x t tenant r m h did.between there is_open maps (run_reached tenant r stood.meets is_open).reached led (omega (arith, few)) in
     let makes = subst (λ q. step q.text h ≡ Some (Next u)) (sym run.program) did.makes in
     let middle = tenant_at tenant r (r.steps + m) h in
     let next = tenant_at tenant r (suc (r.steps + m)) u in
@@ -376,7 +383,7 @@ made-answered programs kept after t n before later x tenant r there stood stands
     let twice = changed_system-twice x t middle next did.between sharing in
     let shapes : (j : ℕ) → shape_in u.memory.maps j ≡ shape_in tenant.maps j = λ j. ap (λ m. shape_in m j) did.writes ∙ after_shapes did.need did.value h.memory.maps j ∙ shaped j in
     let stood' = stood-on programs kept after tenant r (suc (r.steps + m)) u stood run same_program did.stands shapes counted (led-more r.program.text r.beginning (r.steps + m) h (Next u) come makes) in
-    let stands' = changed_stands before later x t tenant next sharing stands there sizes.tenants sizes.frames reads' did.stands.state.maps.eight (did.owned ∙ owned-on tenant r v (suc (r.steps + m)) u same) others shares in
+    let stands' = changed_stands before later x t tenant next sharing later.sharing stands there sizes.tenants sizes.frames reads' did.stands.state.maps.eight (did.owned ∙ owned-on tenant r v (suc (r.steps + m)) t later.sharing u same) others shares in
     let covers = subst IsCovered (sym twice) (covered later (changed_system x t next sharing) reads' stands') in
     let all = push-same x (changed_system x t middle did.between) (changed_system (changed_system x t middle did.between) t next sharing) m (Step t) Stepped happen one covers in
     let all' = subst (λ y. AllHappen x (replicate (suc m) (Step t)) (replicate (suc m) Stepped) y) twice all in
@@ -399,13 +406,14 @@ made-ended programs kept run_after t n number steps before later x tenant r ther
     let few' = did.few in
     let few : suc (r.steps + m) ≤ instructions_of r.program.text = subst (λ q. suc (r.steps + m) ≤ instructions_of q.text) (sym run.program) (omega (arith, few', counted)) in
     let sharing = later.sharing in
-    let led = made-in programs kept t m before x tenant r h sharing stood stands is_open run did.reached in
-    let (happen, come, shapes) = steps-on x t tenant r m h sharing there is_open maps (run_reached tenant r stood.meets is_open).reached led (omega (arith, few)) in
+    let between = did.between in
+    let led = made-in programs kept t m before x tenant r h between stood stands is_open run did.reached in
+    let (happen, come, shapes, pins) = steps-on x t tenant r m h between there is_open maps (run_reached tenant r stood.meets is_open).reached led (omega (arith, few)) in
     let makes = subst (λ q. step q.text h ≡ Some (Exits number final)) (sym run.program) did.makes in
     let middle = tenant_at tenant r (r.steps + m) h in
     let next = tenant_after tenant final in
-    let one = step-last (changed_system x t middle sharing) t middle (run_at r (r.steps + m) h) number final (slice_get-set x.world t tenant middle there) refl come makes few in
-    let twice = changed_system-twice x t middle next sharing sharing in
+    let one = step-last (changed_system x t middle between) t middle (run_at r (r.steps + m) h) number final sharing (slice_get-set x.world t tenant middle there) refl come makes did.sharing few in
+    let twice = changed_system-twice x t middle next between sharing in
     let stood' : StandsForTenant (record { programs = programs; run = None }) next = record {
       programs = stood.programs;
       verified = stood.verified;
@@ -413,9 +421,10 @@ made-ended programs kept run_after t n number steps before later x tenant r ther
       run = tt;
       meets = record { maps = did.flat; places = stood.meets.places; run = tt; same = tt };
     } in
-    let stands' = changed_stands before later x t tenant next sharing stands there sizes.tenants sizes.frames reads' stood'.meets.maps.eight did.owned others refl in
+    let owned = owned-idle later t next refl (ap (λ (o : TenantPart). o.maps) did.owned) (ap (λ (o : TenantPart). o.reserve) did.owned) (ap (λ (o : TenantPart). o.running) did.owned) in
+    let stands' = changed_stands before later x t tenant next sharing sharing stands there sizes.tenants sizes.frames reads' stood'.meets.maps.eight owned others refl in
     let covers = subst IsCovered (sym twice) (covered later (changed_system x t next sharing) reads' stands') in
-    let all = AllHappen-push x (changed_system x t middle sharing) (changed_system (changed_system x t middle sharing) t next sharing) (replicate m (Step t)) (replicate m Stepped) (Step t) (Ended number (suc (r.steps + m))) happen one covers in
+    let all = AllHappen-push x (changed_system x t middle between) (changed_system (changed_system x t middle between) t next sharing) (replicate m (Step t)) (replicate m Stepped) (Step t) (Ended number (suc (r.steps + m))) happen one covers in
     let all' = subst (λ y. AllHappen x (replicate m (Step t) ++ Step t ∷ []) (replicate m Stepped ++ Ended number (suc (r.steps + m)) ∷ []) y) twice all in
     let tells : suc (r.steps + m) ≡ steps = sym counted ∙ sym told in
     let happened = subst (λ k. AllHappen x (replicate m (Step t) ++ Step t ∷ []) (replicate m Stepped ++ Ended number k ∷ []) (changed_system x t next sharing)) tells all' in

@@ -1,5 +1,5 @@
 -- What events do (this project's own rules, docs/HOST.md).
-use Rattle.std.specs.Prelude.{◌≡◌, ◌≢◌, ℕ, ◌*◌, ◌%◌, ◌<◌, ◌≤◌, nat_le, ◌==◌, ◌&&◌, Bool, not, is_some, is_none, List, [], ◌∷◌, ◌++◌, length, replicate, slice_get, slice_set, ◌⊎◌, if◌then◌else◌, MatchOption, IfSome, IsSome, IsNone, IsSomeAnd, Option, Some, None, suc, false}
+use Rattle.std.specs.Prelude.{◌≡◌, ◌≢◌, ℕ, ◌*◌, ◌%◌, ◌<◌, ◌≤◌, nat_le, ◌==◌, ◌&&◌, Bool, not, is_some, is_none, List, [], ◌∷◌, ◌++◌, length, replicate, slice_get, slice_set, ◌⊎◌, if◌then◌else◌, MatchOption, IfSome, IsSome, IsNone, IsSomeAnd, Option, Some, None, suc, true, false}
 use Rattle.host_types.specs.declared.fault.Fault.{Fault}
 use Rattle.host_types.specs.declared.fault.Fault.TheVariants as fault
 use Rattle.host_types.specs.declared.fault.Refused.{Refused as Refusal}
@@ -11,6 +11,7 @@ use Rattle.host_types.specs.Helpers.{helper}
 use Rattle.host_types.specs.Memory.{FlatMaps, map_at}
 use Rattle.host_types.specs.OptionTable.{MayBe}
 use Rattle.host_types.specs.Pages.{map_place}
+use Rattle.host_types.specs.Pins.{released}
 use Rattle.host_types.specs.Sharing.{Sharing}
 use Rattle.host_types.specs.Unmerging.{unmerged, unmerge_need, with_option, MaySet, RefusesSet}
 use Rattle.host_types.specs.Visits.{contents_in, dropped, visit}
@@ -21,9 +22,9 @@ use Rattle.page_table.specs.State.{free_number}
 use Rattle.write_break.specs.Stores.{stored_sharing}
 use Rattle.map_helpers.specs.Updates.{updated_sharing}
 use Rattle.ksm_counters.specs.Counters.{counters_of}
-use Rattle.verifier.specs.Reserve.{reserve_from}
 use Rattle.verifier.specs.Subject.{Subject}
 use Rattle.verifier.specs.Table.{Table, IsTightTable, IsRefusal}
+use Rattle.admission.specs.Reserve.{needed_from}
 use Rattle.interp.specs.Machine.{MachineState, Outcome, Next, Exits, step}
 use Rattle.interp.specs.Written.{Written, written}
 use Rattle.host_calls.specs.Calls.{FitsNewMap, FitsValue, IsCharged, IsValue, RefusesNewMap, RefusesUpdate, RefusesLookup}
@@ -118,20 +119,22 @@ begin_refusal tenant k context = first_refusal (
 abbrev pub BeginHappens : System → ℕ → Tenant → ℕ → List ℕ → Reply → System → Type 0
 BeginHappens x t tenant k context reply x' =
     (p : Subject) × (program_at tenant k ≡ Some p)
-    × MayLackFrames x (reserve_from (accepted_of p) 0) reply x' (MayLackMemory x reply x' (
+    × MayLackFrames x (needed_from (accepted_of p) (owned_by x.sharing t tenant) 0) reply x' (MayLackMemory x reply x' (
     Leaves x t (record tenant { run = Some (begun_run p context tenant.maps) }) x.sharing Begun reply x'))
 
--- the pages that share frames once bytes of a tenant's map are written: each page that one of them lies in is broken
+-- the pages that share frames once a tenant's open run wrote bytes of a map: each page that one of them lies in is broken,
+-- and is pinned if it was taken out
 abbrev pub sharing_after : Sharing → ℕ → Option Written → Sharing
 sharing_after sharing t None = sharing
-sharing_after sharing t (Some w) = stored_sharing sharing t w.map w.at w.size
+sharing_after sharing t (Some w) = stored_sharing true sharing t w.map w.at w.size
 
--- An open run makes one step of the standard: the tenant's maps are those after it. A fault has no case.
+-- An open run makes one step of the standard: the tenant's maps are those after it. At the end of the run none of its
+-- tenant's pages is pinned any more. A fault has no case.
 abbrev pub StepLeads : System → ℕ → Tenant → OpenRun → Sharing → Outcome → Reply → System → Type 0
 StepLeads x t tenant r sharing (Next s) reply x' =
     Leaves x t (record tenant { maps = s.memory.maps; run = Some (record r { state = s; steps = suc r.steps }) }) sharing Stepped reply x'
 StepLeads x t tenant r sharing (Exits number maps) reply x' =
-    Leaves x t (record tenant { maps = maps; run = None }) sharing (Ended number (suc r.steps)) reply x'
+    Leaves x t (record tenant { maps = maps; run = None }) (released sharing t) (Ended number (suc r.steps)) reply x'
 
 abbrev pub StepHappens : System → ℕ → Tenant → OpenRun → Reply → System → Type 0
 StepHappens x t tenant r reply x' =
@@ -139,34 +142,34 @@ StepHappens x t tenant r reply x' =
     × StepLeads x t tenant r (sharing_after x.sharing t (written r.program.text r.state)) outcome reply x'
 
 -- when a map isn't made: the first refusal, in this order, whose condition holds
-abbrev pub RefusesCreate : System → Tenant → Shape → Fault → Type 0
-RefusesCreate x tenant shape fault.Busy = IsSome tenant.run
-RefusesCreate x tenant shape fault.OutOfMemory = IsNone tenant.run × FitsNewMap (owned_by tenant) shape × (page_count shape ≤ have_in x)
-RefusesCreate x tenant shape refusal = IsNone tenant.run × RefusesNewMap (owned_by tenant) shape refusal × Tells x refusal
+abbrev pub RefusesCreate : System → ℕ → Tenant → Shape → Fault → Type 0
+RefusesCreate x t tenant shape fault.Busy = IsSome tenant.run
+RefusesCreate x t tenant shape fault.OutOfMemory = IsNone tenant.run × FitsNewMap (owned_by x.sharing t tenant) shape × (page_count shape ≤ have_in x)
+RefusesCreate x t tenant shape refusal = IsNone tenant.run × RefusesNewMap (owned_by x.sharing t tenant) shape refusal × Tells x refusal
 
 -- a map of zeros is made at the tenant's first free number, its pages never visited
 abbrev pub CreateHappens : System → ℕ → Tenant → Shape → Bool → Reply → System → Type 0
 CreateHappens x t tenant shape mergeable reply x' =
-    IsNone tenant.run × FitsNewMap (owned_by tenant) shape × (page_count shape ≤ have_in x)
-    × ((m : ℕ) × (free_number (owned_by tenant) ≡ Some m)
+    IsNone tenant.run × FitsNewMap (owned_by x.sharing t tenant) shape × (page_count shape ≤ have_in x)
+    × ((m : ℕ) × (free_number (owned_by x.sharing t tenant) ≡ Some m)
     × Leaves x t (record tenant { maps = slice_set tenant.maps m (Some (zero_map shape)) })
     (with_new_pages x.sharing (map_place t m * 256) (page_count shape) mergeable) (Map m) reply x')
 
 -- when a value isn't written: the first refusal, in this order, whose condition holds
-abbrev pub RefusesHostUpdate : System → Tenant → ℕ → ℕ → List ℕ → Fault → Type 0
-RefusesHostUpdate x tenant m key value fault.Busy = IsSome tenant.run
-RefusesHostUpdate x tenant m key value refusal = IsNone tenant.run × RefusesUpdate (owned_by tenant) m key value refusal × Tells x refusal
+abbrev pub RefusesHostUpdate : System → ℕ → Tenant → ℕ → ℕ → List ℕ → Fault → Type 0
+RefusesHostUpdate x t tenant m key value fault.Busy = IsSome tenant.run
+RefusesHostUpdate x t tenant m key value refusal = IsNone tenant.run × RefusesUpdate (owned_by x.sharing t tenant) m key value refusal × Tells x refusal
 
 -- a value is written as the helper does it without a flag
 abbrev pub UpdateHappens : System → ℕ → Tenant → ℕ → ℕ → List ℕ → Reply → System → Type 0
 UpdateHappens x t tenant m key value reply x' =
-    IsNone tenant.run × FitsValue (owned_by tenant) m key value × IsCharged (owned_by tenant) m (have_in x)
+    IsNone tenant.run × FitsValue (owned_by x.sharing t tenant) m key value × IsCharged (owned_by x.sharing t tenant) m (have_in x)
     × ((maps : FlatMaps) × (helper Update tenant.maps m key value 0 ≡ Some (0, maps))
-    × Leaves x t (record tenant { maps = maps }) (updated_sharing (owned_by tenant) x.sharing t m key 0) Done reply x')
+    × Leaves x t (record tenant { maps = maps }) (updated_sharing (owned_by x.sharing t tenant) x.sharing t m key 0) Done reply x')
 
 -- a value is read
-abbrev pub LookupHappens : System → Tenant → ℕ → ℕ → Reply → System → Type 0
-LookupHappens x tenant m key reply x' = (bytes : List ℕ) × IsValue (owned_by tenant) m key bytes × Answers x (Value bytes) reply x'
+abbrev pub LookupHappens : System → ℕ → Tenant → ℕ → ℕ → Reply → System → Type 0
+LookupHappens x t tenant m key reply x' = (bytes : List ℕ) × IsValue (owned_by x.sharing t tenant) m key bytes × Answers x (Value bytes) reply x'
 
 -- what is refused of a program that is to be unloaded
 abbrev pub unload_refusal : Tenant → ℕ → Option Fault
@@ -185,11 +188,11 @@ drop_refusal tenant m = first_refusal (
     ∷ (is_none (map_at tenant.maps m), fault.NoMap)
     ∷ (is_used tenant m, fault.InUse) ∷ [])
 
--- a map is no longer there, and its pages share no frame and wait for none
+-- a map is no longer there, and its pages share no frame, wait for none and aren't pinned
 abbrev pub DropHappens : System → ℕ → Tenant → ℕ → Reply → System → Type 0
 DropHappens x t tenant m reply x' =
     Leaves x t (record tenant { maps = slice_set tenant.maps m None })
-    (dropped x.sharing (map_place t m * 256) (pages_of_map (owned_by tenant) m)) Done reply x'
+    (dropped x.sharing (map_place t m * 256) (pages_of_map (owned_by x.sharing t tenant) m)) Done reply x'
 
 -- one visit of the scanner: no tenant changes
 abbrev pub VisitHappens : System → Reply → System → Type 0
@@ -210,19 +213,19 @@ UnmergeHappens x reply x' = MayLackFrames x (unmerge_need x.sharing) reply x' (S
 -- An event in a system, its reply, and the system afterwards.
 abbrev pub Happens : System → Event → Reply → System → Type 0
 Happens x (CreateMap t value_size entries mergeable) reply x' = OfTenant x t reply x' (λ tenant.
-    RefusesOr (RefusesCreate x tenant (shape_of value_size entries)) x reply x' (
+    RefusesOr (RefusesCreate x t tenant (shape_of value_size entries)) x reply x' (
     CreateHappens x t tenant (shape_of value_size entries) mergeable reply x'))
 Happens x (Load t text size) reply x' = OfTenant x t reply x' (λ tenant.
-    RefusedOr (load_refusal tenant size) x reply x' (LoadHappens x t tenant (subject_of (owned_by tenant) text size) reply x'))
+    RefusedOr (load_refusal tenant size) x reply x' (LoadHappens x t tenant (subject_of (owned_by x.sharing t tenant) text size) reply x'))
 Happens x (Begin t k context) reply x' = OfTenant x t reply x' (λ tenant.
     RefusedOr (begin_refusal tenant k context) x reply x' (BeginHappens x t tenant k context reply x'))
 Happens x (Step t) reply x' = OfTenant x t reply x' (λ tenant.
     MatchOption tenant.run (Answers x (Refused fault.NoRun) reply x') (λ r. StepHappens x t tenant r reply x'))
 Happens x Visit reply x' = VisitHappens x reply x'
 Happens x (HostUpdate t m key value) reply x' = OfTenant x t reply x' (λ tenant.
-    RefusesOr (RefusesHostUpdate x tenant m key value) x reply x' (UpdateHappens x t tenant m key value reply x'))
+    RefusesOr (RefusesHostUpdate x t tenant m key value) x reply x' (UpdateHappens x t tenant m key value reply x'))
 Happens x (HostLookup t m key) reply x' = OfTenant x t reply x' (λ tenant.
-    RefusesOr (RefusesLookup (owned_by tenant) m key) x reply x' (LookupHappens x tenant m key reply x'))
+    RefusesOr (RefusesLookup (owned_by x.sharing t tenant) m key) x reply x' (LookupHappens x t tenant m key reply x'))
 Happens x (Unload t k) reply x' = OfTenant x t reply x' (λ tenant.
     RefusedOr (unload_refusal tenant k) x reply x' (UnloadHappens x t tenant k reply x'))
 Happens x (DropMap t m) reply x' = OfTenant x t reply x' (λ tenant.

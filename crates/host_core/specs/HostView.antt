@@ -1,5 +1,5 @@
 -- What a host keeps, and which systems it stands for.
-use Rattle.std.specs.Prelude.{◌≡◌, ℕ, ◌+◌, Bool, List, length, map, slice_get, option_map, IfSome, Option, Some, None, Result, Ok, Err}
+use Rattle.std.specs.Prelude.{◌≡◌, ℕ, suc, ◌+◌, Bool, List, [], ◌∷◌, length, map, slice_get, option_map, IfSome, Option, Some, None, Result, Ok, Err}
 use Rattle.std.specs.List.{AllZip, All}
 use Rattle.host_types.specs.declared.fault.Fault.{Fault}
 use Rattle.host_types.specs.Sharing.{Sharing}
@@ -14,7 +14,7 @@ use Rattle.host_core.specs.declared.event.Event.TheVariants.{CreateMap, Load, Be
 use Rattle.host_core.specs.declared.event.Reply.{Reply}
 use Rattle.host_core.specs.declared.event.Reply.TheVariants.{Refused}
 use Rattle.host_core.specs.declared.tenant.OpenRun.{OpenRun as KeptRun}
-use Rattle.host_core.specs.World.{OpenRun, Tenant, System, IsTenant, all_maps, names_there, reserve_of}
+use Rattle.host_core.specs.World.{OpenRun, Tenant, World, System, IsTenant, all_maps, names_there, owned_by}
 use Rattle.host_core.specs.Happens.{Happens, IsPromised, StepsHappen, changed_system}
 
 -- a tenant as a host keeps it: its accepted programs by place, and its open run, if it has one
@@ -60,18 +60,24 @@ pub record StandsForTenant (kept : TenantView) (tenant : Tenant) : Type 0 where
   pub run : StandsForAnyRun kept.programs kept.run tenant.run
   pub meets : IsTenant tenant
 
--- what is recorded of a tenant in the memory
-abbrev pub recorded_of : Tenant → Recorded
-recorded_of tenant = record { reserve = reserve_of tenant.run }
+-- what is recorded of the tenant t in the memory
+abbrev pub recorded_of : Sharing → ℕ → Tenant → Recorded
+recorded_of sharing t tenant =
+    record { reserve = (owned_by sharing t tenant).reserve; running = (owned_by sharing t tenant).running }
+
+-- what is recorded of some tenants, the first of whom has the number t
+unfoldable pub recorded_in : Sharing → ℕ → World → List Recorded
+recorded_in sharing t [] = []
+recorded_in sharing t (tenant ∷ w) = recorded_of sharing t tenant ∷ recorded_in sharing (suc t) w
 
 -- A memory stands for the tenants' private maps and for the pages that share frames, and it has recorded of each
--- tenant just what its open run may need.
+-- tenant whether it has an open run, and just what that may need.
 pub record StandsForMemory (memory : MemoryState) (x : System) : Type 0 where
   pub maps : memory.maps ≡ all_maps x.world
   pub eight : All (λ (tenant : Tenant). length tenant.maps ≡ 8) x.world
   pub sharing : memory.sharing ≡ x.sharing
   pub frames : length memory.arena ≡ x.frames
-  pub recorded : memory.tenants ≡ map recorded_of x.world
+  pub recorded : memory.tenants ≡ recorded_in x.sharing 0 x.world
 
 -- a host stands for a system if its memory does, and each of its tenants stands for the system's
 pub record StandsForSystem (view : HostView) (x : System) : Type 0 where

@@ -1,18 +1,21 @@
 -- Steps of an open run that are made in one go.
-use Rattle.std.specs.Prelude.{◌≡◌, ℕ, zero, suc, ◌+◌, ◌≤◌, List, length, sum_by, slice_get, Option, Some, None}
+use Rattle.std.specs.Prelude.{◌≡◌, ◌≢◌, ℕ, zero, suc, ◌+◌, ◌≤◌, true, List, length, sum_by, slice_get, Option, Some, None}
+use Rattle.host_types.specs.Pins.{released}
 use Rattle.host_types.specs.Sharing.{Sharing, frames_free}
 use Rattle.host_types.specs.Tenant.{TenantPart, AreFlatMaps}
 use Rattle.bpf_decode.specs.Text.{instructions_of}
 use Rattle.page_table.specs.declared.tenant.Tenant.{Tenant as Recorded}
+use Rattle.page_table.specs.Changes.{without_run}
 use Rattle.page_table.specs.State.{MemoryState, part}
-use Rattle.verifier.specs.Reserve.{reserve_from}
 use Rattle.verifier.specs.Verified.{Accepted}
+use Rattle.admission.specs.Reserve.{needed_from}
 use Rattle.interp.specs.declared.need.Need.{Need}
 use Rattle.interp.specs.Needs.{maps_after}
 use Rattle.interp.specs.Machine.{MachineState, Next, Exits, step}
 use Rattle.interp.specs.StandsFor.{Running, StandsFor}
 use Rattle.interp.specs.Written.{written}
 use Rattle.host_core.specs.declared.tenant.OpenRun.{OpenRun as KeptRun}
+use Rattle.host_core.specs.World.{pins_of}
 use Rattle.host_core.specs.Happens.{sharing_after}
 
 -- An open run of a program stands for a state whose maps are the tenant's, and just what the rest of it may
@@ -21,25 +24,37 @@ pub record IsUnderWayAt (programs : List (Option Accepted)) (kept : KeptRun) (v 
   pub numbered : slice_get programs kept.program ≡ Some (Some v)
   pub stands : StandsFor v kept.run s
   pub maps : owned.maps ≡ s.memory.maps
-  pub reserve : owned.reserve ≡ reserve_from v s.slot
+  pub running : owned.running ≡ true
+  pub reserve : owned.reserve ≡ needed_from v owned s.slot
 
--- what the tenant's part is where an open run stands for a state
-abbrev pub part_in : Accepted → MachineState → TenantPart
-part_in v s = record { maps = s.memory.maps; reserve = reserve_from v s.slot }
+-- how many frames the rest of an open run of the tenant t may need that stands for a state
+abbrev pub needed_in : Accepted → ℕ → Sharing → MachineState → ℕ
+needed_in v t sharing s =
+    needed_from v (record { maps = s.memory.maps; reserve = 0; running = true; pins = pins_of sharing t }) s.slot
+
+-- what the part of the tenant t is where an open run stands for a state
+abbrev pub part_in : Accepted → ℕ → Sharing → MachineState → TenantPart
+part_in v t sharing s =
+    record { maps = s.memory.maps; reserve = needed_in v t sharing s; running = true; pins = pins_of sharing t }
 
 -- how many frames are recorded as reserved for open runs
 abbrev pub reserved_of : MemoryState → ℕ
 reserved_of memory = sum_by (λ (tenant : Recorded). tenant.reserve) memory.tenants
 
+-- what other tenants have pinned stays
+abbrev pub KeepsPins : ℕ → Sharing → Sharing → Type 0
+KeepsPins t before after = (u : ℕ) → u ≢ t → pins_of after u ≡ pins_of before u
+
 -- One step of an open run of the tenant t after which it goes on: it changes the maps as what it asks does, and the pages that it writes are
--- broken. `all` frames were reserved, `mine` of them for this run: as many are free as the others have and the rest of this one may need.
+-- broken, and pinned if they were taken out. `all` frames were reserved, `mine` of them for this run: as many are free as the others have and the rest of this one may need.
 pub record IsMade (v : Accepted) (t all mine frames : ℕ) (s : MachineState) (before : Sharing) (next : MachineState) (after : Sharing) : Type 0 where
   pub makes : step v.subject.text s ≡ Some (Next next)
   pub need : Need
   pub value : List ℕ
   pub maps : next.memory.maps ≡ maps_after need value s.memory.maps
   pub shares : after ≡ sharing_after before t (written v.subject.text s)
-  pub enough : all + reserve_from v next.slot ≤ frames_free frames after + mine
+  pub others : KeepsPins t before after
+  pub enough : all + needed_in v t after next ≤ frames_free frames after + mine
 
 -- n such steps
 abbrev pub AreMade : Accepted → ℕ → ℕ → ℕ → ℕ → MachineState → Sharing → ℕ → MachineState → Sharing → Type 0
@@ -49,14 +64,14 @@ AreMade v t all mine frames s before (suc n) next after =
 
 -- n steps of a run for which just what it may need was reserved
 abbrev pub AreMadeFrom : Accepted → MachineState → ℕ → ℕ → MemoryState → MachineState → Sharing → Type 0
-AreMadeFrom v s n t before next after = AreMade v t (reserved_of before) (reserve_from v s.slot) (length before.arena) s before.sharing n next after
+AreMadeFrom v s n t before next after = AreMade v t (reserved_of before) (needed_in v t before.sharing s) (length before.arena) s before.sharing n next after
 
 -- n steps, after which the run stands for a later state
 pub record IsOn (v : Accepted) (s : MachineState) (n t : ℕ) (before : MemoryState) (run : Running) (after : MemoryState) : Type 0 where
   pub next : MachineState
   pub reached : AreMadeFrom v s n t before next after.sharing
   pub stands : StandsFor v run next
-  pub owned : part after t ≡ part_in v next
+  pub owned : part after t ≡ part_in v t after.sharing next
 
 -- steps, and one more that asks something of the tenant's maps: the pages that it writes are broken
 pub record IsAnswered (v : Accepted) (s : MachineState) (n t : ℕ) (before : MemoryState) (run : Running) (after : MemoryState) : Type 0 where
@@ -71,19 +86,21 @@ pub record IsAnswered (v : Accepted) (s : MachineState) (n t : ℕ) (before : Me
   pub value : List ℕ
   pub writes : next.memory.maps ≡ maps_after need value here.memory.maps
   pub stands : StandsFor v run next
-  pub owned : part after t ≡ part_in v next
+  pub owned : part after t ≡ part_in v t after.sharing next
   pub sharing : after.sharing ≡ sharing_after between t (written v.subject.text here)
 
--- steps, and one more with which the run ends
+-- steps, and one more with which the run ends, and with it its pins
 pub record IsEnded (v : Accepted) (s : MachineState) (n t : ℕ) (number : ℕ) (before : MemoryState) (run : Running) (after : MemoryState) : Type 0 where
   pub made : ℕ
   pub last : n ≡ suc made
   pub here : MachineState
-  pub reached : AreMadeFrom v s made t before here after.sharing
+  pub between : Sharing
+  pub reached : AreMadeFrom v s made t before here between
   pub makes : step v.subject.text here ≡ Some (Exits number here.memory.maps)
   pub flat : AreFlatMaps here.memory.maps
   pub few : run.steps ≤ instructions_of v.subject.text
-  pub owned : part after t ≡ record { maps = here.memory.maps; reserve = 0 }
+  pub owned : part after t ≡ without_run (part_in v t between here)
+  pub sharing : after.sharing ≡ released between t
 
 -- what a stretch of steps did, by what the run returned, if it ended
 pub data HasDone (v : Accepted) (s : MachineState) (n t : ℕ) (before : MemoryState) (run : Running) (after : MemoryState) : Option ℕ → Type 0 where

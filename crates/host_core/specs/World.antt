@@ -1,18 +1,19 @@
 -- What a host is, without any of its machinery: each tenant's private memory, programs and open run, and
 -- which pages share frames.
-use Rattle.std.specs.Prelude.{◌≡◌, ℕ, ◌+◌, ◌-◌, ◌*◌, ◌≤◌, Bool, false, List, flat_map, length, position, replicate, slice_get, slice_index_or, sum_by, is_none, IfSome, Option, None, Some}
+use Rattle.std.specs.Prelude.{◌≡◌, ℕ, ◌+◌, ◌-◌, ◌*◌, ◌≤◌, suc, Bool, false, true, List, [], ◌∷◌, flat_map, length, position, replicate, slice_get, slice_index_or, is_none, is_some, IfSome, Option, None, Some}
 use Rattle.std.specs.List.{list_any}
 use Rattle.host_types.specs.declared.options.Options.{Options}
+use Rattle.host_types.specs.Bytes.{part_of}
 use Rattle.host_types.specs.Memory.{FlatMaps}
 use Rattle.host_types.specs.Sharing.{Sharing, frames_free}
 use Rattle.host_types.specs.Tenant.{AreFlatMaps, TenantPart}
 use Rattle.bpf_decode.specs.Text.{instructions_before}
 use Rattle.page_table.specs.State.{no_sharing}
 use Rattle.verifier.specs.Named.{names}
-use Rattle.verifier.specs.Reserve.{reserve_from}
 use Rattle.verifier.specs.Subject.{Subject}
 use Rattle.verifier.specs.Table.{tight_table}
 use Rattle.verifier.specs.Verified.{Accepted}
+use Rattle.admission.specs.Reserve.{needed_from}
 use Rattle.interp.specs.Machine.{MachineState, Outcome, Next, start_state}
 use Rattle.interp.specs.Runs.{Reaches, Runs}
 
@@ -109,23 +110,40 @@ all_maps w = flat_map (λ (tenant : Tenant). tenant.maps) w
 abbrev pub accepted_of : Subject → Accepted
 accepted_of program = record { subject = program; table = tight_table program }
 
--- how many frames the rest of an open run may need
-abbrev pub reserve_of : Option OpenRun → ℕ
-reserve_of None = 0
-reserve_of (Some r) = reserve_from (accepted_of r.program) r.state.slot
+-- which of the pages of the tenant t are pinned, by place
+abbrev pub pins_of : Sharing → ℕ → List Bool
+pins_of sharing t = part_of sharing.pins (t * 2048) 2048
 
--- what belongs to a tenant of the memory: its maps, and what its open run may need
-abbrev pub owned_by : Tenant → TenantPart
-owned_by tenant = record { maps = tenant.maps; reserve = reserve_of tenant.run }
+-- How many frames the rest of an open run on these maps may need: no more than its stores may take, and no more than
+-- the pages that it may write and that aren't pinned.
+abbrev pub reserve_of : List Bool → FlatMaps → Option OpenRun → ℕ
+reserve_of pins maps None = 0
+reserve_of pins maps (Some r) =
+    needed_from (accepted_of r.program) (record { maps = maps; reserve = 0; running = true; pins = pins }) r.state.slot
+
+-- what belongs to the tenant t of the memory: its maps, what its open run may need, if it has one, and its pinned pages
+abbrev pub owned_by : Sharing → ℕ → Tenant → TenantPart
+owned_by sharing t tenant =
+    record {
+      maps = tenant.maps;
+      reserve = reserve_of (pins_of sharing t) tenant.maps tenant.run;
+      running = is_some tenant.run;
+      pins = pins_of sharing t;
+    }
+
+-- what the open runs of some tenants may need, the first of whom has the number t
+unfoldable pub reserved_from : Sharing → ℕ → World → ℕ
+reserved_from sharing t [] = 0
+reserved_from sharing t (tenant ∷ w) = (owned_by sharing t tenant).reserve + reserved_from sharing (suc t) w
 
 -- what all open runs may need
-abbrev pub reserved_in : World → ℕ
-reserved_in w = sum_by (λ (tenant : Tenant). reserve_of tenant.run) w
+abbrev pub reserved_in : System → ℕ
+reserved_in x = reserved_from x.sharing 0 x.world
 
 -- the frames that may be had: the free ones less those that open runs may need
 abbrev pub have_in : System → ℕ
-have_in x = frames_free x.frames x.sharing - reserved_in x.world
+have_in x = frames_free x.frames x.sharing - reserved_in x
 
 -- all open runs together need no more frames than are free
 abbrev pub IsCovered : System → Type 0
-IsCovered x = reserved_in x.world ≤ frames_free x.frames x.sharing
+IsCovered x = reserved_in x ≤ frames_free x.frames x.sharing

@@ -5,7 +5,7 @@ ghost use Rattle.host_core.specs.HostView.{names_in, steps_of};
 
 use crate::event::{Event, Reply};
 use crate::host::told;
-use admission::release;
+use admission::{needed, release};
 use host_calls::{host_create_map, host_lookup, host_shapes, host_update, judge};
 use host_types::limits::MAX_PROGRAMS;
 use host_types::{Fault, MapNo};
@@ -301,8 +301,8 @@ impl Tenant {
         None
     }
 
-    /// Makes steps of the open run in one go, at most up to a limit: all up to the first that asks a helper of the
-    /// tenant's maps or with which the run ends.
+    /// Makes steps of the open run in one go, at most up to a limit: all up to the first that asks for an update or a
+    /// deletion in the tenant's maps or with which the run ends.
     fn stretch(&mut self, memory: &mut Memory, number: u32, limit: u64) -> Stretch
         requires some { 0 < limit }
         requires kept { IsKept number self.old memory.old }
@@ -348,8 +348,8 @@ impl OpenRun {
     ghost use Rattle.tenant_runs.specs.Meeting.{KeepsSizes};
     ghost use Rattle.host_core.specs.Stretches.{IsUnderWayAt, HasAdvanced};
 
-    /// Makes steps up to a limit, and none behind the first that asks a helper of the tenant's maps: what the run
-    /// returned, where it ended. What is reserved afterwards is what the rest of the run may need.
+    /// Makes steps up to a limit, and none behind the first that asks for an update or a deletion in the tenant's maps:
+    /// what the run returned, where it ended. What is reserved afterwards is what the rest of the run may need.
     fn advance(
         &mut self,
         programs: &[Option<Verified>],
@@ -371,13 +371,14 @@ impl OpenRun {
         program.facts();
         memory.facts();
         // All that is reserved for the run may be had while it makes its steps.
-        release(memory, number);
+        memory.record(number, 0);
         memory.facts();
         let maps = TenantMaps { tenant: number };
         let steps = lesser(program.instructions(), limit);
         match self.run.advance_on(program, &maps, memory, steps) {
             Need::Private => {
-                memory.record(number, program.reserve(self.run.slot()));
+                let left = needed(program, memory, number, self.run.slot());
+                memory.record(number, left);
                 None
             }
             Need::Ended(ret) => {

@@ -6,3 +6,5 @@ pub mod Without
 pub mod Next
 pub mod Visits
 pub mod Elements
+pub mod Pins
+pub mod Pinned

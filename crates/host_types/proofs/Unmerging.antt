@@ -186,10 +186,10 @@ left-one i (g ∷ gs) are one = by_times (times i g) refl (left-one i gs are.1)
     by_times (suc n) e later = its_own (omega (arith, e))
 
 -- a state with a page taken out
-abbrev taken : Sharing → ℕ → Sharing
+abbrev pub taken : Sharing → ℕ → Sharing
 taken s i = record s { pages = slice_set s.pages i (option_map broken_page (state_at s i)); groups = left_by i s.groups }
 
-broken-shared : (s : Sharing) (i : ℕ) → is_shared_page (state_at s i) ≡ true → broken s i ≡ taken s i
+pub broken-shared : (s : Sharing) (i : ℕ) → is_shared_page (state_at s i) ≡ true → broken s i ≡ taken s i
 unfolding broken
 broken-shared s i h = ap (λ (b : Bool). if b then taken s i else s) h
 
@@ -316,10 +316,10 @@ need-from s i (suc n) are =
     (rest.0, omega (arith, one.need, rest.1))
 
 -- a page that shares no frame
-abbrev IsUnshared : Sharing → ℕ → Type 0
+abbrev pub IsUnshared : Sharing → ℕ → Type 0
 IsUnshared s j = is_shared_page (state_at s j) ≡ false
 
-unshared-here : (s : Sharing) (i : ℕ) → IsUnshared (broken s i) i
+pub unshared-here : (s : Sharing) (i : ℕ) → IsUnshared (broken s i) i
 unshared-here s i = by_state (state_at s i) refl
   where
     by_status : (state : PageState) → state_at s i ≡ Some state → (b : Bool) → is_shared state.status ≡ b → IsUnshared (broken s i) i
@@ -333,7 +333,7 @@ unshared-here s i = by_state (state_at s i) refl
     by_state None e = let unshared = ap is_shared_page e in subst (λ (t : Sharing). IsUnshared t i) (sym (broken-own s i unshared)) unshared
     by_state (Some state) e = by_status state e (is_shared state.status) refl
 
-unshared-kept : (s : Sharing) (i j : ℕ) → IsUnshared s j → IsUnshared (broken s i) j
+pub unshared-kept : (s : Sharing) (i j : ℕ) → IsUnshared s j → IsUnshared (broken s i) j
 unshared-kept s i j own = ⊎_elim (λ same. subst (IsUnshared (broken s i)) (sym same.1) (unshared-here s i)) (λ other. apart other.1 (is_shared_page (state_at s i)) refl) (eqb_tells j i)
   where
     apart : j ≢ i → (b : Bool) → is_shared_page (state_at s i) ≡ b → IsUnshared (broken s i) j

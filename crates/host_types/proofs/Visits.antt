@@ -1,8 +1,9 @@
 -- The definition of a visit, case by case.
-use Rattle.std.proofs.Common.{◌≡◌, ◌≢◌, ◌∙◌, ℕ, ◌+◌, ◌==◌, ◌&&◌, bytes_eq, Bool, true, false, if◌then◌else◌, List, Option, Some, None, option_map, is_some, slice_index_or, refl, ap, arith}
+use Rattle.std.proofs.Common.{◌≡◌, ◌≢◌, ◌∙◌, ℕ, ◌+◌, ◌==◌, ◌&&◌, ◌||◌, bytes_eq, Bool, true, false, if◌then◌else◌, List, Option, Some, None, option_map, is_some, slice_index_or, refl, ap, arith}
 use Rattle.std.proofs.lemmas.Bool.Decides.{nat_tests}
 use Rattle.host_types.specs.declared.visited.Visited.TheVariants as visited
 use Rattle.host_types.specs.Pages.{zero_page, fingerprint_of}
+use Rattle.host_types.specs.Pins.{is_pinned}
 use Rattle.host_types.specs.Sharing.{Sharing, PageState, state_at, is_shared, paired, zeroed}
 use Rattle.host_types.specs.Visits.{Contents, visit, visit_of, begun, moved_on, page_to_visit, next_from, decided, looked_at, has_open, joined, changed, had, met, find_partner, waits}
 
@@ -37,11 +38,11 @@ is-other n m h = grind (arith, nat_tests)
 pub is-same : (n m : ℕ) → n ≡ m → (n == m) ≡ true
 is-same n m h = grind (arith, nat_tests)
 
-pub decided-already : (contents : Contents) (s : Sharing) (i : ℕ) (state : PageState) → is_shared state.status ≡ true → decided contents s i (Some state) ≡ (visited.Already, s)
+pub decided-already : (contents : Contents) (s : Sharing) (i : ℕ) (state : PageState) → (is_shared state.status || is_pinned s.pins i) ≡ true → decided contents s i (Some state) ≡ (visited.Already, s)
 unfolding decided
 decided-already contents s i state h = ap (λ (b : Bool). if b then (visited.Already, s) else looked_at contents s i state.last) h
 
-pub decided-own : (contents : Contents) (s : Sharing) (i : ℕ) (state : PageState) → is_shared state.status ≡ false → decided contents s i (Some state) ≡ looked_at contents s i state.last
+pub decided-own : (contents : Contents) (s : Sharing) (i : ℕ) (state : PageState) → (is_shared state.status || is_pinned s.pins i) ≡ false → decided contents s i (Some state) ≡ looked_at contents s i state.last
 unfolding decided
 decided-own contents s i state h = ap (λ (b : Bool). if b then (visited.Already, s) else looked_at contents s i state.last) h
 

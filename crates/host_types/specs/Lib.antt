@@ -8,6 +8,7 @@ pub mod Refusals
 pub mod Tenant
 pub mod Pages
 pub mod Sharing
+pub mod Pins
 pub mod Visits
 pub mod Unmerging
 pub mod Counters

@@ -14,7 +14,8 @@ pub record PageState : Type 0 where
 
 -- The pages by place; the groups in order of creation, a group being the list of its pages' places
 -- in their order; the waiting pages, each with its recorded fingerprint, in order of insertion; the
--- place of the page visited last in this pass, none at its start; the options; the passes ended.
+-- place of the page visited last in this pass, none at its start; the options; the passes ended;
+-- for each place whether its page is pinned: an open run took it out, and it stays its own till then.
 pub record Sharing : Type 0 where
   pub pages : List (Option PageState)
   pub groups : List (List ℕ)
@@ -22,6 +23,7 @@ pub record Sharing : Type 0 where
   pub cursor : Option ℕ
   pub options : Options
   pub full_scans : ℕ
+  pub pins : List Bool
 
 -- the page at a place
 abbrev pub state_at : Sharing → ℕ → Option PageState
@@ -107,9 +109,9 @@ unfoldable pub cost_from : Sharing → ℕ → ℕ → ℕ
 cost_from sharing i zero = 0
 cost_from sharing i (suc n) = break_cost sharing i + cost_from (broken sharing i) (i + 1) n
 
--- A page that isn't there any more, as its map was dropped: it left its group or the frame of zeros.
+-- A page that isn't there any more, as its map was dropped: it left its group or the frame of zeros, and isn't pinned.
 unfoldable pub gone : Sharing → ℕ → Sharing
-gone sharing i = let left = broken sharing i in record left { pages = slice_set left.pages i None }
+gone sharing i = let left = broken sharing i in record left { pages = slice_set left.pages i None; pins = slice_set left.pins i false }
 
 -- n pages that aren't there any more, one after another in page order
 unfoldable pub gone_from : Sharing → ℕ → ℕ → Sharing

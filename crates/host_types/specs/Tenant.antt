@@ -1,16 +1,21 @@
 -- What belongs to one tenant.
-use Rattle.std.specs.Prelude.{◌≡◌, ℕ, ◌<◌, length, slice_set, All, None, IfSome}
+use Rattle.std.specs.Prelude.{◌≡◌, ℕ, ◌*◌, ◌<◌, Bool, false, List, length, replicate, slice_set, All, None, IfSome}
+use Rattle.host_types.specs.Bytes.{with_part}
 use Rattle.host_types.specs.Memory.{FlatMap, FlatMaps, map_at}
 use Rattle.host_types.specs.Shapes.{IsShape, byte_len_of}
 
--- A tenant's part: its maps by number, and how many frames are reserved for its open run.
+-- A tenant's part: its maps by number; how many frames are reserved for its open run, and whether it has one; and for each
+-- of its 2048 places whether the page there is pinned.
 pub record TenantPart : Type 0 where
   pub maps : FlatMaps
   pub reserve : ℕ
+  pub running : Bool
+  pub pins : List Bool
 
 -- a tenant's part without its map m
 abbrev pub part_dropped : TenantPart → ℕ → TenantPart
-part_dropped owned m = record owned { maps = slice_set owned.maps m None }
+part_dropped owned m =
+    record owned { maps = slice_set owned.maps m None; pins = with_part owned.pins (m * 256) (replicate 256 false) }
 
 -- a map of a shape within the limits, with as many bytes as the shape says
 pub record IsFlatMap (flat : FlatMap) : Type 0 where

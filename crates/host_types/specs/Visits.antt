@@ -1,12 +1,13 @@
 -- A visit of the scanner (this project's own rules, in the manner of Linux's KSM): a function of which
 -- pages share frames and of the pages' bytes. And what becomes of a pass where a map is dropped.
-use Rattle.std.specs.Prelude.{ℕ, ◌+◌, ◌/◌, ◌%◌, ◌==◌, ◌&&◌, nat_le, nat_lt, not, filter, Bool, false, if◌then◌else◌, List, [], ◌∷◌, ◌++◌, length, drop, find, slice_set, Option, Some, None, option_map, unwrap_or, is_some, bytes_eq}
+use Rattle.std.specs.Prelude.{ℕ, ◌+◌, ◌/◌, ◌%◌, ◌==◌, ◌&&◌, ◌||◌, nat_le, nat_lt, not, filter, Bool, false, if◌then◌else◌, List, [], ◌∷◌, ◌++◌, length, drop, find, slice_set, Option, Some, None, option_map, unwrap_or, is_some, bytes_eq}
 use Rattle.std.specs.List.{list_any}
 use Rattle.host_types.specs.declared.status.Status.TheVariants.{Volatile, Waiting, Grouped}
 use Rattle.host_types.specs.declared.visited.Visited.{Visited}
 use Rattle.host_types.specs.declared.visited.Visited.TheVariants as visited
 use Rattle.host_types.specs.Memory.{FlatMap, FlatMaps, map_at}
 use Rattle.host_types.specs.Pages.{page_bytes, zero_page, fingerprint_of}
+use Rattle.host_types.specs.Pins.{is_pinned}
 use Rattle.host_types.specs.Sharing.{Sharing, PageState, state_at, is_shared, with_status, gone_from, joined_by, paired, zeroed}
 
 -- the bytes of the page at each place
@@ -141,7 +142,7 @@ looked_at contents sharing i last =
 unfoldable pub decided : Contents → Sharing → ℕ → Option PageState → Visit
 decided contents sharing i None = (visited.Idle, sharing)
 decided contents sharing i (Some state) =
-    if is_shared state.status then (visited.Already, sharing) else looked_at contents sharing i state.last
+    if is_shared state.status || is_pinned sharing.pins i then (visited.Already, sharing) else looked_at contents sharing i state.last
 
 -- the visit of a page, if there is one
 unfoldable pub visit_of : Contents → Sharing → Option ℕ → Visit

@@ -64,13 +64,14 @@ module _ (shape : Shape) (sharing : Sharing) (tenant m key flags : ℕ) where
   cost-written None is answered = absurd (cc)
   cost-written (Some flat) is answered = let same : flat.shape ≡ shape = cc in rw (same, answered) refl
 
-  pub sharing-refused : (found : Option FlatMap) → shape_in found ≡ Some shape → (update_answer shape key flags == 0) ≡ false → sharing_in found sharing tenant m key flags ≡ sharing
+module _ (shape : Shape) (running : Bool) (sharing : Sharing) (tenant m key flags : ℕ) where
+  pub sharing-refused : (found : Option FlatMap) → shape_in found ≡ Some shape → (update_answer shape key flags == 0) ≡ false → sharing_in found running sharing tenant m key flags ≡ sharing
   unfolding sharing_in
   sharing-refused None is refused = refl
   sharing-refused (Some flat) is refused = let same : flat.shape ≡ shape = cc in rw (same, refused) refl
 
   pub sharing-written : (found : Option FlatMap) → shape_in found ≡ Some shape → (update_answer shape key flags == 0) ≡ true
-      → sharing_in found sharing tenant m key flags ≡ stored_sharing sharing tenant m (element_at shape key) shape.value_size
+      → sharing_in found running sharing tenant m key flags ≡ stored_sharing running sharing tenant m (element_at shape key) shape.value_size
   unfolding sharing_in
   sharing-written None is answered = absurd (cc)
   sharing-written (Some flat) is answered = let same : flat.shape ≡ shape = cc in rw (same, answered) refl

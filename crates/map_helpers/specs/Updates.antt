@@ -1,5 +1,5 @@
 -- What an update by a helper does to a memory, beside what it does to the tenant's maps.
-use Rattle.std.specs.Prelude.{◌≡◌, ℕ, ◌+◌, ◌≤◌, ◌==◌, if◌then◌else◌, List, Option, Some, None, IfSome, IsSomeAnd}
+use Rattle.std.specs.Prelude.{◌≡◌, ℕ, ◌+◌, ◌≤◌, ◌==◌, if◌then◌else◌, Bool, List, Option, Some, None, IfSome, IsSomeAnd}
 use Rattle.host_types.specs.declared.shape.Shape.{Shape}
 use Rattle.host_types.specs.Helpers.{element_at, update_answer, maps_updated}
 use Rattle.host_types.specs.Memory.{FlatMap, FlatMemory, InMap, map_at, place_of}
@@ -23,15 +23,15 @@ abbrev pub update_frames : TenantPart → Sharing → ℕ → ℕ → ℕ → �
 update_frames owned sharing tenant m key flags = cost_in (map_at owned.maps m) sharing tenant m key flags
 
 -- which pages share frames after an update: the pages of its store are broken, if it makes one
-unfoldable pub sharing_in : Option FlatMap → Sharing → ℕ → ℕ → ℕ → ℕ → Sharing
-sharing_in None sharing tenant m key flags = sharing
-sharing_in (Some flat) sharing tenant m key flags =
+unfoldable pub sharing_in : Option FlatMap → Bool → Sharing → ℕ → ℕ → ℕ → ℕ → Sharing
+sharing_in None running sharing tenant m key flags = sharing
+sharing_in (Some flat) running sharing tenant m key flags =
     if update_answer flat.shape key flags == 0
-    then stored_sharing sharing tenant m (element_at flat.shape key) flat.shape.value_size
+    then stored_sharing running sharing tenant m (element_at flat.shape key) flat.shape.value_size
     else sharing
 
 abbrev pub updated_sharing : TenantPart → Sharing → ℕ → ℕ → ℕ → ℕ → Sharing
-updated_sharing owned sharing tenant m key flags = sharing_in (map_at owned.maps m) sharing tenant m key flags
+updated_sharing owned sharing tenant m key flags = sharing_in (map_at owned.maps m) owned.running sharing tenant m key flags
 
 -- An update of a map of this shape, where there is one, takes so many frames at most, whichever pages
 -- share frames.

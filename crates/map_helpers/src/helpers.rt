@@ -5,6 +5,7 @@ ghost use Rattle.host_types.specs.Memory.{map_at};
 ghost use Rattle.host_types.specs.Shapes.{IsShape};
 ghost use Rattle.page_table.specs.State.{part, have_of};
 ghost use Rattle.page_table.specs.Changes.{IsKeptBut, AreMapsKeptBut, KeepsSettings};
+ghost use Rattle.write_break.specs.Stores.{pinned_as};
 ghost use Rattle.map_helpers.specs.Updates.{part_updated, update_frames, updated_sharing, LeadsToElement, IsEnough};
 
 use crate::answer::{HelperError, update_error};
@@ -62,8 +63,9 @@ pub fn update_charge(shape: Shape) -> u32
 
 /// What the helper `update` answers, and what it does: -22 where there is no such flag, else -7 past the
 /// end, else -17 where the flag is 1 (NOEXIST); else 0, and the value is written to the key's element, and
-/// each of its pages that shares its frame is taken out before. What isn't answered by 0 changes nothing.
-/// The value has as many bytes as the map's values, and the frames for the store are there.
+/// each of its pages that shares its frame is taken out before, and pinned where the tenant has an open
+/// run. What isn't answered by 0 changes nothing. The value has as many bytes as the map's values, and the
+/// frames for the store are there.
 pub fn update(
     memory: &mut Memory,
     tenant: u32,
@@ -76,7 +78,8 @@ pub fn update(
     requires room { update_frames (part memory.old tenant) memory.old.sharing tenant map key flags ≤ have_of memory.old }
     ensures helped { helper Update (part memory.old tenant).maps map key value.now flags
         ≡ Some (result, (part memory.new tenant).maps) }
-    ensures part { part memory.new tenant ≡ part_updated (part memory.old tenant) map key value.now flags }
+    ensures part { part memory.new tenant
+        ≡ pinned_as memory.new.sharing tenant (part_updated (part memory.old tenant) map key value.now flags) }
     ensures other_maps { AreMapsKeptBut map (part memory.old tenant) (part memory.new tenant) }
     ensures others { IsKeptBut tenant memory.old memory.new }
     ensures sharing { memory.new.sharing

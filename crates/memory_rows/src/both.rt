@@ -22,15 +22,20 @@ pub(crate) const MAPS: u32 = MAX_MAPS as u32;
 /// How many places there are.
 const PLACES: usize = 4096;
 
+/// How many places the maps of a tenant have.
+const MAP_PLACES: usize = MAX_MAPS * MAX_PAGES;
+
 /// The bytes of a page.
 const PAGE_SIZE: usize = limits::PAGE_SIZE as usize;
 
-/// A memory, the plain program's view of it, and the bytes of the page at each place.
+/// A memory, the plain program's view of it, the bytes of the page at each place, and for each tenant
+/// the frames reserved for its open run, if it has one.
 #[derive(Drop)]
 pub(crate) struct Both {
     memory: Memory,
     plain: PlainSharing,
     contents: Vec<Vec<u8>>,
+    runs: [Option<u32>; 2],
     frames: u32,
 }
 
@@ -80,6 +85,15 @@ fn entry_at(memory: &Memory, place: usize) -> Option<Entry> {
         return None;
     }
     Some(memory.entry(page))
+}
+
+/// Whether the memory tells that the page at a place is pinned.
+fn is_pinned_at(memory: &Memory, place: usize) -> bool {
+    if place >= PLACES {
+        return false;
+    }
+    let page = page_at(place);
+    is_there(memory, page) && memory.is_pinned(page)
 }
 
 /// Whether the memory and the plain program tell the same of a page.
@@ -146,6 +160,7 @@ impl Both {
             memory,
             plain,
             contents,
+            runs: [None; 2],
             frames,
         }))
     }
@@ -166,7 +181,7 @@ impl Both {
         {
             Ok(map) => map,
             Err(Fault::NoFrames { have, .. }) => {
-                return Ok(have as usize == self.plain.frames_free(self.frames as usize));
+                return Ok(have as usize == self.plain_have());
             }
             Err(_) => return Ok(true),
         };
@@ -222,7 +237,7 @@ impl Both {
     /// Gives each page a frame. It answers whether both did, or wanted for the same.
     pub(crate) fn unmerge(&mut self) -> bool {
         let plain_need = self.plain.unmerge_need();
-        let plain_have = self.plain.frames_free(self.frames as usize) as u128;
+        let plain_have = self.plain_have() as u128;
         match unmerge_all(&mut self.memory) {
             Ok(()) => {
                 self.plain.unmerge();
@@ -245,9 +260,14 @@ impl Both {
         if !has(&self.memory, tenant, map, at, len) {
             return true;
         }
+        let wanted = needs(&self.memory, tenant, map, at, len);
+        self.make_room(tenant, wanted);
+        if !has(&self.memory, tenant, map, at, len) {
+            return false;
+        }
         let cost = needs(&self.memory, tenant, map, at, len);
         if cost > self.memory.have() {
-            return true;
+            return cost == wanted;
         }
         store_bytes(&mut self.memory, tenant, map, at, bytes);
         self.stored(tenant, map, at, bytes) == cost
@@ -258,9 +278,14 @@ impl Both {
         if at % 8 != 0 || !has(&self.memory, tenant, map, at, 8) {
             return true;
         }
+        let wanted = needs(&self.memory, tenant, map, at, 8);
+        self.make_room(tenant, wanted);
+        if !has(&self.memory, tenant, map, at, 8) {
+            return false;
+        }
         let cost = needs(&self.memory, tenant, map, at, 8);
         if cost > self.memory.have() {
-            return true;
+            return cost == wanted;
         }
         store(&mut self.memory, tenant, map, at, 8, u64::from(byte));
         self.stored(tenant, map, at, &[byte, 0, 0, 0, 0, 0, 0, 0]) == cost
@@ -282,12 +307,90 @@ impl Both {
         let last = (at as usize + bytes.len() - 1) / PAGE_SIZE;
         let number = at as usize / PAGE_SIZE;
         let count = if last == number { 1 } else { 2 };
-        self.plain.break_pages(first + number, count)
+        let running = self.has_run(tenant);
+        self.plain.break_pages(running, first + number, count)
+    }
+
+    /// Opens a run of a tenant that has none, and reserves frames for it, where they are there.
+    pub(crate) fn begin(&mut self, tenant: u32, reserve: u32) {
+        self.memory.maps_are_flat();
+        if tenant >= self.memory.tenants() || reserve > self.memory.have() {
+            return;
+        }
+        if let Some(run) = self.runs.get_mut(tenant as usize) {
+            if run.is_none() {
+                self.memory.begin_run(tenant, reserve);
+                *run = Some(reserve);
+            }
+        }
+    }
+
+    /// Ends a tenant's run, and its pins, where it has one.
+    pub(crate) fn end(&mut self, tenant: u32) {
+        self.memory.maps_are_flat();
+        if tenant >= self.memory.tenants() || !self.has_run(tenant) {
+            return;
+        }
+        self.memory.end_run(tenant);
+        if let Some(run) = self.runs.get_mut(tenant as usize) {
+            *run = None;
+        }
+        let first = first_place(tenant, 0);
+        if first + MAP_PLACES <= self.plain.pin_places() {
+            self.plain.release(first, MAP_PLACES);
+        }
+    }
+
+    /// Whether a tenant has an open run.
+    fn has_run(&self, tenant: u32) -> bool {
+        match self.runs.get(tenant as usize) {
+            Some(run) => run.is_some(),
+            None => false,
+        }
+    }
+
+    /// Takes frames from those that are reserved for a tenant's run, where others aren't there and these
+    /// are enough.
+    fn make_room(&mut self, tenant: u32, cost: u32) {
+        self.memory.maps_are_flat();
+        if tenant >= self.memory.tenants() || cost <= self.memory.have() {
+            return;
+        }
+        if let Some(left) = self.memory.reserve(tenant).checked_sub(cost) {
+            self.memory.record(tenant, left);
+            if let Some(run) = self.runs.get_mut(tenant as usize) {
+                *run = Some(left);
+            }
+        }
+    }
+
+    /// How many frames new pages may have: the free ones, less those reserved for runs.
+    fn plain_have(&self) -> usize {
+        let mut have = self.plain.frames_free(self.frames as usize);
+        for run in &self.runs {
+            have = have.saturating_sub(run.unwrap_or(0) as usize);
+        }
+        have
+    }
+
+    /// Whether both tell the same of each tenant's run, and of the frames that new pages may have.
+    fn runs_agree(&self) -> bool {
+        for (tenant, run) in self.runs.iter().enumerate() {
+            let is_one = self.memory.is_running(tenant as u32) == run.is_some()
+                && self.memory.reserve(tenant as u32) == run.unwrap_or(0);
+            if !is_one {
+                return false;
+            }
+        }
+        self.memory.have() as usize == self.plain_have()
     }
 
     /// Whether both tell the same: the settings, the counters, each page, and which pages share frames.
     pub(crate) fn agree(&self, alloc: Global) -> Result<bool, AllocError> {
-        if self.memory.options() != self.plain.options() || !self.counters_agree() {
+        if self.memory.options() != self.plain.options()
+            || !self.counters_agree()
+            || !self.runs_agree()
+        {
             return Ok(false);
         }
         let mut marks = vec![in alloc; false; self.frames as usize]?;
@@ -345,7 +448,7 @@ impl Both {
         true
     }
 
-    /// The same of the pages of a tenant's map.
+    /// The same of the pages of a tenant's map, and which of them are pinned.
     fn map_agrees(&self, tenant: u32, map: MapNo, marks: &mut [bool]) -> bool {
         let pages = self.memory.byte_len(tenant, map).div_ceil(4096);
         for number in 0..pages {
@@ -361,7 +464,22 @@ impl Both {
                 return false;
             }
         }
-        true
+        self.pins_agree(tenant, map)
+    }
+
+    /// Whether the same pages of a tenant's map are pinned, and the memory tells how many aren't.
+    fn pins_agree(&self, tenant: u32, map: MapNo) -> bool {
+        let pages = self.memory.byte_len(tenant, map).div_ceil(4096);
+        let mut unpinned = 0u32;
+        for number in 0..pages {
+            let place = first_place(tenant, map) + number as usize;
+            let is_pinned = self.plain.is_pinned(place);
+            if is_pinned_at(&self.memory, place) != is_pinned {
+                return false;
+            }
+            unpinned = unpinned.saturating_add(u32::from(!is_pinned));
+        }
+        self.memory.unpinned(tenant, map) == unpinned
     }
 
     /// Whether each page has the bytes that were written.

@@ -1,6 +1,6 @@
 //! The memory beside the plain program of pages that share frames, over operations that a fixed
-//! generator draws: new maps and dropped ones, stores, visits, options and unmergings. After each one both
-//! have to tell the same, the counters too, and all bytes are those of a plain copy. Then 1,000 contents are paired, and each
+//! generator draws: new maps and dropped ones, stores, begins and ends of runs, visits, options and unmergings. After each one
+//! both have to tell the same, the counters, the runs and what they pinned too, and all bytes are those of a plain copy. Then 1,000 contents are paired, and each
 //! is found again. At last the plain program counts passes up to the largest number. The file `stdout` says what is wanted.
 #![tactic(auto)]
 
@@ -57,6 +57,17 @@ fn store(both: &mut Both, draws: &mut Draws, pages: u32) -> bool
     }
 }
 
+/// Draws a tenant, and begins a run of it or ends it.
+fn run(both: &mut Both, draws: &mut Draws) {
+    let tenant = draws.below(TENANTS + 1);
+    let reserve = draws.below(4);
+    if draws.below(3) > 0 {
+        both.begin(tenant, reserve);
+    } else {
+        both.end(tenant);
+    }
+}
+
 /// Draws an option and a value, and sets it.
 fn set(both: &mut Both, draws: &mut Draws) -> bool {
     let (option, value) = draws.option();
@@ -79,6 +90,10 @@ fn operate(
         11..=18 => Ok(drop_map(both, draws)),
         19..=23 => Ok(set(both, draws)),
         24..=31 => Ok(store(both, draws, pages)),
+        32..=35 => {
+            run(both, draws);
+            Ok(true)
+        }
         _ => Ok(both.visit(alloc)?.1),
     }
 }

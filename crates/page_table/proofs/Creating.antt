@@ -131,7 +131,7 @@ unfolding part_of
 part_of-short xs at size = let h = length-take size (drop at xs) in omega arith
 
 -- what is put in place of a map's pages leaves those of other maps
-pub others-filled : (contents : List (List ℕ)) (k n j : ℕ) (page : List ℕ) → n ≤ 256 → k * 256 + 256 ≤ length contents → j ≢ k
+pub others-filled : {X : Type 0} (contents : List X) (k n j : ℕ) (page : X) → n ≤ 256 → k * 256 + 256 ≤ length contents → j ≢ k
     → part_of (with_part contents (k * 256) (replicate n page)) (j * 256) 256 ≡ part_of contents (j * 256) 256
 others-filled contents k n j page few all ne = ⊎_elim (λ less. before less) (λ more. behind more) (order j k ne)
   where
@@ -319,6 +319,14 @@ module _ (table new : TableState) (shapes : List (Option Shape)) (tenants : List
       ∙ ap (λ (maps : FlatMaps). map_at maps k) maps_new
       ∙ get_or-set_same (maps_of shapes (contents_of table)) k (Some (zero_map shape)) None (omega (arith, long, h))
 
+  created_after : part after tenant ≡ part_created (part before tenant) m shape
+  unfolding view_of part
+  created_after = part-set_same before after tenant m (Some (zero_map shape)) (part_of pass.pins (tenant * 2048) 2048) small tenants_after maps_after refl
+
+  others_after : IsKeptBut tenant before after
+  unfolding view_of
+  others_after = part-set_other before after tenant m (Some (zero_map shape)) small tenants_after maps_after (λ u ne. refl)
+
   sharing_after : after.sharing ≡ with_new_pages before.sharing (k * 256) (page_count shape) mergeable
   unfolding view_of with_new_pages
   sharing_after = rw (states, groups) refl
@@ -336,10 +344,10 @@ module _ (table new : TableState) (shapes : List (Option Shape)) (tenants : List
   pub creates : Creates before after tenant m shape mergeable
   creates =
       record {
-        created = part-set_same before after tenant m (Some (zero_map shape)) small tenants_after maps_after;
+        created = created_after;
         there = map_after;
         other_maps = maps-set_other before after tenant m (Some (zero_map shape)) small tenants_after maps_after;
-        others = part-set_other before after tenant m (Some (zero_map shape)) small tenants_after maps_after;
+        others = others_after;
         sharing = sharing_after;
         free = free_after;
         settings = settings_after;

@@ -1,30 +1,38 @@
 -- What a memory tells of a map that was taken away.
-use Rattle.std.proofs.Common.{◌≡◌, ◌≢◌, ◌∙◌, ◌⊎◌, ⊎_elim, ℕ, ◌+◌, ◌*◌, ◌<◌, ◌≤◌, ◌==◌, ◌&&◌, nat_le, nat_lt, not, Bool, true, false, if◌then◌else◌, List, [], ◌∷◌, length, map, filter, replicate, slice_index_or, slice_set, Option, Some, None, option_map, refl, sym, ap, subst, arith}
-use Rattle.std.proofs.lemmas.List.{get_or-set_same, get_or-set_other, get_or_past, length-replicate, length-set}
+use Rattle.std.proofs.Common.{◌≡◌, ◌≢◌, ◌∙◌, ◌⊎◌, inl, inr, ⊎_elim, ℕ, zero, suc, ◌+◌, ◌-◌, ◌*◌, ◌<◌, ◌≤◌, ◌==◌, ◌&&◌, nat_le, nat_lt, not, Bool, true, false, if◌then◌else◌, List, [], ◌∷◌, length, map, filter, replicate, slice_index_or, slice_set, Option, Some, None, IsSomeAnd, is_some, option_map, refl, sym, ap, subst, arith}
+use Rattle.std.proofs.lemmas.List.{get_or-set_same, get_or-set_other, get_or_past, length-map, length-replicate, length-set}
 use Rattle.std.proofs.lemmas.Bool.Decides.{nat_tests}
 use Rattle.page_table.specs.declared.pass.Pass.{Pass}
 use Rattle.host_types.specs.declared.shape.Shape.{Shape}
 use Rattle.host_types.specs.Bytes.{part_of, with_part}
 use Rattle.host_types.specs.Memory.{FlatMap, map_at}
 use Rattle.host_types.specs.Pages.{map_place}
-use Rattle.host_types.specs.Sharing.{Sharing, gone_from}
+use Rattle.host_types.specs.declared.status.Status.TheVariants.{Volatile}
+use Rattle.host_types.specs.Pins.{PinsFit}
+use Rattle.host_types.specs.Sharing.{Sharing, PageState, state_at, is_shared, is_shared_page, broken, gone, gone_from}
 use Rattle.host_types.specs.Tenant.{part_dropped}
-use Rattle.host_types.specs.Visits.{waiting_outside, ended_at, dropped}
+use Rattle.host_types.specs.Visits.{waiting_outside, ended_at, dropped, moved_on, next_from, one_more}
 use Rattle.host_types.proofs.Lists.{length-with_part}
 use Rattle.unstable_tree.specs.declared.tree.Waiter.{Waiter}
+use Rattle.page_table.specs.declared.entry.Entry.{Entry}
 use Rattle.page_table.specs.declared.tenant.Tenant.{Tenant}
 use Rattle.page_table.specs.Limits.{page_count}
 use Rattle.page_table.specs.State.{MemoryState, part, free_of, have_of}
 use Rattle.page_table.specs.Changes.{IsKeptBut, AreMapsKeptBut, KeepsSettings}
-use Rattle.page_table.specs.Table.{TableState, AreOwnKeptOutside, ArePagesOf, ArePages, IsPageAt, contents_of, sharing_of, waiting_of, used_by, maps_of, flat_of}
+use Rattle.page_table.specs.Table.{TableState, IsTable, AreOwnKeptOutside, ArePagesOf, ArePages, IsPageAt, entry_at, state_of, states_of, contents_of, sharing_of, waiting_of, used_by, maps_of, flat_of}
 use Rattle.page_table.specs.View.{view_of, is_listed, AreWaiters, IsMemory, IsPass}
-use Rattle.page_table.proofs.Creating.{behind_filled, in_filled, length-contents, others-filled, part_of-short}
+use Rattle.page_table.proofs.Creating.{behind_filled, filled_more, in_filled, with_part-none, length-contents, others-filled, part_of-short}
+use Rattle.page_table.proofs.Costs.{state-at}
+use Rattle.page_table.proofs.Fitting.{pins-kept}
 use Rattle.page_table.proofs.Free.{free_is}
 use Rattle.page_table.proofs.Maps.{maps_of-changed, AreMaps-changed}
 use Rattle.page_table.proofs.Reading.{content_in, few_pages}
 use Rattle.page_table.proofs.Shapes.{map_past, shape_told}
 use Rattle.page_table.proofs.Waiters.{either, waiter-kept}
 use Rattle.page_table.proofs.Writing.{part-set_same, part-set_other, maps-set_other}
+use Rattle.page_table.proofs.Scanning.{is_page_at_entry}
+use Rattle.page_table.proofs.Unpinning.{fit-fewer, outside-pinned, others-unpinned, tenant-unpinned, pins-inside}
+use Rattle.page_table.proofs.Vacating.{gone_from-last}
 
 -- the waiting pages outside some places
 abbrev pub outside : ℕ → ℕ → List Waiter → List Waiter
@@ -56,13 +64,72 @@ waiters-outside old new c first n (w ∷ ws) kept are =
     )
     by_head false e rest = rest
 
--- the pass without the waiting pages at some places
+-- the pass without the waiting pages at some places, and without the pins of their map
 abbrev pub left_outside : ℕ → ℕ → Pass → Pass
-left_outside first end pass = record pass { waiting = record pass.waiting { listed = outside first end pass.waiting.listed } }
+left_outside first end pass =
+    record pass { waiting = record pass.waiting { listed = outside first end pass.waiting.listed }; pins = with_part pass.pins first (replicate 256 false) }
 
-pub pass-outside : (old new : TableState) (pass : Pass) (first n : ℕ) → IsPass old pass → AreOwnKeptOutside first n old new → length new.arena ≡ length old.arena → IsPass new (left_outside first (first + n) pass)
-pass-outside old new pass first n is kept arena =
-    record { waiters = waiters-outside old new pass.cursor first n pass.waiting.listed kept is.waiters; room = omega (arith, arena, is.room); cursor = is.cursor }
+pub pass-outside : (old new : TableState) (pass : Pass) (first n : ℕ) → IsPass old pass → AreOwnKeptOutside first n old new → length new.arena ≡ length old.arena
+    → length new.entries ≡ length old.entries → n ≤ 256 → first + 256 ≤ length pass.pins → IsPass new (left_outside first (first + n) pass)
+pass-outside old new pass first n is kept arena long few inside =
+    record {
+      waiters = waiters-outside old new pass.cursor first n pass.waiting.listed kept is.waiters;
+      room = omega (arith, arena, is.room);
+      cursor = is.cursor;
+      pins = pins-kept old new (left_outside first (first + n) pass) (fit-fewer (states_of old.entries) pass.pins first 256 inside is.pins) long
+          (λ i entry pinned e volatile. kept i entry (apart (outside-pinned pass.pins first 256 i inside pinned).0) e (ap is_shared volatile));
+    }
+  where
+    apart : {i : ℕ} → (i < first) ⊎ (first + 256 ≤ i) → (i < first) ⊎ (first + n ≤ i)
+    apart out = ⊎_elim (λ less. inl less) (λ past. inr (omega (arith, past, few))) out
+
+-- a page that goes isn't pinned
+gone-pins : (s : Sharing) (i : ℕ) → (gone s i).pins ≡ slice_set s.pins i false
+unfolding gone broken
+gone-pins s i = by_test (is_shared_page (state_at s i)) refl
+  where
+    by_test : (b : Bool) → is_shared_page (state_at s i) ≡ b → (gone s i).pins ≡ slice_set s.pins i false
+    by_test true e = rw e refl
+    by_test false e = rw e refl
+
+gone_from-pins : (s : Sharing) (i n : ℕ) → i + n ≤ length s.pins → (gone_from s i n).pins ≡ with_part s.pins i (replicate n false)
+unfolding gone_from
+gone_from-pins s i zero inside = with_part-none s.pins i
+gone_from-pins s i (suc n) inside =
+    let one : suc n ≡ n + 1 = omega arith in
+    ap (λ (m : ℕ). (gone_from s i m).pins) one
+    ∙ ap (λ (t : Sharing). t.pins) (gone_from-last s i n)
+    ∙ gone-pins (gone_from s i n) (i + n)
+    ∙ ap (λ (l : List Bool). slice_set l (i + n) false) (gone_from-pins s i n (omega (arith, inside)))
+    ∙ filled_more s.pins i n false (omega (arith, inside))
+    ∙ ap (λ (m : ℕ). with_part s.pins i (replicate m false)) (sym one)
+
+set-same : (pins : List Bool) (i : ℕ) → slice_index_or pins i false ≡ false → slice_set pins i false ≡ pins
+set-same [] i e = refl
+set-same (b ∷ pins) zero e = ap (λ (x : Bool). x ∷ pins) (sym e)
+set-same (b ∷ pins) (suc i) e = ap (λ (l : List Bool). b ∷ l) (set-same pins i e)
+
+-- behind a map's pages nothing is pinned
+filled-same : (pins : List Bool) (at n d : ℕ) → at + n + d ≤ length pins → ((i : ℕ) → at + n ≤ i → i < at + n + d → slice_index_or pins i false ≡ false)
+    → with_part pins at (replicate (n + d) false) ≡ with_part pins at (replicate n false)
+filled-same pins at n zero inside none = let same : n + 0 ≡ n = omega arith in ap (λ (m : ℕ). with_part pins at (replicate m false)) same
+filled-same pins at n (suc d) inside none =
+    let one : n + suc d ≡ n + d + 1 = omega arith in
+    ap (λ (m : ℕ). with_part pins at (replicate m false)) one
+    ∙ sym (filled_more pins at (n + d) false (omega (arith, inside)))
+    ∙ ap (λ (l : List Bool). slice_set l (at + (n + d)) false) (filled-same pins at n d (omega (arith, inside)) (λ i from less. none i from (omega (arith, less))))
+    ∙ set-same (with_part pins at (replicate n false)) (at + (n + d))
+    (behind_filled pins at n (at + (n + d)) false false (omega (arith, inside)) (omega arith) ∙ none (at + (n + d)) (omega arith) (omega arith))
+
+-- the end of a pass leaves the pins
+ended-pins : (s : Sharing) (c : Option ℕ) → (ended_at s c).pins ≡ s.pins
+unfolding moved_on
+ended-pins s None = refl
+ended-pins s (Some i) = by_test (is_some (next_from s (i + 1)))
+  where
+    by_test : (b : Bool) → (if b then record s { cursor = Some i } else record s { cursor = None; full_scans = one_more s.full_scans }).pins ≡ s.pins
+    by_test true = refl
+    by_test false = refl
 
 -- the waiting list without some pages, as callers see it
 waiting-outside : (first n : ℕ) (ws : List Waiter) → map waiting_of (outside first (first + n) ws) ≡ waiting_outside first n (map waiting_of ws)
@@ -75,11 +142,23 @@ waiting-outside first n (w ∷ ws) = by_head (not (nat_le first w.place && nat_l
     by_head false rest = rest
 
 -- which pages share frames after the pages went, before the pass is looked at
-pub sharing-outside : (old new : TableState) (pass : Pass) (first n : ℕ) → sharing_of new pass ≡ gone_from (sharing_of old pass) first n
+pub sharing-outside : (old new : TableState) (pass : Pass) (first n : ℕ) → n ≤ 256 → first + 256 ≤ length pass.pins
+    → ((i : ℕ) → first + n ≤ i → i < first + 256 → slice_index_or pass.pins i false ≡ false)
+    → sharing_of new pass ≡ record (gone_from (sharing_of old pass) first n) { pins = pass.pins }
     → sharing_of new (left_outside first (first + n) pass) ≡ record (gone_from (sharing_of old pass) first n) { waiting = waiting_outside first n (sharing_of old pass).waiting }
-sharing-outside old new pass first n told =
-    ap (λ (s : Sharing). record s { waiting = map waiting_of (outside first (first + n) pass.waiting.listed) }) told
-    ∙ ap (λ (w : List (ℕ × ℕ)). record (gone_from (sharing_of old pass) first n) { waiting = w }) (waiting-outside first n pass.waiting.listed)
+sharing-outside old new pass first n few inside none told =
+    ap (λ (s : Sharing). record s { waiting = map waiting_of (outside first (first + n) pass.waiting.listed); pins = with_part pass.pins first (replicate 256 false) }) told
+    ∙ ap (λ (w : List (ℕ × ℕ)). record (gone_from (sharing_of old pass) first n) { waiting = w; pins = with_part pass.pins first (replicate 256 false) }) (waiting-outside first n pass.waiting.listed)
+    ∙ ap (λ (pins : List Bool). record (gone_from (sharing_of old pass) first n) { waiting = waiting_outside first n (sharing_of old pass).waiting; pins = pins }) pins
+  where
+    rest : n + (256 - n) ≡ 256
+    rest = omega (arith, few)
+
+    pins : with_part pass.pins first (replicate 256 false) ≡ (gone_from (sharing_of old pass) first n).pins
+    pins =
+        ap (λ (m : ℕ). with_part pass.pins first (replicate m false)) (sym rest)
+        ∙ filled-same pass.pins first n (256 - n) (omega (arith, inside, few)) (λ i from less. none i from (omega (arith, less, few)))
+        ∙ sym (gone_from-pins (sharing_of old pass) first n (omega (arith, inside, few)))
 
 -- a map that is there has one of eight numbers
 pub number_small : (memory : MemoryState) (t m : ℕ) (shape : Shape) → option_map (λ (flat : FlatMap). flat.shape) (map_at (part memory t).maps m) ≡ Some shape → m < 8
@@ -133,6 +212,36 @@ module _ (table : TableState) (shapes : List (Option Shape)) (tenants : List Ten
 
   pub pages_there : (i : ℕ) → i < page_count shape → IsPageAt table (k * 256 + i)
   pages_there i less = let f = few in ap length (content_in (contents_of table) k i (omega (arith, less, f))) ∙ old_pages.there i less
+
+  pub map_pins : PinsFit (states_of table.entries) pass.pins → k * 256 + 256 ≤ length pass.pins
+  map_pins fit =
+      let long = length-contents table in
+      let states = length-map table.entries (option_map state_of) in
+      let h = all in
+      omega (arith, long, states, h, fit.as_many)
+
+  -- no place behind the map's pages is pinned
+  pub unpinned_behind : IsTable table → PinsFit (states_of table.entries) pass.pins → (i : ℕ) → k * 256 + page_count shape ≤ i → i < k * 256 + 256 → slice_index_or pass.pins i false ≡ false
+  unpinned_behind fits fit i from less = by_test (slice_index_or pass.pins i false) refl
+    where
+      n : ℕ
+      n = i - k * 256
+
+      place : i ≡ k * 256 + n
+      place = omega (arith, from)
+
+      empty : length (slice_index_or (contents_of table) i []) ≡ 0
+      empty =
+          ap (λ (j : ℕ). length (slice_index_or (contents_of table) j [])) place
+          ∙ ap length (content_in (contents_of table) k n (omega (arith, from, less)) ∙ old_pages.none n (omega (arith, from)))
+
+      by_entry : (x : Option Entry) → entry_at table.entries i ≡ x → IsSomeAnd (state_at (sharing_of table pass) i) (λ state. state.status ≡ Volatile) → ⊥
+      by_entry None e v = subst (λ (y : Option PageState). IsSomeAnd y (λ state. state.status ≡ Volatile)) (state-at table pass i ∙ ap (option_map state_of) e) v
+      by_entry (Some entry) e v = let there = is_page_at_entry table i entry fits e in let none = empty in omega (arith, there, none)
+
+      by_test : (b : Bool) → slice_index_or pass.pins i false ≡ b → slice_index_or pass.pins i false ≡ false
+      by_test false e = e
+      by_test true e = absurd (by_entry (entry_at table.entries i) refl (fit.volatile i e))
 
   module _ (new : TableState) (contents : contents_of new ≡ with_part (contents_of table) (k * 256) (replicate (page_count shape) []))
       (used : used_by new ≤ used_by table) (arena : length new.arena ≡ length table.arena) where
@@ -195,8 +304,15 @@ module _ (table : TableState) (shapes : List (Option Shape)) (tenants : List Ten
     pub shapes_few : length shapes_new ≤ 128
     shapes_few = let long = length-set shapes k None in omega (arith, long, is.numbers, is.few)
 
-    module _ (done : Pass) (ended : sharing_of new done ≡ ended_at (sharing_of new (left_outside (k * 256) (k * 256 + page_count shape) pass)) pass.cursor)
-        (told : sharing_of new pass ≡ gone_from (sharing_of table pass) (k * 256) (page_count shape)) where
+    pub long_new : length new.entries ≡ length table.entries
+    long_new =
+        let filled = length-replicate {A = List ℕ} (page_count shape) [] in
+        let h = all in
+        let f = few in
+        sym (length-contents new) ∙ ap length contents ∙ length-with_part (contents_of table) (k * 256) (replicate (page_count shape) []) (omega (arith, filled, h, f)) ∙ length-contents table
+
+    module _ (fits : IsTable table) (fit : PinsFit (states_of table.entries) pass.pins) (done : Pass) (ended : sharing_of new done ≡ ended_at (sharing_of new (left_outside (k * 256) (k * 256 + page_count shape) pass)) pass.cursor)
+        (told : sharing_of new pass ≡ record (gone_from (sharing_of table pass) (k * 256) (page_count shape)) { pins = pass.pins }) where
       abbrev before : MemoryState
       before = view_of table shapes tenants pass
 
@@ -213,7 +329,28 @@ module _ (table : TableState) (shapes : List (Option Shape)) (tenants : List Ten
 
       sharing_after : after.sharing ≡ dropped before.sharing (k * 256) (page_count shape)
       unfolding view_of dropped
-      sharing_after = ended ∙ ap (λ (s : Sharing). ended_at s pass.cursor) (sharing-outside table new pass (k * 256) (page_count shape) told)
+      sharing_after = ended ∙ ap (λ (s : Sharing). ended_at s pass.cursor) (sharing-outside table new pass (k * 256) (page_count shape) few (map_pins fit) (unpinned_behind fits fit) told)
+
+      pins_after : done.pins ≡ with_part pass.pins (tenant * 2048 + m * 256) (replicate 256 false)
+      pins_after =
+          let place : k * 256 ≡ tenant * 2048 + m * 256 = omega arith in
+          ap (λ (s : Sharing). s.pins) ended ∙ ended-pins (sharing_of new (left_outside (k * 256) (k * 256 + page_count shape) pass)) pass.cursor
+          ∙ ap (λ (i : ℕ). with_part pass.pins i (replicate 256 false)) place
+
+      tenant_pins : tenant * 2048 + 2048 ≤ length pass.pins
+      tenant_pins = let t = tenant_inside in pins-inside table shapes tenants pass reserved is fit tenant t
+
+      taken_after : part after tenant ≡ part_dropped (part before tenant) m
+      unfolding view_of part
+      taken_after =
+          part-set_same before after tenant m None (with_part (part_of pass.pins (tenant * 2048) 2048) (m * 256) (replicate 256 false)) small tenants_after maps_after
+          (ap (λ (pins : List Bool). part_of pins (tenant * 2048) 2048) pins_after ∙ tenant-unpinned pass.pins tenant (m * 256) 256 (let h = small in omega (arith, h)) tenant_pins)
+
+      others_after : IsKeptBut tenant before after
+      unfolding view_of
+      others_after =
+          part-set_other before after tenant m None small tenants_after maps_after
+          (λ u ne. ap (λ (pins : List Bool). part_of pins (u * 2048) 2048) pins_after ∙ others-unpinned pass.pins tenant (m * 256) 256 u (let h = small in omega (arith, h)) tenant_pins ne)
 
       old_free : free_of before + used_by table ≡ length table.arena
       old_free = free_is table shapes tenants pass (omega (arith, is.room))
@@ -234,9 +371,9 @@ module _ (table : TableState) (shapes : List (Option Shape)) (tenants : List Ten
           let old = old_free in
           let newer = new_free in
           record {
-            taken = part-set_same before after tenant m None small tenants_after maps_after;
+            taken = taken_after;
             other_maps = maps-set_other before after tenant m None small tenants_after maps_after;
-            others = part-set_other before after tenant m None small tenants_after maps_after;
+            others = others_after;
             sharing = sharing_after;
             freed = omega (arith, old, newer, used);
             have = have_after;

@@ -1,6 +1,6 @@
 -- A memory without maps.
-use Rattle.std.proofs.Common.{◌≡◌, ◌∙◌, ℕ, zero, suc, ◌+◌, ◌*◌, ◌<◌, ◌≤◌, List, [], ◌∷◌, length, take, drop, replicate, slice_index_or, sum_by, Option, None, option_map, refl, sym, ap, arith, ⊎_elim, ◌⊎◌}
-use Rattle.std.proofs.lemmas.List.{length-replicate, length-take, get_or-take, get_or-drop, get_or_past}
+use Rattle.std.proofs.Common.{◌≡◌, ◌∙◌, ℕ, zero, suc, ◌+◌, ◌*◌, ◌<◌, ◌≤◌, List, [], ◌∷◌, length, take, drop, replicate, slice_index_or, sum_by, false, Option, None, option_map, refl, sym, ap, arith, ⊎_elim, ◌⊎◌}
+use Rattle.std.proofs.lemmas.List.{length-map, length-replicate, length-take, get_or-take, get_or-drop, get_or_past}
 use Rattle.std.proofs.lemmas.List.Folds.{sum_by-replicate}
 use Rattle.host_types.specs.declared.options.Options.{Options}
 use Rattle.host_types.specs.declared.shape.Shape.{Shape}
@@ -25,6 +25,11 @@ no_shape : (n k : ℕ) → slice_index_or (replicate {A = Option Shape} n None) 
 no_shape zero k = refl
 no_shape (suc n) zero = refl
 no_shape (suc n) (suc k) = no_shape n k
+
+no_pin : (n i : ℕ) → slice_index_or (replicate n false) i false ≡ false
+no_pin zero i = refl
+no_pin (suc n) zero = refl
+no_pin (suc n) (suc i) = no_pin n i
 
 no_maps : (n : ℕ) (contents : List (List ℕ)) → maps_of (replicate n None) contents ≡ replicate n None
 unfolding maps_of
@@ -75,11 +80,19 @@ module _ (frames tenants : ℕ) (options : Options) (limits : AreLimits frames t
       pages : (k : ℕ) (shape : Option Shape) → shape ≡ None → ArePages shape (part_of (contents_of table) (k * 256) 256)
       pages k shape e = rw e (λ n. part_nothing (contents_of table) (k * 256) 256 n (λ i. ap (λ l. slice_index_or l i []) no_contents ∙ nothing (tenants * 2048) i))
 
-  pub view_new : view_of table (replicate (tenants * 8) None) (replicate tenants unreserved_tenant) (new_pass frames options) ≡ new_memory frames tenants options
+  pub view_new : view_of table (replicate (tenants * 8) None) (replicate tenants unreserved_tenant) (new_pass frames (tenants * 2048) options) ≡ new_memory frames tenants options
   unfolding view_of groups_of new_memory
   view_new = rw (no_maps (tenants * 8) (contents_of table), map-replicate {X = Option Entry} (option_map state_of) (tenants * 2048) None, map-replicate {X = Option Entry} (option_map (λ (entry : Entry). entry.frame)) (tenants * 2048) None) refl
 
-  pub pass_new : IsPass table (new_pass frames options)
+  pub pass_new : IsPass table (new_pass frames (tenants * 2048) options)
   pass_new =
       let long = length-replicate frames zero_page in
-      record { waiters = tt; room = omega (arith, long); cursor = tt }
+      record {
+        waiters = tt;
+        room = omega (arith, long);
+        cursor = tt;
+        pins = record {
+          as_many = length-replicate (tenants * 2048) false ∙ sym (length-map (replicate (tenants * 2048) None) (option_map state_of) ∙ length-replicate {A = Option Entry} (tenants * 2048) None);
+          volatile = λ i is. absurd (let none = no_pin (tenants * 2048) i in cc);
+        };
+      }

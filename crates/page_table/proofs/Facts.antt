@@ -1,7 +1,7 @@
 -- The law of every memory, from what holds of its table.
-use Rattle.std.proofs.Common.{◌≡◌, ◌≢◌, ◌∙◌, ◌⊎◌, ◌↔◌, inl, inr, ⊎_elim, ℕ, zero, suc, ◌+◌, ◌-◌, ◌/◌, ◌%◌, ◌<◌, ◌≤◌, ◌==◌, ◌&&◌, ◌||◌, Bool, true, false, not, if◌then◌else◌, List, [], ◌∷◌, length, map, sum_by, filter, All, AllPairs, slice_index_or, Option, Some, None, IsSome, IfSome, is_some, option_map, refl, sym, ap, subst, arith}
+use Rattle.std.proofs.Common.{◌≡◌, ◌≢◌, ◌∙◌, ◌⊎◌, ◌↔◌, inl, inr, ⊎_elim, ℕ, zero, suc, ◌+◌, ◌-◌, ◌*◌, ◌/◌, ◌%◌, ◌<◌, ◌≤◌, ◌==◌, ◌&&◌, ◌||◌, Bool, true, false, not, if◌then◌else◌, List, [], ◌∷◌, length, map, sum_by, filter, All, AllPairs, slice_index_or, Option, Some, None, IsSome, IfSome, is_some, option_map, refl, sym, ap, subst, arith}
 use Rattle.std.specs.List.{list_any, range_with_len}
-use Rattle.std.proofs.lemmas.List.{get_or_default}
+use Rattle.std.proofs.lemmas.List.{get_or_default, length-map}
 use Rattle.std.proofs.lemmas.List.Sums.{sum_by-cons, length-filter}
 use Rattle.std.proofs.lemmas.List.Kept.{AllPairs-cons}
 use Rattle.std.proofs.lemmas.Bool.Decides.{eqb_tells, nat_tests}
@@ -12,7 +12,9 @@ use Rattle.host_types.specs.declared.status.Status.TheVariants.{New, Volatile, W
 use Rattle.host_types.specs.declared.shape.Page.{Page}
 use Rattle.host_types.specs.Memory.{map_at}
 use Rattle.host_types.specs.Pages.{map_place, page_place}
+use Rattle.host_types.specs.Pins.{PinsFit}
 use Rattle.host_types.specs.Sharing.{PageState, is_among}
+use Rattle.host_types.proofs.Pinned.{fit-own}
 use Rattle.host_types.specs.Visits.{contents_in, next_from}
 use Rattle.frame_arena.specs.Pages.{page_at}
 use Rattle.page_table.specs.declared.entry.Entry.{Entry}
@@ -27,6 +29,7 @@ use Rattle.page_table.proofs.Maps.{length-maps_of}
 use Rattle.page_table.proofs.Reading.{map_at-part, bytes_in, is_page_at}
 use Rattle.page_table.proofs.Recording.{reserved_fits}
 use Rattle.page_table.proofs.Scanning.{is_page_at_entry, page_there, frame_told}
+use Rattle.page_table.proofs.Creating.{length-contents}
 use Rattle.page_table.proofs.Free.{free_is}
 use Rattle.page_table.proofs.Groups.{among-places, length-places}
 use Rattle.page_table.proofs.Counting.{same_either_way, length-unused, empty-frame}
@@ -328,9 +331,9 @@ module _ (table : TableState) (shapes : List (Option Shape)) (tenants : List Ten
           let same : slice_index_or counts.counts f 1 ≡ pages_on f table.entries = omega (arith, count, none) in
           ap one_if_zero same ∙ empty-frame f table.entries
 
-  pub reads_as : IfSome pass.cursor (λ c. IsSome (next_from (sharing_of table pass) (c + 1))) → ReadsAs (view_of table shapes tenants pass)
+  pub reads_as : IfSome pass.cursor (λ c. IsSome (next_from (sharing_of table pass) (c + 1))) → PinsFit (states_of table.entries) pass.pins → ReadsAs (view_of table shapes tenants pass)
   unfolding view_of
-  reads_as ahead =
+  reads_as ahead pins =
       record {
         one_frame = one_frame table pass sound.fits;
         zero_frame = λ i. (λ h. to_zero i (lies table i 0 sound.fits h), λ h. from_zero i (told table pass i Zero sound.fits h));
@@ -342,10 +345,18 @@ module _ (table : TableState) (shapes : List (Option Shape)) (tenants : List Ten
         bytes = bytes_of_frame table shapes tenants pass reserved is sound.fits;
         paged = paged_there table shapes tenants pass reserved is sound.fits;
         eight = length-maps_of shapes (contents_of table) ∙ is.numbers;
+        places = pinned_places pins;
+        pinned = fit-own (sharing_of table pass) pins;
         groups = are_groups table pass sound.fits;
         ahead = ahead;
       }
     where
+      pinned_places : PinsFit (states_of table.entries) pass.pins → length pass.pins ≡ length tenants * 2048
+      pinned_places fit =
+          let states = length-map table.entries (option_map state_of) in
+          let contents = length-contents table in
+          omega (arith, fit.as_many, states, contents, is.maps.places, is.numbers)
+
       to_zero : (i : ℕ) → Lies table i 0 → status_at (sharing_of table pass) i ≡ Some Zero
       to_zero i a = status_there table pass i a.entry Zero a.here (zero_status table a.entry sound.fits a.fits a.on)
 

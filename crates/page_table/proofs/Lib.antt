@@ -36,3 +36,7 @@ pub mod Slots
 pub mod Ahead
 pub mod Vacating
 pub mod Dropping
+pub mod Fitting
+pub mod Filled
+pub mod Unpinning
+pub mod Unpinned

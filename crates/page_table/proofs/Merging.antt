@@ -3,12 +3,13 @@ use Rattle.std.proofs.Common.{◌≡◌, ◌≢◌, ◌∙◌, ℕ, zero, suc, �
 use Rattle.page_table.specs.declared.pass.Pass.{Pass}
 use Rattle.host_types.specs.declared.shape.Shape.{Shape}
 use Rattle.host_types.specs.declared.shape.Page.{Page}
+use Rattle.host_types.specs.Bytes.{part_of}
 use Rattle.host_types.specs.Pages.{map_place, page_place, page_bytes}
 use Rattle.host_types.specs.Sharing.{PageState, state_at, is_shared, break_cost}
 use Rattle.page_table.specs.declared.entry.Entry.{Entry}
 use Rattle.page_table.specs.declared.tenant.Tenant.{Tenant}
 use Rattle.page_table.specs.State.{MemoryState, part, bytes_of_map, free_of, have_of}
-use Rattle.page_table.specs.Changes.{IsPageOf, IsOwn, MayMerge, AreKept, KeepsSettings}
+use Rattle.page_table.specs.Changes.{IsPageOf, IsOwn, MayMerge, AreKept, IsKeptBut, KeepsSettings, with_pins}
 use Rattle.page_table.specs.Table.{TableState, IsOwnAt, AreMaps, entry_at, state_of, states_of, contents_of, maps_of, sharing_of, used_by, break_frames}
 use Rattle.page_table.specs.View.{view_of, IsMemory}
 use Rattle.page_table.proofs.Reading.{page_located, page_number, few_pages, content_is}
@@ -26,9 +27,19 @@ module _ (table new : TableState) (shapes : List (Option Shape)) (tenants : List
   unfolding view_of
   maps_kept = ap (maps_of shapes) contents
 
-  pub parts_kept : AreKept before after
+  pub parts_kept : now.pins ≡ pass.pins → AreKept before after
   unfolding view_of part
-  parts_kept t = rw contents refl
+  parts_kept pins t = rw (contents, pins) refl
+
+  -- another tenant's part stays where its pins do
+  pub parts_but : (t : ℕ) → ((u : ℕ) → u ≢ t → part_of now.pins (u * 2048) 2048 ≡ part_of pass.pins (u * 2048) 2048) → IsKeptBut t before after
+  unfolding view_of part
+  parts_but t pins u ne = rw (contents, pins u ne) refl
+
+  -- a tenant's part has other pins
+  pub part_pinned : (t : ℕ) → part after t ≡ with_pins (part_of after.sharing.pins (t * 2048) 2048) (part before t)
+  unfolding view_of part
+  part_pinned t = rw contents refl
 
   pub settings_kept : KeepsSettings before after
   unfolding view_of
@@ -115,7 +126,7 @@ may_own None h = tt
 may_own (Some state) h = h.1
 
 pub may_is_own : (memory : MemoryState) (page : Page) → MayMerge memory page → IsOwn memory page
-may_is_own memory page may = may_own (state_at memory.sharing (page_place page)) may
+may_is_own memory page may = may_own (state_at memory.sharing (page_place page)) may.0
 
 -- different pages that are there have different places
 same_place : (t m n u k l : ℕ) → m < 8 → n < 256 → k < 8 → l < 256 → map_place t m * 256 + n ≡ map_place u k * 256 + l → (t ≡ u) × (m ≡ k) × (n ≡ l)

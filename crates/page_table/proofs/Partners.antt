@@ -1,5 +1,5 @@
 -- Waiting pages as callers see them.
-use Rattle.std.proofs.Common.{◌≡◌, ◌∙◌, ℕ, ◌+◌, ◌<◌, ◌≤◌, ◌==◌, ◌&&◌, ◌||◌, nat_le, bytes_eq, Bool, true, false, if◌then◌else◌, All, is_some, drop, slice_set, List, [], ◌∷◌, ◌++◌, length, map, find, Option, Some, None, IfSome, option_map, refl, sym, ap, subst, arith}
+use Rattle.std.proofs.Common.{◌≡◌, ◌∙◌, ℕ, ◌+◌, ◌<◌, ◌≤◌, ◌==◌, ◌&&◌, ◌||◌, nat_le, bytes_eq, Bool, true, false, if◌then◌else◌, All, is_some, drop, slice_index_or, slice_set, List, [], ◌∷◌, ◌++◌, length, map, find, Option, Some, None, IfSome, option_map, refl, sym, ap, subst, arith}
 use Rattle.std.proofs.lemmas.List.{map-append}
 use Rattle.std.proofs.lemmas.List.Elements.{All-nil, All-cons}
 use Rattle.std.proofs.lemmas.Slice.Eq.{bytes_eq-Decides}
@@ -8,6 +8,7 @@ use Rattle.host_types.specs.declared.shape.Page.{Page}
 use Rattle.host_types.specs.declared.shape.Shape.{Shape}
 use Rattle.host_types.specs.declared.status.Status.TheVariants.{Waiting}
 use Rattle.host_types.specs.Pages.{page_place}
+use Rattle.host_types.specs.Pins.{is_pinned}
 use Rattle.host_types.specs.Sharing.{Sharing, PageState, state_at, is_shared, with_status}
 use Rattle.host_types.specs.Visits.{contents_in, is_partner, is_mergeable, first_mergeable, look_from, moved_on, one_more, with_page, waits}
 use Rattle.frame_arena.specs.Pages.{page_at}
@@ -19,6 +20,7 @@ use Rattle.page_table.specs.declared.tenant.Tenant.{Tenant}
 use Rattle.page_table.specs.Changes.{IsNotWaiting, MayMerge}
 use Rattle.page_table.specs.Table.{TableState, IsTable, AreOthersKept, entry_at, waiting_of, states_of, state_of, groups_of, sharing_of, marked}
 use Rattle.page_table.specs.View.{view_of, IsMemory, IsPass, IsWaiter, AreWaiters, is_listed, is_behind}
+use Rattle.page_table.proofs.Fitting.{not-pinned}
 use Rattle.page_table.proofs.Putting.{entry_fits}
 use Rattle.page_table.proofs.Scanning.{frame_told}
 use Rattle.page_table.proofs.Costs.{state-at}
@@ -132,10 +134,10 @@ unfolding view_of moved_on
 moved-ended table shapes tenants pass i none = rw none refl
 
 pub pass-on : (table : TableState) (pass : Pass) (i : ℕ) → IsPass table pass → AreWaiters table.entries (Some i) pass.waiting.listed → i < 32768 → IsPass table (record pass { cursor = Some i })
-pass-on table pass i is are small = record { waiters = are; room = is.room; cursor = small }
+pass-on table pass i is are small = record { waiters = are; room = is.room; cursor = small; pins = is.pins }
 
 pub pass-ended : (table : TableState) (pass : Pass) (n : ℕ) → IsPass table pass → IsPass table (record pass { cursor = None; full_scans = n })
-pass-ended table pass n is = record { waiters = waiters-started table.entries pass.cursor pass.waiting.listed is.waiters; room = is.room; cursor = tt }
+pass-ended table pass n is = record { waiters = waiters-started table.entries pass.cursor pass.waiting.listed is.waiters; room = is.room; cursor = tt; pins = is.pins }
 
 -- a page that doesn't wait, as callers see it
 pub not-waiting : (table : TableState) (shapes : List (Option Shape)) (tenants : List Tenant) (pass : Pass) (page : Page) → IsNotWaiting (view_of table shapes tenants pass) page → is_listed (page_place page) pass.waiting.listed ≡ false
@@ -147,15 +149,17 @@ unfolding view_of
 waits-not table shapes tenants pass page free = sym (listed-told (page_place page) pass.waiting.listed) ∙ free
 
 -- a page that is marked as waiting, and put on the list
-pub pass-waits : (old new : TableState) (pass : Pass) (w : Waiter) (entry : Entry) → IsPass old pass → is_listed w.place pass.waiting.listed ≡ false → AreOthersKept w.place old new → length new.arena ≡ length old.arena
+pub pass-waits : (old new : TableState) (pass : Pass) (w : Waiter) (entry : Entry) → IsPass old pass → is_listed w.place pass.waiting.listed ≡ false → slice_index_or pass.pins w.place false ≡ false
+    → AreOthersKept w.place old new → length new.arena ≡ length old.arena → length new.entries ≡ length old.entries
     → entry_at new.entries w.place ≡ Some entry → entry.frame ≡ w.frame → entry.status ≡ Waiting → entry.mergeable ≡ true → is_behind pass.cursor w.place ≡ true
     → IsPass new (record pass { waiting = record pass.waiting { listed = pass.waiting.listed ++ w ∷ [] } })
-pass-waits old new pass w entry is free others arena here frame status mergeable behind =
-    let kept = pass-others old new pass w.place is free others arena in
+pass-waits old new pass w entry is free unpinned others arena long here frame status mergeable behind =
+    let kept = pass-others old new pass w.place is free unpinned others arena long in
     record {
       waiters = waiters-more new.entries pass.cursor pass.waiting.listed w kept.waiters (record { entry = entry; here = here; frame = frame; status = status; mergeable = mergeable; behind = behind }) free;
       room = kept.room;
       cursor = kept.cursor;
+      pins = kept.pins;
     }
 
 pub is-behind : (c : Option ℕ) (i : ℕ) → IfSome c (λ n. i ≤ n) → is_behind c i ≡ true
@@ -167,14 +171,21 @@ pub may-entry : (table : TableState) (shapes : List (Option Shape)) (tenants : L
     → MayMerge (view_of table shapes tenants pass) page → entry.mergeable ≡ true
 unfolding view_of
 may-entry table shapes tenants pass page entry e may =
-    (subst (λ (x : Option PageState). IfSome x (λ state. (state.mergeable ≡ true) × (is_shared state.status ≡ false))) (state-at table pass (page_place page) ∙ ap (option_map state_of) e) may).0
+    (subst (λ (x : Option PageState). IfSome x (λ state. (state.mergeable ≡ true) × (is_shared state.status ≡ false))) (state-at table pass (page_place page) ∙ ap (option_map state_of) e) may.0).0
 
 -- a page whose entry may be merged
 pub may-told : (table : TableState) (shapes : List (Option Shape)) (tenants : List Tenant) (pass : Pass) (page : Page) (entry : Entry) → entry_at table.entries (page_place page) ≡ Some entry
-    → entry.mergeable ≡ true → is_shared entry.status ≡ false → MayMerge (view_of table shapes tenants pass) page
+    → entry.mergeable ≡ true → is_shared entry.status ≡ false → is_pinned pass.pins (page_place page) ≡ false → MayMerge (view_of table shapes tenants pass) page
 unfolding view_of
-may-told table shapes tenants pass page entry e mergeable own =
-    subst (λ (x : Option PageState). IfSome x (λ state. (state.mergeable ≡ true) × (is_shared state.status ≡ false))) (sym (state-at table pass (page_place page) ∙ ap (option_map state_of) e)) (mergeable, own)
+may-told table shapes tenants pass page entry e mergeable own free = (
+  subst (λ (x : Option PageState). IfSome x (λ state. (state.mergeable ≡ true) × (is_shared state.status ≡ false))) (sym (state-at table pass (page_place page) ∙ ap (option_map state_of) e)) (mergeable, own),
+  free,
+)
+
+-- a page that may be merged isn't pinned
+pub may-free : (table : TableState) (shapes : List (Option Shape)) (tenants : List Tenant) (pass : Pass) (page : Page) → MayMerge (view_of table shapes tenants pass) page → slice_index_or pass.pins (page_place page) false ≡ false
+unfolding view_of
+may-free table shapes tenants pass page may = not-pinned pass.pins (page_place page) may.1
 
 -- a match has the bytes
 pub match-bytes : (arena : List (List ℕ)) (fingerprint : ℕ) (bytes : List ℕ) (w : Waiter) → is_match arena fingerprint bytes w ≡ true → page_at arena w.frame ≡ bytes

@@ -9,7 +9,7 @@ use Rattle.frame_arena.specs.Pages.{IsPage}
 use Rattle.page_table.specs.declared.pass.Pass.{Pass}
 use Rattle.page_table.specs.declared.tenant.Tenant.{Tenant}
 use Rattle.page_table.specs.State.{MemoryState, part, unreserved_tenant, free_of, have_of}
-use Rattle.page_table.specs.Changes.{IsKeptBut, with_reserve, with_record}
+use Rattle.page_table.specs.Changes.{IsKeptBut}
 use Rattle.page_table.specs.Table.{TableState, contents_of, maps_of, used_by}
 use Rattle.page_table.specs.View.{view_of, IsMemory}
 use Rattle.page_table.proofs.Maps.{length-maps_of}
@@ -21,13 +21,13 @@ abbrev pub reserve_in : Tenant → ℕ
 reserve_in tenant = tenant.reserve
 
 -- the reserves of all tenants, where one of them has another
-pub sum-recorded : (tenants : List Tenant) (t reserve : ℕ) → t < length tenants
-    → sum_by reserve_in (slice_set tenants t (record { reserve = reserve })) + (slice_index_or tenants t unreserved_tenant).reserve ≡ sum_by reserve_in tenants + reserve
-sum-recorded tenants t reserve inside = sum_by-set reserve_in tenants t (record { reserve = reserve }) unreserved_tenant inside
+pub sum-recorded : (tenants : List Tenant) (t : ℕ) (kept : Tenant) → t < length tenants
+    → sum_by reserve_in (slice_set tenants t kept) + (slice_index_or tenants t unreserved_tenant).reserve ≡ sum_by reserve_in tenants + kept.reserve
+sum-recorded tenants t kept inside = sum_by-set reserve_in tenants t kept unreserved_tenant inside
 
 -- a tenant's reserve is one of all
 pub reserve-small : (tenants : List Tenant) (t : ℕ) → t < length tenants → (slice_index_or tenants t unreserved_tenant).reserve ≤ sum_by reserve_in tenants
-reserve-small tenants t inside = let told = sum-recorded tenants t 0 inside in omega (arith, told)
+reserve-small tenants t inside = let told = sum-recorded tenants t unreserved_tenant inside in omega (arith, told)
 
 module _ (table : TableState) (shapes : List (Option Shape)) (tenants : List Tenant) (pass : Pass) (reserved : ℕ) (is : IsMemory table shapes tenants reserved) where
   abbrev memory : MemoryState
@@ -69,10 +69,10 @@ module _ (table : TableState) (shapes : List (Option Shape)) (tenants : List Ten
       let told = free_is table shapes tenants pass (omega (arith, is.room)) in
       omega (arith, told, is.room, is.sum)
 
-  -- another reserve of one tenant
-  module _ (t reserve : ℕ) (eight : length (part memory t).maps ≡ 8) (room : reserve ≤ have_of memory + (part memory t).reserve) where
+  -- another record of one tenant
+  module _ (t : ℕ) (kept : Tenant) (eight : length (part memory t).maps ≡ 8) (room : kept.reserve ≤ have_of memory + (part memory t).reserve) where
     abbrev recorded : List Tenant
-    recorded = slice_set tenants t (record { reserve = reserve })
+    recorded = slice_set tenants t kept
 
     abbrev before : ℕ
     before = (slice_index_or tenants t unreserved_tenant).reserve
@@ -80,21 +80,21 @@ module _ (table : TableState) (shapes : List (Option Shape)) (tenants : List Ten
     pub before_small : before ≤ reserved
     before_small = let told = reserve-small tenants t (tenant_there t eight) in omega (arith, told, is.sum)
 
-    pub fits : reserved - before + reserve + used_by table ≤ length table.arena
+    pub fits : reserved - before + kept.reserve + used_by table ≤ length table.arena
     unfolding view_of part
     fits =
         let told = free_is table shapes tenants pass (omega (arith, is.room)) in
         let small = before_small in
         omega (arith, told, is.room, is.sum, room, small)
 
-    pub memory_recorded : IsMemory table shapes recorded (reserved - before + reserve)
+    pub memory_recorded : IsMemory table shapes recorded (reserved - before + kept.reserve)
     memory_recorded =
-        let sum = sum-recorded tenants t reserve (tenant_there t eight) in
+        let sum = sum-recorded tenants t kept (tenant_there t eight) in
         let small = before_small in
         record {
           maps = is.maps;
-          numbers = is.numbers ∙ ap (λ (n : ℕ). n * 8) (sym (length-set tenants t (record { reserve = reserve })));
-          few = let same = length-set tenants t (record { reserve = reserve }) in omega (arith, same, is.few);
+          numbers = is.numbers ∙ ap (λ (n : ℕ). n * 8) (sym (length-set tenants t kept));
+          few = let same = length-set tenants t kept in omega (arith, same, is.few);
           frames = is.frames;
           sum = omega (arith, sum, small, is.sum);
           room = fits;
@@ -103,44 +103,44 @@ module _ (table : TableState) (shapes : List (Option Shape)) (tenants : List Ten
     abbrev after : MemoryState
     after = view_of table shapes recorded pass
 
-    pub all_recorded : after ≡ with_record memory t reserve
+    pub all_recorded : after ≡ record memory { tenants = slice_set memory.tenants t kept }
     unfolding view_of
     all_recorded = refl
 
-    pub part_recorded : part after t ≡ with_reserve reserve (part memory t)
+    pub part_recorded : part after t ≡ record (part memory t) { reserve = kept.reserve; running = kept.running }
     unfolding view_of part
-    part_recorded = rw (get_or-set_same tenants t (record { reserve = reserve }) unreserved_tenant (tenant_there t eight)) refl
+    part_recorded = rw (get_or-set_same tenants t kept unreserved_tenant (tenant_there t eight)) refl
 
     pub others_recorded : IsKeptBut t memory after
     unfolding view_of part
-    others_recorded s ne = rw (get_or-set_other tenants t s (record { reserve = reserve }) unreserved_tenant ne) refl
+    others_recorded s ne = rw (get_or-set_other tenants t s kept unreserved_tenant ne) refl
 
-    pub have_recorded : have_of after + reserve ≡ have_of memory + (part memory t).reserve
+    pub have_recorded : have_of after + kept.reserve ≡ have_of memory + (part memory t).reserve
     unfolding view_of part
     have_recorded =
-        let sum = sum-recorded tenants t reserve (tenant_there t eight) in
+        let sum = sum-recorded tenants t kept (tenant_there t eight) in
         let small = reserve-small tenants t (tenant_there t eight) in
         let told = free_is table shapes tenants pass (omega (arith, is.room)) in
         let same = free_is table shapes recorded pass (omega (arith, is.room)) in
         omega (arith, sum, small, told, same, is.room, is.sum, room)
 
--- what a new reserve of one tenant leaves, over what callers see
-pub record Records (old new : MemoryState) (t reserve : ℕ) : Type 0 where
-  pub recorded_part : part new t ≡ with_reserve reserve (part old t)
+-- what another record of one tenant leaves, over what callers see
+pub record Records (old new : MemoryState) (t : ℕ) (kept : Tenant) : Type 0 where
+  pub recorded_part : part new t ≡ record (part old t) { reserve = kept.reserve; running = kept.running }
   pub others : IsKeptBut t old new
-  pub have : have_of new + reserve ≡ have_of old + (part old t).reserve
-  pub all : new ≡ with_record old t reserve
+  pub have : have_of new + kept.reserve ≡ have_of old + (part old t).reserve
+  pub all : new ≡ record old { tenants = slice_set old.tenants t kept }
 
 module _ (table : TableState) (shapes : List (Option Shape)) (tenants : List Tenant) (pass : Pass) (reserved : ℕ) (is : IsMemory table shapes tenants reserved)
-    (now : MemoryState) (same : view_of table shapes tenants pass ≡ now) (t reserve before : ℕ)
-    (eight : length (part now t).maps ≡ 8) (room : reserve ≤ have_of now + (part now t).reserve) (told : before ≡ (part now t).reserve) where
+    (now : MemoryState) (same : view_of table shapes tenants pass ≡ now) (t before : ℕ) (kept : Tenant)
+    (eight : length (part now t).maps ≡ 8) (room : kept.reserve ≤ have_of now + (part now t).reserve) (told : before ≡ (part now t).reserve) where
   abbrev renewed : List Tenant
-  renewed = slice_set tenants t (record { reserve = reserve })
+  renewed = slice_set tenants t kept
 
   eight_here : length (part (view_of table shapes tenants pass) t).maps ≡ 8
   eight_here = rw (← same) at eight
 
-  room_here : reserve ≤ have_of (view_of table shapes tenants pass) + (part (view_of table shapes tenants pass) t).reserve
+  room_here : kept.reserve ≤ have_of (view_of table shapes tenants pass) + (part (view_of table shapes tenants pass) t).reserve
   room_here = rw (← same) at room
 
   pub before_is : before ≡ (slice_index_or tenants t unreserved_tenant).reserve
@@ -152,25 +152,25 @@ module _ (table : TableState) (shapes : List (Option Shape)) (tenants : List Ten
 
   pub record_before : before ≤ reserved
   record_before =
-      let small = before_small table shapes tenants pass reserved is t reserve eight_here room_here in
+      let small = before_small table shapes tenants pass reserved is t kept eight_here room_here in
       let e = before_is in
       omega (arith, small, e)
 
-  pub record_fits : reserved - before + reserve ≤ 4096
+  pub record_fits : reserved - before + kept.reserve ≤ 4096
   record_fits =
-      let few = fits table shapes tenants pass reserved is t reserve eight_here room_here in
+      let few = fits table shapes tenants pass reserved is t kept eight_here room_here in
       let e = before_is in
       omega (arith, few, e, is.frames)
 
-  pub record_memory : IsMemory table shapes renewed (reserved - before + reserve)
-  record_memory = rw before_is (memory_recorded table shapes tenants pass reserved is t reserve eight_here room_here)
+  pub record_memory : IsMemory table shapes renewed (reserved - before + kept.reserve)
+  record_memory = rw before_is (memory_recorded table shapes tenants pass reserved is t kept eight_here room_here)
 
-  pub records : Records now (view_of table shapes renewed pass) t reserve
+  pub records : Records now (view_of table shapes renewed pass) t kept
   records =
       rw (← same)
       record {
-        recorded_part = part_recorded table shapes tenants pass reserved is t reserve eight_here room_here;
-        others = others_recorded table shapes tenants pass reserved is t reserve eight_here room_here;
-        have = have_recorded table shapes tenants pass reserved is t reserve eight_here room_here;
-        all = all_recorded table shapes tenants pass reserved is t reserve eight_here room_here;
+        recorded_part = part_recorded table shapes tenants pass reserved is t kept eight_here room_here;
+        others = others_recorded table shapes tenants pass reserved is t kept eight_here room_here;
+        have = have_recorded table shapes tenants pass reserved is t kept eight_here room_here;
+        all = all_recorded table shapes tenants pass reserved is t kept eight_here room_here;
       }

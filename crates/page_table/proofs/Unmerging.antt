@@ -268,7 +268,7 @@ module _ (table : TableState) (counts : CountsState) (is : IsSound table counts)
 
 -- a pass, where a law holds for any
 pub some_pass : Pass
-some_pass = new_pass 0 (record { pages_to_scan = 0; run = 0; use_zero_pages = 0; max_page_sharing = 0 })
+some_pass = new_pass 0 0 (record { pages_to_scan = 0; run = 0; use_zero_pages = 0; max_page_sharing = 0 })
 
 -- a place without a page stays as it is
 broken-none : (s : Sharing) (i : ℕ) → state_at s i ≡ None → (broken s i ≡ s) × (break_cost s i ≡ 0)
@@ -361,4 +361,4 @@ module _ (old new : TableState) (pass now : Pass) (stopped : now ≡ record pass
 
 -- stopping the scanner leaves the waiting pages
 pub pass_stopped : (table : TableState) (pass now : Pass) → now ≡ record pass { options = record pass.options { run = 2 } } → IsPass table pass → IsPass table now
-pass_stopped table pass now stopped is = subst (IsPass table) (sym stopped) (record { waiters = is.waiters; room = is.room; cursor = is.cursor })
+pass_stopped table pass now stopped is = subst (IsPass table) (sym stopped) (record { waiters = is.waiters; room = is.room; cursor = is.cursor; pins = is.pins })

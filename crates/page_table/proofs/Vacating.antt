@@ -98,14 +98,14 @@ module _ (table : TableState) (i : ℕ) (entry : Entry) (is : IsTable table) (he
           let none : times g table.groups ≡ 0 = ap (λ (n : ℕ). times n table.groups) (sym e) ∙ (is_alone table entry fits own).no_group in
           omega (arith, none, le)
 
-  pub sharing-vacated : (pass : Pass) → sharing_of (vacated table i) pass ≡ gone (sharing_of table pass) i
+  pub sharing-vacated : (pass : Pass) → sharing_of (vacated table i) pass ≡ record (gone (sharing_of table pass) i) { pins = pass.pins }
   unfolding gone broken
   sharing-vacated pass = by_test (is_shared entry.status) refl
     where
       at : state_at (sharing_of table pass) i ≡ Some (state_of entry)
       at = state-at table pass i ∙ ap (option_map state_of) here
 
-      by_test : (b : Bool) → is_shared entry.status ≡ b → sharing_of (vacated table i) pass ≡ gone (sharing_of table pass) i
+      by_test : (b : Bool) → is_shared entry.status ≡ b → sharing_of (vacated table i) pass ≡ record (gone (sharing_of table pass) i) { pins = pass.pins }
       by_test true e = rw (at, e, set-set, states-vacated, groups-shared) refl
       by_test false e = rw (at, e, states-vacated, groups-own e) refl
 
@@ -184,7 +184,16 @@ module _ (table : TableState) (i : ℕ) (entry : Entry) (is : IsTable table) (he
 -- once a page has its own frame, it goes as it would have gone before
 gone-broken : (s : Sharing) (i : ℕ) → is_shared_page (state_at (broken s i) i) ≡ false → gone (broken s i) i ≡ gone s i
 unfolding gone
-gone-broken s i own = ap (λ (left : Sharing). record left { pages = slice_set left.pages i None }) (broken-own (broken s i) i own)
+gone-broken s i own = ap (λ (left : Sharing). record left { pages = slice_set left.pages i None; pins = slice_set left.pins i false }) (broken-own (broken s i) i own)
+
+-- a page goes in the same way whatever is pinned
+gone-with : (s : Sharing) (pins : List Bool) (i : ℕ) → record (gone (record s { pins = pins }) i) { pins = pins } ≡ record (gone s i) { pins = pins }
+unfolding gone broken
+gone-with s pins i = by_test (is_shared_page (state_at s i)) refl
+  where
+    by_test : (b : Bool) → is_shared_page (state_at s i) ≡ b → record (gone (record s { pins = pins }) i) { pins = pins } ≡ record (gone s i) { pins = pins }
+    by_test true e = rw e refl
+    by_test false e = rw e refl
 
 -- one page more goes
 pub gone_from-last : (s : Sharing) (i n : ℕ) → gone_from s i (n + 1) ≡ gone (gone_from s i n) (i + n)
@@ -205,8 +214,16 @@ own-page table pass i own = ap is_shared_page (state-at table pass i) ∙ by_ent
     by_entry (Some entry) h = h
 
 -- a page whose group ended goes then
-pub gone-ended : (old ended new : TableState) (pass : Pass) (i : ℕ) → sharing_of ended pass ≡ broken (sharing_of old pass) i → IsOwnAt ended i → sharing_of new pass ≡ gone (sharing_of ended pass) i
-    → sharing_of new pass ≡ gone (sharing_of old pass) i
+pub gone-ended : (old ended new : TableState) (pass : Pass) (i : ℕ) → sharing_of ended pass ≡ broken (sharing_of old pass) i → IsOwnAt ended i → sharing_of new pass ≡ record (gone (sharing_of ended pass) i) { pins = pass.pins }
+    → sharing_of new pass ≡ record (gone (sharing_of old pass) i) { pins = pass.pins }
 gone-ended old ended new pass i broke own went =
-    went ∙ ap (λ (s : Sharing). gone s i) broke
-    ∙ gone-broken (sharing_of old pass) i (sym (ap (λ (s : Sharing). is_shared_page (state_at s i)) broke) ∙ own-page ended pass i own)
+    went ∙ ap (λ (s : Sharing). record (gone s i) { pins = pass.pins }) broke
+    ∙ ap (λ (s : Sharing). record s { pins = pass.pins }) (gone-broken (sharing_of old pass) i (sym (ap (λ (s : Sharing). is_shared_page (state_at s i)) broke) ∙ own-page ended pass i own))
+
+-- one page more goes, whatever is pinned
+pub gone-more : (old part new : TableState) (pass : Pass) (i n : ℕ) → sharing_of part pass ≡ record (gone_from (sharing_of old pass) i n) { pins = pass.pins }
+    → sharing_of new pass ≡ record (gone (sharing_of part pass) (i + n)) { pins = pass.pins } → sharing_of new pass ≡ record (gone_from (sharing_of old pass) i (n + 1)) { pins = pass.pins }
+gone-more old part new pass i n before went =
+    went ∙ ap (λ (s : Sharing). record (gone s (i + n)) { pins = pass.pins }) before
+    ∙ gone-with (gone_from (sharing_of old pass) i n) pass.pins (i + n)
+    ∙ ap (λ (s : Sharing). record s { pins = pass.pins }) (sym (gone_from-last (sharing_of old pass) i n))

@@ -1,5 +1,5 @@
 -- The pages that wait: what keeps them, and how many there are.
-use Rattle.std.proofs.Common.{◌≡◌, ◌≢◌, ◌∙◌, ℕ, ◌<◌, ◌≤◌, ◌==◌, ◌||◌, nat_le, not, Bool, true, false, if◌then◌else◌, List, [], ◌∷◌, ◌++◌, length, map, filter, slice_set, Option, Some, None, refl, ap, arith}
+use Rattle.std.proofs.Common.{◌≡◌, ◌≢◌, ◌∙◌, ℕ, ◌<◌, ◌≤◌, ◌==◌, ◌||◌, nat_le, not, Bool, true, false, if◌then◌else◌, List, [], ◌∷◌, ◌++◌, length, map, filter, slice_index_or, slice_set, Option, Some, None, refl, ap, arith}
 use Rattle.std.specs.List.{list_any}
 use Rattle.std.proofs.lemmas.List.{get_or-set_other}
 use Rattle.std.proofs.lemmas.Bool.Decides.{nat_tests}
@@ -11,6 +11,7 @@ use Rattle.page_table.specs.Table.{TableState, AreOwnKept, AreOthersKept, entry_
 use Rattle.page_table.specs.View.{is_listed, IsWaiter, AreWaiters, IsPass}
 use Rattle.page_table.proofs.Entries.{inside}
 use Rattle.page_table.proofs.Adding.{own_one, own_pages-set}
+use Rattle.page_table.proofs.Fitting.{pins-kept, apart-pinned}
 
 -- a waiting page has a frame of its own
 pub waiter_own : (entries : List (Option Entry)) (cursor : Option ℕ) (w : Waiter) → (is : IsWaiter entries cursor w) → is_shared is.entry.status ≡ false
@@ -118,42 +119,47 @@ ahead-free entries c i (w ∷ ws) h are = rw (off (are.0).behind) (ahead-free en
     off le = grind (arith, nat_tests)
 
 -- the pass stays where each waiting page does
-pub pass-kept : (old new : TableState) (pass : Pass) → IsPass old pass → AreOwnKept old new → length new.arena ≡ length old.arena → IsPass new pass
-pass-kept old new pass is kept arena =
+pub pass-kept : (old new : TableState) (pass : Pass) → IsPass old pass → AreOwnKept old new → length new.arena ≡ length old.arena → length new.entries ≡ length old.entries → IsPass new pass
+pass-kept old new pass is kept arena long =
     record {
       waiters = waiters-kept old.entries new.entries pass.cursor pass.cursor pass.waiting.listed (λ w waiter. waiter-kept old.entries new.entries pass.cursor w (λ entry e own. kept w.place entry e own) waiter) is.waiters;
       room = omega (arith, arena, is.room);
       cursor = is.cursor;
+      pins = pins-kept old new pass is.pins long (λ i entry pinned e volatile. kept i entry e (ap is_shared volatile));
     }
 
--- a page changes that doesn't wait
-pub pass-others : (old new : TableState) (pass : Pass) (i : ℕ) → IsPass old pass → is_listed i pass.waiting.listed ≡ false → AreOthersKept i old new → length new.arena ≡ length old.arena → IsPass new pass
-pass-others old new pass i is none others arena =
+-- a page changes that doesn't wait and isn't pinned
+pub pass-others : (old new : TableState) (pass : Pass) (i : ℕ) → IsPass old pass → is_listed i pass.waiting.listed ≡ false → slice_index_or pass.pins i false ≡ false → AreOthersKept i old new
+    → length new.arena ≡ length old.arena → length new.entries ≡ length old.entries → IsPass new pass
+pass-others old new pass i is none free others arena long =
     record {
       waiters = waiters-others old.entries new.entries pass.cursor i pass.waiting.listed none others is.waiters;
       room = omega (arith, arena, is.room);
       cursor = is.cursor;
+      pins = pins-kept old new pass is.pins long (λ j entry pinned e volatile. others j (apart-pinned pass.pins i j free pinned) ∙ e);
     }
 
 pub pass-forgets : (table : TableState) (pass : Pass) (i : ℕ) → IsPass table pass → IsPass table (forgets i pass)
 pass-forgets table pass i is =
-    record { waiters = waiters-fewer table.entries pass.cursor i pass.waiting.listed is.waiters; room = is.room; cursor = is.cursor }
+    record { waiters = waiters-fewer table.entries pass.cursor i pass.waiting.listed is.waiters; room = is.room; cursor = is.cursor; pins = is.pins }
 
--- a page changes, and doesn't wait any more
-pub pass-left : (old new : TableState) (pass : Pass) (i : ℕ) → IsPass old pass → AreOthersKept i old new → length new.arena ≡ length old.arena → IsPass new (forgets i pass)
-pass-left old new pass i is others arena =
-    pass-others old new (forgets i pass) i (pass-forgets old pass i is) (listed-others i pass.waiting.listed) others arena
+-- a page changes that isn't pinned, and doesn't wait any more
+pub pass-left : (old new : TableState) (pass : Pass) (i : ℕ) → IsPass old pass → slice_index_or pass.pins i false ≡ false → AreOthersKept i old new → length new.arena ≡ length old.arena
+    → length new.entries ≡ length old.entries → IsPass new (forgets i pass)
+pass-left old new pass i is free others arena long =
+    pass-others old new (forgets i pass) i (pass-forgets old pass i is) (listed-others i pass.waiting.listed) free others arena long
 
--- two pages change, and don't wait any more
-pub pass-left-both : (old new : TableState) (pass : Pass) (i j : ℕ) → IsPass old pass → ((k : ℕ) → k ≢ i → k ≢ j → entry_at new.entries k ≡ entry_at old.entries k) → length new.arena ≡ length old.arena
-    → IsPass new (forgets i (forgets j pass))
-pass-left-both old new pass i j is others arena =
+-- two pages change that aren't pinned, and don't wait any more
+pub pass-left-both : (old new : TableState) (pass : Pass) (i j : ℕ) → IsPass old pass → slice_index_or pass.pins i false ≡ false → slice_index_or pass.pins j false ≡ false → ((k : ℕ) → k ≢ i → k ≢ j → entry_at new.entries k ≡ entry_at old.entries k) → length new.arena ≡ length old.arena
+    → length new.entries ≡ length old.entries → IsPass new (forgets i (forgets j pass))
+pass-left-both old new pass i j is free_one free_other others arena long =
     let fewer : Pass = forgets i (forgets j pass) in
     let are = pass-forgets old (forgets j pass) i (pass-forgets old pass j is) in
     record {
       waiters = both fewer.waiting.listed (listed-others i (others_of j pass.waiting.listed)) (listed-fewer j i (others_of j pass.waiting.listed) (listed-others j pass.waiting.listed)) are.waiters;
       room = omega (arith, arena, is.room);
       cursor = is.cursor;
+      pins = pins-kept old new pass is.pins long (λ k entry pinned e volatile. others k (apart-pinned pass.pins i k free_one pinned) (apart-pinned pass.pins j k free_other pinned) ∙ e);
     }
   where
     both : (ws : List Waiter) → is_listed i ws ≡ false → is_listed j ws ≡ false → AreWaiters old.entries pass.cursor ws → AreWaiters new.entries pass.cursor ws

@@ -1,5 +1,5 @@
 -- What a memory tells after bytes of a page were written.
-use Rattle.std.proofs.Common.{◌≡◌, ◌≢◌, ◌∙◌, ◌⊎◌, ⊎_elim, ℕ, zero, suc, ◌+◌, ◌*◌, ◌<◌, ◌≤◌, List, [], ◌∷◌, length, take, drop, slice_index_or, slice_set, Option, Some, None, IfSome, false, option_map, refl, sym, ap, subst, arith, length-set}
+use Rattle.std.proofs.Common.{◌≡◌, ◌≢◌, ◌∙◌, ◌⊎◌, ⊎_elim, Bool, ℕ, zero, suc, ◌+◌, ◌*◌, ◌<◌, ◌≤◌, List, [], ◌∷◌, length, take, drop, slice_index_or, slice_set, Option, Some, None, IfSome, false, option_map, refl, sym, ap, subst, arith, length-set}
 use Rattle.std.specs.List.{concat}
 use Rattle.std.proofs.lemmas.List.{get_or-set_same, get_or-set_other, get_or_past, length-take-le}
 use Rattle.page_table.specs.declared.pass.Pass.{Pass}
@@ -24,20 +24,20 @@ use Rattle.frame_arena.proofs.Parts.{take-with_part, drop-with_part_before}
 use Rattle.page_table.proofs.Reading.{IsLocated, page_located, page_number, few_pages, content_in, bytes_in, map_at-part}
 
 -- a memory with one map of a tenant replaced
-pub part-set_same : (old new : MemoryState) (t m : ℕ) (flat : Option FlatMap) → m < 8 → new.tenants ≡ old.tenants → new.maps ≡ slice_set old.maps (map_place t m) flat
-    → part new t ≡ record (part old t) { maps = slice_set (part old t).maps m flat }
+pub part-set_same : (old new : MemoryState) (t m : ℕ) (flat : Option FlatMap) (pins : List Bool) → m < 8 → new.tenants ≡ old.tenants → new.maps ≡ slice_set old.maps (map_place t m) flat
+    → part_of new.sharing.pins (t * 2048) 2048 ≡ pins → part new t ≡ record (part old t) { maps = slice_set (part old t).maps m flat; pins = pins }
 unfolding part
-part-set_same old new t m flat small tenants maps = rw (tenants, maps, part_of-set_same old.maps (t * 8) m 8 flat small) refl
+part-set_same old new t m flat pins small tenants maps pinned = rw (tenants, maps, pinned, part_of-set_same old.maps (t * 8) m 8 flat small) refl
 
 pub part-set_other : (old new : MemoryState) (t m : ℕ) (flat : Option FlatMap) → m < 8 → new.tenants ≡ old.tenants → new.maps ≡ slice_set old.maps (map_place t m) flat
-    → IsKeptBut t old new
+    → ((u : ℕ) → u ≢ t → part_of new.sharing.pins (u * 2048) 2048 ≡ part_of old.sharing.pins (u * 2048) 2048) → IsKeptBut t old new
 unfolding part
-part-set_other old new t m flat small tenants maps u ne = rw (tenants, maps, part_of-set_other old.maps t m u 8 flat small ne) refl
+part-set_other old new t m flat small tenants maps pins u ne = rw (tenants, maps, pins u ne, part_of-set_other old.maps t m u 8 flat small ne) refl
 
 pub maps-set_other : (old new : MemoryState) (t m : ℕ) (flat : Option FlatMap) → m < 8 → new.tenants ≡ old.tenants → new.maps ≡ slice_set old.maps (map_place t m) flat
     → AreMapsKeptBut m (part old t) (part new t)
 maps-set_other old new t m flat small tenants maps j ne =
-    ap (λ (owned : TenantPart). map_at owned.maps j) (part-set_same old new t m flat small tenants maps)
+    ap (λ (owned : TenantPart). map_at owned.maps j) (part-set_same old new t m flat (part_of new.sharing.pins (t * 2048) 2048) small tenants maps refl)
     ∙ get_or-set_other (part old t).maps m j flat None ne
 
 -- bytes of a page were written, and nothing else has changed
@@ -183,9 +183,17 @@ module _ (table new : TableState) (shapes : List (Option Shape)) (tenants : List
       ∙ ap (λ (maps : FlatMaps). map_at maps k) maps_new
       ∙ get_or-set_same (maps_of shapes (contents_of table)) k (Some flat_new) None (let long = length-maps_of shapes (contents_of table) in let h = loc.inside in omega (arith, long, h))
 
+  pins_after : (u : ℕ) → part_of after.sharing.pins (u * 2048) 2048 ≡ (part before u).pins
+  unfolding view_of part
+  pins_after u = refl
+
+  others_after : IsKeptBut page.tenant before after
+  unfolding view_of
+  others_after = part-set_other before after page.tenant page.map (Some flat_new) loc.small tenants_after maps_after (λ u ne. refl)
+
   part_after : part after page.tenant ≡ part_written (part before page.tenant) page.map (page.number * 4096 + at) bytes
   part_after =
-      part-set_same before after page.tenant page.map (Some flat_new) loc.small tenants_after maps_after
+      part-set_same before after page.tenant page.map (Some flat_new) (part before page.tenant).pins loc.small tenants_after maps_after (pins_after page.tenant)
       ∙ ap (λ (flat : Option FlatMap). record (part before page.tenant) { maps = slice_set (part before page.tenant).maps page.map flat })
       (sym (ap (option_map (map_written (page.number * 4096 + at) bytes)) flat_before))
 
@@ -207,7 +215,7 @@ module _ (table new : TableState) (shapes : List (Option Shape)) (tenants : List
         written = part_after;
         bytes_new = ap bytes_in map_after ∙ ap (λ flat. with_part (bytes_in flat) (page.number * 4096 + at) bytes) (sym flat_before);
         other_maps = maps-set_other before after page.tenant page.map (Some flat_new) loc.small tenants_after maps_after;
-        others = part-set_other before after page.tenant page.map (Some flat_new) loc.small tenants_after maps_after;
+        others = others_after;
         sharing = sharing_after;
         frames = frames_after;
         settings = settings_after;

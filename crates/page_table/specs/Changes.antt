@@ -9,12 +9,13 @@ use Rattle.host_types.specs.Bytes.{with_part}
 use Rattle.host_types.specs.Memory.{FlatMap, map_at}
 use Rattle.host_types.specs.OptionTable.{AreOptions}
 use Rattle.host_types.specs.Pages.{page_place}
+use Rattle.host_types.specs.Pins.{is_pinned, released}
 use Rattle.host_types.specs.Shapes.{IsShape, byte_len_of}
 use Rattle.host_types.specs.Sharing.{Sharing, state_at, new_page, is_shared}
 use Rattle.host_types.specs.Tenant.{TenantPart}
 use Rattle.host_types.specs.Visits.{Contents, contents_in, is_open, find_partner, is_waiting}
 use Rattle.page_table.specs.Limits.{AreLimits, page_count}
-use Rattle.page_table.specs.State.{MemoryState, part, bytes_of_map, free_number, frame_at, have_of}
+use Rattle.page_table.specs.State.{MemoryState, unreserved_tenant, tenant_at, part, bytes_of_map, free_number, frame_at, have_of}
 
 -- a map whose bytes are all zero
 abbrev pub zero_map : Shape → FlatMap
@@ -40,10 +41,32 @@ pages_of_map owned m = unwrap_or (option_map (λ (flat : FlatMap). page_count fl
 abbrev pub with_reserve : ℕ → TenantPart → TenantPart
 with_reserve reserve owned = record owned { reserve = reserve }
 
+-- a tenant's part with other pins
+abbrev pub with_pins : List Bool → TenantPart → TenantPart
+with_pins pins owned = record owned { pins = pins }
+
+-- a tenant's part with a run open, for which frames are reserved
+abbrev pub with_run : ℕ → TenantPart → TenantPart
+with_run reserve owned = record owned { reserve = reserve; running = true }
+
+-- a tenant's part without an open run: no frame is reserved, and none of its pages is pinned
+abbrev pub without_run : TenantPart → TenantPart
+without_run owned = record owned { reserve = 0; running = false; pins = replicate 2048 false }
+
 -- the memory with another number of frames recorded as reserved for a tenant's open run, and nothing else
 abbrev pub with_record : MemoryState → ℕ → ℕ → MemoryState
 with_record memory tenant reserve =
-    record memory { tenants = slice_set memory.tenants tenant (record { reserve = reserve }) }
+    record memory { tenants = slice_set memory.tenants tenant (record (tenant_at memory tenant) { reserve = reserve }) }
+
+-- the memory with a tenant's run open, so many frames reserved for it, and nothing else
+abbrev pub opened : MemoryState → ℕ → ℕ → MemoryState
+opened memory tenant reserve =
+    record memory { tenants = slice_set memory.tenants tenant (record { reserve = reserve; running = true }) }
+
+-- the memory with a tenant's run ended: no frame is reserved for it, and its pages aren't pinned
+abbrev pub ended : MemoryState → ℕ → MemoryState
+ended memory tenant =
+    record memory { tenants = slice_set memory.tenants tenant unreserved_tenant; sharing = released memory.sharing tenant }
 
 -- every other tenant's part stays
 abbrev pub IsKeptBut : ℕ → MemoryState → MemoryState → Type 0
@@ -70,10 +93,11 @@ IsPageOf memory page = page.number * 4096 < length (bytes_of_map memory page)
 abbrev pub IsOwn : MemoryState → Page → Type 0
 IsOwn memory page = IfSome (state_at memory.sharing (page_place page)) (λ state. is_shared state.status ≡ false)
 
--- the page may be merged, and has a frame of its own
+-- the page may be merged, has a frame of its own, and isn't pinned
 abbrev pub MayMerge : MemoryState → Page → Type 0
 MayMerge memory page =
     IfSome (state_at memory.sharing (page_place page)) (λ state. (state.mergeable ≡ true) × (is_shared state.status ≡ false))
+    × (is_pinned memory.sharing.pins (page_place page) ≡ false)
 
 -- the page is not on the waiting list
 abbrev pub IsNotWaiting : MemoryState → Page → Type 0

@@ -5,3 +5,4 @@ pub mod Table
 pub mod View
 pub mod Reads
 pub mod Tallies
+pub mod Pins

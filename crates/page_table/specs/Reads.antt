@@ -6,6 +6,7 @@ use Rattle.host_types.specs.declared.status.Status.{Status}
 use Rattle.host_types.specs.declared.status.Status.TheVariants.{Grouped, Zero}
 use Rattle.host_types.specs.Sharing.{Sharing, PageState, state_at, is_among}
 use Rattle.host_types.specs.Pages.{zero_page}
+use Rattle.host_types.specs.Pins.{PinsOwn}
 use Rattle.host_types.specs.Memory.{FlatMap, map_at}
 use Rattle.host_types.specs.Visits.{contents_in, next_from}
 use Rattle.frame_arena.specs.Pages.{page_at}
@@ -54,7 +55,8 @@ pub record AreGroups (sharing : Sharing) : Type 0 where
 -- the zero frame, which holds zeros. Each page has a frame, which is there, and no other place has
 -- one. The free frames are those that no page lies on, and no more of them are reserved than there are. A
 -- page is there exactly where a map has bytes for it, and its bytes are its frame's. Each tenant has
--- eight places for maps. Unless a pass begins, a page behind the cursor may be merged.
+-- eight places for maps, and 2048 places for pages. No page that shares its frame is pinned. Unless a
+-- pass begins, a page behind the cursor may be merged.
 pub record ReadsAs (memory : MemoryState) : Type 0 where
   pub one_frame : (i j x y : ℕ) → i ≢ j → frame_at memory i ≡ Some x → frame_at memory j ≡ Some y → (x ≡ y ↔ AreMerged memory.sharing i j)
   pub zero_frame : (i : ℕ) → (frame_at memory i ≡ Some 0 ↔ status_at memory.sharing i ≡ Some Zero)
@@ -66,5 +68,7 @@ pub record ReadsAs (memory : MemoryState) : Type 0 where
   pub bytes : (i x : ℕ) → frame_at memory i ≡ Some x → page_at memory.arena x ≡ contents_in memory.maps i
   pub paged : (i : ℕ) → (IsSome (state_at memory.sharing i) ↔ HasPage memory i)
   pub eight : length memory.maps ≡ length memory.tenants * 8
+  pub places : length memory.sharing.pins ≡ length memory.tenants * 2048
+  pub pinned : PinsOwn memory.sharing
   pub groups : AreGroups memory.sharing
   pub ahead : IfSome memory.sharing.cursor (λ c. IsSome (next_from memory.sharing (c + 1)))

@@ -1,5 +1,5 @@
 -- What a memory is to its callers: the maps of all tenants, which pages share frames, and the pages of the frames.
-use Rattle.std.specs.Prelude.{ℕ, ◌-◌, ◌*◌, List, [], length, replicate, sum_by, slice_index_or, Option, None, option_map, unwrap_or, is_none, position}
+use Rattle.std.specs.Prelude.{ℕ, false, ◌-◌, ◌*◌, List, [], length, replicate, sum_by, slice_index_or, Option, None, option_map, unwrap_or, is_none, position}
 use Rattle.host_types.specs.declared.options.Options.{Options}
 use Rattle.host_types.specs.declared.shape.Page.{Page}
 use Rattle.host_types.specs.Bytes.{part_of}
@@ -18,14 +18,14 @@ pub record MemoryState : Type 0 where
   pub arena : List (List ℕ)
   pub frames : List (Option ℕ)
 
--- a tenant for whose run no frame is reserved
+-- a tenant that has no open run, and for whose run no frame is reserved
 abbrev pub unreserved_tenant : Tenant
-unreserved_tenant = record { reserve = 0 }
+unreserved_tenant = record { reserve = 0; running = false }
 
 -- the state of sharing without pages
 abbrev pub no_sharing : ℕ → Options → Sharing
 no_sharing places options =
-    record { pages = replicate places None; groups = []; waiting = []; cursor = None; options = options; full_scans = 0 }
+    record { pages = replicate places None; groups = []; waiting = []; cursor = None; options = options; full_scans = 0; pins = replicate places false }
 
 -- a memory without maps: each tenant has eight map numbers, each map 256 pages
 unfoldable pub new_memory : ℕ → ℕ → Options → MemoryState
@@ -38,10 +38,19 @@ new_memory frames tenants options =
       frames = replicate (tenants * 2048) None;
     }
 
+-- what is recorded of the tenant t beside its maps
+abbrev pub tenant_at : MemoryState → ℕ → Tenant
+tenant_at memory t = slice_index_or memory.tenants t unreserved_tenant
+
 -- what belongs to the tenant t
 unfoldable pub part : MemoryState → ℕ → TenantPart
 part memory t =
-    record { maps = part_of memory.maps (t * 8) 8; reserve = (slice_index_or memory.tenants t unreserved_tenant).reserve }
+    record {
+      maps = part_of memory.maps (t * 8) 8;
+      reserve = (tenant_at memory t).reserve;
+      running = (tenant_at memory t).running;
+      pins = part_of memory.sharing.pins (t * 2048) 2048;
+    }
 
 -- the bytes of a tenant's map; none where there is no such map
 abbrev pub map_bytes : TenantPart → ℕ → List ℕ

@@ -187,9 +187,9 @@ pub record AreMaps (shapes : List (Option Shape)) (contents : List (List ℕ)) :
   pub each : (k : ℕ) → k < length shapes → ArePages (slice_index_or shapes k None) (part_of contents (k * 256) 256)
 
 -- the start of the first pass, with room for so many waiting pages
-abbrev pub new_pass : ℕ → Options → Pass
-new_pass room options =
-    record { options = options; cursor = None; full_scans = 0; waiting = record { listed = []; room = room } }
+abbrev pub new_pass : ℕ → ℕ → Options → Pass
+new_pass room places options =
+    record { options = options; cursor = None; full_scans = 0; waiting = record { listed = []; room = room }; pins = replicate places false }
 
 -- a waiting page, as callers see it
 abbrev pub waiting_of : Waiter → ℕ × ℕ
@@ -202,7 +202,7 @@ forgets i pass = record pass { waiting = record pass.waiting { listed = filter (
 -- what a table and a pass tell of the pages that share frames
 abbrev pub sharing_of : TableState → Pass → Sharing
 sharing_of table pass =
-    record { pages = states_of table.entries; groups = groups_of table; waiting = map waiting_of pass.waiting.listed; cursor = pass.cursor; options = pass.options; full_scans = pass.full_scans }
+    record { pages = states_of table.entries; groups = groups_of table; waiting = map waiting_of pass.waiting.listed; cursor = pass.cursor; options = pass.options; full_scans = pass.full_scans; pins = pass.pins }
 
 -- how many frames the break of a page takes, told by the pages that lie on its frame
 unfoldable pub break_frames : TableState → ℕ → ℕ

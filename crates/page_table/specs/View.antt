@@ -3,6 +3,7 @@ use Rattle.std.specs.Prelude.{◌≡◌, ℕ, ◌+◌, ◌*◌, ◌<◌, ◌≤�
 use Rattle.std.specs.List.{list_any}
 use Rattle.host_types.specs.declared.shape.Shape.{Shape}
 use Rattle.host_types.specs.declared.status.Status.TheVariants.{Waiting}
+use Rattle.host_types.specs.Pins.{PinsFit}
 use Rattle.host_types.specs.Sharing.{PageState}
 use Rattle.host_types.specs.Visits.{is_mergeable}
 use Rattle.unstable_tree.specs.declared.tree.Waiter.{Waiter}
@@ -10,7 +11,7 @@ use Rattle.page_table.specs.declared.entry.Entry.{Entry}
 use Rattle.page_table.specs.declared.pass.Pass.{Pass}
 use Rattle.page_table.specs.declared.tenant.Tenant.{Tenant}
 use Rattle.page_table.specs.State.{MemoryState}
-use Rattle.page_table.specs.Table.{TableState, entry_at, AreMaps, maps_of, contents_of, frames_of, sharing_of, used_by}
+use Rattle.page_table.specs.Table.{TableState, entry_at, AreMaps, maps_of, contents_of, frames_of, states_of, sharing_of, used_by}
 
 -- what callers see of a memory
 unfoldable pub view_of : TableState → List (Option Shape) → List Tenant → Pass → MemoryState
@@ -66,3 +67,4 @@ pub record IsPass (table : TableState) (pass : Pass) : Type 0 where
   pub waiters : AreWaiters table.entries pass.cursor pass.waiting.listed
   pub room : length table.arena ≤ pass.waiting.room
   pub cursor : IfSome pass.cursor (λ c. c < 32768)
+  pub pins : PinsFit (states_of table.entries) pass.pins

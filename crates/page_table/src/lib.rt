@@ -10,6 +10,8 @@ mod memory;
 mod order;
 mod page_list;
 mod pass;
+mod pins;
+mod runs;
 mod search;
 mod table;
 mod tally;

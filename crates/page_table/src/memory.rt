@@ -1,10 +1,11 @@
-ghost use Rattle.std.specs.Prelude.{◌≡◌, ◌≢◌, ◌+◌, ◌*◌, ◌-◌, ◌/◌, ◌<◌, ◌≤◌, ◌%◌, ◌↔◌, nat_lt, IsTrue, ℕ, [], length, replicate, is_none, position, Option, Some, None, IfOk, OnOk, IfErr, OnErr, IsSome, IfSome, option_map, slice_index_or, true, is_some};
+ghost use Rattle.std.specs.Prelude.{◌≡◌, ◌≢◌, ◌+◌, ◌*◌, ◌-◌, ◌/◌, ◌<◌, ◌≤◌, ◌%◌, ◌↔◌, ◌&&◌, nat_lt, IsTrue, ℕ, [], length, replicate, is_none, position, Option, Some, None, IfOk, OnOk, IfErr, OnErr, IsSome, IfSome, option_map, slice_index_or, slice_set, true, false, is_some};
 ghost use Rattle.host_types.specs.Bytes.{part_of, with_part};
 ghost use Rattle.host_types.specs.Memory.{FlatMap, map_at};
 ghost use Rattle.host_types.specs.OptionTable.{AreOptions, MayBe};
 ghost use Rattle.host_types.specs.Pages.{map_place, page_place, page_bytes, zero_page};
 ghost use Rattle.host_types.specs.Shapes.{IsShape};
-ghost use Rattle.host_types.specs.Sharing.{new_page, state_at, is_shared, broken, break_cost, cost_from, paired, zeroed};
+ghost use Rattle.host_types.specs.Pins.{broken_by, is_pinned, released, unpinned_from};
+ghost use Rattle.host_types.specs.Sharing.{new_page, state_at, is_shared, is_shared_page, break_cost, cost_from, paired, zeroed};
 ghost use Rattle.host_types.specs.Tenant.{IsFlatMap, AreFlatMaps, part_dropped};
 ghost use Rattle.host_types.specs.Unmerging.{with_option, MaySet, unmerged, unmerge_need, SharesNothing};
 ghost use Rattle.host_types.specs.Visits.{page_to_visit, is_mergeable, dropped, flushed, moved_on, changed, waits, has_open, joined};
@@ -12,7 +13,7 @@ ghost use Rattle.frame_arena.specs.Pages.{page_at};
 ghost use Rattle.page_table.specs.Limits.{AreLimits, page_count, shape_of};
 ghost use Rattle.page_table.specs.State.{MemoryState, part, map_bytes, bytes_of_map, free_number, new_memory, unreserved_tenant, free_of, have_of, frame_at};
 ghost use Rattle.page_table.specs.Reads.{ReadsAs};
-ghost use Rattle.page_table.specs.Changes.{IsNotWaiting, HadFingerprint, contents_now, open_frame, partner_place, zero_map, part_written, part_created, AreKept, MayMerge, IsKeptBut, AreMapsKeptBut, KeepsSettings, with_reserve, with_record, IsPageOf, IsOwn, with_new_pages, pages_of_map, FitsMap, RefusesMap, RefusesDrop, RefusesMemory};
+ghost use Rattle.page_table.specs.Changes.{IsNotWaiting, HadFingerprint, contents_now, open_frame, partner_place, zero_map, part_written, part_created, AreKept, MayMerge, IsKeptBut, AreMapsKeptBut, KeepsSettings, with_pins, with_reserve, with_run, without_run, with_record, opened, ended, IsPageOf, IsOwn, with_new_pages, pages_of_map, FitsMap, RefusesMap, RefusesDrop, RefusesMemory};
 ghost use Rattle.page_table.specs.declared.entry.Entry.{Entry};
 ghost use Rattle.page_table.specs.Table.{state_of, states_of, contents_of, groups_of, used_by, entry_at};
 
@@ -38,10 +39,10 @@ pub struct Memory {
     pub(crate) table: Table,
     /// By the maps' places.
     shapes: Vec<Option<Shape>>,
-    tenants: Vec<Tenant>,
+    pub(crate) tenants: Vec<Tenant>,
     /// The sum of the tenants' reserves.
-    reserved: u32,
-    pass: Pass,
+    pub(crate) reserved: u32,
+    pub(crate) pass: Pass,
 }
 
 impl Model for Memory {
@@ -77,7 +78,7 @@ pub(crate) fn pages(shape: &Shape) -> u32
 }
 
 /// The place of a tenant's map among all maps.
-fn map_index(tenant: u32, map: MapNo) -> usize
+pub(crate) fn map_index(tenant: u32, map: MapNo) -> usize
     requires tenant { tenant < 4294967296 }
     requires map { map < 4294967296 }
     ensures { result ≡ map_place tenant map }
@@ -138,10 +139,11 @@ impl Memory {
         requires { AreLimits frames tenants }
         ensures { IfOk result (λ memory. memory ≡ new_memory frames tenants options) }
     {
-        let table = Table::new(alloc, frames, tenants * 2048)?;
+        let places = tenants * 2048;
+        let table = Table::new(alloc, frames, places)?;
         let shapes = vec![in alloc; None; tenants as usize * MAX_MAPS]?;
-        let tenants = vec![in alloc; Tenant { reserve: 0 }; tenants as usize]?;
-        let pass = Pass::new(alloc, frames, options)?;
+        let pass = Pass::new(alloc, frames, tenants * 8, options)?;
+        let tenants = vec![in alloc; Tenant::NO_RUN; tenants as usize]?;
         Ok(Memory {
             table,
             shapes,
@@ -373,11 +375,13 @@ impl Memory {
         ensures have { have_of self.new + free_of self.old ≡ have_of self.old + free_of self.new }
         ensures settings { KeepsSettings self.old self.new }
     {
+        self.table.facts();
         let index = map_index(tenant, map);
         let first = index * MAX_PAGES;
         let count = pages(&shape);
         self.table.remove_all(first, count);
         self.pass.waiting.forget_all(first, first + count as usize);
+        self.pass.pins.release(index);
         self.shapes[index] = None;
         end_if_done(&self.table, &self.shapes, &mut self.pass);
     }
@@ -424,26 +428,51 @@ impl Memory {
     }
 
     /// Takes a page out of its group, or off the frame of zeros, so that it may be written: the
-    /// page gets a copy on a frame of its own, and the last page of a group keeps the group's frame. A
-    /// page that has its own frame stays as it is.
+    /// page gets a copy on a frame of its own, and the last page of a group keeps the group's frame. It
+    /// is pinned then where its tenant has an open run. A page that has its own frame stays as it is.
     pub fn take_out(&mut self, page: Page)
         requires there { IsPageOf self.old page }
         requires room { break_cost self.old.sharing (page_place page) ≤ have_of self.old }
         ensures frames { break_cost self.old.sharing (page_place page) ≡ 0 → self.new.frames ≡ self.old.frames }
         ensures maps { self.new.maps ≡ self.old.maps }
-        ensures kept { AreKept self.old self.new }
-        ensures sharing { self.new.sharing ≡ broken self.old.sharing (page_place page) }
+        ensures part { part self.new page.tenant ≡
+            with_pins (part_of self.new.sharing.pins (page.tenant * 2048) 2048) (part self.old page.tenant) }
+        ensures others { IsKeptBut page.tenant self.old self.new }
+        ensures sharing { self.new.sharing ≡
+            broken_by (part self.old page.tenant).running self.old.sharing (page_place page) }
         ensures own { IsOwn self.new page }
         ensures free { free_of self.new + break_cost self.old.sharing (page_place page) ≡ free_of self.old }
         ensures have { have_of self.new + break_cost self.old.sharing (page_place page) ≡ have_of self.old }
         ensures settings { KeepsSettings self.old self.new }
     {
         self.table.costs_are_told();
-        self.table.take_out(place_of(page));
+        let is_pinned = self.pins(page);
+        let place = place_of(page);
+        self.table.take_out(place);
+        self.pass.pins.pin_if(is_pinned, place);
+    }
+
+    /// Whether the break of a page pins it: its tenant has an open run, and it lies on a frame that
+    /// isn't its own.
+    fn pins(&self, page: Page) -> bool
+        requires { IsPageOf self.now page }
+        ensures { result ≡ ((part self.now page.tenant).running
+            && is_shared_page (state_at self.now.sharing (page_place page))) }
+    {
+        self.is_running(page.tenant) && self.table.is_shared(place_of(page))
+    }
+
+    /// Whether a page is pinned: the open run of its tenant took it out, and it isn't merged before
+    /// that run's end.
+    pub fn is_pinned(&self, page: Page) -> bool
+        requires { IsPageOf self.now page }
+        ensures { result ≡ is_pinned self.now.sharing.pins (page_place page) }
+    {
+        self.pass.pins.is_pinned(place_of(page))
     }
 
     /// Makes two pages of the same bytes a new last group, on one write-protected frame; the frame of
-    /// the second one is free then. Both may be merged, and neither shares a frame.
+    /// the second one is free then. Both may be merged, and neither shares a frame or is pinned.
     pub fn pair(&mut self, first: Page, second: Page)
         requires first { IsPageOf self.old first }
         requires second { IsPageOf self.old second }
@@ -466,8 +495,8 @@ impl Memory {
         self.pass.waiting.forget(first);
     }
 
-    /// Puts a page of zeros on the zero frame; its own frame is free then. It may be merged, and
-    /// shares no frame.
+    /// Puts a page of zeros on the zero frame; its own frame is free then. It may be merged, shares no
+    /// frame and isn't pinned.
     pub fn zero(&mut self, page: Page)
         requires there { IsPageOf self.old page }
         requires may { MayMerge self.old page }
@@ -673,7 +702,8 @@ impl Memory {
     }
 
     /// Gives each page that shares a frame one of its own, in the order of the pages, and stops the
-    /// scanner: `run` is 2 then. No page shares a frame then. The call looks at each page's place.
+    /// scanner: `run` is 2 then. No page shares a frame then, and none is pinned that wasn't. The call
+    /// looks at each page's place.
     pub fn unmerge(&mut self)
         requires { unmerge_need self.old.sharing ≤ have_of self.old }
         ensures maps { self.new.maps ≡ self.old.maps }
@@ -686,41 +716,6 @@ impl Memory {
     {
         self.table.take_out_all();
         self.pass.set(Opt::Run, UNMERGED);
-    }
-}
-
-impl Memory {
-    /// How many frames are recorded as reserved for a tenant's open run, none where there is no such
-    /// tenant.
-    pub fn reserve(&self, tenant: u32) -> u32
-        ensures { result ≡ (part self.now tenant).reserve }
-    {
-        reserve_of(&self.tenants, tenant)
-    }
-
-    /// Records how many frames are reserved for a tenant's open run, in place of what was recorded
-    /// of it. There are so many free frames that no other tenant's record has.
-    pub fn record(&mut self, tenant: u32, reserve: u32)
-        requires there { length (part self.old tenant).maps ≡ 8 }
-        requires room { reserve ≤ have_of self.old + (part self.old tenant).reserve }
-        ensures recorded { part self.new tenant ≡ with_reserve reserve (part self.old tenant) }
-        ensures others { IsKeptBut tenant self.old self.new }
-        ensures have { have_of self.new + reserve ≡ have_of self.old + (part self.old tenant).reserve }
-        ensures all { self.new ≡ with_record self.old tenant reserve }
-    {
-        let before = self.reserve(tenant);
-        self.reserved = self.reserved - before + reserve;
-        self.tenants[tenant as usize] = Tenant { reserve };
-    }
-}
-
-/// What is recorded of a tenant.
-fn reserve_of(tenants: &[Tenant], tenant: u32) -> u32
-    ensures { result ≡ (slice_index_or tenants.now tenant unreserved_tenant).reserve }
-{
-    match tenants.get(tenant as usize) {
-        Some(tenant) => tenant.reserve,
-        None => 0,
     }
 }
 
@@ -764,6 +759,7 @@ fn add_pages(table: &mut Table, first: usize, count: u32, mergeable: bool)
     ensures groups { groups_of table.new ≡ groups_of table.old }
     ensures used { used_by table.new ≡ used_by table.old + count }
     ensures arena { length table.new.arena ≡ length table.old.arena }
+    ensures entries { length table.new.entries ≡ length table.old.entries }
     ensures kept { (i : ℕ) (entry : Entry) →
         entry_at table.old.entries i ≡ Some entry → entry_at table.new.entries i ≡ Some entry }
 {

@@ -1,8 +1,9 @@
-ghost use Rattle.std.specs.Prelude.{◌≡◌, ◌<◌, None, IfOk, IfSome};
+ghost use Rattle.std.specs.Prelude.{◌≡◌, ◌*◌, ◌<◌, ◌≤◌, None, IfOk, IfSome};
 ghost use Rattle.host_types.specs.Unmerging.{with_option};
 ghost use Rattle.host_types.specs.Visits.{look_from, one_more};
 ghost use Rattle.page_table.specs.Table.{new_pass};
 
+use crate::pins::Pins;
 use host_types::{Opt, Options};
 use std::alloc::{AllocError, Global};
 use unstable_tree::UnstableTree;
@@ -17,12 +18,21 @@ pub(crate) struct Pass {
     pub(crate) full_scans: u64,
     /// The pages that wait for another one of their bytes.
     pub(crate) waiting: UnstableTree,
+    /// The pages that open runs took out, which aren't merged before their ends.
+    pub(crate) pins: Pins,
 }
 
 impl Pass {
-    /// The start of the first pass. So many pages at most have frames of their own.
-    pub(crate) fn new(alloc: Global, frames: u32, options: Options) -> Result<Self, AllocError>
-        ensures { IfOk result (λ pass. pass ≡ new_pass frames options) }
+    /// The start of the first pass over so many maps, each of 256 places. So many pages at most have
+    /// frames of their own.
+    pub(crate) fn new(
+        alloc: Global,
+        frames: u32,
+        maps: u32,
+        options: Options,
+    ) -> Result<Self, AllocError>
+        requires { maps ≤ 128 }
+        ensures { IfOk result (λ pass. pass ≡ new_pass frames (maps * 256) options) }
     {
         let mut waiting = UnstableTree::new(alloc);
         waiting.reserve(frames as usize)?;
@@ -31,6 +41,7 @@ impl Pass {
             cursor: None,
             full_scans: 0,
             waiting,
+            pins: Pins::new(alloc, maps)?,
         })
     }
 

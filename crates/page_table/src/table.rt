@@ -2,7 +2,7 @@ ghost use Rattle.std.specs.Prelude.{◌≡◌, ◌≢◌, ◌+◌, ◌-◌, ◌<
 ghost use Rattle.host_types.specs.Bytes.{with_part};
 ghost use Rattle.page_table.specs.declared.pass.Pass.{Pass};
 ghost use Rattle.host_types.specs.declared.status.Status.TheVariants.{Grouped};
-ghost use Rattle.host_types.specs.Sharing.{new_page, is_shared, broken, break_cost, broken_from, cost_from, gone, gone_from, paired, zeroed, with_status};
+ghost use Rattle.host_types.specs.Sharing.{new_page, is_shared, is_shared_page, state_at, broken, break_cost, broken_from, cost_from, gone, gone_from, paired, zeroed, with_status};
 ghost use Rattle.host_types.specs.Counters.{repeated_among, seconds_behind};
 ghost use Rattle.host_types.specs.Unmerging.{unmerge_need, SharesNothing};
 ghost use Rattle.host_types.specs.Visits.{first_mergeable, is_mergeable, with_page};
@@ -165,6 +165,15 @@ impl Table {
             unreachable!()
         };
         entry
+    }
+
+    /// Whether a page lies on a frame that isn't its own.
+    pub(crate) fn is_shared(&self, place: usize) -> bool
+        requires { IsPageAt self.now place }
+        ensures { (pass : Pass) → result ≡ is_shared_page (state_at (sharing_of self.now pass) place) }
+    {
+        self.facts();
+        self.page(place).protected
     }
 
     /// Puts a page of zeros on a frame of its own, at a place without a page.
@@ -513,7 +522,7 @@ impl Table {
         requires there { (i : ℕ) → i < count → IsPageAt self.old (first + i) }
         ensures contents { contents_of self.new ≡ with_part (contents_of self.old) first (replicate count []) }
         ensures sharing { (pass : Pass) →
-            sharing_of self.new pass ≡ gone_from (sharing_of self.old pass) first count }
+            sharing_of self.new pass ≡ record (gone_from (sharing_of self.old pass) first count) { pins = pass.pins } }
         ensures used { used_by self.new ≤ used_by self.old }
         ensures arena { length self.new.arena ≡ length self.old.arena }
         ensures kept { AreOwnKeptOutside first count self.old self.new }
@@ -529,7 +538,7 @@ impl Table {
         requires { IsPageAt self.old place }
         ensures contents { contents_of self.new ≡ slice_set (contents_of self.old) place [] }
         ensures sharing { (pass : Pass) →
-            sharing_of self.new pass ≡ gone (sharing_of self.old pass) place }
+            sharing_of self.new pass ≡ record (gone (sharing_of self.old pass) place) { pins = pass.pins } }
         ensures used { used_by self.new ≤ used_by self.old }
         ensures arena { length self.new.arena ≡ length self.old.arena }
         ensures kept { AreOwnKeptOutside place 1 self.old self.new }
@@ -551,7 +560,7 @@ impl Table {
             1 < one_if_zero entry.frame + pages_on entry.frame self.old.entries }
         ensures contents { contents_of self.new ≡ slice_set (contents_of self.old) place [] }
         ensures sharing { (pass : Pass) →
-            sharing_of self.new pass ≡ gone (sharing_of self.old pass) place }
+            sharing_of self.new pass ≡ record (gone (sharing_of self.old pass) place) { pins = pass.pins } }
         ensures used { used_by self.new ≤ used_by self.old }
         ensures arena { length self.new.arena ≡ length self.old.arena }
         ensures others { AreOthersKept place self.old self.new }

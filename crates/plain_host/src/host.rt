@@ -44,7 +44,7 @@ impl PlainHost {
     pub fn reserved(&self) -> u32 {
         let mut sum = 0u32;
         for tenant in &self.tenants {
-            sum = sum.saturating_add(tenant.reserve());
+            sum = sum.saturating_add(tenant.reserve(&self.pages));
         }
         sum
     }

@@ -107,14 +107,46 @@ impl Pages {
         }
     }
 
-    /// Bytes of a tenant's map were written, which are these now: each page that they lie in is broken.
-    pub(crate) fn written(&mut self, tenant: u32, map: usize, range: PageRange, bytes: &[u8]) {
+    /// Bytes of a tenant's map were written, which are these now: each page that they lie in is broken, and
+    /// is pinned if the tenant's open run took it out.
+    pub(crate) fn written(
+        &mut self,
+        tenant: u32,
+        running: bool,
+        map: usize,
+        range: PageRange,
+        bytes: &[u8],
+    ) {
         let first = self.first_place(tenant, map);
         for page in 0..range.count {
             let number = range.first.saturating_add(page as usize);
             let place = first.saturating_add(number);
             refresh(&mut self.contents, place, bytes, number);
-            self.sharing.break_page(place);
+            self.sharing.break_by(running, place);
+        }
+    }
+
+    /// How many of a map's pages aren't pinned.
+    pub(crate) fn unpinned(&self, tenant: u32, map: usize, count: u32) -> u32 {
+        let first = self.first_place(tenant, map);
+        let mut unpinned = 0u32;
+        for number in 0..count {
+            if !self
+                .sharing
+                .is_pinned(first.saturating_add(number as usize))
+            {
+                unpinned = unpinned.saturating_add(1);
+            }
+        }
+        unpinned
+    }
+
+    /// None of a tenant's pages is pinned any more, as its run ended.
+    pub(crate) fn release(&mut self, tenant: u32) {
+        let first = self.first_place(tenant, 0);
+        let end = self.first_place(tenant, MAX_MAPS);
+        if first <= end && end <= self.sharing.pin_places() {
+            self.sharing.release(first, end - first);
         }
     }
 

@@ -1,4 +1,4 @@
-//! Programs as the plain verifier accepts them, with what each slot may need of frames.
+//! Programs as the plain verifier accepts them, with what each slot may need of frames, and which map it may write.
 
 ghost use Rattle.std.specs.Prelude.{IfSome};
 ghost use Rattle.host_types.specs.Shapes.{IsShape};
@@ -13,25 +13,48 @@ use plain_verifier::{Judged, Table, judge_forward};
 use std::alloc::{AllocError, Global};
 use verifier_kinds::Kind;
 
+/// What the instruction at a slot may need of frames, and the map that it writes, if it may write one.
+#[derive(Clone, Copy, Drop)]
+struct Cost {
+    frames: u32,
+    map: Option<MapNo>,
+}
+
+/// What an instruction that writes to no map needs.
+const NOTHING: Cost = Cost {
+    frames: 0,
+    map: None,
+};
+
 /// An accepted program: its text, the size of its context, and what the instruction at each slot may need.
 #[derive(Drop)]
 pub(crate) struct PlainProgram {
     pub(crate) text: Vec<u8>,
     pub(crate) context_size: usize,
-    costs: Vec<u32>,
+    costs: Vec<Cost>,
 }
 
 /// A tenant's programs by place.
 pub(crate) type Programs = Vec<Option<PlainProgram>>;
 
 impl PlainProgram {
-    /// What the rest of a run may need from a slot on: the sum of what its slots may need.
-    pub(crate) fn reserve(&self, slot: usize) -> u32 {
+    /// What the stores of a run may need in all from a slot on: the sum of what its slots may need.
+    pub(crate) fn total(&self, slot: usize) -> u32 {
         let mut sum = 0u32;
         for cost in self.costs.iter().skip(slot) {
-            sum = sum.saturating_add(*cost);
+            sum = sum.saturating_add(cost.frames);
         }
         sum
+    }
+
+    /// Whether a run may write to a map from a slot on.
+    pub(crate) fn writes(&self, slot: usize, map: usize) -> bool {
+        for cost in self.costs.iter().skip(slot) {
+            if cost.map.is_some_and(|written| written as usize == map) {
+                return true;
+            }
+        }
+        false
     }
 
     /// Whether an instruction, reached or not, names a map.
@@ -100,22 +123,28 @@ fn cost_of_update(shapes: &[Option<Shape>], map: u32) -> u32
 
 /// What the instruction at a slot may need: a store through a map's value one frame, and an update what is
 /// charged for it. A slot that isn't reached needs nothing.
-fn cost_at(text: &[u8], shapes: &[Option<Shape>], table: &Table, slot: usize) -> u32
+fn cost_at(text: &[u8], shapes: &[Option<Shape>], table: &Table, slot: usize) -> Cost
     requires { AreShapes shapes.now }
 {
     let Some(insn) = Insn::at(text, slot) else {
-        return 0;
+        return NOTHING;
     };
     match Operation::of(insn.opcode) {
         Some(Operation::Store { .. }) => match kind_at(table, slot, insn.dst) {
-            Some(Kind::MapValue { .. }) => 1,
-            _ => 0,
+            Some(Kind::MapValue { map, .. }) => Cost {
+                frames: 1,
+                map: Some(map),
+            },
+            _ => NOTHING,
         },
         Some(Operation::Call) => match (MapHelper::of(insn.immediate()), kind_at(table, slot, 1)) {
-            (Some(MapHelper::Update), Some(Kind::MapName(map))) => cost_of_update(shapes, map),
-            _ => 0,
+            (Some(MapHelper::Update), Some(Kind::MapName(map))) => Cost {
+                frames: cost_of_update(shapes, map),
+                map: Some(map),
+            },
+            _ => NOTHING,
         },
-        _ => 0,
+        _ => NOTHING,
     }
 }
 
@@ -125,7 +154,7 @@ fn costs_of(
     text: &[u8],
     shapes: &[Option<Shape>],
     table: &Table,
-) -> Result<Vec<u32>, AllocError>
+) -> Result<Vec<Cost>, AllocError>
     requires { AreShapes shapes.now }
 {
     let mut costs = Vec::new(alloc);
@@ -161,7 +190,7 @@ fn made(
     alloc: Global,
     text: &[u8],
     context_size: u32,
-    costs: Vec<u32>,
+    costs: Vec<Cost>,
 ) -> Result<PlainProgram, AllocError> {
     Ok(PlainProgram {
         text: text.to_vec(alloc)?,

@@ -5,7 +5,7 @@ use crate::maps::{
 };
 use crate::pages::Pages;
 use crate::places;
-use crate::programs::{Programs, judge, names_map};
+use crate::programs::{PlainProgram, Programs, judge, names_map};
 use crate::runs::{PlainRun, Written, next_written, start, step};
 use host_core::{Event, Reply};
 use host_types::limits::{MAX_CONTEXT, MAX_MAPS, MAX_PROGRAMS};
@@ -41,13 +41,33 @@ impl PlainTenant {
     }
 
     /// What the rest of the open run may need of frames.
-    pub(crate) fn reserve(&self) -> u32 {
+    pub(crate) fn reserve(&self, pages: &Pages) -> u32 {
         match &self.run {
             Some(run) => match places::at(&self.programs, run.program) {
-                Some(program) => program.reserve(run.machine.slot()),
+                Some(program) => self.needed(pages, program, run.machine.slot()),
                 None => 0,
             },
             None => 0,
+        }
+    }
+
+    /// What a run of a program may need of frames from a slot on: no more than its stores may take, and no more
+    /// than the pages that aren't pinned in the maps that it may write.
+    fn needed(&self, pages: &Pages, program: &PlainProgram, slot: usize) -> u32 {
+        let mut unpinned = 0u32;
+        for map in 0..MAX_MAPS {
+            if program.writes(slot, map) {
+                unpinned = unpinned.saturating_add(self.unpinned(pages, map));
+            }
+        }
+        program.total(slot).min(unpinned)
+    }
+
+    /// How many pages of a map aren't pinned, none where there is no such map.
+    fn unpinned(&self, pages: &Pages, map: usize) -> u32 {
+        match self.shape(map) {
+            Ok(shape) if shape.is_valid() => pages.unpinned(self.number, map, page_count(shape)),
+            _ => 0,
         }
     }
 
@@ -89,7 +109,7 @@ impl PlainTenant {
                 program,
                 context,
                 ..
-            } => self.begin(alloc, *program as usize, context.as_slice(), have),
+            } => self.begin(alloc, pages, *program as usize, context.as_slice(), have),
             Event::HostUpdate {
                 map,
                 key,
@@ -152,6 +172,7 @@ impl PlainTenant {
     fn begin(
         &mut self,
         alloc: Global,
+        pages: &Pages,
         program: usize,
         context: &[u8],
         have: u32,
@@ -161,7 +182,7 @@ impl PlainTenant {
             Some(program) if program.context_size != context.len() => {
                 return Err(Fault::BadContext);
             }
-            Some(program) => program.reserve(0),
+            Some(program) => self.needed(pages, program, 0),
         };
         if have < need {
             return Err(Fault::NoFrames { need, have });
@@ -184,7 +205,8 @@ impl PlainTenant {
         Ok(start(context, maps))
     }
 
-    /// Makes a step of the open run: what it writes to a map is in the tenant's maps then.
+    /// Makes a step of the open run: what it writes to a map is in the tenant's maps then. At the end none of the
+    /// tenant's pages is pinned any more.
     fn step(&mut self, alloc: Global, pages: &mut Pages) -> Result<Reply, Fault> {
         let Some(run) = &mut self.run else {
             return Err(Fault::NoRun);
@@ -205,6 +227,7 @@ impl PlainTenant {
             }
             Made::Exits(ret) => {
                 self.run = None;
+                pages.release(self.number);
                 Ok(Reply::Ended { ret, steps })
             }
             Made::Fault => Err(Fault::NoProgram),
@@ -225,7 +248,7 @@ impl PlainTenant {
             return Err(Fault::OutOfMemory);
         };
         if let Some(map) = &copy {
-            pages.written(self.number, writes.map, writes.range, map.bytes());
+            pages.written(self.number, true, writes.map, writes.range, map.bytes());
         }
         if let Some(place) = self.maps.get_mut(writes.map) {
             *place = copy;
@@ -261,6 +284,7 @@ impl PlainTenant {
         if let Some(now) = places::at(&self.maps, map) {
             pages.written(
                 self.number,
+                false,
                 map,
                 PageRange::of(at, value.len()),
                 now.bytes(),

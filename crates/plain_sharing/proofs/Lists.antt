@@ -1,9 +1,10 @@
 -- Lists under a map, and a page's content.
 use Rattle.std.proofs.Common.{◌≡◌, ℕ, zero, suc, ◌+◌, ◌-◌, ◌*◌, ◌<◌, ◌≤◌, min, Bool, true, false, cond, ◌||◌, List, [], ◌∷◌, ◌++◌, length, map, take, drop, replicate, filter, slice_index_or, slice_set, slice_get, sum_by, Option, None, Some, option_map, refl, sym, ap, ◌∙◌, arith}
 use Rattle.std.specs.List.{list_any}
-use Rattle.std.proofs.lemmas.List.{take_min, drop_min, take_all, take-replicate, drop-replicate, length-drop, length-map}
+use Rattle.std.proofs.lemmas.List.{take_min, drop_min, take_all, take-replicate, drop-replicate, length-take, length-drop, length-map, length-replicate, drop-drop, append_assoc}
 use Rattle.std.proofs.Math.ListN.{get_or-map}
 use Rattle.std.proofs.lemmas.List.Sums.{sum_by_more}
+use Rattle.host_types.specs.Bytes.{with_part}
 use Rattle.host_types.specs.Pages.{page_bytes}
 use Rattle.host_types.specs.Sharing.{PageState}
 use Rattle.host_types.specs.Visits.{Contents, group_bytes}
@@ -80,3 +81,15 @@ pub bytes_from : (bytes : List ℕ) (first : ℕ) → take (length bytes - min f
 bytes_from bytes first =
     let long = length-drop (min first (length bytes)) bytes in
     take_all (length bytes - min first (length bytes)) (drop (min first (length bytes)) bytes) (omega (arith, long)) ∙ drop_min first bytes
+
+-- n members of a list from a place on, all made the same
+pub filled : {X : Type 0} (x : X) (xs : List X) (at n size : ℕ) → at + n ≤ length xs → size ≡ n
+    → take at xs ++ (replicate (length (take size (drop at xs))) x ++ drop size (drop at xs)) ≡ with_part xs at (replicate n x)
+unfolding with_part
+filled x xs at n size inside e =
+    let long : length (take size (drop at xs)) ≡ n = simp (length-take, length-drop) (omega (arith, e)) in
+    let part = ap (λ (k : ℕ). replicate k x) long in
+    let rest : drop size (drop at xs) ≡ drop (at + length (replicate n x)) xs =
+    drop-drop size at xs ∙ ap (λ (k : ℕ). drop k xs) (let count = length-replicate n x in omega (arith, e, count)) in
+    ap (λ l. take at xs ++ (l ++ drop size (drop at xs))) part ∙ ap (λ l. take at xs ++ (replicate n x ++ l)) rest
+    ∙ sym (append_assoc (take at xs) (replicate n x) (drop (at + length (replicate n x)) xs))

@@ -1,5 +1,5 @@
 -- What the plain program's visit does to the place of a page, case by case.
-use Rattle.std.proofs.Common.{◌≡◌, ◌∙◌, ℕ, ◌==◌, true, List, Option, Some, None, refl, sym, ap}
+use Rattle.std.proofs.Common.{◌≡◌, ◌∙◌, ℕ, ◌==◌, Bool, true, List, Option, Some, None, refl, sym, ap}
 use Rattle.host_types.specs.declared.options.Options.{Options}
 use Rattle.host_types.specs.declared.visited.Visited.TheVariants as visited
 use Rattle.host_types.specs.Sharing.{Sharing, PageState, state_at}
@@ -14,6 +14,6 @@ unfolding decided
 decided-none contents s i = refl
 
 -- a state of sharing by its parts
-abbrev pub state : List (Option PageState) → List (List ℕ) → List (ℕ × ℕ) → Option ℕ → Options → ℕ → Sharing
-state pages groups waiting cursor options full_scans =
-    record { pages = pages; groups = groups; waiting = waiting; cursor = cursor; options = options; full_scans = full_scans }
+abbrev pub state : List (Option PageState) → List (List ℕ) → List (ℕ × ℕ) → Option ℕ → Options → ℕ → List Bool → Sharing
+state pages groups waiting cursor options full_scans pins =
+    record { pages = pages; groups = groups; waiting = waiting; cursor = cursor; options = options; full_scans = full_scans; pins = pins }

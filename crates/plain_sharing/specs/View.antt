@@ -1,5 +1,5 @@
 -- How the plain program's lists read as a state of sharing.
-use Rattle.std.specs.Prelude.{ℕ, Bool, ◌&&◌, nat_lt, bytes_eq, List, [], length, map, slice_index_or, Option, None, option_map, Vec}
+use Rattle.std.specs.Prelude.{ℕ, Bool, false, ◌&&◌, nat_lt, bytes_eq, List, [], length, replicate, map, slice_index_or, Option, None, option_map, Vec}
 use Rattle.std.specs.declared.alloc.Global.{Global}
 use Rattle.host_types.specs.declared.options.Options.{Options}
 use Rattle.host_types.specs.Sharing.{Sharing, PageState, own_frame}
@@ -29,10 +29,10 @@ one_of Volatile = volatile_at
 abbrev pub places_of : List (Vec ℕ Global) → List (List ℕ)
 places_of groups = map (λ group. group.items) groups
 
--- a state in which no page waits and none was visited
+-- a state in which no page waits, none was visited and none is pinned
 abbrev pub sharing_at_rest : List (Option PageState) → List (List ℕ) → Options → Sharing
 sharing_at_rest pages groups options =
-    record { pages = pages; groups = groups; waiting = []; cursor = None; options = options; full_scans = 0 }
+    record { pages = pages; groups = groups; waiting = []; cursor = None; options = options; full_scans = 0; pins = replicate (length pages) false }
 
 -- the bytes of the page at each place, none past the list's end
 abbrev pub plain_contents : List (Vec ℕ Global) → Contents

@@ -1,7 +1,9 @@
-ghost use Rattle.std.specs.Prelude.{◌≡◌, ◌+◌, ◌^◌, ◌<◌, ◌≤◌, [], replicate, slice_set, option_map, Some, None, IfOk, OnOk, IfErr, OnErr, ◌↔◌, IsTrue, if◌then◌else◌, ℕ, length, ◌==◌, ◌&&◌, bytes_eq};
+ghost use Rattle.std.specs.Prelude.{◌≡◌, ◌+◌, ◌^◌, ◌<◌, ◌≤◌, [], replicate, slice_set, option_map, Some, None, true, false, IfOk, OnOk, IfErr, OnErr, ◌↔◌, IsTrue, if◌then◌else◌, ℕ, length, ◌==◌, ◌&&◌, ◌||◌, bytes_eq};
 ghost use Rattle.host_types.specs.Pages.{zero_page};
 ghost use Rattle.host_types.specs.OptionTable.{MayBe};
-ghost use Rattle.host_types.specs.Sharing.{new_page, state_at, is_in_company, break_cost, broken, broken_from, cost_from, gone, gone_from, paired, zeroed, frames_free};
+ghost use Rattle.host_types.specs.Bytes.{with_part};
+ghost use Rattle.host_types.specs.Pins.{is_pinned, pinned, broken_by, broken_by_from};
+ghost use Rattle.host_types.specs.Sharing.{new_page, state_at, is_in_company, is_shared, is_shared_page, break_cost, broken, broken_from, cost_from, gone, gone_from, paired, zeroed, frames_free};
 ghost use Rattle.host_types.specs.Counters.{pages_shared, pages_sharing, pages_unshared, pages_volatile, stable_node_chains, stable_node_dups};
 ghost use Rattle.host_types.specs.Unmerging.{zero_pages, unmerged, unmerge_need, with_option, MaySet, RefusesSet};
 ghost use Rattle.host_types.specs.Visits.{visit, page_to_visit, dropped, moved_on, begun, decided, looked_at, had, met, find_partner, changed, waits, joined, has_open};
@@ -44,6 +46,8 @@ pub struct PlainSharing {
     options: Options,
     /// How many passes ended.
     full_scans: u64,
+    /// For each place whether its page is pinned.
+    pins: Vec<bool>,
 }
 
 impl Model for PlainSharing {
@@ -60,6 +64,7 @@ impl Model for PlainSharing {
       cursor = s.cursor;
       options = s.options;
       full_scans = s.full_scans;
+      pins = s.pins.items;
     } };
 }
 
@@ -69,6 +74,7 @@ impl PlainSharing {
         ensures { IfOk result (λ s. s ≡ sharing_at_rest (replicate places None) [] options) }
     {
         let pages = vec![in alloc; None; places]?;
+        let pins = vec![in alloc; false; places]?;
         Ok(PlainSharing {
             pages,
             groups: Vec::new(alloc),
@@ -76,6 +82,7 @@ impl PlainSharing {
             cursor: None,
             options,
             full_scans: 0,
+            pins,
         })
     }
 
@@ -141,20 +148,85 @@ impl PlainSharing {
         }
     }
 
-    /// Breaks the pages at so many places from one on, one after another. It answers how many frames
-    /// that took, each break after those before it.
-    pub fn break_pages(&mut self, first: usize, count: u32) -> u32
+    /// For how many places it is kept whether their page is pinned.
+    pub fn pin_places(&self) -> usize
+        ensures { result ≡ length self.now.pins }
+    {
+        self.pins.len()
+    }
+
+    /// Whether the page at a place is pinned. Behind all places there is none that could be taken out.
+    pub fn is_pinned(&self, place: usize) -> bool
+        ensures { result ≡ is_pinned self.now.pins place }
+    {
+        match self.pins.get(place) {
+            Some(is_pinned) => *is_pinned,
+            None => true,
+        }
+    }
+
+    /// Pins the page at a place, if the place is there.
+    fn pin(&mut self, place: usize)
+        ensures { self.new ≡ pinned self.old place }
+    {
+        if place < self.pins.len() {
+            self.pins[place] = true;
+        }
+    }
+
+    /// Whether the page at a place lies on a frame that isn't its own.
+    fn is_shared(&self, place: usize) -> bool
+        ensures { result ≡ is_shared_page (state_at self.now place) }
+    {
+        match self.page(place) {
+            Some(page) => page.status.is_shared(),
+            None => false,
+        }
+    }
+
+    /// Breaks a page before it is written. Where it is taken out by an open run, it is pinned.
+    #[tactic(auto, unfolding(host_types::specs::Pins::broken_by))]
+    pub fn break_by(&mut self, running: bool, place: usize)
+        ensures { self.new ≡ broken_by running self.old place }
+    {
+        let is_taken = running && self.is_shared(place);
+        self.break_page(place);
+        if is_taken {
+            self.pin(place);
+        }
+    }
+
+    /// Breaks the pages at so many places from one on, one after another, by an open run or by none. It
+    /// answers how many frames that took, each break after those before it.
+    pub fn break_pages(&mut self, running: bool, first: usize, count: u32) -> u32
         requires { first + count < 2 ^ 64 }
-        ensures broken { self.new ≡ broken_from self.old first count }
+        ensures broken { self.new ≡ broken_by_from running self.old first count }
         ensures cost { result ≡ cost_from self.old first count }
     {
         let mut cost = 0;
         for number in 0..count {
             let place = first + number as usize;
             cost += self.break_cost(place);
-            self.break_page(place);
+            self.break_by(running, place);
         }
         cost
+    }
+
+    /// Ends the pins of the pages at so many places from one on, as where their tenant's run ends.
+    pub fn release(&mut self, first: usize, count: usize)
+        requires { first + count ≤ length self.old.pins }
+        ensures { self.new ≡ record self.old { pins = with_part self.old.pins first (replicate count false) } }
+    {
+        end_pins(&mut self.pins, first, count);
+    }
+
+    /// Ends the pin of the page at a place, if the place is there.
+    fn unpin(&mut self, place: usize)
+        ensures { self.new ≡ record self.old { pins = slice_set self.old.pins place false } }
+    {
+        if place < self.pins.len() {
+            self.pins[place] = false;
+        }
     }
 
     /// Takes the pages at so many places from one on away, as where their map is dropped: they leave
@@ -184,7 +256,7 @@ impl PlainSharing {
         }
     }
 
-    /// Takes a page away, after it left its group or the frame of zeros.
+    /// Takes a page away, after it left its group or the frame of zeros; it isn't pinned then.
     #[tactic(auto, unfolding(host_types::specs::Sharing::gone, host_types::specs::Sharing::broken))]
     fn remove_page(&mut self, place: usize)
         ensures gone { self.new ≡ gone self.old place }
@@ -192,6 +264,7 @@ impl PlainSharing {
     {
         self.break_page(place);
         pages::put(&mut self.pages, place, None);
+        self.unpin(place);
     }
 
     /// Makes two pages of the same bytes a new last group. It is refused only where memory ran out, and
@@ -326,12 +399,18 @@ impl PlainSharing {
         let Some(page) = self.page(place) else {
             return Ok(Visited::Idle);
         };
-        let is_shared = page.status.is_shared();
-        if is_shared {
+        if self.stays(place, page) {
             return Ok(Visited::Already);
         }
         let visited = self.look_at(alloc, contents, place, page.last)?;
         Ok(visited)
+    }
+
+    /// Whether a visit leaves a page as it is: it lies on a shared frame already, or is pinned.
+    fn stays(&self, place: usize, page: PlainPage) -> bool
+        ensures { result ≡ (is_shared page.status || is_pinned self.now.pins place) }
+    {
+        page.status.is_shared() || self.is_pinned(place)
     }
 
     /// What becomes of a page with a frame of its own: the first case that holds decides.
@@ -581,6 +660,14 @@ impl PlainSharing {
     {
         groups::count_repeated(&self.groups, contents)
     }
+}
+
+/// Ends the pins at so many places from one on.
+fn end_pins(pins: &mut [bool], first: usize, count: usize)
+    requires { first + count ≤ length pins.old }
+    ensures { pins.new ≡ with_part pins.old first (replicate count false) }
+{
+    pins[first..first + count].fill(false);
 }
 
 /// Whether a page had a fingerprint at its last visit.

@@ -1,9 +1,10 @@
 -- A visit does nothing exactly where the scanner is stopped or no page may be merged.
-use Rattle.std.proofs.Common.{◌≡◌, ◌≢◌, ◌∙◌, inl, inr, ⊎_elim, ◌↔◌, ℕ, ◌+◌, ◌==◌, ◌&&◌, bytes_eq, not, Bool, true, false, if◌then◌else◌, Option, Some, None, IsSome, IfSome, refl, sym, ap, arith}
+use Rattle.std.proofs.Common.{◌≡◌, ◌≢◌, ◌∙◌, inl, inr, ⊎_elim, ◌↔◌, ℕ, ◌+◌, ◌==◌, ◌&&◌, ◌||◌, bytes_eq, not, Bool, true, false, if◌then◌else◌, Option, Some, None, IsSome, IfSome, refl, sym, ap, arith}
 use Rattle.std.proofs.lemmas.Bool.Decides.{nat_tests}
 use Rattle.host_types.specs.declared.visited.Visited.{Visited}
 use Rattle.host_types.specs.declared.visited.Visited.TheVariants as visited
 use Rattle.host_types.specs.Pages.{zero_page, fingerprint_of}
+use Rattle.host_types.specs.Pins.{is_pinned}
 use Rattle.host_types.specs.Sharing.{Sharing, PageState, state_at, is_shared}
 use Rattle.host_types.specs.Visits.{Contents, Visit, visit, begun, is_mergeable, look_from, next_from, page_to_visit, decided, looked_at, has_open, had, met, find_partner}
 use Rattle.page_table.proofs.Ahead.{none-mergeable}
@@ -32,7 +33,7 @@ looked-works contents s i last =
 decided-works : (contents : Contents) (s : Sharing) (i : ℕ) (x : Option PageState) → is_mergeable x ≡ true → (decided contents s i x).0 ≢ visited.Idle
 unfolding decided
 decided-works contents s i None may = absurd (cc)
-decided-works contents s i (Some state) may = either-works (is_shared state.status) _ _ (λ e. absurd (cc)) (looked-works contents s i state.last)
+decided-works contents s i (Some state) may = either-works (is_shared state.status || is_pinned s.pins i) _ _ (λ e. absurd (cc)) (looked-works contents s i state.last)
 
 -- where no page is found, there is none
 no-page : (s : Sharing) (c : Option ℕ) → IfSome c (λ n. IsSome (next_from s (n + 1))) → next_from s (look_from c) ≡ None → (i : ℕ) → is_mergeable (state_at s i) ≡ false

@@ -1,9 +1,10 @@
 -- What a visit does to a page that is there, case by case.
-use Rattle.std.proofs.Common.{◌≡◌, ◌∙◌, ℕ, ◌+◌, ◌≤◌, ◌==◌, ◌&&◌, bytes_eq, Bool, true, false, if◌then◌else◌, Option, Some, None, IfSome, is_some, refl, sym, subst, arith}
+use Rattle.std.proofs.Common.{◌≡◌, ◌∙◌, ℕ, ◌+◌, ◌≤◌, ◌==◌, ◌&&◌, ◌||◌, bytes_eq, Bool, true, false, if◌then◌else◌, List, Option, Some, None, IfSome, is_some, refl, sym, subst, arith}
 use Rattle.host_types.specs.declared.visited.Visited.TheVariants as visited
 use Rattle.host_types.specs.Pages.{zero_page, fingerprint_of}
+use Rattle.host_types.specs.Pins.{is_pinned}
 use Rattle.host_types.specs.Sharing.{Sharing, PageState, is_shared, zeroed}
-use Rattle.host_types.specs.Visits.{Contents, moved_on, next_from, decided, looked_at, has_open, joined, changed, had, met, find_partner}
+use Rattle.host_types.specs.Visits.{Contents, begun, moved_on, next_from, decided, looked_at, has_open, joined, changed, had, met, find_partner}
 use Rattle.host_types.proofs.Visits as law
 
 -- the visited page doesn't stand behind the cursor
@@ -15,7 +16,17 @@ pub moved-behind : (s : Sharing) (i : ℕ) → IfSome (moved_on s i).cursor (λ 
 unfolding moved_on
 moved-behind s i = cursor-either _ _ (is_some (next_from s (i + 1))) i refl refl
 
-module _ (contents : Contents) (s : Sharing) (i : ℕ) (state : PageState) (own : is_shared state.status ≡ false) where
+-- the begin of a visit pins nothing, and ends no pin
+pins-either : (s : Sharing) (waiting : List (ℕ × ℕ)) (full_scans : ℕ) (cursor : Option ℕ) (b : Bool)
+    → (if b then record s { waiting = waiting; cursor = cursor } else record s { waiting = waiting; cursor = None; full_scans = full_scans }).pins ≡ s.pins
+pins-either s waiting full_scans cursor true = refl
+pins-either s waiting full_scans cursor false = refl
+
+pub begun-pins : (s : Sharing) (i : ℕ) → (begun s i).pins ≡ s.pins
+unfolding begun moved_on
+begun-pins s i = pins-either s _ _ _ (is_some (next_from s (i + 1)))
+
+module _ (contents : Contents) (s : Sharing) (i : ℕ) (state : PageState) (own : (is_shared state.status || is_pinned s.pins i) ≡ false) where
   owned : decided contents s i (Some state) ≡ looked_at contents s i state.last
   owned = law.decided-own contents s i state own
 

@@ -1,5 +1,6 @@
-ghost use Rattle.std.specs.Prelude.{◌≡◌, ◌≤◌, ◌<◌, length, true, false, None, IfSome, IsTrue, ◌↔◌, ◌==◌, ◌&&◌, bytes_eq};
+ghost use Rattle.std.specs.Prelude.{◌≡◌, ◌≤◌, ◌<◌, length, true, false, None, IfSome, IsTrue, ◌↔◌, ◌==◌, ◌&&◌, ◌||◌, bytes_eq};
 ghost use Rattle.host_types.specs.Pages.{page_place, zero_page, fingerprint_of};
+ghost use Rattle.host_types.specs.Pins.{is_pinned};
 ghost use Rattle.host_types.specs.Sharing.{state_at};
 ghost use Rattle.host_types.specs.declared.visited.Visited.TheVariants.{Idle};
 ghost use Rattle.host_types.specs.Visits.{visit, decided, had, met, find_partner, waiting_at, is_mergeable, contents_in};
@@ -65,7 +66,7 @@ fn look_at(memory: &mut Memory, page: Page) -> Visited
     ensures settings { KeepsSettings memory.old memory.new }
 {
     let entry = memory.entry(page);
-    if entry.protected {
+    if stays(memory, page, entry) {
         return Visited::Already;
     }
     if let Some(group) = memory.open_group(page) {
@@ -82,6 +83,14 @@ fn look_at(memory: &mut Memory, page: Page) -> Visited
         return Visited::Zeroed;
     }
     meet(memory, page, fingerprint)
+}
+
+/// Whether a visit leaves a page as it is: it shares a frame already, or an open run took it out.
+fn stays(memory: &Memory, page: Page, entry: Entry) -> bool
+    requires { IsPageOf memory.now page }
+    ensures { result ≡ (entry.protected || is_pinned memory.now.sharing.pins (page_place page)) }
+{
+    entry.protected || memory.is_pinned(page)
 }
 
 /// Whether a page had a fingerprint at its last visit.

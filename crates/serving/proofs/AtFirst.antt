@@ -1,5 +1,5 @@
--- The tenants of a new memory have eight places without a map, and nothing is reserved for them.
-use Rattle.std.proofs.Common.{◌≡◌, ◌+◌, ◌*◌, ◌-◌, ◌∙◌, ◌<◌, ℕ, ap, List, length, take, drop, replicate, get_or, All, Option, None, arith}
+-- The tenants of a new memory have eight places without a map, and no open run.
+use Rattle.std.proofs.Common.{◌≡◌, ◌+◌, ◌*◌, ◌-◌, ◌∙◌, ◌<◌, ℕ, Bool, false, ap, List, length, take, drop, replicate, get_or, All, Option, None, arith}
 use Rattle.std.specs.Prelude.{IfSome, slice_get}
 use Rattle.std.proofs.lemmas.List.{take-replicate, drop-replicate}
 use Rattle.atomic_table.specs.Seated.{TableId}
@@ -23,14 +23,19 @@ eight-of x tenants t within = rw (drop-replicate (t * 8) (tenants * 8) x) (take-
 abbrev no-map : Option FlatMap
 no-map = None
 
-abbrev part-by : FlatMaps → Tenant → TenantPart
-part-by maps tenant = record { maps = maps; reserve = tenant.reserve }
+-- and the places of its pages
+places-of : {X : Type 0} (x : X) (tenants t : ℕ) → t < tenants → take 2048 (drop (t * 2048) (replicate (tenants * 2048) x)) ≡ replicate 2048 x
+places-of x tenants t within = rw (drop-replicate (t * 2048) (tenants * 2048) x) (take-replicate 2048 (tenants * 2048 - t * 2048) x (omega (arith, within)))
+
+abbrev part-by : FlatMaps → Tenant → List Bool → TenantPart
+part-by maps tenant pins = record { maps = maps; reserve = tenant.reserve; running = tenant.running; pins = pins }
 
 part-new : (frames tenants : ℕ) (options : Options) (t : ℕ) → t < tenants → part (new_memory frames tenants options) t ≡ first_part
 unfolding part new_memory part_of
 part-new frames tenants options t within =
-    ap (λ maps. part-by maps (get_or (replicate tenants unreserved_tenant) t unreserved_tenant)) (eight-of no-map tenants t within)
-    ∙ ap (part-by (replicate 8 None)) (get_or-one tenants t unreserved_tenant)
+    ap (λ maps. part-by maps (get_or (replicate tenants unreserved_tenant) t unreserved_tenant) (take 2048 (drop (t * 2048) (replicate (tenants * 2048) false)))) (eight-of no-map tenants t within)
+    ∙ ap (λ tenant. part-by (replicate 8 None) tenant (take 2048 (drop (t * 2048) (replicate (tenants * 2048) false)))) (get_or-one tenants t unreserved_tenant)
+    ∙ ap (part-by (replicate 8 None) unreserved_tenant) (places-of false tenants t within)
 
 -- the seat of a tenant of such a memory
 at-first : (frames tenants : ℕ) (options : Options) (memory : MemoryState) → memory ≡ new_memory frames tenants options

@@ -1,13 +1,16 @@
 -- A run that goes on while its loads and stores are met, from one thing that it asks beside them to the next.
-use Rattle.std.proofs.Common.{◌≡◌, ◌≤◌, ◌+◌, inl, inr, ℕ, zero, suc, length, refl, ap, ◌∙◌, arith}
+use Rattle.std.proofs.Common.{◌≡◌, ◌≤◌, ◌+◌, inl, inr, ℕ, zero, suc, true, length, refl, ap, ◌∙◌, arith}
 use Rattle.std.proofs.lemmas.List.{length-set}
 use Rattle.host_types.specs.Tenant.{TenantPart}
 use Rattle.bpf_decode.specs.declared.operation.Size.{Size}
 use Rattle.bpf_decode.specs.Text.{instructions_of}
 use Rattle.page_table.specs.State.{MemoryState, part, have_of}
 use Rattle.page_table.specs.Changes.{IsKeptBut, with_reserve}
+use Rattle.admission.specs.Reserve.{needed_by, needed_from}
+use Rattle.admission.proofs.Falling.{needed_falls}
 use Rattle.verifier.specs.Reserve.{reserve_from}
 use Rattle.verifier.specs.Verified.{Accepted}
+use Rattle.verifier.specs.Writes.{writes_from}
 use Rattle.interp.specs.declared.need.Need.{Need}
 use Rattle.interp.specs.declared.need.Need.TheVariants.{Private, Ended, Load, Store, Lookup, Update, Delete}
 use Rattle.interp.specs.Machine.{MachineState, Next, Exits}
@@ -15,19 +18,29 @@ use Rattle.interp.specs.Runs.{Reaches}
 use Rattle.interp.specs.StandsFor.{Running, Asks}
 use Rattle.interp.specs.OnMaps.{IsRoomy, StandsOn, IsMet, ReachesOn, FollowsOn}
 use Rattle.tenant_runs.specs.Meeting.{KeepsSizes}
-use Rattle.tenant_runs.specs.Storing.{maps_of, HasStored}
+use Rattle.tenant_runs.specs.Storing.{maps_of, HasFrames, HasStored}
 use Rattle.tenant_runs.specs.UnderWay.{IsUnderWay, part_with_have}
 use Rattle.tenant_runs.proofs.Rooms.{keeps_after}
 use Rattle.tenant_runs.proofs.Finishing.{IsAskedOn, IsFollowed, reaches_on}
 
 -- a run that is under way, once all that is reserved for it may be had
 pub stands_on : (v : Accepted) (tenant : ℕ) (run : Running) (s : MachineState) (old new : MemoryState) → IsUnderWay v run s (part_with_have old tenant) → part new tenant ≡ with_reserve 0 (part old tenant)
-    → have_of new ≡ have_of old + (part old tenant).reserve → StandsOn (maps_of tenant) have_of v run s new
+    → have_of new + 0 ≡ have_of old + (part old tenant).reserve → StandsOn (maps_of tenant) (HasFrames tenant) v run s new
 stands_on v tenant run s old new way recorded have =
     let kept : maps_of tenant new ≡ maps_of tenant old = ap (λ (owned : TenantPart). owned.maps) recorded in
-    let enough : reserve_from v run.slot ≤ have_of old + (part old tenant).reserve = way.reserve in
-    let reserved : reserve_from v s.slot ≤ have_of old + (part old tenant).reserve = rw way.stands.slot at enough in
-    record { stands = way.stands; roomy = record { maps = kept ∙ way.maps; room = omega (arith, reserved, have) } }
+    let enough : needed_from v (part old tenant) run.slot ≤ have_of old + (part old tenant).reserve = way.reserve in
+    let reserved : needed_from v (part old tenant) s.slot ≤ have_of old + (part old tenant).reserve = rw way.stands.slot at enough in
+    let running : (part new tenant).running ≡ true = ap (λ (owned : TenantPart). owned.running) recorded ∙ way.running in
+    record {
+      stands = way.stands;
+      roomy = record {
+        maps = kept ∙ way.maps;
+        room = λ less fewer few among.
+            let same : needed_by less fewer (part new tenant) ≡ needed_by less fewer (part old tenant) = ap (needed_by less fewer) recorded in
+            let falls : needed_by less fewer (part old tenant) ≤ needed_from v (part old tenant) s.slot = needed_falls (reserve_from v s.slot) less (writes_from v s.slot) fewer (part old tenant) few among in
+            record { running = running; frames = omega (arith, same, falls, reserved, have) };
+      };
+    }
 
 -- what steps on a tenant's maps keep
 pub record Keeps (tenant : ℕ) (old new : MemoryState) : Type 0 where
@@ -65,34 +78,37 @@ pub steps_reach : (v : Accepted) (tenant : ℕ) (s : MachineState) (old : Memory
 steps_reach v tenant s old zero t new (same, kept) = ap Next same
 steps_reach v tenant s old (suc n) t new (u, between, reaches, makes, met) = (u, steps_reach v tenant s old n u between reaches, makes)
 
+no_less : {need have : ℕ} (reserve : ℕ) → need ≤ have → need ≤ have + reserve
+no_less reserve enough = omega (arith, enough)
+
 -- what a run asks after such steps, and what they kept
 pub record IsAskedLater (v : Accepted) (tenant : ℕ) (s : MachineState) (n : ℕ) (need : Need) (run : Running) (old new : MemoryState) : Type 0 where
   pub asked : IsAskedOn v s n need run (part_with_have new tenant)
   pub keeps : Keeps tenant old new
 
 asked_by : (v : Accepted) (tenant : ℕ) (s : MachineState) (n : ℕ) (need : Need) (run : Running) (old new : MemoryState) → (made : ℕ) × (t : MachineState) × (n ≡ suc made) × ReachesOn (HasStored tenant) v s old made t new
-    × IsRoomy (maps_of tenant) have_of v t new × Asks v t need run → length (part old tenant).maps ≡ 8 → IsAskedLater v tenant s n need run old new
+    × IsRoomy (maps_of tenant) (HasFrames tenant) v t new × Asks v t need run → length (part old tenant).maps ≡ 8 → IsAskedLater v tenant s n need run old new
 asked_by v tenant s n need run old new (made, t, count, reaches, roomy, asks) eight =
     let keeps = steps_keep v tenant s old made t new reaches in
-    let enough = roomy.room in
+    let has = roomy.room (reserve_from v t.slot) (writes_from v t.slot) (omega arith) (λ m writes. writes) in
     record {
       asked = record {
         before = made;
         state = t;
         count = count;
         reaches = steps_reach v tenant s old made t new reaches;
-        asking = record { asks = asks; eight = keeps.maps ∙ eight; maps = roomy.maps; reserve = omega (arith, enough) };
+        asking = record { asks = asks; eight = keeps.maps ∙ eight; maps = roomy.maps; running = has.running; reserve = no_less (part new tenant).reserve has.frames };
       };
       keeps = keeps;
     }
 
 pub asked_later : (v : Accepted) (tenant : ℕ) (s : MachineState) (n : ℕ) (need : Need) (run : Running) (old new : MemoryState) → (need ≡ Private → ⊥) → ((number : ℕ) → need ≡ Ended number → ⊥)
-    → FollowsOn (maps_of tenant) have_of (HasStored tenant) v s old n need run new → length (part old tenant).maps ≡ 8 → IsAskedLater v tenant s n need run old new
+    → FollowsOn (maps_of tenant) (HasFrames tenant) (HasStored tenant) v s old n need run new → length (part old tenant).maps ≡ 8 → IsAskedLater v tenant s n need run old new
 asked_later v tenant s n Private run old new some going follows eight = absurd (some refl)
 asked_later v tenant s n (Ended number) run old new some going follows eight = absurd (going number refl)
 asked_later v tenant s n (Load m at size) run old new some going follows eight = absurd follows
 asked_later v tenant s n (Store m at size number) run old new some going follows eight = absurd follows
-asked_later v tenant s n (Lookup m key) run old new some going follows eight = asked_by v tenant s n (Lookup m key) run old new follows eight
+asked_later v tenant s n (Lookup m key) run old new some going follows eight = absurd follows
 asked_later v tenant s n (Update m key flags) run old new some going follows eight = asked_by v tenant s n (Update m key flags) run old new follows eight
 asked_later v tenant s n (Delete m key) run old new some going follows eight = asked_by v tenant s n (Delete m key) run old new follows eight
 
@@ -105,7 +121,7 @@ pub record IsEndedLater (v : Accepted) (tenant : ℕ) (s : MachineState) (number
   pub keeps : Keeps tenant old new
 
 pub ended_later : (v : Accepted) (tenant : ℕ) (start run after : Running) (s : MachineState) (number n : ℕ) (owned : TenantPart) (old new : MemoryState) → (followed : IsFollowed v start run s owned)
-    → FollowsOn (maps_of tenant) have_of (HasStored tenant) v followed.state old n (Ended number) after new → after.steps ≡ run.steps + n → IsEndedLater v tenant s number start after old new
+    → FollowsOn (maps_of tenant) (HasFrames tenant) (HasStored tenant) v followed.state old n (Ended number) after new → after.steps ≡ run.steps + n → IsEndedLater v tenant s number start after old new
 ended_later v tenant start run after s number n owned old new followed (made, t, count, reaches, same, makes, flat, few) more =
     let counted = followed.steps in
     record {

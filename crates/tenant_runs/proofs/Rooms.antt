@@ -6,19 +6,15 @@ use Rattle.host_types.specs.declared.shape.Shape.{Shape}
 use Rattle.host_types.specs.declared.helper.MapHelper.TheVariants.{Update as Updates}
 use Rattle.host_types.specs.Helpers.{helper}
 use Rattle.host_types.specs.Memory.{FlatMap, FlatMaps, map_at}
-use Rattle.host_types.specs.Sharing.{Sharing, PageState, is_shared, is_shared_page}
-use Rattle.host_types.specs.Tenant.{TenantPart, IsFlatMap, AreFlatMaps}
+use Rattle.host_types.specs.Sharing.{PageState, is_shared, is_shared_page}
+use Rattle.host_types.specs.Tenant.{TenantPart}
 use Rattle.bpf_decode.specs.declared.operation.Size.{Size}
 use Rattle.bpf_decode.specs.declared.operation.Size.TheVariants.{Byte, HalfWord, Word, DoubleWord}
 use Rattle.bpf_decode.specs.Opcodes.{byte_count}
 use Rattle.page_table.specs.State.{MemoryState}
-use Rattle.page_table.specs.Changes.{with_record, KeepsSettings}
-use Rattle.write_break.specs.Stores.{store_frames, place_of_byte, touched}
-use Rattle.write_break.proofs.Stores.{cost_from-few, touched-within}
-use Rattle.map_helpers.specs.Updates.{update_frames}
-use Rattle.map_helpers.proofs.Updates.{charge-enough}
+use Rattle.page_table.specs.Changes.{with_record, opened, ended, KeepsSettings}
 use Rattle.interp.specs.declared.need.Need.TheVariants.{Store, Update}
-use Rattle.tenant_runs.specs.Meeting.{MayMeet, answer_in, charge_in, KeepsSizes}
+use Rattle.tenant_runs.specs.Meeting.{MayMeet, answer_in, KeepsSizes}
 
 -- aligned bytes lie in one page
 pub in_page : (at : ℕ) (size : Size) → at % byte_count size ≡ 0 → at % 4096 + byte_count size ≤ 4096
@@ -26,13 +22,6 @@ in_page at Byte h = omega arith
 in_page at HalfWord h = omega arith
 in_page at Word h = omega arith
 in_page at DoubleWord h = omega arith
-
--- a store takes one frame at most
-pub store_room : (sharing : Sharing) (tenant m at : ℕ) (size : Size) → at % byte_count size ≡ 0 → store_frames sharing tenant m at (byte_count size) ≤ 1
-store_room sharing tenant m at size aligned =
-    let few = cost_from-few sharing (place_of_byte tenant m at) (touched at (byte_count size)) in
-    let one = touched-within at (byte_count size) (in_page at size aligned) in
-    omega (arith, few, one)
 
 -- a load or a store has some bytes, and no more than eight
 pub some_bytes : (size : Size) → (1 ≤ byte_count size) × (byte_count size ≤ 8)
@@ -46,24 +35,13 @@ pub own_page : (state : Option PageState) → IfSome state (λ one. is_shared on
 own_page None own = refl
 own_page (Some state) own = own
 
--- one frame is charged for a store
-pub store_charged : (owned : TenantPart) (m at number : ℕ) (size : Size) (value : List ℕ) → MayMeet owned (Store m at size number) value → (charge_in owned (Store m at size number) ≡ 1) × (at % byte_count size ≡ 0)
-store_charged owned m at number size value may = by_map (map_at owned.maps m) refl
+-- what a store may be asked of a map
+pub store_asked : (owned : TenantPart) (m at number : ℕ) (size : Size) (value : List ℕ) → MayMeet owned (Store m at size number) value → at % byte_count size ≡ 0
+store_asked owned m at number size value may = by_map (map_at owned.maps m) refl
   where
-    by_map : (there : Option FlatMap) → map_at owned.maps m ≡ there → (charge_in owned (Store m at size number) ≡ 1) × (at % byte_count size ≡ 0)
+    by_map : (there : Option FlatMap) → map_at owned.maps m ≡ there → at % byte_count size ≡ 0
     by_map None e = absurd (rw e at may)
-    by_map (Some flat) e = let asked = rw e at may in (rw e refl, asked.aligned)
-
--- so many frames as are charged are enough for an update
-pub update_room : (owned after : TenantPart) (sharing : Sharing) (tenant m key flags : ℕ) (value : List ℕ) → AreFlatMaps owned.maps → MayMeet owned (Update m key flags) value → after.maps ≡ owned.maps
-    → update_frames after sharing tenant m key flags ≤ charge_in owned (Update m key flags)
-update_room owned after sharing tenant m key flags value are may same = by_map (map_at owned.maps m) refl
-  where
-    by_map : (there : Option FlatMap) → map_at owned.maps m ≡ there → update_frames after sharing tenant m key flags ≤ charge_in owned (Update m key flags)
-    by_map None e = absurd (rw e at may)
-    by_map (Some flat) e =
-        let is : IsFlatMap flat = rw e at (are.each m) in
-        rw e (charge-enough flat.shape is.shape after sharing tenant m key flags (rw (same, e) refl))
+    by_map (Some flat) e = let asked = rw e at may in asked.aligned
 
 -- the answer of an update
 pub update_answered : (owned : TenantPart) (m key flags answer : ℕ) (value : List ℕ) (after : FlatMaps) → MayMeet owned (Update m key flags) value → helper Updates owned.maps m key value flags ≡ Some (answer, after)
@@ -82,9 +60,15 @@ there_below maps m shape eight e = elim (cases_lt m 8) [
   | inr past ↦ let none : map_at maps m ≡ None = get_or_past maps m None (omega (arith, eight)) in absurd (cc (rw none at e))
 ]
 
--- a record of frames keeps how many tenants and frames there are
+-- a record of frames, and a run that begins or ends, keep how many tenants and frames there are
 pub record_keeps : (old new : MemoryState) (tenant left : ℕ) → new ≡ with_record old tenant left → KeepsSizes old new
-record_keeps old new tenant left e = rw e record { tenants = length-set old.tenants tenant (record { reserve = left }); frames = refl }
+record_keeps old new tenant left e = rw e record { tenants = length-set old.tenants tenant _; frames = refl }
+
+pub opened_keeps : (old new : MemoryState) (tenant need : ℕ) → new ≡ opened old tenant need → KeepsSizes old new
+opened_keeps old new tenant need e = rw e record { tenants = length-set old.tenants tenant _; frames = refl }
+
+pub ended_keeps : (old new : MemoryState) (tenant : ℕ) → new ≡ ended old tenant → KeepsSizes old new
+ended_keeps old new tenant e = rw e record { tenants = length-set old.tenants tenant _; frames = refl }
 
 pub keeps_after : (old middle new : MemoryState) → KeepsSizes old middle → KeepsSettings middle new → KeepsSizes old new
 keeps_after old middle new first later = record { tenants = ap length later.tenants ∙ first.tenants; frames = later.frames ∙ first.frames }

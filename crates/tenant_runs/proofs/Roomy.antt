@@ -1,7 +1,7 @@
 -- What is reserved for a run is enough together with what may be had.
-use Rattle.std.proofs.Common.{◌≡◌, ℕ, List, refl, arith}
+use Rattle.std.proofs.Common.{◌≡◌, ◌≤◌, ◌+◌, ℕ, List, refl, arith}
 use Rattle.host_types.specs.Memory.{FlatMaps}
-use Rattle.page_table.specs.State.{MemoryState, part}
+use Rattle.page_table.specs.State.{MemoryState, part, have_of}
 use Rattle.verifier.specs.Verified.{Accepted}
 use Rattle.interp.specs.declared.need.Need.{Need}
 use Rattle.interp.specs.declared.need.Need.TheVariants.{Private, Ended, Load, Store, Lookup, Update, Delete}
@@ -12,11 +12,14 @@ use Rattle.interp.specs.declared.way.Awaited.TheVariants.{Nothing, Loaded, Retur
 use Rattle.interp.specs.StandsFor.{Running, answered_by}
 use Rattle.tenant_runs.specs.UnderWay.{IsUnderWay, IsAsking, part_with_have}
 
+no_less : {need reserve : ℕ} (have : ℕ) → need ≤ reserve → need ≤ have + reserve
+no_less have enough = omega (arith, enough)
+
 pub under_way_roomy : (v : Accepted) (run : Running) (s : MachineState) (memory : MemoryState) (tenant : ℕ) → IsUnderWay v run s (part memory tenant) → IsUnderWay v run s (part_with_have memory tenant)
-under_way_roomy v run s memory tenant way = let enough = way.reserve in record { stands = way.stands; maps = way.maps; reserve = omega (arith, enough) }
+under_way_roomy v run s memory tenant way = record { stands = way.stands; maps = way.maps; running = way.running; reserve = no_less (have_of memory) way.reserve }
 
 pub asking_roomy : (v : Accepted) (s : MachineState) (need : Need) (run : Running) (memory : MemoryState) (tenant : ℕ) → IsAsking v s need run (part memory tenant) → IsAsking v s need run (part_with_have memory tenant)
-asking_roomy v s need run memory tenant asking = let enough = asking.reserve in record { asks = asking.asks; eight = asking.eight; maps = asking.maps; reserve = omega (arith, enough) }
+asking_roomy v s need run memory tenant asking = record { asks = asking.asks; eight = asking.eight; maps = asking.maps; running = asking.running; reserve = no_less (have_of memory) asking.reserve }
 
 -- only an update takes a value
 pub unvalued : (need : Need) (value other : List ℕ) (maps : FlatMaps) → ((m key flags : ℕ) → need ≡ Update m key flags → ⊥) → maps_after need value maps ≡ maps_after need other maps

@@ -4,12 +4,12 @@ use Rattle.host_types.specs.Memory.{map_at}
 use Rattle.host_types.specs.Sharing.{Sharing}
 use Rattle.host_types.specs.Tenant.{TenantPart}
 use Rattle.bpf_decode.specs.Opcodes.{byte_count}
-use Rattle.map_helpers.specs.Updates.{updated_sharing}
+use Rattle.map_helpers.specs.Updates.{updated_sharing, update_frames}
 use Rattle.page_table.specs.State.{MemoryState}
-use Rattle.write_break.specs.Stores.{stored_sharing}
+use Rattle.write_break.specs.Stores.{stored_sharing, store_frames}
 use Rattle.interp.specs.declared.need.Need.{Need}
 use Rattle.interp.specs.declared.need.Need.TheVariants.{Store, Update}
-use Rattle.interp.specs.Needs.{map_of, MayAsk, answer_of, maps_after, charge_of}
+use Rattle.interp.specs.Needs.{map_of, MayAsk, answer_of, maps_after}
 
 -- the tenant has the map, and what is asked may be asked of it
 abbrev pub MayMeet : TenantPart → Need → List ℕ → Type 0
@@ -19,17 +19,19 @@ MayMeet owned need value = IsSomeAnd (map_at owned.maps (map_of need)) (MayAsk n
 abbrev pub answer_in : TenantPart → Need → ℕ
 answer_in owned need = unwrap_or (option_map (answer_of need) (map_at owned.maps (map_of need))) 0
 
--- how many frames are charged for it
-abbrev pub charge_in : TenantPart → Need → ℕ
-charge_in owned need = unwrap_or (option_map (charge_of need) (map_at owned.maps (map_of need))) 0
+-- how many frames it takes: a store and an update take out the pages that they write
+abbrev pub frames_met : TenantPart → Sharing → ℕ → Need → ℕ
+frames_met owned sharing tenant (Store m at size number) = store_frames sharing tenant m at (byte_count size)
+frames_met owned sharing tenant (Update m key flags) = update_frames owned sharing tenant m key flags
+frames_met owned sharing tenant need = 0
 
--- the tenant's part afterwards, with so many frames reserved for what is left of the run
-abbrev pub part_met : TenantPart → Need → List ℕ → ℕ → TenantPart
-part_met owned need value left = record { maps = maps_after need value owned.maps; reserve = left }
+-- the tenant's part afterwards, but for its pins: nothing is reserved for its run
+abbrev pub part_met : TenantPart → Need → List ℕ → TenantPart
+part_met owned need value = record owned { maps = maps_after need value owned.maps; reserve = 0 }
 
--- which pages share frames afterwards: those that are written are broken
+-- which pages share frames afterwards: those that are written are broken, and pinned where the tenant has an open run
 abbrev pub sharing_met : TenantPart → Sharing → ℕ → Need → Sharing
-sharing_met owned sharing tenant (Store m at size number) = stored_sharing sharing tenant m at (byte_count size)
+sharing_met owned sharing tenant (Store m at size number) = stored_sharing owned.running sharing tenant m at (byte_count size)
 sharing_met owned sharing tenant (Update m key flags) = updated_sharing owned sharing tenant m key flags
 sharing_met owned sharing tenant need = sharing
 

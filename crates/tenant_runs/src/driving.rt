@@ -2,7 +2,7 @@ ghost use Rattle.std.specs.Prelude.{◌≡◌, ◌+◌, ◌≤◌, ℕ, Some};
 ghost use Rattle.bpf_decode.specs.Text.{instructions_of};
 ghost use Rattle.page_table.specs.State.{part};
 ghost use Rattle.page_table.specs.Changes.{IsKeptBut};
-ghost use Rattle.verifier.specs.Reserve.{reserve_from};
+ghost use Rattle.admission.specs.Reserve.{needed_from};
 ghost use Rattle.interp.specs.Machine.{MachineState, Next, Exits, step};
 ghost use Rattle.interp.specs.Runs.{Reaches};
 ghost use Rattle.tenant_runs.specs.Meeting.{sharing_met, KeepsSizes};
@@ -10,10 +10,10 @@ ghost use Rattle.tenant_runs.specs.UnderWay.{IsUnderWay, IsAsking, part_with_hav
 
 use crate::maps::TenantMaps;
 use crate::meeting::meet;
-use admission::release;
+use admission::needed;
 use interp::{Need, Run};
 use page_table::Memory;
-use verifier::{Verified, reserve_falls};
+use verifier::Verified;
 
 /// How a run ended.
 #[derive(Clone, Copy, Debug, PartialEq, Eq)]
@@ -26,25 +26,28 @@ pub struct RunReply {
 
 /// Does what a tenant's run asks, and gives it the answer: then it stands for the state to which the
 /// standard's step leads, and its maps are the tenant's. What is reserved for it before and what `have()` tells
-/// are together enough for the rest of it; afterwards just what the rest of it may need is reserved.
+/// are together enough for the rest of it; afterwards just what the rest of it may need is reserved, by the pages that
+/// it has pinned by then.
 pub fn answer(memory: &mut Memory, tenant: u32, program: &Verified, run: &mut Run, need: Need)
     requires asks { (s : MachineState) × IsAsking program.now s need run.old (part_with_have memory.old tenant) }
     ensures goes_on { (s : MachineState) → IsAsking program.now s need run.old (part_with_have memory.old tenant)
         → (next : MachineState) × (step program.now.subject.text s ≡ Some (Next next)) × IsUnderWay program.now run.new next (part memory.new tenant) }
-    ensures reserve { (part memory.new tenant).reserve ≡ reserve_from program.now run.old.slot }
+    ensures reserve { (part memory.new tenant).reserve ≡ needed_from program.now (part memory.new tenant) run.old.slot }
     ensures steps { run.new.steps ≡ run.old.steps }
     ensures others { IsKeptBut tenant memory.old memory.new }
     ensures sharing { memory.new.sharing ≡ sharing_met (part memory.old tenant) memory.old.sharing tenant need }
     ensures sizes { KeepsSizes memory.old memory.new }
 {
-    reserve_falls();
-    let left = program.reserve(run.slot());
+    memory.facts();
+    memory.maps_are_flat();
     let value: &[u8] = match need {
         Need::Update { .. } => run.value(),
         _ => &[],
     };
-    let number = meet(memory, tenant, need, value, left);
+    let number = meet(memory, tenant, need, value);
     run.answer(number);
+    let left = needed(program, memory, tenant, run.slot());
+    memory.record(tenant, left);
 }
 
 /// Makes all steps that are left of a tenant's run, on the memory of its maps. Each verified program
@@ -62,7 +65,7 @@ pub fn finish(memory: &mut Memory, tenant: u32, program: &Verified, run: &mut Ru
     let maps = TenantMaps { tenant };
     loop {
         // All that is reserved for the run may be had while it makes its steps.
-        release(memory, tenant);
+        memory.record(tenant, 0);
         match run.advance_on(program, &maps, memory, program.instructions()) {
             Need::Ended(ret) => {
                 return RunReply {

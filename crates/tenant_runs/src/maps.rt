@@ -1,9 +1,11 @@
 ghost use Rattle.std.specs.Prelude.{◌≡◌, ◌≤◌, ◌+◌, ◌/◌, ◌%◌, length};
 ghost use Rattle.bpf_decode.specs.Opcodes.{byte_count};
 ghost use Rattle.page_table.specs.Changes.{IsOwn};
-ghost use Rattle.page_table.specs.State.{part, map_bytes, have_of};
-ghost use Rattle.tenant_runs.specs.Storing.{maps_of, HasStored};
+ghost use Rattle.page_table.specs.State.{part, map_bytes};
+ghost use Rattle.interp.specs.OnMaps.{HasRoomFor};
+ghost use Rattle.tenant_runs.specs.Storing.{maps_of, HasFrames, HasStored};
 
+use crate::meeting::look_up;
 use bpf_decode::Size;
 use byteorder::{ByteOrder, LittleEndian};
 use host_types::limits::PAGE_SIZE;
@@ -23,13 +25,18 @@ impl MapMemory for TenantMaps {
 
     ghost maps = { λ of memory. maps_of of.tenant memory };
 
-    ghost room = { λ of memory. have_of memory };
+    ghost room = { λ of memory total writes. HasFrames of.tenant memory total writes };
 
     ghost stored = { λ of old map at size number new. HasStored of.tenant old map at size number new };
 
     #[inline(always)]
     fn load(&self, memory: &Memory, map: MapNo, at: u32, size: Size) -> u64 {
         load(memory, self.tenant, map, at, size.bytes())
+    }
+
+    #[inline(always)]
+    fn lookup(&self, memory: &Memory, map: MapNo, key: u32) -> u64 {
+        look_up(memory, self.tenant, map, key)
     }
 
     #[inline(always)]
@@ -55,13 +62,15 @@ fn page_of(tenant: u32, map: MapNo, at: u32) -> Page
     }
 }
 
-/// Stores the low bytes of a number to a page that may share its frame: it is taken out before.
+/// Stores the low bytes of a number to a page that may share its frame: it is taken out before, and pinned.
 fn store_apart(memory: &mut Memory, tenant: u32, map: MapNo, at: u32, size: Size, value: u64)
     requires within { at + byte_count size ≤ length (map_bytes (part memory.old tenant) map) }
     requires aligned { at % byte_count size ≡ 0 }
-    requires room { 1 ≤ have_of memory.old }
+    requires room { HasRoomFor (HasFrames tenant) memory.old map }
     ensures { HasStored tenant memory.old map at size value memory.new }
 {
+    memory.facts();
+    memory.maps_are_flat();
     store(memory, tenant, map, at, size.bytes(), value);
     memory.facts();
 }

@@ -3,8 +3,8 @@ ghost use Rattle.host_types.specs.Helpers.{lookup_answer};
 ghost use Rattle.host_types.specs.Memory.{FlatMap, map_at};
 ghost use Rattle.page_table.specs.State.{part, have_of};
 ghost use Rattle.page_table.specs.Changes.{IsKeptBut};
-ghost use Rattle.interp.specs.Needs.{map_of};
-ghost use Rattle.tenant_runs.specs.Meeting.{MayMeet, answer_in, charge_in, part_met, sharing_met, KeepsSizes};
+ghost use Rattle.write_break.specs.Stores.{pinned_as};
+ghost use Rattle.tenant_runs.specs.Meeting.{MayMeet, answer_in, frames_met, part_met, sharing_met, KeepsSizes};
 
 use host_types::MapNo;
 use interp::Need;
@@ -13,20 +13,23 @@ use page_table::Memory;
 use write_break::{load, store};
 
 /// Does what a tenant's run asks of its maps, and tells the answer, which is 0 after a store. The frames
-/// that it may take are reserved for the run or may be had: just the reserve of what is left of the run is
-/// recorded, and pages that share their frames are taken out before they are written.
-pub fn meet(memory: &mut Memory, tenant: u32, need: Need, value: &[u8], left: u32) -> u64
+/// that it takes are reserved for the run or may be had, so all that is reserved may be had while it's done;
+/// what is left of the run is to be recorded behind it. Pages that share their frames are taken out before
+/// they are written, and pinned for the run.
+pub fn meet(memory: &mut Memory, tenant: u32, need: Need, value: &[u8]) -> u64
     requires there { length (part memory.old tenant).maps ≡ 8 }
     requires may { MayMeet (part memory.old tenant) need value.now }
-    requires charged { charge_in (part memory.old tenant) need + left ≤ have_of memory.old + (part memory.old tenant).reserve }
+    requires room { frames_met (part memory.old tenant) memory.old.sharing tenant need ≤ have_of memory.old + (part memory.old tenant).reserve }
     ensures answer { result ≡ answer_in (part memory.old tenant) need }
-    ensures part { part memory.new tenant ≡ part_met (part memory.old tenant) need value.now left }
+    ensures part { part memory.new tenant ≡ pinned_as memory.new.sharing tenant (part_met (part memory.old tenant) need value.now) }
     ensures others { IsKeptBut tenant memory.old memory.new }
     ensures sharing { memory.new.sharing ≡ sharing_met (part memory.old tenant) memory.old.sharing tenant need }
+    ensures have { have_of memory.new + frames_met (part memory.old tenant) memory.old.sharing tenant need
+        ≡ have_of memory.old + (part memory.old tenant).reserve }
     ensures sizes { KeepsSizes memory.old memory.new }
 {
     memory.maps_are_flat();
-    memory.record(tenant, left);
+    memory.record(tenant, 0);
     match need {
         Need::Load { map, at, size } => load(memory, tenant, map, at, size.bytes()),
         Need::Store {
@@ -46,7 +49,8 @@ pub fn meet(memory: &mut Memory, tenant: u32, need: Need, value: &[u8], left: u3
 }
 
 /// What the helper `lookup` answers in one of the tenant's maps.
-fn look_up(memory: &Memory, tenant: u32, map: MapNo, key: u32) -> u64
+#[inline(always)]
+pub(crate) fn look_up(memory: &Memory, tenant: u32, map: MapNo, key: u32) -> u64
     requires { length (part memory.now tenant).maps ≡ 8 }
     ensures { result ≡ unwrap_or (option_map (λ (flat : FlatMap). lookup_answer flat.shape map key) (map_at (part memory.now tenant).maps map)) 0 }
 {

@@ -1,9 +1,9 @@
-ghost use Rattle.std.specs.Prelude.{◌≡◌, ◌≤◌, ◌↔◌, true, slice_index_or, None, IfSome, IfOk, OnOk, IfErr, OnErr, IsSomeAnd};
+ghost use Rattle.std.specs.Prelude.{◌≡◌, ◌≤◌, ◌↔◌, true, false, slice_index_or, None, IfSome, IfOk, OnOk, IfErr, OnErr, IsSomeAnd};
 ghost use Rattle.host_types.specs.Memory.{map_at};
 ghost use Rattle.page_table.specs.State.{part, have_of};
 ghost use Rattle.page_table.specs.Changes.{IsKeptBut};
 ghost use Rattle.verifier.specs.Named.{named_shapes};
-ghost use Rattle.verifier.specs.Reserve.{reserve_from};
+ghost use Rattle.admission.specs.Reserve.{needed_from};
 ghost use Rattle.interp.specs.Fits.{HaveShapes};
 ghost use Rattle.tenant_runs.specs.Meeting.{KeepsSizes};
 ghost use Rattle.tenant_runs.specs.UnderWay.{HasRun, MayRun, RefusesRun};
@@ -80,7 +80,7 @@ fn has_shape(memory: &Memory, tenant: u32, map: MapNo, shape: Shape) -> bool
 ///
 /// Refusals in their order: 42 where there is no such tenant, 38 where a map that the program names and has a
 /// shape for isn't the tenant's with that shape, 39 where the context hasn't the program's size, 31 just where
-/// the reserve of the program is above `have()`, with both numbers; and 41 where memory ran out and none of
+/// it may need more than `have()`, with both numbers; and 41 where memory ran out and none of
 /// these holds. A refusal changes nothing. The tenant has no other open run.
 pub fn run(
     alloc: Global,
@@ -89,9 +89,10 @@ pub fn run(
     program: &Verified,
     context: &[u8],
 ) -> Result<RunReply, Fault>
-    requires none { (part memory.old tenant).reserve ≡ 0 }
+    requires none { (part memory.old tenant).running ≡ false }
+    requires unreserved { (part memory.old tenant).reserve ≡ 0 }
     ensures admitted { OnOk result (MayRun program.now memory.old tenant) }
-    ensures enough { OnOk result (reserve_from program.now 0 ≤ have_of memory.old) }
+    ensures enough { OnOk result (needed_from program.now (part memory.old tenant) 0 ≤ have_of memory.old) }
     ensures ran { IfOk result (HasRun program.now context.now (part memory.old tenant) (part memory.new tenant)) }
     ensures refused { IfErr result (RefusesRun program.now context.now memory.old tenant) }
     ensures unchanged { OnErr result (memory.new ≡ memory.old) }

@@ -3,6 +3,9 @@ use Rattle.std.proofs.Common.{◌≡◌, ◌≤◌, ◌<◌, ◌+◌, ℕ, List,
 use Rattle.host_types.specs.Tenant.{TenantPart}
 use Rattle.bpf_decode.specs.Text.{instructions_of}
 use Rattle.verifier.specs.Reserve.{reserve_from}
+use Rattle.verifier.specs.Writes.{writes_from}
+use Rattle.admission.specs.Reserve.{needed_from}
+use Rattle.admission.proofs.Falling.{needed_falls}
 use Rattle.verifier.specs.Verified.{Accepted, IsVerified}
 use Rattle.interp.specs.declared.need.Need.{Need}
 use Rattle.interp.specs.declared.need.Need.TheVariants.{Private, Ended, Load, Store, Lookup, Update, Delete}
@@ -28,14 +31,21 @@ pub record IsDriven (v : Accepted) (start : Running) (owned : TenantPart) (run :
 pub private_on : (v : Accepted) (start run after : Running) (s : MachineState) (now : TenantPart) → (followed : IsFollowed v start run s now) → Follows v followed.state Private after → after.steps ≡ run.steps + 1
     → IsFollowed v start after s now
 private_on v start run after s now followed (t, makes, maps, quiet, less, stands) more =
-    let reserve : reserve_from v followed.state.slot ≤ now.reserve = rw followed.under_way.stands.slot at followed.under_way.reserve in
+    let reserve : needed_from v now followed.state.slot ≤ now.reserve = rw followed.under_way.stands.slot at followed.under_way.reserve in
+    let falls : needed_from v now t.slot ≤ needed_from v now followed.state.slot =
+    needed_falls (reserve_from v followed.state.slot) (reserve_from v t.slot) (writes_from v followed.state.slot) (writes_from v t.slot) now less.reserve less.fewer in
     let slot : after.slot ≡ t.slot = stands.slot in
     record {
       state = t;
       count = suc followed.count;
       reaches = (followed.state, followed.reaches, makes);
       steps = omega (arith, more, followed.steps);
-      under_way = record { stands = stands; maps = followed.under_way.maps ∙ sym maps; reserve = rw slot (omega (arith, less, reserve)) };
+      under_way = record {
+        stands = stands;
+        maps = followed.under_way.maps ∙ sym maps;
+        running = followed.under_way.running;
+        reserve = rw slot (omega (arith, falls, reserve));
+      };
     }
 
 asks_of : (v : Accepted) (s : MachineState) (need : Need) (after : Running) → (need ≡ Private → ⊥) → ((number : ℕ) → need ≡ Ended number → ⊥) → Follows v s need after → Asks v s need after
@@ -54,6 +64,7 @@ asks_now v run after s need now under_way some going follows = record {
   asks = asks_of v s need after some going follows;
   eight = rw under_way.maps under_way.stands.state.maps.eight;
   maps = under_way.maps;
+  running = under_way.running;
   reserve = rw under_way.stands.slot at under_way.reserve;
 }
 

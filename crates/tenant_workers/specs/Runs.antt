@@ -1,11 +1,11 @@
 -- Runs of a seat's tenant: how they are handed over, and when they aren't made.
-use Rattle.std.specs.Prelude.{◌≡◌, ◌≢◌, ◌⊎◌, ℕ, ◌≤◌, List, length}
+use Rattle.std.specs.Prelude.{◌≡◌, ◌≢◌, ◌⊎◌, ℕ, ◌≤◌, false, List, length, replicate}
 use Rattle.host_types.specs.declared.fault.Fault.{Fault}
 use Rattle.host_types.specs.declared.fault.Fault.TheVariants.{NoProgram, BadContext, OutOfMemory}
 use Rattle.host_types.specs.Tenant.{TenantPart}
 use Rattle.page_table.specs.State.{MemoryState, have_of}
 use Rattle.verifier.specs.Named.{named_shapes}
-use Rattle.verifier.specs.Reserve.{reserve_from}
+use Rattle.admission.specs.Reserve.{needed_from}
 use Rattle.verifier.specs.Verified.{Accepted}
 use Rattle.interp.specs.Fits.{HaveShapes}
 use Rattle.interp.specs.StandsFor.{Running, IsBegun}
@@ -16,15 +16,17 @@ pub record IsFresh (v : Accepted) (run : Running) : Type 0 where
   pub begun : IsBegun v run.context run
   pub steps : run.steps ≡ 0
 
--- nothing is reserved for a run of the tenant
-abbrev pub IsResting : TenantPart → Type 0
-IsResting owned = owned.reserve ≡ 0
+-- the tenant has no open run: nothing is reserved, and none of its pages is pinned
+pub record IsResting (owned : TenantPart) : Type 0 where
+  pub running : owned.running ≡ false
+  pub reserve : owned.reserve ≡ 0
+  pub unpinned : owned.pins ≡ replicate 2048 false
 
 -- when a run isn't made: a map that the program names and has a shape for isn't the tenant's with that shape, or
 -- else there aren't the frames for it
 abbrev pub RefusesRunOfTenant : Accepted → TenantPart → Fault → Type 0
 RefusesRunOfTenant v owned fault =
-    ((fault ≡ NoProgram) × ¬ (HaveShapes (named_shapes v.subject) owned.maps)) ⊎ (HaveShapes (named_shapes v.subject) owned.maps × RefusesBegin v fault)
+    ((fault ≡ NoProgram) × ¬ (HaveShapes (named_shapes v.subject) owned.maps)) ⊎ (HaveShapes (named_shapes v.subject) owned.maps × RefusesBegin v owned fault)
 
 -- where memory ran out, the tenant has the maps that the program names
 abbrev pub LacksMemory : Accepted → TenantPart → Fault → Type 0
@@ -38,5 +40,5 @@ RefusesRunOnContext v context owned fault =
     ⊎ ((length context ≡ v.subject.context_size) × (RefusesRunOfTenant v owned fault ⊎ LacksMemory v owned fault))
 
 -- where memory ran out, frames were not missing
-abbrev pub HasFramesForRun : Accepted → MemoryState → Fault → Type 0
-HasFramesForRun v memory fault = fault ≡ OutOfMemory → reserve_from v 0 ≤ have_of memory
+abbrev pub HasFramesForRun : Accepted → TenantPart → MemoryState → Fault → Type 0
+HasFramesForRun v owned memory fault = fault ≡ OutOfMemory → needed_from v owned 0 ≤ have_of memory

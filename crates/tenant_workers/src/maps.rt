@@ -8,6 +8,7 @@ ghost use Rattle.map_helpers.specs.Updates.{part_updated};
 ghost use Rattle.host_calls.specs.Calls.{FitsNewMap, FitsValue, IsValue, RefusesNewMap, RefusesUpdate, RefusesLookup, TellsHave, HasFrames};
 ghost use Rattle.turn.specs.Seats.{IsIdle, own_part};
 ghost use Rattle.tenant_workers.specs.Calls.{IsSameSeat, memory_left, HasChanged, HasDropped, HasMap, IsUnchanged, LacksMap};
+ghost use Rattle.tenant_workers.specs.Runs.{IsResting};
 
 use crate::shared::Shared;
 use host_calls::{host_create_map, host_lookup, host_update};
@@ -23,6 +24,7 @@ impl Shared {
     /// just where the map's pages are more than the frames that may be had, 41 where memory ran out, and the
     /// frames are there; 42 never, as a seat's tenant is there. A missing frame tells both numbers. A refusal
     /// changes nothing.
+    #[tactic(auto, using(crate::proofs::Resting::created_rests))]
     pub fn create_map(
         &self,
         rt: &impl Wait,
@@ -32,8 +34,10 @@ impl Shared {
         mergeable: bool,
     ) -> Result<MapNo, Fault>
         requires idle { IsIdle self.now seat.old }
+        requires resting { IsResting (own_part seat.old) }
         ensures idle { IsIdle self.now seat.new }
         ensures same { IsSameSeat seat.old seat.new }
+        ensures resting { IsResting (own_part seat.new) }
         ensures fits { OnOk result (FitsNewMap (own_part seat.old) (shape_of value_size entries)) }
         ensures number { IfOk result (λ m. free_number (own_part seat.old) ≡ Some m) }
         ensures created { IfOk result (λ m.
@@ -61,11 +65,13 @@ impl Shared {
     ///
     /// The one refusal is 34, just where the tenant has no such map, and it changes nothing; 42 never, as a seat's
     /// tenant is there.
-    #[tactic(auto, using(crate::proofs::Drops::refused_there))]
+    #[tactic(auto, using(crate::proofs::Drops::refused_there, crate::proofs::Resting::dropped_rests))]
     pub fn drop_map(&self, rt: &impl Wait, seat: &mut Seat, map: MapNo) -> Result<(), Fault>
         requires idle { IsIdle self.now seat.old }
+        requires resting { IsResting (own_part seat.old) }
         ensures idle { IsIdle self.now seat.new }
         ensures same { IsSameSeat seat.old seat.new }
+        ensures resting { IsResting (own_part seat.new) }
         ensures there { OnOk result (IsSome (map_at (own_part seat.old).maps map)) }
         ensures dropped { OnOk result (own_part seat.new ≡ part_dropped (own_part seat.old) map) }
         ensures made { OnOk result (HasChanged (HasDropped seat.old.view.first map) seat.old seat.new) }
@@ -88,7 +94,7 @@ impl Shared {
     /// where the value has another size than the map's, 31 just where what is charged for an update of the
     /// map is above the frames that may be had; it tells both numbers. 42 never comes, as a seat's tenant is
     /// there. A refusal leaves the seat's part.
-    #[tactic(auto, unfolding(host_types::specs::Helpers::maps_updated))]
+    #[tactic(auto, using(crate::proofs::Resting::updated_rests), unfolding(host_types::specs::Helpers::maps_updated))]
     pub fn update(
         &self,
         rt: &impl Wait,
@@ -98,8 +104,10 @@ impl Shared {
         value: &[u8],
     ) -> Result<(), Fault>
         requires idle { IsIdle self.now seat.old }
+        requires resting { IsResting (own_part seat.old) }
         ensures idle { IsIdle self.now seat.new }
         ensures same { IsSameSeat seat.old seat.new }
+        ensures resting { IsResting (own_part seat.new) }
         ensures fits { OnOk result (FitsValue (own_part seat.old) map key value.now) }
         ensures updated { OnOk result
             (own_part seat.new ≡ part_updated (own_part seat.old) map key value.now 0) }

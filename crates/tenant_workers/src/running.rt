@@ -1,9 +1,9 @@
 ghost use Rattle.std.specs.Prelude.{◌≡◌, ◌≤◌, ◌⊎◌, IfOk, OnOk, IfErr, OnErr};
 ghost use Rattle.interp.specs.Fits.{HaveShapes};
 ghost use Rattle.page_table.specs.State.{part, have_of};
-ghost use Rattle.page_table.specs.Changes.{IsKeptBut, with_reserve};
+ghost use Rattle.page_table.specs.Changes.{IsKeptBut, with_run, without_run};
 ghost use Rattle.verifier.specs.Named.{named_shapes};
-ghost use Rattle.verifier.specs.Reserve.{reserve_from};
+ghost use Rattle.admission.specs.Reserve.{needed_from};
 ghost use Rattle.host_calls.specs.Calls.{IsThere, TellsHave};
 ghost use Rattle.tenant_runs.specs.UnderWay.{HasRun};
 ghost use Rattle.turn.specs.Seats.{IsIdle, own_part};
@@ -32,8 +32,8 @@ impl Shared {
     /// turns, within as many steps as the program has instructions.
     ///
     /// Refusals in their order: 38 where a map that the program names and has a shape for isn't the tenant's with
-    /// that shape, 31 just where the program's reserve is above the frames that may be had; it tells both numbers. A
-    /// refusal leaves the seat's part. The tenant has no other open run.
+    /// that shape, 31 just where the run may need more than the frames that may be had; it tells both numbers. A
+    /// refusal leaves the seat's part. The tenant has no other open run, and none afterwards.
     pub fn run(
         &self,
         rt: &impl Wait,
@@ -81,7 +81,7 @@ impl Shared {
         ensures ran { IfOk result (HasRun program.now context.now (own_part seat.old) (own_part seat.new)) }
         ensures refused { IfErr result (RefusesRunOnContext program.now context.now (own_part seat.old)) }
         ensures told { IfErr result (TellsHave (memory_left seat.new)) }
-        ensures enough { IfErr result (HasFramesForRun program.now (memory_left seat.new)) }
+        ensures enough { IfErr result (HasFramesForRun program.now (own_part seat.old) (memory_left seat.new)) }
         ensures kept { OnErr result (own_part seat.new ≡ own_part seat.old) }
     {
         match Run::begin(alloc, program, context) {
@@ -92,6 +92,7 @@ impl Shared {
     }
 
     /// Why a run isn't made where memory ran out: what refuses it whatever memory there is, or else that.
+    #[tactic(auto, using(crate::proofs::Resting::rests_again))]
     fn lacking(&self, rt: &impl Wait, seat: &mut Seat, program: &Verified) -> Fault
         requires idle { IsIdle self.now seat.old }
         requires resting { IsResting (own_part seat.old) }
@@ -99,7 +100,7 @@ impl Shared {
         ensures same { IsSameSeat seat.old seat.new }
         ensures refused { RefusesRunOfTenant program.now (own_part seat.old) result ⊎ LacksMemory program.now (own_part seat.old) result }
         ensures told { TellsHave (memory_left seat.new) result }
-        ensures enough { HasFramesForRun program.now (memory_left seat.new) result }
+        ensures enough { HasFramesForRun program.now (own_part seat.old) (memory_left seat.new) result }
         ensures kept { own_part seat.new ≡ own_part seat.old }
     {
         match self.begin(rt, seat, program) {
@@ -119,7 +120,7 @@ impl Shared {
         ensures same { IsSameSeat seat.old seat.new }
         ensures shapes { OnOk result (HaveShapes (named_shapes program.now.subject) (own_part seat.old).maps) }
         ensures recorded { OnOk result
-            (own_part seat.new ≡ with_reserve (reserve_from program.now 0) (own_part seat.old)) }
+            (own_part seat.new ≡ with_run (needed_from program.now (own_part seat.old) 0) (own_part seat.old)) }
         ensures refused { IfErr result (RefusesRunOfTenant program.now (own_part seat.old)) }
         ensures told { IfErr result (TellsHave (memory_left seat.new)) }
         ensures kept { OnErr result (own_part seat.new ≡ own_part seat.old) }
@@ -131,12 +132,12 @@ impl Shared {
         answer
     }
 
-    /// The turn in which a run ends: nothing is reserved for it any more.
+    /// The turn in which a run ends: nothing is reserved for it any more, and none of its pages is pinned.
     fn end(&self, rt: &impl Wait, seat: &mut Seat)
         requires idle { IsIdle self.now seat.old }
         ensures idle { IsIdle self.now seat.new }
         ensures same { IsSameSeat seat.old seat.new }
-        ensures released { own_part seat.new ≡ with_reserve 0 (own_part seat.old) }
+        ensures released { own_part seat.new ≡ without_run (own_part seat.old) }
         ensures had { (own_part seat.old).reserve ≤ have_of (memory_left seat.new) }
     {
         let tenant = seat.tenant();
@@ -146,13 +147,13 @@ impl Shared {
     }
 }
 
-/// Reserves the frames of a run, where the tenant has the program's maps.
+/// Opens a run with the frames that it may need, where the tenant has the program's maps.
 fn begin_run(memory: &mut Memory, tenant: u32, program: &Verified) -> Result<(), Fault>
     requires there { IsThere (part memory.old tenant) }
     requires resting { IsResting (part memory.old tenant) }
     ensures shapes { OnOk result (HaveShapes (named_shapes program.now.subject) (part memory.old tenant).maps) }
     ensures recorded { OnOk result
-        (part memory.new tenant ≡ with_reserve (reserve_from program.now 0) (part memory.old tenant)) }
+        (part memory.new tenant ≡ with_run (needed_from program.now (part memory.old tenant) 0) (part memory.old tenant)) }
     ensures others { IsKeptBut tenant memory.old memory.new }
     ensures refused { IfErr result (RefusesRunOfTenant program.now (part memory.old tenant)) }
     ensures told { IfErr result (TellsHave memory.old) }

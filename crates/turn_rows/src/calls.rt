@@ -2,6 +2,7 @@
 
 ghost use Rattle.std.specs.Prelude.{◌≡◌};
 ghost use Rattle.turn.specs.Seats.{IsIdle, own_part};
+ghost use Rattle.tenant_workers.specs.Runs.{IsResting};
 
 use crate::runs::counted;
 use crate::tenants::{Two, two_tenants};
@@ -39,8 +40,10 @@ fn loaded(
     text: &[u8],
     ctx_size: u32,
 ) -> Result<[u32; 3], Fault>
-    requires { IsIdle shared.now seat.old }
-    ensures { IsIdle shared.now seat.new }
+    requires idle { IsIdle shared.now seat.old }
+    requires resting { IsResting (own_part seat.old) }
+    ensures idle { IsIdle shared.now seat.new }
+    ensures resting { IsResting (own_part seat.new) }
 {
     let program = shared.load_program(rt, alloc, seat, text, ctx_size)?;
     Ok([program.slots(), program.instructions(), program.reserve(0)])
@@ -116,8 +119,10 @@ pub(crate) fn answers(rt: &(impl Wait + AllocGlobal)) -> Result<Made, Fault> {
 
 /// Makes maps, each third of which may be merged, until there is a refusal: how many, and the refusal.
 fn made_until_refused(rt: &impl Wait, shared: &Shared, seat: &mut Seat) -> (u32, Option<Fault>)
-    requires { IsIdle shared.now seat.old }
-    ensures { IsIdle shared.now seat.new }
+    requires idle { IsIdle shared.now seat.old }
+    requires resting { IsResting (own_part seat.old) }
+    ensures idle { IsIdle shared.now seat.new }
+    ensures resting { IsResting (own_part seat.new) }
 {
     for made in 0..20 {
         if let Err(fault) = shared.create_map(rt, seat, 8, 1, made % 3 == 0) {

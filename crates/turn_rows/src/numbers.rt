@@ -1,9 +1,10 @@
 //! Memories in which each tenant has a map of one number, and turns that read it or add to it.
 
-ghost use Rattle.std.specs.Prelude.{◌≡◌, ◌≤◌, ℕ, IfOk, IsTrue, length};
+ghost use Rattle.std.specs.Prelude.{◌≡◌, ◌<◌, ◌≤◌, ℕ, IfOk, IsTrue, length};
 ghost use Rattle.page_table.specs.State.{part, map_bytes};
 ghost use Rattle.page_table.specs.Changes.{IsKeptBut};
 ghost use Rattle.turn.specs.Seats.{IsIdle};
+ghost use Rattle.tenant_workers.specs.Runs.{IsResting};
 
 use host_types::{Fault, Options};
 use page_table::Memory;
@@ -12,15 +13,15 @@ use std::sync::Wait;
 use turn::{Kind, Place, Seat, Turn};
 use write_break::{load, needs, store};
 
-/// A memory in which each tenant has a map of one number, which is 0, and no run.
-#[tactic(auto, using(tenant_workers::proofs::Resting::nothing_reserved))]
+/// A memory in which each tenant has a map of one number, which is 0, and no open run.
+#[tactic(auto, using(tenant_workers::proofs::Resting::new_rests, tenant_workers::proofs::Resting::made_rests))]
 pub(crate) fn with_numbers(
     alloc: Global,
     frames: u32,
     tenants: u32,
     options: Options,
 ) -> Result<Memory, Fault>
-    ensures { IfOk result (λ memory. (t : ℕ) → (part memory t).reserve ≡ 0) }
+    ensures { IfOk result (λ memory. (t : ℕ) → t < tenants → IsResting (part memory t)) }
 {
     let mut memory = Memory::new(alloc, frames, tenants, options)?;
     for tenant in 0..tenants {

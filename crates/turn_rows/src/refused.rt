@@ -47,6 +47,7 @@ pub(crate) fn answers(rt: &(impl Wait + AllocGlobal)) -> Result<Crowded, Fault> 
 }
 
 /// Three tenants of the same number on the frames that their pages take, and their seats, all at rest.
+#[tactic(auto, using(tenant_workers::proofs::Resting::new_resting))]
 fn lend_to_three(alloc: Global) -> Result<(Shared, Seat, Seat, Seat), Fault>
     ensures first { IfOk result (λ lent. IsIdle lent.0 lent.1) }
     ensures second { IfOk result (λ lent. IsIdle lent.0 lent.2) }

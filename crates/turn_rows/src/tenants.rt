@@ -26,6 +26,7 @@ pub(crate) struct Two {
 }
 
 /// What two tenants on so many frames share, and their seats: each tenant's, the scanner's and the host's.
+#[tactic(auto, using(tenant_workers::proofs::Resting::new_resting))]
 fn lend(alloc: Global, frames: u32) -> Result<(Shared, Seat, Seat, ScanSeat, HostSeat), Fault>
     ensures first { IfOk result (λ lent. IsIdle lent.0 lent.1) }
     ensures second { IfOk result (λ lent. IsIdle lent.0 lent.2) }

@@ -12,6 +12,7 @@ pub mod Lawful
 pub mod Tight
 pub mod Passes
 pub mod Reserves
+pub mod Written
 pub mod WithoutMaps
 pub mod Narrower
 pub mod Complete

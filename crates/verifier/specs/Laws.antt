@@ -8,7 +8,9 @@ use Rattle.verifier.specs.Flow.{flow}
 use Rattle.bpf_decode.specs.Text.{slots_of}
 use Rattle.verifier.specs.Table.{Table, IsTightTable, IsRefusal, HasNoLawful}
 use Rattle.verifier.specs.Verified.{Accepted, IsSubject}
+use Rattle.verifier.specs.Named.{is_map}
 use Rattle.verifier.specs.Reserve.{cost_at, reserve_from}
+use Rattle.verifier.specs.Writes.{written_map, writes_from}
 
 -- a subject has one refusal at most
 abbrev pub HasOneRefusal : Type 0
@@ -52,3 +54,11 @@ ReserveCoversStep = (v : Accepted) (slot later : ℕ) → slot < later → slot 
 -- behind the text nothing is reserved
 abbrev pub ReserveEndsAtNone : Type 0
 ReserveEndsAtNone = (v : Accepted) (slot : ℕ) → slots_of v.subject.text ≤ slot → reserve_from v slot ≡ 0
+
+-- a map that a later slot or a later one writes is written from each slot before on
+abbrev pub WritesFall : Type 0
+WritesFall = (v : Accepted) (slot later m : ℕ) → slot ≤ later → writes_from v later m ≡ true → writes_from v slot m ≡ true
+
+-- a map that a slot writes is written from that slot on
+abbrev pub WritesHere : Type 0
+WritesHere = (v : Accepted) (slot m : ℕ) → slot < slots_of v.subject.text → is_map (written_map v slot) m ≡ true → writes_from v slot m ≡ true

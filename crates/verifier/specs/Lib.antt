@@ -5,5 +5,6 @@ pub mod Way
 pub mod Table
 pub mod Verified
 pub mod Reserve
+pub mod Writes
 pub mod Pass
 pub mod Laws

@@ -1,4 +1,4 @@
-ghost use Rattle.verifier.specs.Laws.{HasOneRefusal, HasOneTable, RefusalExcludesTable, RefusalLeavesNoLawful, RefusalLeavesNoReading, ReserveCoversStep, ReserveEndsAtNone};
+ghost use Rattle.verifier.specs.Laws.{HasOneRefusal, HasOneTable, RefusalExcludesTable, RefusalLeavesNoLawful, RefusalLeavesNoReading, ReserveCoversStep, ReserveEndsAtNone, WritesFall, WritesHere};
 
 /// A subject has one refusal or one tight table at most, and not both, so what `verify` answers
 /// is the only answer that there is. This is a law about the definitions: the function does nothing.
@@ -22,4 +22,11 @@ pub fn refusal_leaves_none()
 pub fn reserve_falls()
     ensures step { ReserveCoversStep }
     ensures end { ReserveEndsAtNone }
+{}
+
+/// Fewer and fewer maps are written as a run goes on, and a slot that writes a map is one from which on it is
+/// written. This is a law about the definitions: the function does nothing.
+pub fn writes_fall()
+    ensures falls { WritesFall }
+    ensures here { WritesHere }
 {}

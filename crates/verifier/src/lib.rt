@@ -16,8 +16,9 @@ mod table;
 mod targets;
 mod verified;
 mod way;
+mod writes;
 
 pub use candidate::Candidate;
 pub use flow::{Onward, Target};
-pub use laws::{answer_is_one, refusal_leaves_none, reserve_falls};
+pub use laws::{answer_is_one, refusal_leaves_none, reserve_falls, writes_fall};
 pub use verified::{Verified, is_context_size, verify};

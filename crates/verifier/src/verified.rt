@@ -1,4 +1,4 @@
-ghost use Rattle.std.specs.Prelude.{◌≡◌, ◌≤◌, ◌⊎◌, ◌↔◌, IfOk, IfErr, IsSome, IsTrue};
+ghost use Rattle.std.specs.Prelude.{◌≡◌, ◌<◌, ◌≤◌, ◌⊎◌, ◌↔◌, IfOk, IfErr, IsSome, IsTrue};
 ghost use Rattle.bpf_decode.specs.Opcodes.{operation_of};
 ghost use Rattle.bpf_decode.specs.Text.{slots_of, insn_at, instructions_of, IsInstruction, out_of_memory};
 ghost use Rattle.verifier.specs.Subject.{IsContextSize, padded};
@@ -7,10 +7,12 @@ ghost use Rattle.verifier.specs.Named.{names};
 ghost use Rattle.verifier.specs.Table.{IsRefusal, HasNoLawful};
 ghost use Rattle.verifier.specs.Verified.{AreShapes, IsVerified, kind_at};
 ghost use Rattle.verifier.specs.Reserve.{reserve_from};
+ghost use Rattle.verifier.specs.Writes.{writes_from};
 
 use crate::candidate::Candidate;
 use crate::reserve::reserves;
 use crate::table::{Registers, kept_kinds};
+use crate::writes::last_writes;
 use bpf_decode::{Insn, Program};
 use host_types::limits::{MAX_CONTEXT, MAX_MAPS};
 use host_types::{Refused, Shape};
@@ -28,6 +30,7 @@ pub struct Verified {
     instructions: u32,
     named: [bool; MAX_MAPS],
     reserves: Vec<u32>,
+    lasts: [u32; MAX_MAPS],
 }
 
 impl Model for Verified {
@@ -38,6 +41,7 @@ impl Model for Verified {
     ghost use Rattle.verifier.specs.Pass.{kinds_in};
     ghost use Rattle.verifier.specs.Verified.{Accepted, IsVerified};
     ghost use Rattle.verifier.specs.Reserve.{AreReserves};
+    ghost use Rattle.verifier.specs.Writes.{AreLastWrites};
 
     ghost Value = { Accepted };
 
@@ -49,6 +53,7 @@ impl Model for Verified {
       counted : v.instructions ≡ instructions_of v.candidate.text;
       named : AreNamed v.candidate.text (slots_of v.candidate.text) v.named;
       reserved : AreReserves (record { subject = v.candidate; table = tight_table v.candidate }) v.reserves.items;
+      written : AreLastWrites (record { subject = v.candidate; table = tight_table v.candidate }) (slots_of v.candidate.text) v.lasts;
     } };
 }
 
@@ -117,6 +122,17 @@ impl Verified {
         }
     }
 
+    /// Whether the rest of a run may write a map, from a slot on: by a store through a pointer to a value of
+    /// the map, or by an update.
+    #[inline]
+    #[tactic(auto, using(crate::proofs::Written::last_tells))]
+    pub fn writes(&self, slot: u32, map: u32) -> bool
+        requires { map < 8 }
+        ensures { result ≡ writes_from self.now slot map }
+    {
+        slot < self.lasts[map as usize]
+    }
+
     /// The shapes of the maps that the program may use, by number: eight, of which each is there or
     /// not.
     pub fn shapes(&self) -> &[Option<Shape>]
@@ -181,6 +197,7 @@ pub fn verify(
     let kept = kept_kinds(alloc, &candidate)?;
     let instructions = candidate.count_instructions();
     let named = candidate.named_maps();
+    let lasts = last_writes(&candidate, &kept);
     let Ok(reserves) = reserves(alloc, &candidate, &kept) else {
         return Err(Refused::OUT_OF_MEMORY);
     };
@@ -190,5 +207,6 @@ pub fn verify(
         instructions,
         named,
         reserves,
+        lasts,
     })
 }

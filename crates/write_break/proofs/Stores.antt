@@ -5,12 +5,15 @@ use Rattle.host_types.specs.Bytes.{with_part}
 use Rattle.host_types.specs.Memory.{FlatMap, FlatMaps, map_at}
 use Rattle.host_types.specs.declared.status.Status.{Status}
 use Rattle.host_types.specs.declared.status.Status.TheVariants.{New, Volatile, Waiting, Grouped, Zero}
-use Rattle.host_types.specs.Sharing.{Sharing, PageState, state_at, cost_of, is_in_company, broken, break_cost, broken_from, cost_from}
+use Rattle.host_types.specs.Sharing.{Sharing, PageState, state_at, is_shared_page, cost_of, is_in_company, broken, break_cost, broken_from, cost_from}
+use Rattle.host_types.specs.Pins.{broken_by, broken_by_from}
+use Rattle.host_types.proofs.Unmerging.{broken-own, broken-shared}
+use Rattle.host_types.proofs.Pins.{cost-by}
 use Rattle.host_types.specs.Tenant.{TenantPart}
 use Rattle.page_table.specs.State.{MemoryState, part, map_bytes, have_of}
 use Rattle.page_table.specs.Changes.{map_written, part_written, KeepsSettings}
 use Rattle.page_table.proofs.Creating.{with_part-none}
-use Rattle.write_break.specs.Stores.{touched, place_of_byte, stored_sharing, store_frames, IsStored}
+use Rattle.write_break.specs.Stores.{touched, place_of_byte, pinned_as, stored_sharing, store_frames, IsStored}
 
 -- some bytes lie on the pages from their first one to their last one
 pub touched-some : (at n : ℕ) → 0 < n → touched at n ≡ (at + n - 1) / 4096 - at / 4096 + 1
@@ -85,9 +88,9 @@ touched-more at (suc n) (suc rest) some ends =
 
 module _ (s : Sharing) (tenant m at size : ℕ) (some : 0 < size) (in_page : at % 4096 + size ≤ 4096) where
   -- the bytes of one page break that page
-  pub sharing-one : stored_sharing s tenant m at size ≡ broken s (place_of_byte tenant m at)
-  unfolding broken_from
-  sharing-one = ap (broken_from s (place_of_byte tenant m at)) (touched-one at size some in_page)
+  pub sharing-one : (running : Bool) → stored_sharing running s tenant m at size ≡ broken_by running s (place_of_byte tenant m at)
+  unfolding broken_by_from
+  sharing-one running = ap (broken_by_from running s (place_of_byte tenant m at)) (touched-one at size some in_page)
 
   pub cost-one : store_frames s tenant m at size ≡ break_cost s (place_of_byte tenant m at)
   unfolding cost_from
@@ -97,23 +100,24 @@ module _ (s : Sharing) (tenant m at size : ℕ) (some : 0 < size) (in_page : at 
   behind ends = omega arith
 
   -- the first page is broken, and then the others
-  pub sharing-more : (rest : ℕ) → (rest ≡ 0) ⊎ (at % 4096 + size ≡ 4096)
-      → stored_sharing s tenant m at (size + rest) ≡ stored_sharing (broken s (place_of_byte tenant m at)) tenant m (at + size) rest
-  unfolding broken_from touched
-  sharing-more rest whole =
+  pub sharing-more : (running : Bool) (rest : ℕ) → (rest ≡ 0) ⊎ (at % 4096 + size ≡ 4096)
+      → stored_sharing running s tenant m at (size + rest) ≡ stored_sharing running (broken_by running s (place_of_byte tenant m at)) tenant m (at + size) rest
+  unfolding broken_by_from touched
+  sharing-more running rest whole =
       ⊎_elim
       (λ none.
       let same : size + rest ≡ size = omega arith in
-      ap (stored_sharing s tenant m at) same ∙ sharing-one ∙ sym (ap (stored_sharing (broken s (place_of_byte tenant m at)) tenant m (at + size)) none))
+      ap (stored_sharing running s tenant m at) same ∙ sharing-one running
+      ∙ sym (ap (stored_sharing running (broken_by running s (place_of_byte tenant m at)) tenant m (at + size)) none))
       (λ ends.
-      ap (broken_from s (place_of_byte tenant m at)) (touched-more at size rest some ends)
-      ∙ ap (λ (place : ℕ). broken_from (broken s (place_of_byte tenant m at)) place (touched (at + size) rest)) (sym (behind ends)))
+      ap (broken_by_from running s (place_of_byte tenant m at)) (touched-more at size rest some ends)
+      ∙ ap (λ (place : ℕ). broken_by_from running (broken_by running s (place_of_byte tenant m at)) place (touched (at + size) rest)) (sym (behind ends)))
       whole
 
-  pub cost-more : (rest : ℕ) → (rest ≡ 0) ⊎ (at % 4096 + size ≡ 4096)
+  cost-own : (rest : ℕ) → (rest ≡ 0) ⊎ (at % 4096 + size ≡ 4096)
       → store_frames s tenant m at (size + rest) ≡ break_cost s (place_of_byte tenant m at) + store_frames (broken s (place_of_byte tenant m at)) tenant m (at + size) rest
   unfolding cost_from touched
-  cost-more rest whole =
+  cost-own rest whole =
       ⊎_elim
       (λ none.
       let same : size + rest ≡ size = omega arith in
@@ -124,6 +128,14 @@ module _ (s : Sharing) (tenant m at size : ℕ) (some : 0 < size) (in_page : at 
       ap (cost_from s (place_of_byte tenant m at)) (touched-more at size rest some ends)
       ∙ ap (λ (place : ℕ). break_cost s (place_of_byte tenant m at) + cost_from (broken s (place_of_byte tenant m at)) place (touched (at + size) rest)) (sym (behind ends)))
       whole
+
+  -- whether or not the first page is pinned
+  pub cost-more : (running : Bool) (rest : ℕ) → (rest ≡ 0) ⊎ (at % 4096 + size ≡ 4096)
+      → store_frames s tenant m at (size + rest) ≡ break_cost s (place_of_byte tenant m at) + store_frames (broken_by running s (place_of_byte tenant m at)) tenant m (at + size) rest
+  cost-more running rest whole =
+      cost-own rest whole
+      ∙ ap (λ (n : ℕ). break_cost s (place_of_byte tenant m at) + n)
+      (sym (cost-by running s (place_of_byte tenant m at) (place_of_byte tenant m (at + size)) (touched (at + size) rest)))
 
 -- the bytes of what may be a map
 abbrev bytes_in : Option FlatMap → List ℕ
@@ -188,7 +200,7 @@ have-kept old new same kept = rw (same, kept.frames, kept.tenants) refl
 
 -- no bytes stored
 pub stored-none : (memory : MemoryState) (tenant m at : ℕ) → IsStored memory memory tenant m at []
-unfolding broken_from cost_from touched
+unfolding broken_by_from cost_from touched part
 stored-none memory tenant m at = record {
   written = part_written-none (part memory tenant) m at;
   bytes = with_part-none (map_bytes (part memory tenant) m) at;
@@ -205,16 +217,18 @@ pub stored-more : (old middle new : MemoryState) (tenant m at : ℕ) (first late
     → at + length first ≤ length (map_bytes (part old tenant) m)
     → IsStored old middle tenant m at first → IsStored middle new tenant m (at + length first) later → IsStored old new tenant m at (first ++ later)
 stored-more old middle new tenant m at first later some in_page whole within one rest =
+    let running : Bool = (part old tenant).running in
+    let still : (part middle tenant).running ≡ running = ap (λ (owned : TenantPart). owned.running) one.written in
     let long : length (first ++ later) ≡ length first + length later = length-append first later in
-    let broken_one = one.sharing ∙ sharing-one old.sharing tenant m at (length first) some in_page in
+    let broken_one = one.sharing ∙ sharing-one old.sharing tenant m at (length first) some in_page running in
     let cost_one = cost-one old.sharing tenant m at (length first) some in_page in
     let cost : store_frames old.sharing tenant m at (length first + length later) ≡ break_cost old.sharing (place_of_byte tenant m at) + store_frames middle.sharing tenant m (at + length first) (length later) =
-    cost-more old.sharing tenant m at (length first) some in_page (length later) whole
+    cost-more old.sharing tenant m at (length first) some in_page running (length later) whole
     ∙ ap (λ (s : Sharing). break_cost old.sharing (place_of_byte tenant m at) + store_frames s tenant m (at + length first) (length later)) (sym broken_one) in
     record {
       written = rest.written
-          ∙ ap (λ (owned : TenantPart). part_written owned m (at + length first) later) one.written
-          ∙ part_written-twice (part old tenant) m at first later some within;
+          ∙ ap (λ (owned : TenantPart). pinned_as new.sharing tenant (part_written owned m (at + length first) later)) one.written
+          ∙ ap (pinned_as new.sharing tenant) (part_written-twice (part old tenant) m at first later some within);
       bytes = rest.bytes
           ∙ ap (λ (bytes : List ℕ). with_part bytes (at + length first) later) one.bytes
           ∙ with_part-twice (map_bytes (part old tenant) m) at first later within;
@@ -222,9 +236,30 @@ stored-more old middle new tenant m at first later some in_page whole within one
       other_maps = λ k ne. rest.other_maps k ne ∙ one.other_maps k ne;
       others = λ t ne. rest.others t ne ∙ one.others t ne;
       sharing = rest.sharing
-          ∙ ap (λ (s : Sharing). stored_sharing s tenant m (at + length first) (length later)) broken_one
-          ∙ sym (sharing-more old.sharing tenant m at (length first) some in_page (length later) whole)
-          ∙ sym (ap (stored_sharing old.sharing tenant m at) long);
+          ∙ ap (λ (b : Bool). stored_sharing b middle.sharing tenant m (at + length first) (length later)) still
+          ∙ ap (λ (s : Sharing). stored_sharing running s tenant m (at + length first) (length later)) broken_one
+          ∙ sym (sharing-more old.sharing tenant m at (length first) some in_page running (length later) whole)
+          ∙ sym (ap (stored_sharing running old.sharing tenant m at) long);
       have = rw long (omega (arith, rest.have, one.have, cost, cost_one));
       settings = record { tenants = rest.settings.tenants ∙ one.settings.tenants; frames = rest.settings.frames ∙ one.settings.frames };
     }
+
+-- ---- a store by no run
+
+-- breaks by no run pin nothing
+pub broken-none : (s : Sharing) (i n : ℕ) → broken_by_from false s i n ≡ broken_from s i n
+unfolding broken_by_from broken_from broken_by
+broken-none s i zero = refl
+broken-none s i (suc n) = broken-none (broken s i) (i + 1) n
+
+broken-pins : (s : Sharing) (i : ℕ) → (broken s i).pins ≡ s.pins
+broken-pins s i = by_test (is_shared_page (state_at s i)) refl
+  where
+    by_test : (b : Bool) → is_shared_page (state_at s i) ≡ b → (broken s i).pins ≡ s.pins
+    by_test true shared = ap (λ (t : Sharing). t.pins) (broken-shared s i shared)
+    by_test false own = ap (λ (t : Sharing). t.pins) (broken-own s i own)
+
+pub pins-none : (s : Sharing) (i n : ℕ) → (broken_by_from false s i n).pins ≡ s.pins
+unfolding broken_by_from broken_by
+pins-none s i zero = refl
+pins-none s i (suc n) = pins-none (broken s i) (i + 1) n ∙ broken-pins s i

@@ -3,7 +3,7 @@ ghost use Rattle.host_types.specs.Bytes.{number_of, bytes_of, part_of, with_part
 ghost use Rattle.frame_arena.specs.Pages.{IsAccessSize};
 ghost use Rattle.page_table.specs.State.{part, map_bytes, have_of};
 ghost use Rattle.page_table.specs.Changes.{part_written, IsKeptBut, AreMapsKeptBut, KeepsSettings};
-ghost use Rattle.write_break.specs.Stores.{touched, part_stored, stored_sharing, store_frames, IsStored};
+ghost use Rattle.write_break.specs.Stores.{touched, part_stored, pinned_as, stored_sharing, store_frames, IsStored};
 
 use crate::number::word;
 use host_types::limits::PAGE_SIZE;
@@ -64,20 +64,22 @@ pub fn needs(memory: &Memory, tenant: u32, map: MapNo, at: u32, len: u32) -> u32
 }
 
 /// Writes the lowest `size` bytes of a number to a tenant's map from the byte `at` on, the lowest
-/// first. A page that shares its frame is taken out before.
+/// first. A page that shares its frame is taken out before, and pinned where the tenant has an open run.
 pub fn store(memory: &mut Memory, tenant: u32, map: MapNo, at: u32, size: u32, value: u64)
     requires size { IsAccessSize size }
     requires within { at + size ≤ length (map_bytes (part memory.old tenant) map) }
     requires aligned { at % size ≡ 0 }
     requires room { store_frames memory.old.sharing tenant map at size ≤ have_of memory.old }
-    ensures stored { part memory.new tenant ≡ part_stored (part memory.old tenant) map at size value }
+    ensures stored { part memory.new tenant
+        ≡ pinned_as memory.new.sharing tenant (part_stored (part memory.old tenant) map at size value) }
     ensures bytes { map_bytes (part memory.new tenant) map
         ≡ with_part (map_bytes (part memory.old tenant) map) at (bytes_of size value) }
     ensures length { length (map_bytes (part memory.new tenant) map)
         ≡ length (map_bytes (part memory.old tenant) map) }
     ensures other_maps { AreMapsKeptBut map (part memory.old tenant) (part memory.new tenant) }
     ensures others { IsKeptBut tenant memory.old memory.new }
-    ensures sharing { memory.new.sharing ≡ stored_sharing memory.old.sharing tenant map at size }
+    ensures sharing { memory.new.sharing
+        ≡ stored_sharing (part memory.old tenant).running memory.old.sharing tenant map at size }
     ensures have { have_of memory.new + store_frames memory.old.sharing tenant map at size ≡ have_of memory.old }
     ensures settings { KeepsSettings memory.old memory.new }
 {
@@ -85,18 +87,20 @@ pub fn store(memory: &mut Memory, tenant: u32, map: MapNo, at: u32, size: u32, v
 }
 
 /// Writes bytes to a tenant's map from the byte `at` on. Each of their pages that shares its frame is
-/// taken out before it is written. No bytes write nothing.
+/// taken out before it is written, and pinned where the tenant has an open run. No bytes write nothing.
 pub fn store_bytes(memory: &mut Memory, tenant: u32, map: MapNo, at: u32, bytes: &[u8])
     requires within { at + length bytes.now ≤ length (map_bytes (part memory.old tenant) map) }
     requires room { store_frames memory.old.sharing tenant map at (length bytes.now) ≤ have_of memory.old }
-    ensures written { part memory.new tenant ≡ part_written (part memory.old tenant) map at bytes.now }
+    ensures written { part memory.new tenant
+        ≡ pinned_as memory.new.sharing tenant (part_written (part memory.old tenant) map at bytes.now) }
     ensures bytes { map_bytes (part memory.new tenant) map
         ≡ with_part (map_bytes (part memory.old tenant) map) at bytes.now }
     ensures length { length (map_bytes (part memory.new tenant) map)
         ≡ length (map_bytes (part memory.old tenant) map) }
     ensures other_maps { AreMapsKeptBut map (part memory.old tenant) (part memory.new tenant) }
     ensures others { IsKeptBut tenant memory.old memory.new }
-    ensures sharing { memory.new.sharing ≡ stored_sharing memory.old.sharing tenant map at (length bytes.now) }
+    ensures sharing { memory.new.sharing
+        ≡ stored_sharing (part memory.old tenant).running memory.old.sharing tenant map at (length bytes.now) }
     ensures have { have_of memory.new + store_frames memory.old.sharing tenant map at (length bytes.now)
         ≡ have_of memory.old }
     ensures settings { KeepsSettings memory.old memory.new }

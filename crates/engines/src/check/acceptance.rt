@@ -1,10 +1,11 @@
 //! The line of a program that is accepted.
 
 ghost use Rattle.std.specs.Prelude.{◌≡◌, Some};
-ghost use Rattle.verifier.specs.Reserve.{reserve_from};
+ghost use Rattle.admission.specs.Reserve.{unpinned_need};
 ghost use Rattle.bpf_decode.specs.Text.{instructions_of, slots_of};
 ghost use Rattle.engines.specs.Check.{acceptance_text};
 
+use admission::unpinned;
 use std::fmt;
 use verifier::Verified;
 
@@ -13,7 +14,8 @@ use verifier::Verified;
 pub struct Acceptance {
     slots: u32,
     instructions: u32,
-    /// The frames that a run of it may take, whichever pages share frames.
+    /// The frames that a run of it may take, whichever pages share frames: no more than its maps have pages that it
+    /// may write.
     reserve: u32,
 }
 
@@ -21,12 +23,12 @@ impl Acceptance {
     pub fn of(program: &Verified) -> Self
         ensures slots { result.slots ≡ slots_of program.now.subject.text }
         ensures instructions { result.instructions ≡ instructions_of program.now.subject.text }
-        ensures reserve { result.reserve ≡ reserve_from program.now 0 }
+        ensures reserve { result.reserve ≡ unpinned_need program.now }
     {
         Acceptance {
             slots: program.slots(),
             instructions: program.instructions(),
-            reserve: program.reserve(0),
+            reserve: unpinned(program),
         }
     }
 }

@@ -4,7 +4,7 @@ use Rattle.host_types.specs.Memory.{FlatMaps, map_at}
 use Rattle.host_types.specs.Tenant.{TenantPart}
 use Rattle.page_table.specs.State.{part, have_of}
 use Rattle.page_table.specs.Changes.{part_written}
-use Rattle.write_break.specs.Stores.{stored_sharing, store_frames}
+use Rattle.write_break.specs.Stores.{pinned_as, stored_sharing, store_frames}
 use Rattle.map_helpers.specs.Answers.{refusal_answer}
 use Rattle.map_helpers.specs.Updates.{update_frames, part_updated}
 use Rattle.map_helpers.proofs.Updates.{shape_in, helped, maps-refused, maps-written, cost-refused, cost-written, sharing-refused, sharing-written, value-sized}
@@ -31,11 +31,12 @@ returns-in-Some-update_error-clause-helped c =
     ∙ ap (λ (maps : FlatMaps). Some (c.answer.result, maps)) (sym (kept c))
 
 pub returns-in-Some-update_error-clause-part : goal.returns-in-Some-update_error-clause-part
+unfolding part
 returns-in-Some-update_error-clause-part c = ap (λ (maps : FlatMaps). record (part c.args.memory.now c.args.tenant) { maps = maps }) (kept c)
 
 pub returns-in-Some-update_error-clause-sharing : goal.returns-in-Some-update_error-clause-sharing
 returns-in-Some-update_error-clause-sharing c =
-    sym (sharing-refused c.in-Some.shape c.args.memory.now.sharing c.args.tenant c.args.map c.args.key c.args.flags (map_at (part c.args.memory.now c.args.tenant).maps c.args.map) (there c) (refused c))
+    sym (sharing-refused c.in-Some.shape (part c.args.memory.now c.args.tenant).running c.args.memory.now.sharing c.args.tenant c.args.map c.args.key c.args.flags (map_at (part c.args.memory.now c.args.tenant).maps c.args.map) (there c) (refused c))
 
 pub returns-in-Some-update_error-clause-have : goal.returns-in-Some-update_error-clause-have
 returns-in-Some-update_error-clause-have c =
@@ -64,12 +65,13 @@ pub store_bytes-requires-clause-room : goal.store_bytes-requires-clause-room
 store_bytes-requires-clause-room c = subst (λ (n : ℕ). n ≤ have_of c.args.memory.now) (cost c) c.requires.room
 
 -- the part after the store
-written : (c : goal.After-store_bytes) → part c.store_bytes.new.memory c.args.tenant ≡ part_updated (part c.args.memory.now c.args.tenant) c.args.map c.args.key c.args.value.now c.args.flags
+written : (c : goal.After-store_bytes) → part c.store_bytes.new.memory c.args.tenant
+    ≡ pinned_as c.store_bytes.new.memory.sharing c.args.tenant (part_updated (part c.args.memory.now c.args.tenant) c.args.map c.args.key c.args.value.now c.args.flags)
 written c =
     let here = (goal.at.returns-clause-part c).After-element_at in
     c.store_bytes.ensures.written
-    ∙ ap (λ (at : ℕ). part_written (part c.args.memory.now c.args.tenant) c.args.map at c.args.value.now) c.element_at.ensures.place
-    ∙ ap (λ (maps : FlatMaps). record (part c.args.memory.now c.args.tenant) { maps = maps })
+    ∙ ap (λ (at : ℕ). pinned_as c.store_bytes.new.memory.sharing c.args.tenant (part_written (part c.args.memory.now c.args.tenant) c.args.map at c.args.value.now)) c.element_at.ensures.place
+    ∙ ap (λ (maps : FlatMaps). pinned_as c.store_bytes.new.memory.sharing c.args.tenant (record (part c.args.memory.now c.args.tenant) { maps = maps }))
     (maps-written c.in-Some.shape c.args.key c.args.value.now c.args.flags (part c.args.memory.now c.args.tenant).maps c.args.map (found here) (answered here))
 
 pub returns-clause-helped : goal.returns-clause-helped
@@ -88,9 +90,9 @@ pub returns-clause-sharing : goal.returns-clause-sharing
 returns-clause-sharing c =
     let here = (goal.at.returns-clause-sharing c).After-element_at in
     c.store_bytes.ensures.sharing
-    ∙ ap (stored_sharing c.args.memory.now.sharing c.args.tenant c.args.map c.element_at.result) (sym (sized here))
-    ∙ ap (λ (at : ℕ). stored_sharing c.args.memory.now.sharing c.args.tenant c.args.map at c.in-Some.shape.value_size) c.element_at.ensures.place
-    ∙ sym (sharing-written c.in-Some.shape c.args.memory.now.sharing c.args.tenant c.args.map c.args.key c.args.flags (map_at (part c.args.memory.now c.args.tenant).maps c.args.map) (found here) (answered here))
+    ∙ ap (stored_sharing (part c.args.memory.now c.args.tenant).running c.args.memory.now.sharing c.args.tenant c.args.map c.element_at.result) (sym (sized here))
+    ∙ ap (λ (at : ℕ). stored_sharing (part c.args.memory.now c.args.tenant).running c.args.memory.now.sharing c.args.tenant c.args.map at c.in-Some.shape.value_size) c.element_at.ensures.place
+    ∙ sym (sharing-written c.in-Some.shape (part c.args.memory.now c.args.tenant).running c.args.memory.now.sharing c.args.tenant c.args.map c.args.key c.args.flags (map_at (part c.args.memory.now c.args.tenant).maps c.args.map) (found here) (answered here))
 
 pub returns-clause-have : goal.returns-clause-have
 returns-clause-have c =

@@ -1,12 +1,13 @@
-use Rattle.std.proofs.Common.{◌≡◌, ◌∙◌, ◌==◌, ℕ, IfSome, ◌≤◌, option_map, refl, sym, ap, subst}
+use Rattle.std.proofs.Common.{◌≡◌, ◌∙◌, ◌*◌, ◌==◌, ℕ, Bool, List, IfSome, ◌≤◌, option_map, refl, sym, ap, subst}
 use Rattle.host_types.specs.declared.options.Options.{Options}
+use Rattle.host_types.specs.Bytes.{part_of}
 use Rattle.host_types.specs.Pages.{page_place}
 use Rattle.host_types.specs.Sharing.{state_at}
 use Rattle.host_types.specs.Visits.{begun, decided, is_mergeable, contents_in}
 use Rattle.page_table.specs.State.{MemoryState, part}
 use Rattle.page_table.specs.Changes.{IsPageOf}
 use Rattle.host_types.proofs.Visits.{visit-stopped, visit-none, visit-page, begun-pages, is-same, is-other}
-use Rattle.scanner.proofs.Visits.{moved-behind}
+use Rattle.scanner.proofs.Visits.{moved-behind, begun-pins}
 use Rattle.scanner.proofs.Idle.{idle-law}
 use Rattle.scanner.proofs.scan.visit.Goals as goal
 use Rattle.scanner.proofs.scan.visit.Goals.{After-advance}
@@ -62,3 +63,4 @@ pub returns-clause-kept : goal.returns-clause-kept
 unfolding part
 returns-clause-kept c t =
     c.look_at.ensures.kept t ∙ ap (λ (memory : MemoryState). part memory t) (begun_is (goal.at.returns-clause-kept c).After-advance)
+    ∙ ap (λ (pins : List Bool). record (part c.args.memory.now t) { pins = part_of pins (t * 2048) 2048 }) (begun-pins c.args.memory.now.sharing (page_place c.in-Some.page))

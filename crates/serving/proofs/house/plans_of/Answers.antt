@@ -2,7 +2,6 @@ use Rattle.std.proofs.Common.{◌∙◌, ◌∷◌, ap, arith, length, refl, rul
 use Rattle.std.specs.Vec.Iter.{into_iter_items}
 use Rattle.std.proofs.lemmas.List.Elements.{All-head, All-push, All-rest, All-same}
 use Rattle.std.proofs.lemmas.List.{length_push}
-use Rattle.host_types.specs.Tenant.{TenantPart}
 use Rattle.tenant_workers.specs.Plans.{IsFor}
 use Rattle.serving.specs.AtFirst.{IsAtFirst}
 use Rattle.serving.proofs.Opened.{pushed-new}
@@ -13,7 +12,7 @@ invariant_of-push c =
     let left = into_iter_items c.next.new.self in
     let all = All-same (IsAtFirst c.args.shared.now) (c.in-Some.seat ∷ left) (into_iter_items c.loop-seat.seat-iterator) (sym c.in-Some.ensures.steps.0) c.loop-seat.invariant.first in
     let one = All-head (IsAtFirst c.args.shared.now) c.in-Some.seat left all in
-    record { idle = one.idle; resting = ap (λ (owned : TenantPart). owned.reserve) one.first }
+    record { idle = one.idle; resting = rw one.first (record { running = refl; reserve = refl; unpinned = refl }) }
 
 pub loop-seat-preserved : goal.loop-seat-preserved
 loop-seat-preserved c =

@@ -1,21 +1,23 @@
-use Rattle.std.proofs.Common.{arith}
-use Rattle.tenant_runs.proofs.Rooms.{store_room}
+use Rattle.tenant_runs.proofs.Storing.{flat_there, room_enough, room_kept}
 use Rattle.tenant_runs.proofs.maps.store_apart.Goals as goal
 
 pub store-requires-clause-room : goal.store-requires-clause-room
 store-requires-clause-room c =
-    let few = store_room c.args.memory.now.sharing c.args.tenant c.args.map c.args.at c.args.size c.requires.aligned in
-    rw c.bytes.ensures (omega (arith, few, c.requires.room))
+    let flat = flat_there c.args.memory.now c.args.tenant c.args.map c.args.at c.args.size c.facts.ensures c.requires.within c.maps_are_flat.ensures.there c.maps_are_flat.ensures.flat in
+    rw c.bytes.ensures (room_enough c.args.memory.now c.args.tenant c.args.map c.args.at c.args.size c.facts.ensures flat c.requires.within c.requires.aligned c.requires.room)
 
 pub returns : goal.returns
 returns c =
-    let few = store_room c.args.memory.now.sharing c.args.tenant c.args.map c.args.at c.args.size c.requires.aligned in
+    let flat = flat_there c.args.memory.now c.args.tenant c.args.map c.args.at c.args.size c.facts.ensures c.requires.within c.maps_are_flat.ensures.there c.maps_are_flat.ensures.flat in
+    let owned = rw c.bytes.ensures at c.store.ensures.stored in
+    let sharing = rw c.bytes.ensures at c.store.ensures.sharing in
     let have = rw c.bytes.ensures at c.store.ensures.have in
     record {
-      owned = rw c.bytes.ensures at c.store.ensures.stored;
+      owned = owned;
       others = c.store.ensures.others;
-      sharing = rw c.bytes.ensures at c.store.ensures.sharing;
+      sharing = sharing;
       settings = c.store.ensures.settings;
-      room = omega (arith, few, have);
-      reads = c.facts.ensures;
+      have = have;
+      room = room_kept c.args.memory.now c.args.tenant c.args.map c.args.at c.args.size c.facts.ensures flat c.requires.within c.requires.aligned c.store.new.memory c.args.value owned sharing have;
+      reads = c.facts-2.ensures;
     }

@@ -1,13 +1,14 @@
-use Rattle.std.proofs.Common.{◌≡◌, ◌∙◌, ◌+◌, ◌*◌, ◌/◌, ◌%◌, take, sym, ap, arith}
+use Rattle.std.proofs.Common.{◌≡◌, ◌∙◌, ◌+◌, ◌*◌, ◌/◌, ◌%◌, take, refl, sym, ap, arith}
 use Rattle.host_types.specs.Bytes.{bytes_of}
 use Rattle.host_types.specs.Sharing.{state_at}
 use Rattle.host_types.proofs.Bytes.{bytes_low_first-bytes_of}
-use Rattle.host_types.proofs.Unmerging.{broken-own}
+use Rattle.page_table.specs.State.{part}
 use Rattle.bpf_decode.specs.Opcodes.{byte_count}
 use Rattle.write_break.specs.Stores.{place_of_byte}
 use Rattle.write_break.proofs.Numbers.{take-bytes_of}
-use Rattle.write_break.proofs.Stores.{sharing-one, have-kept}
+use Rattle.write_break.proofs.Stores.{sharing-one, cost-one, have-kept}
 use Rattle.tenant_runs.proofs.Rooms.{in_page, some_bytes, own_page}
+use Rattle.tenant_runs.proofs.Storing.{own_cost, own_broken, own_part, room_same}
 use Rattle.tenant_runs.proofs.maps.store_own.Goals as goal
 
 pub returns : goal.returns
@@ -20,13 +21,18 @@ returns c =
     ap (take size) (c.write_u64.ensures ∙ bytes_low_first-bytes_of 8 c.args.value) ∙ take-bytes_of size 8 c.args.value most in
     let place : c.args.at / 4096 * 4096 + c.args.at % 4096 ≡ c.args.at = omega arith in
     let apart = own_page (state_at sharing (place_of_byte c.args.tenant c.args.map c.args.at)) c.requires.own in
-    let unbroken = sharing-one sharing c.args.tenant c.args.map c.args.at size (omega (arith, least)) within ∙ broken-own sharing (place_of_byte c.args.tenant c.args.map c.args.at) apart in
+    let running = (part c.args.memory.now c.args.tenant).running in
+    let unbroken = sharing-one sharing c.args.tenant c.args.map c.args.at size (omega (arith, least)) within running ∙ own_broken running sharing (place_of_byte c.args.tenant c.args.map c.args.at) apart in
+    let none = cost-one sharing c.args.tenant c.args.map c.args.at size (omega (arith, least)) within ∙ own_cost sharing (place_of_byte c.args.tenant c.args.map c.args.at) apart in
     let have = have-kept c.args.memory.now c.put.new.self c.put.ensures.sharing c.put.ensures.settings in
+    let written = rw (c.page_of.ensures, c.bytes.ensures, word, place) at c.put.ensures.written in
+    let owned = written ∙ own_part c.args.memory.now c.put.new.self c.args.tenant _ c.put.ensures.sharing refl in
     record {
-      owned = rw (c.page_of.ensures, c.bytes.ensures, word, place) at c.put.ensures.written;
+      owned = owned;
       others = rw c.page_of.ensures at c.put.ensures.others;
       sharing = c.put.ensures.sharing ∙ sym unbroken;
       settings = c.put.ensures.settings;
-      room = omega (arith, have);
+      have = omega (arith, have, none);
+      room = room_same c.args.memory.now c.put.new.self c.args.tenant c.args.map c.args.at c.args.value c.args.size owned c.put.ensures.sharing have;
       reads = c.facts.ensures;
     }

@@ -1,6 +1,6 @@
 use Rattle.std.proofs.Common.{arith}
 use Rattle.page_table.specs.State.{part}
-use Rattle.tenant_runs.proofs.Rooms.{record_keeps}
+use Rattle.tenant_runs.proofs.Rooms.{opened_keeps}
 use Rattle.tenant_runs.proofs.Roomy.{under_way_roomy}
 use Rattle.tenant_runs.proofs.WholeRuns.{has_run}
 use Rattle.tenant_runs.proofs.running.run.Goals as goal
@@ -10,7 +10,7 @@ open_run-requires-clause-there c = c.maps_are_flat.ensures.there c.args.tenant (
 
 pub release-requires : goal.release-requires
 release-requires c =
-    let opened = record_keeps c.args.memory.now c.open_run.new.memory c.args.tenant _ c.in_ok-run.ensures.all in
+    let opened = opened_keeps c.args.memory.now c.open_run.new.memory c.args.tenant _ c.in_ok-run.ensures.all in
     record { there = c.maps_are_flat-2.ensures.there c.args.tenant (omega (arith, opened.tenants, c.finish-reply.ensures.sizes.tenants, c.tenants.ensures, c.if-tenant-tenants.false)) }
 
 pub returns-clause-ran : goal.returns-clause-ran

@@ -14,6 +14,7 @@ invariant_of-result c = record {
   counted = c.count_instructions-instructions.ensures;
   named = c.named_maps-named.ensures;
   reserved = c.in-Ok.ensures;
+  written = c.last_writes-lasts.ensures;
 }
 
 pub returns-clause-verified : goal.returns-clause-verified

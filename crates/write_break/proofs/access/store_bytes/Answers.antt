@@ -1,6 +1,7 @@
-use Rattle.std.proofs.Common.{◌≡◌, ◌∙◌, ◌⊎◌, inl, inr, ⊎_elim, ℕ, ◌+◌, ◌%◌, ◌<◌, ◌≤◌, ◌==◌, true, List, [], ◌∷◌, length, refl, sym, ap, subst, arith}
+use Rattle.std.proofs.Common.{◌≡◌, ◌∙◌, ◌⊎◌, inl, inr, ⊎_elim, ℕ, ◌+◌, ◌%◌, ◌<◌, ◌≤◌, ◌==◌, Bool, true, List, [], ◌∷◌, length, refl, sym, ap, subst, arith}
 use Rattle.std.proofs.lemmas.Bool.Decides.{nat_tests}
-use Rattle.host_types.specs.Sharing.{Sharing, broken, break_cost}
+use Rattle.host_types.specs.Sharing.{Sharing, break_cost}
+use Rattle.host_types.specs.Pins.{broken_by}
 use Rattle.page_table.specs.State.{part, map_bytes}
 use Rattle.write_break.specs.Stores.{place_of_byte, stored_sharing, store_frames, IsStored}
 use Rattle.write_break.proofs.Stores.{stored-none, stored-more, sharing-one, cost-one, cost-more}
@@ -15,14 +16,18 @@ nothing (byte ∷ bytes) e = absurd (grind (arith, nat_tests))
 whole : (c : After-split_at) → (length c.split_at.result.1.now ≡ 0) ⊎ (c.loop-rest.place % 4096 + c.size_in_page-size.result ≡ 4096)
 whole c = ⊎_elim (λ all. inl (omega (arith, all, c.split_at.ensures.back_len))) (λ ends. inr ends) c.size_in_page-size.ensures.all
 
+-- the tenant has an open run, or none
+abbrev running : After-split_at → Bool
+running c = (part c.loop-rest.memory c.args.tenant).running
+
 -- what is left to store takes what the first page takes, and the others
 cost : (c : After-split_at) → store_frames c.loop-rest.memory.sharing c.args.tenant c.args.map c.loop-rest.place (length c.loop-rest.rest.now)
     ≡ break_cost c.loop-rest.memory.sharing (place_of_byte c.args.tenant c.args.map c.loop-rest.place)
-    + store_frames (broken c.loop-rest.memory.sharing (place_of_byte c.args.tenant c.args.map c.loop-rest.place)) c.args.tenant c.args.map (c.loop-rest.place + c.size_in_page-size.result) (length c.split_at.result.1.now)
+    + store_frames (broken_by (running c) c.loop-rest.memory.sharing (place_of_byte c.args.tenant c.args.map c.loop-rest.place)) c.args.tenant c.args.map (c.loop-rest.place + c.size_in_page-size.result) (length c.split_at.result.1.now)
 cost c =
     let parts : length c.loop-rest.rest.now ≡ c.size_in_page-size.result + length c.split_at.result.1.now = omega (arith, c.split_at.ensures.back_len) in
     ap (store_frames c.loop-rest.memory.sharing c.args.tenant c.args.map c.loop-rest.place) parts
-    ∙ cost-more c.loop-rest.memory.sharing c.args.tenant c.args.map c.loop-rest.place c.size_in_page-size.result c.size_in_page-size.ensures.some c.size_in_page-size.ensures.in_page (length c.split_at.result.1.now) (whole c)
+    ∙ cost-more c.loop-rest.memory.sharing c.args.tenant c.args.map c.loop-rest.place c.size_in_page-size.result c.size_in_page-size.ensures.some c.size_in_page-size.ensures.in_page (running c) (length c.split_at.result.1.now) (whole c)
 
 first_cost : (c : After-split_at) → store_frames c.loop-rest.memory.sharing c.args.tenant c.args.map c.loop-rest.place (length c.split_at.result.0.now)
     ≡ break_cost c.loop-rest.memory.sharing (place_of_byte c.args.tenant c.args.map c.loop-rest.place)
@@ -43,8 +48,8 @@ loop-rest-preserved c =
     let first = first_cost here in
     let long = c.split_at.ensures.front_len in
     let broken_one = c.store_in_page.ensures.sharing
-    ∙ ap (stored_sharing c.loop-rest.memory.sharing c.args.tenant c.args.map c.loop-rest.place) long
-    ∙ sharing-one c.loop-rest.memory.sharing c.args.tenant c.args.map c.loop-rest.place c.size_in_page-size.result c.size_in_page-size.ensures.some c.size_in_page-size.ensures.in_page in
+    ∙ ap (stored_sharing (running here) c.loop-rest.memory.sharing c.args.tenant c.args.map c.loop-rest.place) long
+    ∙ sharing-one c.loop-rest.memory.sharing c.args.tenant c.args.map c.loop-rest.place c.size_in_page-size.result c.size_in_page-size.ensures.some c.size_in_page-size.ensures.in_page (running here) in
     let later = ap (λ (s : Sharing). store_frames s c.args.tenant c.args.map (c.loop-rest.place + c.size_in_page-size.result) (length c.split_at.result.1.now)) broken_one in
     let some : 0 < length c.split_at.result.0.now = omega (arith, long, c.size_in_page-size.ensures.some) in
     let in_page : c.loop-rest.place % 4096 + length c.split_at.result.0.now ≤ 4096 = omega (arith, long, c.size_in_page-size.ensures.in_page) in

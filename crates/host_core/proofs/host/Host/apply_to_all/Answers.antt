@@ -7,7 +7,7 @@ use Rattle.host_core.proofs.host.Host.apply_to_all.Goals as goal
 
 -- the visit
 visits : (c : goal.After-visit) → Hosts (record { tenants = c.self.inside.tenants.items; memory = c.self.inside.memory }) Visit (WasVisited c.visit.result) (record { tenants = c.self.inside.tenants.items; memory = c.visit.new.memory })
-visits c = hosts-visit c.self.inside.tenants.items c.self.inside.memory c.visit.new.memory c.visit.result c.visit.ensures.visited c.visit.ensures.settings c.visit.ensures.maps
+visits c = hosts-visit c.self.inside.tenants.items c.self.inside.memory c.visit.new.memory c.visit.result c.visit.ensures.visited c.visit.ensures.settings c.visit.ensures.kept c.visit.ensures.maps
 
 pub invariant_of-self : goal.invariant_of-self
 invariant_of-self c = let after = visits c c.self.invariant.0 c.self.invariant.1 in (after.0, after.1)

@@ -8,7 +8,7 @@ use Rattle.host_core.proofs.host.Host.set.Goals as goal
 sets : (c : goal.In_ok-host_set) → Leads (record { tenants = c.self.inside.tenants.items; memory = c.self.inside.memory }) (Sets c.args.option c.args.value Done) (record { tenants = c.self.inside.tenants.items; memory = c.host_set.new.memory })
 sets c =
     let told = c.in_ok-host_set.ensures in
-    leads-set c.self.inside.tenants.items c.self.inside.memory c.host_set.new.memory c.args.option c.args.value told.may.0 told.may.1 told.set
+    leads-set c.self.inside.tenants.items c.self.inside.memory c.host_set.new.memory c.args.option c.args.value told.may.0 told.may.1 told.set told.kept
 
 pub invariant_of-self-2 : goal.invariant_of-self-2
 invariant_of-self-2 c = hosts_on _ _ _ (sets c) c.self.invariant

@@ -5,7 +5,7 @@ use Rattle.host_core.specs.declared.event.Event.TheVariants.{Begin}
 use Rattle.host_core.specs.declared.event.Reply.TheVariants.{Begun, Refused}
 use Rattle.host_core.specs.HostView.{TenantView, IsServed}
 use Rattle.host_core.proofs.Serving.{kept-there}
-use Rattle.host_core.proofs.Opening.{accepted_at, lent-at, begin-busy, begin-no_program, begin-not_opened, begin-begun, kept-idle}
+use Rattle.host_core.proofs.Opening.{accepted_at, lent-at, begin-busy, begin-no_program, begin-not_opened, begin-begun, kept-idle, kept-resting}
 use Rattle.host_core.proofs.tenant.Tenant.begin.Goals as goal
 
 pub returns-then-is_some : goal.returns-then-is_some
@@ -26,6 +26,11 @@ open_run-requires-clause-there c = kept-there c.args.number c.args.self.now c.ar
 
 pub open_run-requires-clause-none : goal.open_run-requires-clause-none
 open_run-requires-clause-none c =
+    let idle : is_some c.args.self.now.run ≡ false = sym (ap (λ (kept : TenantView). is_some kept.run) c.self.view_is) ∙ sym c.is_some.ensures ∙ c.if-is_some.false in
+    kept-resting c.args.number c.args.self.now c.args.memory.now c.requires.kept idle
+
+pub open_run-requires-clause-unreserved : goal.open_run-requires-clause-unreserved
+open_run-requires-clause-unreserved c =
     let idle : is_some c.args.self.now.run ≡ false = sym (ap (λ (kept : TenantView). is_some kept.run) c.self.view_is) ∙ sym c.is_some.ensures ∙ c.if-is_some.false in
     kept-idle c.args.number c.args.self.now c.args.memory.now c.requires.kept idle
 

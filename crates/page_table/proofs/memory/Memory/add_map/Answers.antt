@@ -44,7 +44,7 @@ pub invariant_of-self : goal.invariant_of-self
 invariant_of-self c = (
   rw c.map_index-index.ensures (memory_created c.self.inside.table c.add_pages.new.table c.self.inside.shapes.items c.self.inside.tenants.items c.self.inside.pass c.self.inside.reserved c.args.tenant c.args.number c.args.shape c.args.mergeable
       c.self.invariant.0 c.requires.number (tenant_inside c.self.inside.table c.self.inside.shapes.items c.self.inside.tenants.items c.self.inside.pass c.args.self.now c.self.view_is c.args.tenant c.requires.tenant) (number_empty c.self.inside.table c.self.inside.shapes.items c.self.inside.tenants.items c.self.inside.pass c.args.self.now c.self.view_is c.args.tenant c.args.number c.requires.number c.requires.none) c.requires.shape (contents c) (states c) c.add_pages.ensures.groups (used c) c.add_pages.ensures.arena (room_inside c.self.inside.table c.self.inside.shapes.items c.self.inside.tenants.items c.self.inside.pass c.args.self.now c.self.view_is c.self.inside.reserved (page_count c.args.shape) c.self.invariant.0 c.requires.room)),
-  pass-kept c.self.inside.table c.add_pages.new.table c.self.inside.pass c.self.invariant.1 (kept-own c.self.inside.table c.add_pages.new.table c.add_pages.ensures.kept) c.add_pages.ensures.arena,
+  pass-kept c.self.inside.table c.add_pages.new.table c.self.inside.pass c.self.invariant.1 (kept-own c.self.inside.table c.add_pages.new.table c.add_pages.ensures.kept) c.add_pages.ensures.arena c.add_pages.ensures.entries,
   ahead-more c.self.inside.table c.add_pages.new.table c.self.inside.pass c.self.inside.pass.cursor c.add_pages.ensures.kept c.self.invariant.2,
 )
 

@@ -1,4 +1,4 @@
-use Rattle.std.proofs.Common.{◌≡◌, ◌∙◌, ◌≤◌, true, find, Some, refl, sym, arith}
+use Rattle.std.proofs.Common.{◌≡◌, ◌∙◌, ◌≤◌, true, find, Some, refl, sym, arith, slice_index_or, false}
 use Rattle.host_types.specs.Pages.{page_place}
 use Rattle.page_table.specs.Changes.{IsPageOf, MayMerge, IsNotWaiting, contents_now, open_frame}
 use Rattle.host_types.specs.declared.status.Status.TheVariants.{Grouped}
@@ -8,10 +8,11 @@ use Rattle.page_table.specs.View.{view_of}
 use Rattle.page_table.proofs.Reading.{is_page_at, content_is}
 use Rattle.page_table.proofs.Writing.{own_entry}
 use Rattle.page_table.proofs.Merging.{maps_kept, parts_kept, settings_kept, memory_kept, free_more, have_more, may_is_own}
-use Rattle.page_table.proofs.Partners.{not-waiting}
+use Rattle.page_table.proofs.Partners.{not-waiting, may-free}
 use Rattle.page_table.proofs.Scanning.{bytes_here, open-frame, find-in, open-bytes, sharing-joins}
 use Rattle.page_table.proofs.Waiters.{pass-others}
 use Rattle.page_table.proofs.Ahead.{ahead-kept, stay-set}
+use Rattle.page_table.proofs.Fitting.{entries-long}
 use Rattle.page_table.proofs.memory.Memory.join_group.Goals as goal
 use Rattle.page_table.proofs.memory.Memory.join_group.Goals.{After-place_of}
 
@@ -45,12 +46,18 @@ join-requires-clause-same c =
     ∙ sym (bytes_here c.self.inside.table c.self.inside.shapes.items c.self.inside.tenants.items c.self.inside.pass c.self.inside.reserved c.self.invariant.0 c.args.page (there c))
     ∙ sym (open-bytes c.self.inside.table (contents_now (view_of c.self.inside.table c.self.inside.shapes.items c.self.inside.tenants.items c.self.inside.pass) (page_place c.args.page)) c.self.inside.pass.options.max_page_sharing c.args.group (in_groups c).1))
 
+unpinned : (c : goal.After-join) → slice_index_or c.self.inside.pass.pins c.place_of.result false ≡ false
+unpinned c =
+    let may : MayMerge (view_of c.self.inside.table c.self.inside.shapes.items c.self.inside.tenants.items c.self.inside.pass) c.args.page = rw (← c.self.view_is) at c.requires.may in
+    rw c.place_of.ensures (may-free c.self.inside.table c.self.inside.shapes.items c.self.inside.tenants.items c.self.inside.pass c.args.page may)
+
 pub invariant_of-self : goal.invariant_of-self
 invariant_of-self c =
     let free : IsNotWaiting (view_of c.self.inside.table c.self.inside.shapes.items c.self.inside.tenants.items c.self.inside.pass) c.args.page = rw (← c.self.view_is) at c.requires.free in (
       memory_kept c.self.inside.table c.join.new.self c.self.inside.shapes.items c.self.inside.tenants.items c.self.inside.pass c.self.inside.pass c.join.ensures.contents c.join.ensures.arena
           c.self.inside.reserved c.self.invariant.0 (omega (arith, c.join.ensures.used, c.self.invariant.0.room)),
-      pass-others c.self.inside.table c.join.new.self c.self.inside.pass c.place_of.result c.self.invariant.1 (rw c.place_of.ensures (not-waiting c.self.inside.table c.self.inside.shapes.items c.self.inside.tenants.items c.self.inside.pass c.args.page free)) c.join.ensures.others c.join.ensures.arena,
+      pass-others c.self.inside.table c.join.new.self c.self.inside.pass c.place_of.result c.self.invariant.1 (rw c.place_of.ensures (not-waiting c.self.inside.table c.self.inside.shapes.items c.self.inside.tenants.items c.self.inside.pass c.args.page free)) (unpinned c) c.join.ensures.others c.join.ensures.arena
+          (entries-long c.self.inside.table c.join.new.self c.join.ensures.contents),
       rw c.join.ensures.states (ahead-kept _ _ c.self.inside.pass.cursor (stay-set (states_of c.self.inside.table.entries) c.place_of.result (with_status Grouped) (λ state. refl)) c.self.invariant.2),
     )
 
@@ -58,7 +65,7 @@ pub returns-clause-maps : goal.returns-clause-maps
 returns-clause-maps c = rw (← c.self.view_is) (maps_kept c.self.inside.table c.join.new.self c.self.inside.shapes.items c.self.inside.tenants.items c.self.inside.pass _ c.join.ensures.contents c.join.ensures.arena)
 
 pub returns-clause-kept : goal.returns-clause-kept
-returns-clause-kept c = rw (← c.self.view_is) (parts_kept c.self.inside.table c.join.new.self c.self.inside.shapes.items c.self.inside.tenants.items c.self.inside.pass _ c.join.ensures.contents c.join.ensures.arena)
+returns-clause-kept c = rw (← c.self.view_is) (parts_kept c.self.inside.table c.join.new.self c.self.inside.shapes.items c.self.inside.tenants.items c.self.inside.pass _ c.join.ensures.contents c.join.ensures.arena refl)
 
 pub returns-clause-sharing : goal.returns-clause-sharing
 returns-clause-sharing c =

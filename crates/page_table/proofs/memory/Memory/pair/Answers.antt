@@ -1,4 +1,4 @@
-use Rattle.std.proofs.Common.{◌≡◌, ◌≢◌, ◌∙◌, ℕ, ap, arith}
+use Rattle.std.proofs.Common.{◌≡◌, ◌≢◌, ◌∙◌, ℕ, ap, arith, slice_index_or, false, refl}
 use Rattle.host_types.specs.Pages.{page_place, page_bytes}
 use Rattle.page_table.specs.State.{MemoryState, bytes_of_map}
 use Rattle.page_table.specs.Changes.{IsPageOf, MayMerge}
@@ -11,6 +11,8 @@ use Rattle.page_table.proofs.Writing.{own_entry}
 use Rattle.page_table.proofs.Merging.{maps_kept, parts_kept, settings_kept, memory_kept, free_more, have_more, may_is_own, places_apart, contents_equal}
 use Rattle.page_table.proofs.Waiters.{pass-left-both, others_of}
 use Rattle.page_table.proofs.Ahead.{ahead-told, stay-paired}
+use Rattle.page_table.proofs.Fitting.{entries-long}
+use Rattle.page_table.proofs.Partners.{may-free}
 use Rattle.page_table.proofs.memory.Memory.pair.Goals as goal
 
 abbrev before : goal.After-pair-arg-1 → MemoryState
@@ -58,11 +60,22 @@ apart c =
     rw (c.place_of-first.ensures, c.place_of-second.ensures)
     (places_apart c.self.inside.table c.self.inside.shapes.items c.self.inside.tenants.items c.self.inside.pass c.self.inside.reserved c.self.invariant.0 c.args.first c.args.second first second c.requires.apart)
 
+free_first : (c : goal.After-forget-2) → slice_index_or c.self.inside.pass.pins c.place_of-first.result false ≡ false
+free_first c =
+    let may : MayMerge (view_of c.self.inside.table c.self.inside.shapes.items c.self.inside.tenants.items c.self.inside.pass) c.args.first = rw (← c.self.view_is) at c.requires.may_first in
+    rw c.place_of-first.ensures (may-free c.self.inside.table c.self.inside.shapes.items c.self.inside.tenants.items c.self.inside.pass c.args.first may)
+
+free_second : (c : goal.After-forget-2) → slice_index_or c.self.inside.pass.pins c.place_of-second.result false ≡ false
+free_second c =
+    let may : MayMerge (view_of c.self.inside.table c.self.inside.shapes.items c.self.inside.tenants.items c.self.inside.pass) c.args.second = rw (← c.self.view_is) at c.requires.may_second in
+    rw c.place_of-second.ensures (may-free c.self.inside.table c.self.inside.shapes.items c.self.inside.tenants.items c.self.inside.pass c.args.second may)
+
 pub invariant_of-self : goal.invariant_of-self
 invariant_of-self c = (
   memory_kept c.self.inside.table c.pair.new.self c.self.inside.shapes.items c.self.inside.tenants.items c.self.inside.pass c.self.inside.pass c.pair.ensures.contents c.pair.ensures.arena
       c.self.inside.reserved c.self.invariant.0 (omega (arith, c.pair.ensures.used, c.self.invariant.0.room)),
-  rw (c.forget-2.ensures, c.forget.ensures) (pass-left-both c.self.inside.table c.pair.new.self c.self.inside.pass c.place_of-first.result c.place_of-second.result c.self.invariant.1 c.pair.ensures.others c.pair.ensures.arena),
+  rw (c.forget-2.ensures, c.forget.ensures) (pass-left-both c.self.inside.table c.pair.new.self c.self.inside.pass c.place_of-first.result c.place_of-second.result c.self.invariant.1 (free_first c) (free_second c)
+      c.pair.ensures.others c.pair.ensures.arena (entries-long c.self.inside.table c.pair.new.self c.pair.ensures.contents)),
   ahead-told c.self.inside.table c.pair.new.self (forgets c.place_of-first.result (forgets c.place_of-second.result c.self.inside.pass)) _ c.self.inside.pass.cursor (c.pair.ensures.sharing c.self.inside.pass) (stay-paired (sharing_of c.self.inside.table c.self.inside.pass) c.place_of-first.result c.place_of-second.result (apart c)) c.self.invariant.2,
 )
 
@@ -72,7 +85,7 @@ returns-clause-maps c =
 
 pub returns-clause-kept : goal.returns-clause-kept
 returns-clause-kept c =
-    rw (← c.self.view_is) (parts_kept c.self.inside.table c.pair.new.self c.self.inside.shapes.items c.self.inside.tenants.items c.self.inside.pass _ c.pair.ensures.contents c.pair.ensures.arena)
+    rw (← c.self.view_is) (parts_kept c.self.inside.table c.pair.new.self c.self.inside.shapes.items c.self.inside.tenants.items c.self.inside.pass _ c.pair.ensures.contents c.pair.ensures.arena refl)
 
 pub returns-clause-sharing : goal.returns-clause-sharing
 unfolding view_of

@@ -12,6 +12,7 @@ use Rattle.page_table.proofs.Entries.{inside}
 use Rattle.page_table.proofs.Scanning.{bytes_here, frame_told, page_there, is_page_at_entry}
 use Rattle.page_table.proofs.Partners.{IsFound, found-waiter, partners-told, waiters-frames, not-waiting, may-told, match-bytes}
 use Rattle.page_table.proofs.Waiters.{waiter_own}
+use Rattle.page_table.proofs.Fitting.{waiting-free}
 use Rattle.page_table.proofs.memory.Memory.partner.Goals as goal
 use Rattle.page_table.proofs.memory.Memory.partner.Goals.{After-find, In-Some}
 
@@ -78,7 +79,8 @@ returns-in-Some-clause-may c =
     let waiter = (found (goal.at.returns-in-Some-clause-may c).In-Some).waiter in
     rw (← c.self.view_is)
     (may-told c.self.inside.table c.self.inside.shapes.items c.self.inside.tenants.items c.self.inside.pass c.page_at.result waiter.entry (rw c.page_at.ensures.place waiter.here) waiter.mergeable
-    (waiter_own c.self.inside.table.entries c.self.inside.pass.cursor c.in-Some.waiter waiter))
+    (waiter_own c.self.inside.table.entries c.self.inside.pass.cursor c.in-Some.waiter waiter)
+    (rw c.page_at.ensures.place (waiting-free c.self.inside.table c.self.inside.pass c.in-Some.waiter.place waiter.entry c.self.invariant.1.pins waiter.here waiter.status)))
 
 pub returns-in-Some-clause-apart : goal.returns-in-Some-clause-apart
 returns-in-Some-clause-apart c e =

@@ -32,7 +32,7 @@ pub invariant_of-self : goal.invariant_of-self
 invariant_of-self c = (
   memory_written c.self.inside.table c.put.new.self c.self.inside.shapes.items c.self.inside.tenants.items c.self.inside.pass c.self.inside.reserved c.args.page c.args.at c.args.bytes.now
       c.self.invariant.0 (there c) c.requires.in_page (in_map c) (rw c.place_of.ensures at c.put.ensures.contents) c.put.ensures.entries c.put.ensures.groups c.put.ensures.arena,
-  pass-kept c.self.inside.table c.put.new.self c.self.inside.pass c.self.invariant.1 (λ i entry e own. ap (λ l. entry_at l i) c.put.ensures.entries ∙ e) c.put.ensures.arena,
+  pass-kept c.self.inside.table c.put.new.self c.self.inside.pass c.self.invariant.1 (λ i entry e own. ap (λ l. entry_at l i) c.put.ensures.entries ∙ e) c.put.ensures.arena (ap (λ l. length l) c.put.ensures.entries),
   rw c.put.ensures.entries c.self.invariant.2,
 )
 

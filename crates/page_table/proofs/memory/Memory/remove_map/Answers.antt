@@ -6,7 +6,7 @@ use Rattle.host_types.specs.Visits.{ended_at}
 use Rattle.page_table.specs.Limits.{page_count}
 use Rattle.page_table.specs.Table.{contents_of, sharing_of}
 use Rattle.page_table.specs.View.{view_of}
-use Rattle.page_table.proofs.Dropping.{Drops, left_outside, pass-outside, index_inside, places_inside, pages_there, memory_dropped, drops}
+use Rattle.page_table.proofs.Dropping.{Drops, left_outside, pass-outside, index_inside, places_inside, pages_there, few, map_pins, long_new, memory_dropped, drops}
 use Rattle.page_table.proofs.memory.Memory.remove_map.Goals as goal
 
 pub remove_all-requires-clause-inside : goal.remove_all-requires-clause-inside
@@ -14,6 +14,16 @@ remove_all-requires-clause-inside c = rw (c.map_index-index.ensures, c.pages-cou
 
 pub remove_all-requires-clause-there : goal.remove_all-requires-clause-there
 remove_all-requires-clause-there c = rw (c.map_index-index.ensures, c.pages-count.ensures) (pages_there c.self.inside.table c.self.inside.shapes.items c.self.inside.tenants.items c.self.inside.pass c.self.inside.reserved c.args.tenant c.args.map c.args.shape c.args.self.now c.self.view_is c.self.invariant.0 c.requires.tenant c.requires.there)
+
+pub release-requires-clause-map : goal.release-requires-clause-map
+release-requires-clause-map c =
+    let inside = map_pins c.self.inside.table c.self.inside.shapes.items c.self.inside.tenants.items c.self.inside.pass c.self.inside.reserved c.args.tenant c.args.map c.args.shape c.args.self.now c.self.view_is c.self.invariant.0 c.requires.tenant c.requires.there c.self.invariant.1.pins in
+    omega (arith, inside, c.map_index-index.ensures)
+
+pub release-requires-clause-few : goal.release-requires-clause-few
+release-requires-clause-few c =
+    let told = index_inside c.self.inside.table c.self.inside.shapes.items c.self.inside.tenants.items c.self.inside.pass c.self.inside.reserved c.args.tenant c.args.map c.args.shape c.args.self.now c.self.view_is c.self.invariant.0 c.requires.tenant c.requires.there in
+    omega (arith, told, c.map_index-index.ensures, c.self.invariant.0.numbers, c.self.invariant.0.few)
 
 pub index_mut-requires : goal.index_mut-requires
 index_mut-requires c =
@@ -29,12 +39,12 @@ end_if_done-requires-clause-maps c =
 contents : (c : goal.After-end_if_done) → contents_of c.remove_all.new.self ≡ with_part (contents_of c.self.inside.table) (map_place c.args.tenant c.args.map * 256) (replicate (page_count c.args.shape) [])
 contents c = rw (c.map_index-index.ensures, c.pages-count.ensures) at c.remove_all.ensures.contents
 
-gone : (c : goal.After-end_if_done) → sharing_of c.remove_all.new.self c.self.inside.pass ≡ gone_from (sharing_of c.self.inside.table c.self.inside.pass) (map_place c.args.tenant c.args.map * 256) (page_count c.args.shape)
+gone : (c : goal.After-end_if_done) → sharing_of c.remove_all.new.self c.self.inside.pass ≡ record (gone_from (sharing_of c.self.inside.table c.self.inside.pass) (map_place c.args.tenant c.args.map * 256) (page_count c.args.shape)) { pins = c.self.inside.pass.pins }
 gone c = rw (c.map_index-index.ensures, c.pages-count.ensures) at (c.remove_all.ensures.sharing c.self.inside.pass)
 
 ended : (c : goal.After-end_if_done) → sharing_of c.remove_all.new.self c.end_if_done.new.pass
     ≡ ended_at (sharing_of c.remove_all.new.self (left_outside (map_place c.args.tenant c.args.map * 256) (map_place c.args.tenant c.args.map * 256 + page_count c.args.shape) c.self.inside.pass)) c.self.inside.pass.cursor
-ended c = rw (c.forget_all.ensures, c.map_index-index.ensures, c.pages-count.ensures) at c.end_if_done.ensures.ended
+ended c = rw (c.forget_all.ensures, c.release.ensures, c.map_index-index.ensures, c.pages-count.ensures) at c.end_if_done.ensures.ended
 
 pub invariant_of-self : goal.invariant_of-self
 invariant_of-self c = (
@@ -42,15 +52,18 @@ invariant_of-self c = (
       (memory_dropped c.self.inside.table c.self.inside.shapes.items c.self.inside.tenants.items c.self.inside.pass c.self.inside.reserved c.args.tenant c.args.map c.args.shape c.args.self.now c.self.view_is c.self.invariant.0 c.requires.tenant c.requires.there
       c.remove_all.new.self (contents c) c.remove_all.ensures.used c.remove_all.ensures.arena),
   c.end_if_done.ensures.kept
-      (rw c.forget_all.ensures
-      (pass-outside c.self.inside.table c.remove_all.new.self c.self.inside.pass (c.map_index-index.result * 256) c.pages-count.result c.self.invariant.1 c.remove_all.ensures.kept c.remove_all.ensures.arena)),
+      (rw (c.forget_all.ensures, c.release.ensures)
+      (pass-outside c.self.inside.table c.remove_all.new.self c.self.inside.pass (c.map_index-index.result * 256) c.pages-count.result c.self.invariant.1 c.remove_all.ensures.kept c.remove_all.ensures.arena
+      (long_new c.self.inside.table c.self.inside.shapes.items c.self.inside.tenants.items c.self.inside.pass c.self.inside.reserved c.args.tenant c.args.map c.args.shape c.args.self.now c.self.view_is c.self.invariant.0 c.requires.tenant c.requires.there c.remove_all.new.self (contents c) c.remove_all.ensures.used c.remove_all.ensures.arena)
+      (rw c.pages-count.ensures (few c.self.inside.table c.self.inside.shapes.items c.self.inside.tenants.items c.self.inside.pass c.self.inside.reserved c.args.tenant c.args.map c.args.shape c.args.self.now c.self.view_is c.self.invariant.0 c.requires.tenant c.requires.there))
+      (rw c.map_index-index.ensures (map_pins c.self.inside.table c.self.inside.shapes.items c.self.inside.tenants.items c.self.inside.pass c.self.inside.reserved c.args.tenant c.args.map c.args.shape c.args.self.now c.self.view_is c.self.invariant.0 c.requires.tenant c.requires.there c.self.invariant.1.pins)))),
   c.end_if_done.ensures.ahead,
 )
 
 told : (c : goal.After-end_if_done) → Drops (view_of c.self.inside.table c.self.inside.shapes.items c.self.inside.tenants.items c.self.inside.pass) (view_of c.remove_all.new.self (slice_set c.self.inside.shapes.items (map_place c.args.tenant c.args.map) None) c.self.inside.tenants.items c.end_if_done.new.pass) c.args.tenant c.args.map c.args.shape
 told c =
     drops c.self.inside.table c.self.inside.shapes.items c.self.inside.tenants.items c.self.inside.pass c.self.inside.reserved c.args.tenant c.args.map c.args.shape c.args.self.now c.self.view_is c.self.invariant.0 c.requires.tenant c.requires.there
-    c.remove_all.new.self (contents c) c.remove_all.ensures.used c.remove_all.ensures.arena c.end_if_done.new.pass (ended c) (gone c)
+    c.remove_all.new.self (contents c) c.remove_all.ensures.used c.remove_all.ensures.arena c.facts.ensures.1.fits c.self.invariant.1.pins c.end_if_done.new.pass (ended c) (gone c)
 
 pub returns-clause-dropped : goal.returns-clause-dropped
 returns-clause-dropped c = rw (← c.self.view_is, c.map_index-index.ensures) (told c).taken

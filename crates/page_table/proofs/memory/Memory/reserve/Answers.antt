@@ -7,4 +7,6 @@ use Rattle.page_table.proofs.memory.Memory.reserve.Goals as goal
 pub returns : goal.returns
 unfolding view_of part
 returns c =
-    rw (← c.self.view_is) (c.reserve_of.ensures ∙ ap (λ (tenants : List Tenant). (slice_index_or tenants c.args.tenant unreserved_tenant).reserve) c.deref.ensures.value)
+    rw (← c.self.view_is)
+    (ap (λ (tenant : Tenant). tenant.reserve) c.tenant_in.ensures
+    ∙ ap (λ (tenants : List Tenant). (slice_index_or tenants c.args.tenant unreserved_tenant).reserve) c.deref.ensures.value)

@@ -1,10 +1,12 @@
-use Rattle.std.proofs.Common.{◌≡◌, ◌≤◌, ◌+◌, length, arith}
+use Rattle.std.proofs.Common.{◌≡◌, ◌≤◌, ◌+◌, length, ap, arith}
 use Rattle.host_types.specs.Unmerging.{unmerge_need}
+use Rattle.page_table.specs.declared.pass.Pass.{Pass}
 use Rattle.page_table.specs.State.{MemoryState, have_of}
 use Rattle.page_table.specs.Table.{used_by, sharing_of}
 use Rattle.page_table.specs.View.{view_of}
 use Rattle.page_table.proofs.Merging.{maps_kept, parts_kept, settings_kept, memory_kept, free_less, have_less}
 use Rattle.page_table.proofs.Unmerging.{need_reserved, need_fits, unmerged_is, unmerged_apart, pass_stopped}
+use Rattle.page_table.proofs.Fitting.{entries-long}
 use Rattle.page_table.proofs.Waiters.{pass-kept}
 use Rattle.page_table.proofs.Ahead.{ahead-told, stay-broken_from}
 use Rattle.page_table.proofs.memory.Memory.unmerge.Goals as goal
@@ -34,7 +36,7 @@ invariant_of-self c =
       memory_kept c.self.inside.table c.take_out_all.new.self c.self.inside.shapes.items c.self.inside.tenants.items c.self.inside.pass c.self.inside.pass c.take_out_all.ensures.contents c.take_out_all.ensures.arena
           c.self.inside.reserved c.self.invariant.0 (omega (arith, used c, room)),
       pass_stopped c.take_out_all.new.self c.self.inside.pass c.set.new.self c.set.ensures
-          (pass-kept c.self.inside.table c.take_out_all.new.self c.self.inside.pass c.self.invariant.1 c.take_out_all.ensures.kept c.take_out_all.ensures.arena),
+          (pass-kept c.self.inside.table c.take_out_all.new.self c.self.inside.pass c.self.invariant.1 c.take_out_all.ensures.kept c.take_out_all.ensures.arena (entries-long c.self.inside.table c.take_out_all.new.self c.take_out_all.ensures.contents)),
       rw c.set.ensures (ahead-told c.self.inside.table c.take_out_all.new.self c.self.inside.pass _ c.self.inside.pass.cursor (c.take_out_all.ensures.sharing c.self.inside.pass) (stay-broken_from (sharing_of c.self.inside.table c.self.inside.pass) 0 _) c.self.invariant.2),
     )
 
@@ -44,7 +46,7 @@ returns-clause-maps c =
 
 pub returns-clause-kept : goal.returns-clause-kept
 returns-clause-kept c =
-    rw (← c.self.view_is) (parts_kept c.self.inside.table c.take_out_all.new.self c.self.inside.shapes.items c.self.inside.tenants.items c.self.inside.pass _ c.take_out_all.ensures.contents c.take_out_all.ensures.arena)
+    rw (← c.self.view_is) (parts_kept c.self.inside.table c.take_out_all.new.self c.self.inside.shapes.items c.self.inside.tenants.items c.self.inside.pass _ c.take_out_all.ensures.contents c.take_out_all.ensures.arena (ap (λ (pass : Pass). pass.pins) c.set.ensures))
 
 pub returns-clause-sharing : goal.returns-clause-sharing
 unfolding view_of

@@ -1,4 +1,4 @@
-use Rattle.std.proofs.Common.{◌≡◌, ◌∙◌, ◌≤◌, IfSome, true, false, refl, length, ap, arith}
+use Rattle.std.proofs.Common.{◌≡◌, ◌∙◌, ◌≤◌, IfSome, true, false, refl, length, ap, arith, slice_index_or}
 use Rattle.host_types.specs.declared.status.Status.TheVariants.{Waiting}
 use Rattle.host_types.specs.Pages.{page_place}
 use Rattle.host_types.specs.Visits.{waits}
@@ -10,8 +10,9 @@ use Rattle.page_table.proofs.Reading.{is_page_at}
 use Rattle.page_table.proofs.Writing.{own_entry}
 use Rattle.page_table.proofs.Merging.{maps_kept, parts_kept, settings_kept, memory_kept, have_less, may_is_own}
 use Rattle.page_table.proofs.Marking.{marked_entry}
-use Rattle.page_table.proofs.Partners.{not-waiting, room-left, pass-waits, is-behind, may-entry, sharing-waits}
+use Rattle.page_table.proofs.Partners.{not-waiting, room-left, pass-waits, is-behind, may-entry, sharing-waits, may-free}
 use Rattle.page_table.proofs.Ahead.{ahead-told, stay-marked}
+use Rattle.page_table.proofs.Fitting.{entries-long}
 use Rattle.page_table.proofs.memory.Memory.wait.Goals as goal
 
 pub page-frame-requires : goal.page-frame-requires
@@ -54,13 +55,19 @@ behind c =
     let behind : IfSome c.self.inside.pass.cursor (λ n. page_place c.args.page ≤ n) = rw (← c.self.view_is) at c.requires.behind in
     rw c.place_of-place.ensures (is-behind c.self.inside.pass.cursor (page_place c.args.page) behind)
 
+unpinned : (c : goal.After-insert) → slice_index_or c.self.inside.pass.pins c.place_of-place.result false ≡ false
+unpinned c =
+    let may : MayMerge (view_of c.self.inside.table c.self.inside.shapes.items c.self.inside.tenants.items c.self.inside.pass) c.args.page = rw (← c.self.view_is) at c.requires.may in
+    rw c.place_of-place.ensures (may-free c.self.inside.table c.self.inside.shapes.items c.self.inside.tenants.items c.self.inside.pass c.args.page may)
+
 pub invariant_of-self : goal.invariant_of-self
 invariant_of-self c = (
   memory_kept c.self.inside.table c.mark.new.self c.self.inside.shapes.items c.self.inside.tenants.items c.self.inside.pass c.self.inside.pass c.mark.ensures.contents (arena c)
       c.self.inside.reserved c.self.invariant.0 (omega (arith, c.mark.ensures.used, c.self.invariant.0.room)),
   rw c.insert.ensures
       (pass-waits c.self.inside.table c.mark.new.self c.self.inside.pass (record { place = c.place_of-place.result; frame = c.page-frame.result.frame; fingerprint = c.args.fingerprint })
-      (marked_entry c.page-frame.result Waiting c.args.fingerprint) c.self.invariant.1 (free c) c.mark.ensures.others (arena c) (c.mark.ensures.here c.page-frame.result c.page-frame.ensures) refl refl (mergeable c) (behind c)),
+      (marked_entry c.page-frame.result Waiting c.args.fingerprint) c.self.invariant.1 (free c) (unpinned c) c.mark.ensures.others (arena c)
+      (entries-long c.self.inside.table c.mark.new.self c.mark.ensures.contents) (c.mark.ensures.here c.page-frame.result c.page-frame.ensures) refl refl (mergeable c) (behind c)),
   ahead-told c.self.inside.table c.mark.new.self c.self.inside.pass _ c.self.inside.pass.cursor (c.mark.ensures.sharing c.self.inside.pass) (stay-marked (sharing_of c.self.inside.table c.self.inside.pass) c.place_of-place.result _ _) c.self.invariant.2,
 )
 
@@ -68,7 +75,7 @@ pub returns-clause-maps : goal.returns-clause-maps
 returns-clause-maps c = rw (← c.self.view_is) (maps_kept c.self.inside.table c.mark.new.self c.self.inside.shapes.items c.self.inside.tenants.items c.self.inside.pass _ c.mark.ensures.contents (arena c))
 
 pub returns-clause-kept : goal.returns-clause-kept
-returns-clause-kept c = rw (← c.self.view_is) (parts_kept c.self.inside.table c.mark.new.self c.self.inside.shapes.items c.self.inside.tenants.items c.self.inside.pass _ c.mark.ensures.contents (arena c))
+returns-clause-kept c = rw (← c.self.view_is) (parts_kept c.self.inside.table c.mark.new.self c.self.inside.shapes.items c.self.inside.tenants.items c.self.inside.pass _ c.mark.ensures.contents (arena c) refl)
 
 pub returns-clause-sharing : goal.returns-clause-sharing
 unfolding view_of

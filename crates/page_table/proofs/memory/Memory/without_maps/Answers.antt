@@ -1,20 +1,26 @@
-use Rattle.std.proofs.Common.{◌≡◌, ◌*◌, replicate, None, rules}
+use Rattle.std.proofs.Common.{◌≡◌, ◌∙◌, ◌*◌, ℕ, replicate, None, ap, arith, rules}
 use Rattle.page_table.specs.State.{unreserved_tenant}
+use Rattle.page_table.specs.Table.{new_pass}
 use Rattle.page_table.proofs.Empty.{memory_new, view_new, pass_new}
 use Rattle.page_table.proofs.memory.Memory.without_maps.Goals as goal
 
-shapes : (c : goal.In_ok-pass) → c.in_ok-shapes.shapes.items ≡ replicate (c.args.tenants * 8) None
+shapes : (c : goal.In_ok-tenants) → c.in_ok-shapes.shapes.items ≡ replicate (c.args.tenants * 8) None
 shapes c = search rules
 
-tenants : (c : goal.In_ok-pass) → c.in_ok-tenants.tenants.items ≡ replicate c.args.tenants unreserved_tenant
+tenants : (c : goal.In_ok-tenants) → c.in_ok-tenants.tenants.items ≡ replicate c.args.tenants unreserved_tenant
 tenants c = search rules
+
+started : (c : goal.In_ok-tenants) → c.in_ok-pass.pass ≡ new_pass c.args.frames (c.args.tenants * 2048) c.args.options
+started c =
+    let same : c.args.tenants * 8 * 256 ≡ c.args.tenants * 2048 = omega arith in
+    c.in_ok-pass.ensures ∙ ap (λ (places : ℕ). new_pass c.args.frames places c.args.options) same
 
 pub invariant_of-result : goal.invariant_of-result
 invariant_of-result c = (
   rw (c.in_ok-table.ensures, shapes c, tenants c) (memory_new c.args.frames c.args.tenants c.args.options c.requires),
-  rw (c.in_ok-table.ensures, c.in_ok-pass.ensures) (pass_new c.args.frames c.args.tenants c.args.options c.requires),
-  rw c.in_ok-pass.ensures tt,
+  rw (c.in_ok-table.ensures, started c) (pass_new c.args.frames c.args.tenants c.args.options c.requires),
+  rw (started c) tt,
 )
 
 pub returns : goal.returns
-returns c = rw (c.in_ok-table.ensures, c.in_ok-pass.ensures, shapes c, tenants c) (view_new c.args.frames c.args.tenants c.args.options c.requires)
+returns c = rw (c.in_ok-table.ensures, started c, shapes c, tenants c) (view_new c.args.frames c.args.tenants c.args.options c.requires)

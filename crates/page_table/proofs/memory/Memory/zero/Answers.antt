@@ -1,4 +1,4 @@
-use Rattle.std.proofs.Common.{◌≡◌, ◌∙◌, ap, arith}
+use Rattle.std.proofs.Common.{◌≡◌, ◌∙◌, ap, arith, slice_index_or, false, refl}
 use Rattle.host_types.specs.Pages.{page_bytes, zero_page}
 use Rattle.page_table.specs.State.{MemoryState, bytes_of_map}
 use Rattle.page_table.specs.Changes.{IsPageOf, MayMerge}
@@ -11,6 +11,8 @@ use Rattle.page_table.proofs.Writing.{own_entry}
 use Rattle.page_table.proofs.Merging.{maps_kept, parts_kept, settings_kept, memory_kept, free_more, have_more, may_is_own}
 use Rattle.page_table.proofs.Waiters.{pass-left}
 use Rattle.page_table.proofs.Ahead.{ahead-told, stay-zeroed}
+use Rattle.page_table.proofs.Fitting.{entries-long}
+use Rattle.page_table.proofs.Partners.{may-free}
 use Rattle.page_table.proofs.memory.Memory.zero.Goals as goal
 
 abbrev first : goal.After-zero-arg-1 → MemoryState
@@ -33,11 +35,17 @@ zero-requires-clause-zeros c =
     let zeros : page_bytes (bytes_of_map (first c) c.args.page) c.args.page.number ≡ zero_page = rw (← c.self.view_is) at c.requires.zeros in
     rw c.place_of-place.ensures (content_is c.self.inside.table c.self.inside.shapes.items c.self.inside.tenants.items c.self.inside.pass c.self.inside.reserved c.args.page c.self.invariant.0 (there c) ∙ zeros)
 
+free : (c : goal.After-forget) → slice_index_or c.self.inside.pass.pins c.place_of-place.result false ≡ false
+free c =
+    let may : MayMerge (view_of c.self.inside.table c.self.inside.shapes.items c.self.inside.tenants.items c.self.inside.pass) c.args.page = rw (← c.self.view_is) at c.requires.may in
+    rw c.place_of-place.ensures (may-free c.self.inside.table c.self.inside.shapes.items c.self.inside.tenants.items c.self.inside.pass c.args.page may)
+
 pub invariant_of-self : goal.invariant_of-self
 invariant_of-self c = (
   memory_kept c.self.inside.table c.zero.new.self c.self.inside.shapes.items c.self.inside.tenants.items c.self.inside.pass c.self.inside.pass c.zero.ensures.contents c.zero.ensures.arena
       c.self.inside.reserved c.self.invariant.0 (omega (arith, c.zero.ensures.used, c.self.invariant.0.room)),
-  rw c.forget.ensures (pass-left c.self.inside.table c.zero.new.self c.self.inside.pass c.place_of-place.result c.self.invariant.1 c.zero.ensures.others c.zero.ensures.arena),
+  rw c.forget.ensures (pass-left c.self.inside.table c.zero.new.self c.self.inside.pass c.place_of-place.result c.self.invariant.1 (free c) c.zero.ensures.others c.zero.ensures.arena
+      (entries-long c.self.inside.table c.zero.new.self c.zero.ensures.contents)),
   ahead-told c.self.inside.table c.zero.new.self (forgets c.place_of-place.result c.self.inside.pass) _ c.self.inside.pass.cursor (c.zero.ensures.sharing c.self.inside.pass) (stay-zeroed (sharing_of c.self.inside.table c.self.inside.pass) c.place_of-place.result) c.self.invariant.2,
 )
 
@@ -47,7 +55,7 @@ returns-clause-maps c =
 
 pub returns-clause-kept : goal.returns-clause-kept
 returns-clause-kept c =
-    rw (← c.self.view_is) (parts_kept c.self.inside.table c.zero.new.self c.self.inside.shapes.items c.self.inside.tenants.items c.self.inside.pass _ c.zero.ensures.contents c.zero.ensures.arena)
+    rw (← c.self.view_is) (parts_kept c.self.inside.table c.zero.new.self c.self.inside.shapes.items c.self.inside.tenants.items c.self.inside.pass _ c.zero.ensures.contents c.zero.ensures.arena refl)
 
 pub returns-clause-sharing : goal.returns-clause-sharing
 unfolding view_of

@@ -1,8 +1,8 @@
-use Rattle.std.proofs.Common.{◌∙◌, inl, inr, ⊎_elim, List, [], ℕ, ◌+◌, length, slice_index_or, slice_set, refl, sym, ap, arith}
-use Rattle.host_types.specs.Sharing.{Sharing, gone, gone_from}
-use Rattle.page_table.specs.Table.{contents_of, sharing_of}
+use Rattle.std.proofs.Common.{◌∙◌, inl, inr, ⊎_elim, List, [], ℕ, ◌+◌, length, slice_index_or, slice_set, refl, ap, arith}
+use Rattle.host_types.specs.Sharing.{gone_from}
+use Rattle.page_table.specs.Table.{contents_of}
 use Rattle.page_table.proofs.Creating.{filled_more, behind_filled, with_part-none, length-contents}
-use Rattle.page_table.proofs.Vacating.{gone_from-last}
+use Rattle.page_table.proofs.Vacating.{gone-more}
 use Rattle.page_table.proofs.table.Table.remove_all.Goals as goal
 
 pub loop-number-init : goal.loop-number-init
@@ -32,9 +32,7 @@ loop-number-preserved c =
       contents = c.remove.ensures.contents
           ∙ ap (λ (l : List (List ℕ)). slice_set l (c.args.first + c.loop-number.number) []) c.loop-number.invariant.contents
           ∙ filled_more (contents_of c.args.self.now) c.args.first c.loop-number.number [] (omega (arith, long, c.requires.inside, c.loop-number-test.true));
-      sharing = λ pass. c.remove.ensures.sharing pass
-          ∙ ap (λ (s : Sharing). gone s (c.args.first + c.loop-number.number)) (c.loop-number.invariant.sharing pass)
-          ∙ sym (gone_from-last (sharing_of c.args.self.now pass) c.args.first c.loop-number.number);
+      sharing = λ pass. gone-more c.args.self.now c.loop-number.self c.remove.new.self pass c.args.first c.loop-number.number (c.loop-number.invariant.sharing pass) (c.remove.ensures.sharing pass);
       used = omega (arith, c.remove.ensures.used, c.loop-number.invariant.used);
       arena = c.remove.ensures.arena ∙ c.loop-number.invariant.arena;
       kept = λ i entry out here own. c.remove.ensures.kept i entry (⊎_elim (λ less. inl (omega (arith, less))) (λ more. inr (omega (arith, more))) out)

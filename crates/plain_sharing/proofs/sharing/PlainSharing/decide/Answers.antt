@@ -10,13 +10,13 @@ returns-in_default c =
     ap (decided (plain_contents c.args.contents.now) c.args.self.now c.args.place) (sym c.page.ensures ∙ ap (option_map page_of) c.in_default.is)
     ∙ decided-none (plain_contents c.args.contents.now) c.args.self.now c.args.place
 
-pub returns-then-is_shared : goal.returns-then-is_shared
-returns-then-is_shared c =
+pub returns-then-stays : goal.returns-then-stays
+returns-then-stays c =
     ap (decided (plain_contents c.args.contents.now) c.args.self.now c.args.place) (sym c.page.ensures ∙ ap (option_map page_of) c.in-Some.is)
-    ∙ decided-already (plain_contents c.args.contents.now) c.args.self.now c.args.place (page_of c.in-Some.page) (sym c.is_shared-is_shared.ensures ∙ c.if-is_shared.true)
+    ∙ decided-already (plain_contents c.args.contents.now) c.args.self.now c.args.place (page_of c.in-Some.page) (sym c.stays.ensures ∙ c.if-stays.true)
 
 pub returns : goal.returns
 returns c =
     ap (decided (plain_contents c.args.contents.now) c.args.self.now c.args.place) (sym c.page.ensures ∙ ap (option_map page_of) c.in-Some.is)
-    ∙ decided-own (plain_contents c.args.contents.now) c.args.self.now c.args.place (page_of c.in-Some.page) (sym c.is_shared-is_shared.ensures ∙ c.if-is_shared.false)
+    ∙ decided-own (plain_contents c.args.contents.now) c.args.self.now c.args.place (page_of c.in-Some.page) (sym c.stays.ensures ∙ c.if-stays.false)
     ∙ c.in_ok-visited.ensures

@@ -23,9 +23,9 @@ returns-then-is_joined-clause-joined c =
     let whole_pages = take_at c.set_status.new.pages (drop (length c.set_status.new.pages) c.self.inside.pages.items) c.self.inside.pages.len (c.set_status.auto.pages ∙ c.deref_mut-then-is_joined.ensures.len) in
     let whole_groups = take_at c.join_first.new.groups (drop (length c.join_first.new.groups) c.self.inside.groups.items) c.self.inside.groups.len (c.join_first.auto.groups ∙ c.deref_mut.ensures.len) in
     let all_groups = take c.self.inside.groups.len (c.join_first.new.groups ++ drop (length c.join_first.new.groups) c.self.inside.groups.items) in
-    ap (λ (pages : List (Option PageState)). state pages (places_of all_groups) c.self.inside.waiting.items c.self.inside.cursor c.self.inside.options c.self.inside.full_scans)
+    ap (λ (pages : List (Option PageState)). state pages (places_of all_groups) c.self.inside.waiting.items c.self.inside.cursor c.self.inside.options c.self.inside.full_scans c.self.inside.pins.items)
     (ap page_states whole_pages ∙ c.set_status.ensures ∙ ap changed c.deref_mut-then-is_joined.ensures.value)
-    ∙ ap (λ (groups : List (List ℕ)). state (changed c.self.inside.pages.items) groups c.self.inside.waiting.items c.self.inside.cursor c.self.inside.options c.self.inside.full_scans)
+    ∙ ap (λ (groups : List (List ℕ)). state (changed c.self.inside.pages.items) groups c.self.inside.waiting.items c.self.inside.cursor c.self.inside.options c.self.inside.full_scans c.self.inside.pins.items)
     (ap places_of whole_groups ∙ c.in_ok-is_joined.ensures.joined ∙ ap grown c.deref_mut.ensures.value)
     ∙ ap (λ (s : Sharing). joined (plain_contents c.args.contents.now) s c.args.place) c.self.view_is
     ∙ sym (ap (λ (b : Bool). if b then joined (plain_contents c.args.contents.now) c.args.self.now c.args.place else c.args.self.now) c.if-is_joined.true)
@@ -38,6 +38,6 @@ pub returns-else-is_joined-clause-joined : goal.returns-else-is_joined-clause-jo
 returns-else-is_joined-clause-joined c =
     let kept = c.in_ok-is_joined.ensures.joined ∙ none_joined _ c.args.place _ (sym c.in_ok-is_joined.ensures.told ∙ c.if-is_joined.false) in
     let whole = take_at c.join_first.new.groups (drop (length c.join_first.new.groups) c.self.inside.groups.items) c.self.inside.groups.len (c.join_first.auto.groups ∙ c.deref_mut.ensures.len) in
-    ap (λ (groups : List (List ℕ)). state (page_states c.self.inside.pages.items) groups c.self.inside.waiting.items c.self.inside.cursor c.self.inside.options c.self.inside.full_scans) (ap places_of whole ∙ kept ∙ ap places_of c.deref_mut.ensures.value)
+    ap (λ (groups : List (List ℕ)). state (page_states c.self.inside.pages.items) groups c.self.inside.waiting.items c.self.inside.cursor c.self.inside.options c.self.inside.full_scans c.self.inside.pins.items) (ap places_of whole ∙ kept ∙ ap places_of c.deref_mut.ensures.value)
     ∙ c.self.view_is
     ∙ sym (ap (λ (b : Bool). if b then joined (plain_contents c.args.contents.now) c.args.self.now c.args.place else c.args.self.now) c.if-is_joined.false)

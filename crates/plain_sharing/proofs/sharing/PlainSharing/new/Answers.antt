@@ -1,9 +1,14 @@
-use Rattle.std.proofs.Common.{◌≡◌, replicate, [], None, ap, option_map, rules}
-use Rattle.plain_sharing.specs.View.{page_of, sharing_at_rest}
+use Rattle.std.proofs.Common.{◌≡◌, ◌∙◌, ℕ, replicate, length, [], false, None, sym, ap, option_map, rules}
+use Rattle.std.proofs.lemmas.List.{length-map, length-replicate}
+use Rattle.plain_sharing.specs.View.{page_of, page_states, sharing_at_rest}
 use Rattle.host_types.proofs.Lists.{map-replicate}
 use Rattle.plain_sharing.proofs.sharing.PlainSharing.new.Goals as goal
 
 pub returns : goal.returns
 returns c =
     let pages : c.in_ok-pages.pages.items ≡ replicate c.args.places None = search rules in
-    rw (pages, c.new.ensures.items, c.new-2.ensures.items) (ap (λ pages. sharing_at_rest pages [] c.args.options) (map-replicate (option_map page_of) c.args.places None))
+    let pins : c.in_ok-pins.pins.items ≡ replicate c.args.places false = search rules in
+    let states : page_states (replicate c.args.places None) ≡ replicate c.args.places None = map-replicate (option_map page_of) c.args.places None in
+    let places : replicate c.args.places false ≡ replicate (length (page_states (replicate c.args.places None))) false =
+    ap (λ (n : ℕ). replicate n false) (sym (length-map (replicate c.args.places None) (option_map page_of) ∙ length-replicate c.args.places None)) in
+    rw (pages, pins, places, c.new.ensures.items, c.new-2.ensures.items) (ap (λ pages. sharing_at_rest pages [] c.args.options) states)

@@ -13,6 +13,6 @@ unfolding waits
 returns c =
     let changed : List (Option PlainPage) → List (Option PageState) = λ pages. slice_set (page_states pages) c.args.place (option_map (with_status Waiting) (slice_index_or (page_states pages) c.args.place None)) in
     let whole = take_at c.set_status.new.pages (drop (length c.set_status.new.pages) c.self.inside.pages.items) c.self.inside.pages.len (c.set_status.auto.pages ∙ c.deref_mut.ensures.len) in
-    ap (λ (pages : List (Option PageState)). state pages (places_of c.self.inside.groups.items) c.insert.new.waiting.items c.self.inside.cursor c.self.inside.options c.self.inside.full_scans) (ap page_states whole ∙ c.set_status.ensures ∙ ap changed c.deref_mut.ensures.value)
-    ∙ ap (λ (waiting : List (ℕ × ℕ)). state (changed c.self.inside.pages.items) (places_of c.self.inside.groups.items) waiting c.self.inside.cursor c.self.inside.options c.self.inside.full_scans) c.in_ok-insert.ensures
+    ap (λ (pages : List (Option PageState)). state pages (places_of c.self.inside.groups.items) c.insert.new.waiting.items c.self.inside.cursor c.self.inside.options c.self.inside.full_scans c.self.inside.pins.items) (ap page_states whole ∙ c.set_status.ensures ∙ ap changed c.deref_mut.ensures.value)
+    ∙ ap (λ (waiting : List (ℕ × ℕ)). state (changed c.self.inside.pages.items) (places_of c.self.inside.groups.items) waiting c.self.inside.cursor c.self.inside.options c.self.inside.full_scans c.self.inside.pins.items) c.in_ok-insert.ensures
     ∙ ap (λ (s : Sharing). waits s c.args.place c.args.fingerprint) c.self.view_is

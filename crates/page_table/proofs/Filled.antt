@@ -1,0 +1,186 @@
+-- How many pages are pinned, where one is pinned more, and where those of a map aren't any more.
+use Rattle.std.proofs.Common.{◌≡◌, ◌≢◌, ◌∙◌, ◌⊎◌, ⊎_elim, ℕ, zero, suc, ◌+◌, ◌-◌, ◌*◌, ◌/◌, ◌%◌, ◌<◌, ◌≤◌, Bool, true, false, if◌then◌else◌, List, [], ◌∷◌, ◌++◌, length, take, drop, replicate, slice_index_or, slice_set, refl, sym, ap, subst, arith}
+use Rattle.std.proofs.lemmas.List.{get_or-set_same, get_or-set_other, length-set, length-replicate, take-replicate, drop-replicate, get_or-replicate, get_or-take, get_or-drop}
+use Rattle.std.proofs.Math.Seq.{take-append_seam}
+use Rattle.std.proofs.lemmas.List.Sums.{sum_by-cons, sum_by-set}
+use Rattle.std.proofs.lemmas.List.Folds.{sum_by-replicate}
+use Rattle.host_types.specs.Bytes.{part_of, with_part}
+use Rattle.host_types.proofs.Lists.{length-part_of, length-with_part, part-with_part_same}
+use Rattle.frame_arena.proofs.Parts.{with_part-same}
+use Rattle.page_table.specs.Pins.{pinned_among, ArePinsOf}
+use Rattle.page_table.proofs.Creating.{filled_more, with_part-none, others-filled}
+use Rattle.page_table.proofs.Maps.{part_of-set_same, part_of-set_other}
+
+abbrev one_if : Bool → ℕ
+one_if b = if b then 1 else 0
+
+-- no more pages are pinned than there are
+few-pinned : (pins : List Bool) → pinned_among pins ≤ length pins
+few-pinned [] = omega arith
+few-pinned (b ∷ pins) = let rest = few-pinned pins in let head = few b in let split = sum_by-cons one_if b pins in omega (arith, rest, head, split)
+  where
+    few : (b : Bool) → one_if b ≤ 1
+    few true = omega arith
+    few false = omega arith
+
+pub none-pinned : (n : ℕ) → pinned_among (replicate n false) ≡ 0
+none-pinned n = sum_by-replicate one_if n false ∙ omega arith
+
+-- where none is pinned, the list says so of each place
+pub all-false : (pins : List Bool) → pinned_among pins ≡ 0 → pins ≡ replicate (length pins) false
+all-false [] none = refl
+all-false (true ∷ pins) none = absurd (let split = sum_by-cons one_if true pins in omega (arith, none, split))
+all-false (false ∷ pins) none = let split = sum_by-cons one_if false pins in ap (λ (l : List Bool). false ∷ l) (all-false pins (omega (arith, none, split)))
+
+-- what is filled behind a filled part is a longer part
+filled-behind : (pins : List Bool) (at n m : ℕ) → at + n + m ≤ length pins → with_part (with_part pins at (replicate n false)) (at + n) (replicate m false) ≡ with_part pins at (replicate (n + m) false)
+filled-behind pins at n zero inside =
+    let same : n ≡ n + 0 = omega arith in
+    sym (with_part-none (with_part pins at (replicate n false)) (at + n)) ∙ ap (λ (k : ℕ). with_part pins at (replicate k false)) same
+filled-behind pins at n (suc m) inside =
+    let one : m + 1 ≡ suc m = omega arith in
+    let sum : n + m + 1 ≡ n + suc m = omega arith in
+    let place : at + n + m ≡ at + (n + m) = omega arith in
+    let filled = length-replicate n false in
+    let long = length-with_part pins at (replicate n false) (omega (arith, filled, inside)) in
+    ap (λ (k : ℕ). with_part (with_part pins at (replicate n false)) (at + n) (replicate k false)) (sym one)
+    ∙ sym (filled_more (with_part pins at (replicate n false)) (at + n) m false (omega (arith, long, inside)))
+    ∙ ap (λ (l : List Bool). slice_set l (at + n + m) false) (filled-behind pins at n m (omega (arith, inside)))
+    ∙ ap (λ (i : ℕ). slice_set (with_part pins at (replicate (n + m) false)) i false) place
+    ∙ filled_more pins at (n + m) false (omega (arith, inside))
+    ∙ ap (λ (k : ℕ). with_part pins at (replicate k false)) sum
+
+-- the memory without a map
+pub pins-new : (maps : ℕ) → ArePinsOf (replicate (maps * 256) false) (replicate maps 0)
+unfolding part_of
+pins-new maps =
+    let long = length-replicate (maps * 256) false in
+    let count = length-replicate {A = ℕ} maps 0 in
+    record {
+      maps = omega (arith, long, count);
+      each = λ k less. get_or-replicate maps k 0 0 (omega (arith, less, count)) ∙ sym (part k (omega (arith, less, count)));
+    }
+  where
+    part : (k : ℕ) → k < maps → pinned_among (part_of (replicate (maps * 256) false) (k * 256) 256) ≡ 0
+    part k less =
+        let rest : ℕ = maps * 256 - k * 256 in
+        ap (λ (l : List Bool). pinned_among (take 256 l)) (drop-replicate (k * 256) (maps * 256) false)
+        ∙ ap pinned_among (take-replicate 256 (maps * 256 - k * 256) false (omega (arith, less)))
+        ∙ none-pinned 256
+
+module _ (pins : List Bool) (numbers : List ℕ) (are : ArePinsOf pins numbers) where
+  -- a map's number is no more than that of its pages
+  pub number-small : (k : ℕ) → k < length numbers → slice_index_or numbers k 0 ≤ 256
+  number-small k less =
+      let few = few-pinned (part_of pins (k * 256) 256) in
+      let long = length-part_of pins (k * 256) 256 (omega (arith, are.maps, less)) in
+      let told = are.each k less in
+      omega (arith, few, long, told)
+
+  pub map-inside : (k : ℕ) → k * 256 < length pins → k < length numbers
+  map-inside k less = omega (arith, are.maps, less)
+
+  -- one page more is pinned
+  module _ (k n : ℕ) (small : n < 256) (inside : k * 256 + n < length pins) (free : slice_index_or pins (k * 256 + n) false ≡ false) where
+    here : k < length numbers
+    here = omega (arith, are.maps, inside, small)
+
+    abbrev part : List Bool
+    part = part_of pins (k * 256) 256
+
+    long : length part ≡ 256
+    long = let h = here in length-part_of pins (k * 256) 256 (omega (arith, are.maps, h))
+
+    was : slice_index_or part n false ≡ false
+    unfolding part_of
+    was = content n small ∙ free
+      where
+        content : (n : ℕ) → n < 256 → slice_index_or part n false ≡ slice_index_or pins (k * 256 + n) false
+        content n less = get_or-take 256 (drop (k * 256) pins) n false less ∙ get_or-drop (k * 256) pins n false
+
+    more : pinned_among (slice_set part n true) ≡ pinned_among part + 1
+    more =
+        let l = long in
+        let count = sum_by-set one_if part n true false (omega (arith, l, small)) in
+        let none = ap one_if was in
+        omega (arith, count, none)
+
+    pub pins-more : ArePinsOf (slice_set pins (k * 256 + n) true) (slice_set numbers k (slice_index_or numbers k 0 + 1))
+    pins-more = record {
+      maps = let a = length-set pins (k * 256 + n) true in let b = length-set numbers k (slice_index_or numbers k 0 + 1) in omega (arith, a, b, are.maps);
+      each = λ j less. ⊎_elim (λ same. at_same j same) (λ other. at_other j other (let b = length-set numbers k (slice_index_or numbers k 0 + 1) in omega (arith, less, b))) (order j k);
+    }
+      where
+        order : (a b : ℕ) → (a ≡ b) ⊎ (a ≢ b)
+        order a b = grind arith
+
+        at_k : slice_index_or (slice_set numbers k (slice_index_or numbers k 0 + 1)) k 0 ≡ pinned_among (part_of (slice_set pins (k * 256 + n) true) (k * 256) 256)
+        at_k =
+            get_or-set_same numbers k (slice_index_or numbers k 0 + 1) 0 here
+            ∙ ap (λ (m : ℕ). m + 1) (are.each k here) ∙ sym more
+            ∙ sym (ap pinned_among (part_of-set_same pins (k * 256) n 256 true small))
+
+        at_same : (j : ℕ) → j ≡ k → slice_index_or (slice_set numbers k (slice_index_or numbers k 0 + 1)) j 0 ≡ pinned_among (part_of (slice_set pins (k * 256 + n) true) (j * 256) 256)
+        at_same j same = subst (λ (j : ℕ). slice_index_or (slice_set numbers k (slice_index_or numbers k 0 + 1)) j 0 ≡ pinned_among (part_of (slice_set pins (k * 256 + n) true) (j * 256) 256)) (sym same) at_k
+
+        at_other : (j : ℕ) → j ≢ k → j < length numbers → slice_index_or (slice_set numbers k (slice_index_or numbers k 0 + 1)) j 0 ≡ pinned_among (part_of (slice_set pins (k * 256 + n) true) (j * 256) 256)
+        at_other j ne less =
+            get_or-set_other numbers k j (slice_index_or numbers k 0 + 1) 0 ne ∙ are.each j less
+            ∙ sym (ap pinned_among (part_of-set_other pins k n j 256 true small ne))
+
+  -- the same by the page's place
+  pub pins-more-at : (place now : ℕ) → place < length pins → slice_index_or pins place false ≡ false → now ≡ slice_index_or numbers (place / 256) 0 → ArePinsOf (slice_set pins place true) (slice_set numbers (place / 256) (now + 1))
+  pins-more-at place now inside free told =
+      let at : place / 256 * 256 + place % 256 ≡ place = omega arith in
+      let more = pins-more (place / 256) (place % 256) (omega arith) (omega (arith, at, inside)) (ap (λ (i : ℕ). slice_index_or pins i false) at ∙ free) in
+      subst (λ (n : ℕ). ArePinsOf (slice_set pins place true) (slice_set numbers (place / 256) (n + 1))) (sym told)
+      (subst (λ (i : ℕ). ArePinsOf (slice_set pins i true) (slice_set numbers (place / 256) (slice_index_or numbers (place / 256) 0 + 1))) at more)
+
+  -- no page of a map is pinned any more
+  module _ (k : ℕ) (inside : k < length numbers) where
+    whole : k * 256 + 256 ≤ length pins
+    whole = omega (arith, are.maps, inside)
+
+    -- where none was, nothing changes
+    pub pins-none : slice_index_or numbers k 0 ≡ 0 → with_part pins (k * 256) (replicate 256 false) ≡ pins
+    pins-none none =
+        let long = length-part_of pins (k * 256) 256 whole in
+        let same : part_of pins (k * 256) 256 ≡ replicate 256 false = all-false (part_of pins (k * 256) 256) (sym (are.each k inside) ∙ none) ∙ ap (λ (n : ℕ). replicate n false) long in
+        ap (with_part pins (k * 256)) (sym same) ∙ with_part-same pins (k * 256) 256 whole
+
+    pub pins-cleared : ArePinsOf (with_part pins (k * 256) (replicate 256 false)) (slice_set numbers k 0)
+    pins-cleared = record {
+      maps = let a = length-with_part pins (k * 256) (replicate 256 false) whole in let b = length-set numbers k 0 in omega (arith, a, b, are.maps);
+      each = λ j less. ⊎_elim (λ same. at_same j same) (λ other. at_other j other (let b = length-set numbers k 0 in omega (arith, less, b))) (order j k);
+    }
+      where
+        order : (a b : ℕ) → (a ≡ b) ⊎ (a ≢ b)
+        order a b = grind arith
+
+        at_k : slice_index_or (slice_set numbers k 0) k 0 ≡ pinned_among (part_of (with_part pins (k * 256) (replicate 256 false)) (k * 256) 256)
+        at_k =
+            get_or-set_same numbers k 0 0 inside ∙ sym (none-pinned 256)
+            ∙ sym (ap pinned_among (part-with_part_same pins (k * 256) (replicate 256 false) 256 refl whole))
+
+        at_same : (j : ℕ) → j ≡ k → slice_index_or (slice_set numbers k 0) j 0 ≡ pinned_among (part_of (with_part pins (k * 256) (replicate 256 false)) (j * 256) 256)
+        at_same j same = subst (λ (j : ℕ). slice_index_or (slice_set numbers k 0) j 0 ≡ pinned_among (part_of (with_part pins (k * 256) (replicate 256 false)) (j * 256) 256)) (sym same) at_k
+
+        at_other : (j : ℕ) → j ≢ k → j < length numbers → slice_index_or (slice_set numbers k 0) j 0 ≡ pinned_among (part_of (with_part pins (k * 256) (replicate 256 false)) (j * 256) 256)
+        at_other j ne less =
+            get_or-set_other numbers k j 0 0 ne ∙ are.each j less
+            ∙ sym (ap pinned_among (others-filled pins k 256 j false (omega arith) whole ne))
+
+-- another map more has no pinned pages
+pub filled-more : (pins : List Bool) (first n : ℕ) → first * 256 + n * 256 + 256 ≤ length pins
+    → with_part (with_part pins (first * 256) (replicate (n * 256) false)) ((first + n) * 256) (replicate 256 false) ≡ with_part pins (first * 256) (replicate ((n + 1) * 256) false)
+filled-more pins first n inside =
+    let at : (first + n) * 256 ≡ first * 256 + n * 256 = omega arith in
+    let more : n * 256 + 256 ≡ (n + 1) * 256 = omega arith in
+    ap (λ (i : ℕ). with_part (with_part pins (first * 256) (replicate (n * 256) false)) i (replicate 256 false)) at
+    ∙ filled-behind pins (first * 256) (n * 256) 256 inside
+    ∙ ap (λ (m : ℕ). with_part pins (first * 256) (replicate m false)) more
+
+-- a list that was written back whole
+pub written-back : (new old : List Bool) (n : ℕ) → length new ≡ length old → n ≡ length old → take n (new ++ drop (length new) old) ≡ new
+written-back new old n long e =
+    ap (λ (m : ℕ). take m (new ++ drop (length new) old)) (e ∙ sym long) ∙ take-append_seam new (drop (length new) old)

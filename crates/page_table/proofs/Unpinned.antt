@@ -1,0 +1,144 @@
+-- How many pages of a map aren't pinned, told by how many are.
+use Rattle.std.proofs.Common.{◌≡◌, ◌∙◌, ◌⊎◌, ⊎_elim, ℕ, zero, suc, ◌+◌, ◌-◌, ◌*◌, ◌<◌, ◌≤◌, Bool, true, false, if◌then◌else◌, List, [], ◌∷◌, length, take, drop, slice_index_or, Option, Some, None, option_map, unwrap_or, refl, sym, ap, arith}
+use Rattle.std.proofs.lemmas.List.{get_or_default, get_or_past, get_or-take, get_or-drop}
+use Rattle.std.proofs.lemmas.List.Sums.{sum_by-cons}
+use Rattle.host_types.specs.declared.shape.Shape.{Shape}
+use Rattle.host_types.specs.Bytes.{part_of}
+use Rattle.host_types.specs.Memory.{FlatMap, map_at}
+use Rattle.host_types.specs.Pages.{map_place}
+use Rattle.host_types.specs.Pins.{unpinned_from, PinsFit}
+use Rattle.page_table.specs.declared.pass.Pass.{Pass}
+use Rattle.page_table.specs.declared.tenant.Tenant.{Tenant}
+use Rattle.page_table.specs.Limits.{page_count}
+use Rattle.page_table.specs.Pins.{pinned_among}
+use Rattle.page_table.specs.State.{MemoryState, part}
+use Rattle.page_table.specs.Changes.{pages_of_map}
+use Rattle.page_table.specs.Table.{TableState, IsTable, states_of}
+use Rattle.page_table.specs.View.{view_of, IsMemory}
+use Rattle.page_table.proofs.Dropping.{number_small, few, map_pins, unpinned_behind}
+use Rattle.page_table.proofs.Shapes.{shape_told}
+
+abbrev one_if : Bool → ℕ
+one_if b = if b then 1 else 0
+
+abbrev one_unless : Bool → ℕ
+one_unless b = if b then 0 else 1
+
+part-cons : (pins : List Bool) (at n : ℕ) → at < length pins → part_of pins at (suc n) ≡ slice_index_or pins at false ∷ part_of pins (at + 1) n
+unfolding part_of
+part-cons [] at n inside = absurd (omega (arith, inside))
+part-cons (b ∷ pins) zero n inside = refl
+part-cons (b ∷ pins) (suc at) n inside =
+    let next : suc at + 1 ≡ suc (at + 1) = omega arith in
+    part-cons pins at n (omega (arith, inside)) ∙ sym (ap (λ (i : ℕ). slice_index_or pins at false ∷ take n (drop i (b ∷ pins))) next)
+
+pinned-cons : (pins : List Bool) (at n : ℕ) → at < length pins → pinned_among (part_of pins at (suc n)) ≡ one_if (slice_index_or pins at false) + pinned_among (part_of pins (at + 1) n)
+pinned-cons pins at n inside = ap pinned_among (part-cons pins at n inside) ∙ sum_by-cons one_if (slice_index_or pins at false) (part_of pins (at + 1) n)
+
+-- each of some pages is pinned or not
+all-told : (pins : List Bool) (at n : ℕ) → at + n ≤ length pins → unpinned_from pins at n + pinned_among (part_of pins at n) ≡ n
+unfolding unpinned_from part_of
+all-told pins at zero inside = refl
+all-told pins at (suc n) inside =
+    let here : at < length pins = omega (arith, inside) in
+    let split = pinned-cons pins at n here in
+    let rest = all-told pins (at + 1) n (omega (arith, inside)) in
+    let same = ap one_unless (get_or_default pins at true false here) in
+    let one = either (slice_index_or pins at false) in
+    omega (arith, split, rest, same, one)
+  where
+    either : (b : Bool) → one_unless b + one_if b ≡ 1
+    either true = omega arith
+    either false = omega arith
+
+none-pinned : (pins : List Bool) (at n : ℕ) → at + n ≤ length pins → ((i : ℕ) → at ≤ i → i < at + n → slice_index_or pins i false ≡ false) → pinned_among (part_of pins at n) ≡ 0
+unfolding part_of
+none-pinned pins at zero inside none = refl
+none-pinned pins at (suc n) inside none =
+    let split = pinned-cons pins at n (omega (arith, inside)) in
+    let here = ap one_if (none at (omega arith) (omega arith)) in
+    let rest = none-pinned pins (at + 1) n (omega (arith, inside)) (λ i from less. none i (omega (arith, from)) (omega (arith, less))) in
+    omega (arith, split, here, rest)
+
+-- behind some pages none is pinned
+fewer-pinned : (pins : List Bool) (at n d : ℕ) → at + n + d ≤ length pins → ((i : ℕ) → at + n ≤ i → i < at + n + d → slice_index_or pins i false ≡ false) → pinned_among (part_of pins at (n + d)) ≡ pinned_among (part_of pins at n)
+unfolding part_of
+fewer-pinned pins at zero d inside none =
+    let same : zero + d ≡ d = omega arith in
+    ap (λ (m : ℕ). pinned_among (part_of pins at m)) same ∙ none-pinned pins at d (omega (arith, inside)) (λ i from less. none i (omega (arith, from)) (omega (arith, less)))
+fewer-pinned pins at (suc n) d inside none =
+    let next : suc n + d ≡ suc (n + d) = omega arith in
+    let long = ap (λ (m : ℕ). pinned_among (part_of pins at m)) next in
+    let more = pinned-cons pins at (n + d) (omega (arith, inside)) in
+    let less = pinned-cons pins at n (omega (arith, inside)) in
+    let rest = fewer-pinned pins (at + 1) n d (omega (arith, inside)) (λ i from less. none i (omega (arith, from)) (omega (arith, less))) in
+    omega (arith, long, more, less, rest)
+
+-- a part's pages, in the part
+unpinned-in_part : (pins : List Bool) (first at n : ℕ) → at + n ≤ 2048 → unpinned_from (part_of pins first 2048) at n ≡ unpinned_from pins (first + at) n
+unfolding unpinned_from part_of
+unpinned-in_part pins first at zero small = refl
+unpinned-in_part pins first at (suc n) small =
+    let here = ap one_unless (get_or-take 2048 (drop first pins) at true (omega (arith, small)) ∙ get_or-drop first pins at true) in
+    let next : first + (at + 1) ≡ first + at + 1 = omega arith in
+    let rest = unpinned-in_part pins first (at + 1) n (omega (arith, small)) ∙ ap (λ (i : ℕ). unpinned_from pins i n) next in
+    omega (arith, here, rest)
+
+-- the pages of a map that is there, and of one that isn't
+pub pages-some : (owned : Option FlatMap) (shape : Shape) → option_map (λ (flat : FlatMap). flat.shape) owned ≡ Some shape → unwrap_or (option_map (λ (flat : FlatMap). page_count flat.shape) owned) 0 ≡ page_count shape
+pages-some None shape e = absurd cc
+pages-some (Some flat) shape e = ap page_count (let same : flat.shape ≡ shape = cc in same)
+
+pub pages-none : (owned : Option FlatMap) → option_map (λ (flat : FlatMap). flat.shape) owned ≡ None → unwrap_or (option_map (λ (flat : FlatMap). page_count flat.shape) owned) 0 ≡ 0
+pages-none None e = refl
+pages-none (Some flat) e = absurd cc
+
+module _ (table : TableState) (shapes : List (Option Shape)) (tenants : List Tenant) (pass : Pass) (reserved t m : ℕ) (shape : Shape) (now : MemoryState) (same : view_of table shapes tenants pass ≡ now)
+    (is : IsMemory table shapes tenants reserved) (here : option_map (λ (flat : FlatMap). flat.shape) (map_at (part now t).maps m) ≡ Some shape) where
+  -- a tenant that has a map is there
+  tenant-inside : t < length now.tenants
+  unfolding view_of
+  tenant-inside =
+      let small = number_small now t m shape here in
+      let told : option_map (λ (flat : FlatMap). flat.shape) (map_at (part (view_of table shapes tenants pass) t).maps m) ≡ Some shape = rw (← same) at here in
+      let found : slice_index_or shapes (map_place t m) None ≡ Some shape = sym (shape_told table shapes tenants pass t m small) ∙ told in
+      rw (← same)
+      (⊎_elim (λ less. omega (arith, less, is.numbers, small)) (λ past. absurd (let none = get_or_past shapes (map_place t m) None past in cc)) (order (map_place t m) (length shapes)))
+    where
+      order : (a b : ℕ) → (a < b) ⊎ (b ≤ a)
+      order a b = grind arith
+
+  module _ (fits : IsTable table) (fit : PinsFit (states_of table.entries) pass.pins) where
+    abbrev k : ℕ
+    k = map_place t m
+
+    pub number-inside : k * 256 + 256 ≤ length pass.pins
+    number-inside = map_pins table shapes tenants pass reserved t m shape now same is tenant-inside here fit
+
+    few_pages : page_count shape ≤ 256
+    few_pages = few table shapes tenants pass reserved t m shape now same is tenant-inside here
+
+    pub pages-told : unpinned_from pass.pins (k * 256) (page_count shape) + pinned_among (part_of pass.pins (k * 256) 256) ≡ page_count shape
+    pages-told =
+        let small = few_pages in
+        let inside = number-inside in
+        let rest : page_count shape + (256 - page_count shape) ≡ 256 = omega (arith, small) in
+        let none = fewer-pinned pass.pins (k * 256) (page_count shape) (256 - page_count shape) (omega (arith, inside, small))
+        (λ i from less. unpinned_behind table shapes tenants pass reserved t m shape now same is tenant-inside here fits fit i from (omega (arith, less, small))) in
+        let as_many = ap (λ (n : ℕ). pinned_among (part_of pass.pins (k * 256) n)) rest in
+        let told = all-told pass.pins (k * 256) (page_count shape) (omega (arith, inside, small)) in
+        omega (arith, none, as_many, told)
+
+    pins : (part now t).pins ≡ part_of pass.pins (t * 2048) 2048
+    unfolding view_of part
+    pins = rw (← same) refl
+
+    pub unpinned-told : unpinned_from (part now t).pins (m * 256) (pages_of_map (part now t) m) ≡ unpinned_from pass.pins (k * 256) (page_count shape)
+    unpinned-told =
+        let small = number_small now t m shape here in
+        let f = few_pages in
+        let place : t * 2048 + m * 256 ≡ k * 256 = omega arith in
+        ap (λ (n : ℕ). unpinned_from (part now t).pins (m * 256) n) (pages-some (map_at (part now t).maps m) shape here)
+        ∙ ap (λ (pins : List Bool). unpinned_from pins (m * 256) (page_count shape)) pins
+        ∙ unpinned-in_part pass.pins (t * 2048) (m * 256) (page_count shape) (omega (arith, small, f))
+        ∙ ap (λ (i : ℕ). unpinned_from pass.pins i (page_count shape)) place

@@ -1,0 +1,16 @@
+use Rattle.std.proofs.Common.{◌∙◌, ap}
+use Rattle.host_types.specs.Pins.{is_pinned}
+use Rattle.page_table.specs.Changes.{IsPageOf}
+use Rattle.page_table.specs.View.{view_of}
+use Rattle.page_table.proofs.Reading.{is_page_at}
+use Rattle.page_table.proofs.Unpinning.{page-inside}
+use Rattle.page_table.proofs.memory.Memory.is_pinned.Goals as goal
+
+pub is_pinned-requires : goal.is_pinned-requires
+is_pinned-requires c =
+    let there : IsPageOf (view_of c.self.inside.table c.self.inside.shapes.items c.self.inside.tenants.items c.self.inside.pass) c.args.page = rw (← c.self.view_is) at c.requires in
+    rw c.place_of.ensures (page-inside c.self.inside.table c.self.inside.pass c.self.invariant.1.pins _ (is_page_at c.self.inside.table c.self.inside.shapes.items c.self.inside.tenants.items c.self.inside.pass c.self.inside.reserved c.args.page c.self.invariant.0 there))
+
+pub returns : goal.returns
+unfolding view_of
+returns c = rw (← c.self.view_is) (c.is_pinned.ensures ∙ ap (is_pinned c.self.inside.pass.pins) c.place_of.ensures)

@@ -1,0 +1,22 @@
+use Rattle.std.proofs.Common.{◌≡◌, ◌∙◌, true, sym}
+use Rattle.host_types.specs.Pages.{page_place}
+use Rattle.host_types.specs.Sharing.{is_shared_page, state_at}
+use Rattle.page_table.specs.Changes.{IsPageOf}
+use Rattle.page_table.specs.State.{part}
+use Rattle.page_table.specs.Table.{sharing_of}
+use Rattle.page_table.specs.View.{view_of}
+use Rattle.page_table.proofs.Reading.{is_page_at}
+use Rattle.page_table.proofs.memory.Memory.pins.Goals as goal
+
+pub is_shared-requires : goal.is_shared-requires
+is_shared-requires c =
+    let there : IsPageOf (view_of c.self.inside.table c.self.inside.shapes.items c.self.inside.tenants.items c.self.inside.pass) c.args.page = rw (← c.self.view_is) at c.requires in
+    rw c.place_of.ensures (is_page_at c.self.inside.table c.self.inside.shapes.items c.self.inside.tenants.items c.self.inside.pass c.self.inside.reserved c.args.page c.self.invariant.0 there)
+
+pub returns-then-is_running : goal.returns-then-is_running
+unfolding view_of
+returns-then-is_running c =
+    let shared : c.is_shared.result ≡ is_shared_page (state_at (sharing_of c.self.inside.table c.self.inside.pass) (page_place c.args.page)) =
+    rw c.place_of.ensures at c.is_shared.ensures c.self.inside.pass in
+    let running : (part c.args.self.now c.args.page.tenant).running ≡ true = sym c.is_running.ensures ∙ c.if-is_running.true in
+    rw running (rw (← c.self.view_is) shared)

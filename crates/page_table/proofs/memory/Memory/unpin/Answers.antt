@@ -1,0 +1,57 @@
+use Rattle.std.proofs.Common.{◌≡◌, ◌∙◌, ◌*◌, ◌<◌, ℕ, false, length, replicate, refl, ap, arith}
+use Rattle.host_types.specs.Bytes.{with_part}
+use Rattle.host_types.specs.Sharing.{frames_free}
+use Rattle.page_table.specs.State.{part}
+use Rattle.page_table.specs.View.{view_of}
+use Rattle.page_table.proofs.Recording.{tenant_there}
+use Rattle.page_table.proofs.Unpinning.{pins-inside, part-unpinned, others-kept, all-unpinned, fit-fewer}
+use Rattle.page_table.proofs.memory.Memory.unpin.Goals as goal
+
+pub release_all-requires-clause-maps : goal.release_all-requires-clause-maps
+release_all-requires-clause-maps c =
+    let eight : length (part (view_of c.self.inside.table c.self.inside.shapes.items c.self.inside.tenants.items c.self.inside.pass) c.args.tenant).maps ≡ 8 = rw (← c.self.view_is) at c.requires in
+    let there = tenant_there c.self.inside.table c.self.inside.shapes.items c.self.inside.tenants.items c.self.inside.pass c.self.inside.reserved c.self.invariant.0 c.args.tenant eight in
+    let inside = pins-inside c.self.inside.table c.self.inside.shapes.items c.self.inside.tenants.items c.self.inside.pass c.self.inside.reserved c.self.invariant.0 c.self.invariant.1.pins c.args.tenant there in
+    omega (arith, inside, c.map_index.ensures)
+
+pub release_all-requires-clause-few : goal.release_all-requires-clause-few
+release_all-requires-clause-few c =
+    let eight : length (part (view_of c.self.inside.table c.self.inside.shapes.items c.self.inside.tenants.items c.self.inside.pass) c.args.tenant).maps ≡ 8 = rw (← c.self.view_is) at c.requires in
+    let there = tenant_there c.self.inside.table c.self.inside.shapes.items c.self.inside.tenants.items c.self.inside.pass c.self.inside.reserved c.self.invariant.0 c.args.tenant eight in
+    omega (arith, there, c.map_index.ensures, c.self.invariant.0.few)
+
+released : (c : goal.After-release_all) → c.release_all.new.self ≡ with_part c.self.inside.pass.pins (c.args.tenant * 2048) (replicate 2048 false)
+released c =
+    let place : c.map_index.result * 256 ≡ c.args.tenant * 2048 = omega (arith, c.map_index.ensures) in
+    c.release_all.ensures ∙ ap (λ (i : ℕ). with_part c.self.inside.pass.pins i (replicate 2048 false)) place
+
+inside : (c : goal.After-release_all) → c.args.tenant < length c.self.inside.tenants.items
+inside c =
+    let eight : length (part (view_of c.self.inside.table c.self.inside.shapes.items c.self.inside.tenants.items c.self.inside.pass) c.args.tenant).maps ≡ 8 = rw (← c.self.view_is) at c.requires in
+    tenant_there c.self.inside.table c.self.inside.shapes.items c.self.inside.tenants.items c.self.inside.pass c.self.inside.reserved c.self.invariant.0 c.args.tenant eight
+
+pub invariant_of-self : goal.invariant_of-self
+invariant_of-self c = (
+  c.self.invariant.0,
+  rw (released c)
+      record {
+        waiters = c.self.invariant.1.waiters;
+        room = c.self.invariant.1.room;
+        cursor = c.self.invariant.1.cursor;
+        pins = fit-fewer _ c.self.inside.pass.pins (c.args.tenant * 2048) 2048 (pins-inside c.self.inside.table c.self.inside.shapes.items c.self.inside.tenants.items c.self.inside.pass c.self.inside.reserved c.self.invariant.0 c.self.invariant.1.pins c.args.tenant (inside c)) c.self.invariant.1.pins;
+      },
+  c.self.invariant.2,
+)
+
+pub returns-clause-part : goal.returns-clause-part
+returns-clause-part c = rw (← c.self.view_is, released c) (part-unpinned c.self.inside.table c.self.inside.shapes.items c.self.inside.tenants.items c.self.inside.pass c.self.inside.reserved c.self.invariant.0 c.self.invariant.1.pins c.args.tenant (inside c))
+
+pub returns-clause-others : goal.returns-clause-others
+returns-clause-others c = rw (← c.self.view_is, released c) (others-kept c.self.inside.table c.self.inside.shapes.items c.self.inside.tenants.items c.self.inside.pass c.self.inside.reserved c.self.invariant.0 c.self.invariant.1.pins c.args.tenant (inside c))
+
+pub returns-clause-have : goal.returns-clause-have
+unfolding view_of frames_free
+returns-clause-have c = rw (← c.self.view_is) refl
+
+pub returns-clause-all : goal.returns-clause-all
+returns-clause-all c = rw (← c.self.view_is, released c) (all-unpinned c.self.inside.table c.self.inside.shapes.items c.self.inside.tenants.items c.self.inside.pass c.self.inside.reserved c.self.invariant.0 c.self.invariant.1.pins c.args.tenant (inside c))

@@ -1,0 +1,31 @@
+use Rattle.std.proofs.Common.{◌≡◌, ◌∙◌, ◌+◌, ◌*◌, ℕ, Bool, List, false, length, replicate, ap, arith}
+use Rattle.std.proofs.lemmas.List.{length-replicate}
+use Rattle.host_types.specs.Bytes.{with_part}
+use Rattle.host_types.proofs.Lists.{length-with_part}
+use Rattle.page_table.proofs.Creating.{with_part-none}
+use Rattle.page_table.proofs.Filled.{filled-more}
+use Rattle.page_table.proofs.pins.Pins.release_all.Goals as goal
+
+pub loop-number-init : goal.loop-number-init
+loop-number-init c = with_part-none c.args.self.now (c.args.first * 256)
+
+pub overflow_add-first : goal.overflow_add-first
+overflow_add-first c = omega (arith, c.requires.few, c.loop-number-test.true)
+
+pub release-requires-clause-map : goal.release-requires-clause-map
+release-requires-clause-map c =
+    let filled = length-replicate (c.loop-number.number * 256) false in
+    let same = ap (λ (l : List Bool). length l) c.loop-number.invariant in
+    let long = length-with_part c.args.self.now (c.args.first * 256) (replicate (c.loop-number.number * 256) false) (omega (arith, filled, c.requires.maps, c.loop-number-test.true)) in
+    omega (arith, same, long, c.requires.maps, c.loop-number-test.true)
+
+pub loop-number-preserved : goal.loop-number-preserved
+loop-number-preserved c =
+    c.release.ensures
+    ∙ ap (λ (l : List Bool). with_part l ((c.args.first + c.loop-number.number) * 256) (replicate 256 false)) c.loop-number.invariant
+    ∙ filled-more c.args.self.now c.args.first c.loop-number.number (omega (arith, c.requires.maps, c.loop-number-test.true))
+
+pub returns : goal.returns
+returns c =
+    let all : c.loop-number.number * 256 ≡ 2048 = omega (arith, c.loop-number.auto.number-end, c.loop-number-test.false) in
+    c.loop-number.invariant ∙ ap (λ (n : ℕ). with_part c.args.self.now (c.args.first * 256) (replicate n false)) all

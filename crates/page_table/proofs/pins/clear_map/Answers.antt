@@ -1,0 +1,15 @@
+use Rattle.std.proofs.Common.{◌≡◌, ◌∙◌, ◌+◌, ◌-◌, ◌≤◌, ℕ, List, Bool, false, length, take, drop, replicate, ap, arith}
+use Rattle.std.proofs.lemmas.List.{length-take-le, length-drop, length-replicate}
+use Rattle.frame_arena.proofs.Parts.{put_mid-with_part}
+use Rattle.page_table.proofs.pins.clear_map.Goals as goal
+
+long : (xs : List Bool) (first : ℕ) → first + 256 ≤ length xs → length (take (first + 256 - first) (drop first xs)) ≡ 256
+long xs first inside =
+    let size : first + 256 - first ≡ 256 = omega arith in
+    let rest = length-drop first xs in
+    ap (λ (n : ℕ). length (take n (drop first xs))) size ∙ length-take-le 256 (drop first xs) (omega (arith, rest, inside))
+
+pub returns : goal.returns
+returns c =
+    let cleared = c.clear.ensures ∙ ap (λ (n : ℕ). replicate n false) (long c.args.places.now c.args.first c.requires) in
+    rw cleared (put_mid-with_part c.args.places.now (replicate 256 false) c.args.first 256 (length-replicate 256 false))

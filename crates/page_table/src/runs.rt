@@ -1,0 +1,121 @@
+//! Open runs: the frames reserved for them, and the pages that they pinned.
+ghost use Rattle.std.specs.Prelude.{◌≡◌, ◌+◌, ◌*◌, ◌≤◌, length, replicate, slice_index_or, slice_set, false};
+ghost use Rattle.host_types.specs.Pins.{released, unpinned_from};
+ghost use Rattle.page_table.specs.State.{part, have_of, unreserved_tenant};
+ghost use Rattle.page_table.specs.Changes.{IsKeptBut, pages_of_map, with_pins, with_reserve, with_run, without_run, with_record, opened, ended};
+
+use crate::memory::{Memory, map_index, pages};
+use crate::tenant::Tenant;
+use host_types::MapNo;
+
+impl Memory {
+    /// How many frames are recorded as reserved for a tenant's open run, none where there is no such
+    /// tenant.
+    pub fn reserve(&self, tenant: u32) -> u32
+        ensures { result ≡ (part self.now tenant).reserve }
+    {
+        tenant_in(&self.tenants, tenant).reserve
+    }
+
+    /// Whether a tenant has an open run, false where there is no such tenant.
+    pub fn is_running(&self, tenant: u32) -> bool
+        ensures { result ≡ (part self.now tenant).running }
+    {
+        tenant_in(&self.tenants, tenant).running
+    }
+
+    /// How many pages of a tenant's map aren't pinned, none where there is no such map. The number is
+    /// kept, and no page is looked at.
+    pub fn unpinned(&self, tenant: u32, map: MapNo) -> u32
+        ensures { result ≡
+            unpinned_from (part self.now tenant).pins (map * 256) (pages_of_map (part self.now tenant) map) }
+    {
+        self.table.facts();
+        match self.shape(tenant, map) {
+            Some(shape) => pages(&shape) - self.pass.pins.pinned(map_index(tenant, map)),
+            None => 0,
+        }
+    }
+
+    /// Records how many frames are reserved for a tenant's open run, in place of what was recorded
+    /// of it. There are so many free frames that no other tenant's record has.
+    pub fn record(&mut self, tenant: u32, reserve: u32)
+        requires there { length (part self.old tenant).maps ≡ 8 }
+        requires room { reserve ≤ have_of self.old + (part self.old tenant).reserve }
+        ensures recorded { part self.new tenant ≡ with_reserve reserve (part self.old tenant) }
+        ensures others { IsKeptBut tenant self.old self.new }
+        ensures have { have_of self.new + reserve ≡ have_of self.old + (part self.old tenant).reserve }
+        ensures all { self.new ≡ with_record self.old tenant reserve }
+    {
+        let running = self.is_running(tenant);
+        self.keep(tenant, Tenant { reserve, running });
+    }
+
+    /// Opens a tenant's run, for which so many frames are reserved. There are so many free frames that
+    /// no other tenant's record has.
+    pub fn begin_run(&mut self, tenant: u32, reserve: u32)
+        requires there { length (part self.old tenant).maps ≡ 8 }
+        requires room { reserve ≤ have_of self.old + (part self.old tenant).reserve }
+        ensures begun { part self.new tenant ≡ with_run reserve (part self.old tenant) }
+        ensures others { IsKeptBut tenant self.old self.new }
+        ensures have { have_of self.new + reserve ≡ have_of self.old + (part self.old tenant).reserve }
+        ensures all { self.new ≡ opened self.old tenant reserve }
+    {
+        self.keep(
+            tenant,
+            Tenant {
+                reserve,
+                running: true,
+            },
+        );
+    }
+
+    /// Ends a tenant's run: no frame is reserved for it, and none of the tenant's pages is pinned. The
+    /// call looks at the pages of maps that have pinned ones, and at no others.
+    pub fn end_run(&mut self, tenant: u32)
+        requires { length (part self.old tenant).maps ≡ 8 }
+        ensures ended { part self.new tenant ≡ without_run (part self.old tenant) }
+        ensures others { IsKeptBut tenant self.old self.new }
+        ensures have { have_of self.new ≡ have_of self.old + (part self.old tenant).reserve }
+        ensures all { self.new ≡ ended self.old tenant }
+    {
+        self.keep(tenant, Tenant::NO_RUN);
+        self.unpin(tenant);
+    }
+
+    /// Keeps what is recorded of a tenant, in place of what was.
+    fn keep(&mut self, tenant: u32, kept: Tenant)
+        requires there { length (part self.old tenant).maps ≡ 8 }
+        requires room { kept.reserve ≤ have_of self.old + (part self.old tenant).reserve }
+        ensures part { part self.new tenant ≡
+            record (part self.old tenant) { reserve = kept.reserve; running = kept.running } }
+        ensures others { IsKeptBut tenant self.old self.new }
+        ensures have { have_of self.new + kept.reserve ≡ have_of self.old + (part self.old tenant).reserve }
+        ensures all { self.new ≡ record self.old { tenants = slice_set self.old.tenants tenant kept } }
+    {
+        let before = self.reserve(tenant);
+        self.reserved = self.reserved - before + kept.reserve;
+        self.tenants[tenant as usize] = kept;
+    }
+
+    /// No page of a tenant is pinned any more.
+    fn unpin(&mut self, tenant: u32)
+        requires { length (part self.old tenant).maps ≡ 8 }
+        ensures part { part self.new tenant ≡ with_pins (replicate 2048 false) (part self.old tenant) }
+        ensures others { IsKeptBut tenant self.old self.new }
+        ensures have { have_of self.new ≡ have_of self.old }
+        ensures all { self.new ≡ record self.old { sharing = released self.old.sharing tenant } }
+    {
+        self.pass.pins.release_all(map_index(tenant, 0));
+    }
+}
+
+/// What is recorded of a tenant.
+fn tenant_in(tenants: &[Tenant], tenant: u32) -> Tenant
+    ensures { result ≡ slice_index_or tenants.now tenant unreserved_tenant }
+{
+    match tenants.get(tenant as usize) {
+        Some(tenant) => *tenant,
+        None => Tenant::NO_RUN,
+    }
+}
