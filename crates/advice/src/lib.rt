@@ -1,5 +1,5 @@
 //! What each refusal says to the author of a program or of a host file. It is the one table of these
-//! words: the program `bpf_host` says them, and the program `refusals` prints them for the documents.
+//! words: the program `bpf_host` says them, and the program `rows_refusals` prints them for the documents.
 #![tactic(auto)]
 
 mod event;

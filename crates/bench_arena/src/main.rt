@@ -12,7 +12,7 @@ use std::alloc::{AllocError, Global};
 use std::io;
 use std::rt::Clock;
 use std::time::Instant;
-use test_inputs::rounds_of;
+use tests_inputs::rounds_of;
 
 /// How many calls of one kind a round has.
 const CALLS: u32 = 10_000;

@@ -11,7 +11,7 @@ use host_types::Refused;
 use programs::{WORKS, Work, program_of};
 use rounds::{Pages, least};
 use std::rt::Clock;
-use test_inputs::rounds_of;
+use tests_inputs::rounds_of;
 use verifier::Verified;
 
 /// Prints the nanoseconds of each step of a program's runs, the least of so many rounds.

@@ -15,7 +15,7 @@ use bench::Bench;
 use drops::print_drops;
 use std::rt::Clock;
 use steps::{COUNT, steps};
-use test_inputs::rounds_of;
+use tests_inputs::rounds_of;
 
 /// The nanoseconds of each step of a round.
 type Column = [f64; COUNT];

@@ -2,7 +2,7 @@
 
 use host_core::Event;
 use std::alloc::{AllocError, Global};
-use test_inputs::texts::RETURN;
+use tests_inputs::texts::RETURN;
 
 /// How many tenants there are.
 pub(crate) const TENANTS: u32 = 16;

@@ -12,7 +12,7 @@ use lists::{List, TENANTS, begin, loads, map_of};
 use std::alloc::{AllocError, Global};
 use std::rt::Clock;
 use std::time::Instant;
-use test_inputs::rounds_of;
+use tests_inputs::rounds_of;
 
 /// How many frames there are.
 const FRAMES: u32 = 4096;

@@ -11,7 +11,7 @@ use anyhow::Result;
 use mixes::{Mix, SLOTS, text};
 use runs::accepted;
 use std::rt::Clock;
-use test_inputs::rounds_of;
+use tests_inputs::rounds_of;
 use times::{kept_bytes, measure_host, measure_interpreter, measure_verify, refusal};
 
 /// Measures one program: a row of the table.

@@ -15,7 +15,7 @@ use std::sync::{Mutex, Wait};
 use std::thread::Threads;
 use std::time::{Duration, Instant};
 use std::{io, thread};
-use test_inputs::rounds_of;
+use tests_inputs::rounds_of;
 
 /// How many rounds there are of each row. Its time is the one in the middle.
 const ROUNDS: usize = 11;

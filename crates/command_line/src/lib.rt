@@ -5,8 +5,8 @@ mod explain;
 
 use clap::{Arg, ArgAction, ArgMatches, Command};
 pub use explain::{ToExplain, explained_of};
-use plain_text::quoted;
 use std::alloc::{AllocError, Global};
+use terminal_text::quoted;
 
 /// The program's name.
 const NAME: &str = "bpf_host";

@@ -3,10 +3,10 @@ ghost use Rattle.host_file.specs.Faults.{IsBad, IsOfWords};
 ghost use Rattle.engines.specs.Status.{status_of};
 
 use host_file::FileFault;
-use plain_text::is_plain;
 use std::alloc::{AllocError, Global};
 use std::io;
 use std::io::Write;
+use terminal_text::is_plain;
 
 /// The exit status: the one that was answered, or 2 for a fault.
 pub fn status_of(outcome: &Result<u8, FileFault>) -> u8

@@ -1,11 +1,11 @@
 //! The program that a word HEX names.
 
 use host_file::FileFault;
-use plain_text::quoted;
 use std::alloc::{AllocError, Global};
 use std::fs;
 use std::io::{self, Read};
 use std::rt::Files;
+use terminal_text::quoted;
 
 /// The most bytes of a file: hex text of the longest program, and spaces between its digits.
 const MOST: usize = 1 << 20;

@@ -11,8 +11,8 @@ use crate::key::Key;
 use crate::section::Section;
 use host_core::Event;
 use host_types::Opt;
-use plain_text::quoted;
 use std::alloc::Global;
+use terminal_text::quoted;
 
 /// The command of an event's table.
 pub fn command_of(alloc: Global, event: &Section<'_>) -> Result<Command, FileFault>

@@ -10,8 +10,8 @@ use crate::fault::{BadFile, Cause, FileFault, Place};
 use crate::key::Key;
 use hex::FromHexError;
 use host_core::Bytes;
-use plain_text::quoted;
 use std::alloc::{AllocError, Global};
+use terminal_text::quoted;
 use toml::value::Array;
 use toml::{Table, Value};
 

@@ -9,7 +9,6 @@ use engines::Watch;
 use engines::check::check;
 use engines::replay::replay_watched;
 use host_file::FileFault;
-use plain_text::quoted;
 use progress::Plans;
 pub use progress::Progress;
 use serving::serve_watched;
@@ -21,6 +20,7 @@ use std::sync::Wait;
 use std::thread::Threads;
 use std::time::Clock;
 use tenant_workers::Gate;
+use terminal_text::quoted;
 
 /// Does what words ask for, the program's name being the first of them. What a refusal means goes to `errors`. Answers
 /// the status 0 or 1, or the fault of status 2.

@@ -11,8 +11,8 @@ use hex::FromHexError;
 use host_core::Bytes;
 use host_file::FileFault;
 use host_types::Shape;
-use plain_text::{is_plain, quoted};
 use std::alloc::{AllocError, Global};
+use terminal_text::{is_plain, quoted};
 
 /// A program to judge: its text, the shapes of its maps by number, and the bytes of its context.
 #[derive(Debug, Drop)]

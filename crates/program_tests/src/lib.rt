@@ -1,8 +1,0 @@
-//! Tests of the standard's machine, in a crate above it: so it is proved once. What accepted programs
-//! return, on it and on the host, has rows in `kernel_rows`, `worked_rows` and `map_rows`.
-#![tactic(auto)]
-
-#[cfg(test)]
-mod machine;
-#[cfg(test)]
-mod text;
