@@ -1,8 +1,9 @@
 -- What the break of a page takes: one frame at most, and none where it was broken before.
-use Rattle.std.proofs.Common.{◌≡◌, ◌∙◌, ℕ, Bool, true, false, if◌then◌else◌, slice_index_or, slice_set, Option, Some, None, option_map, unwrap_or, refl, sym, ap}
+use Rattle.std.proofs.Common.{◌≡◌, ◌∙◌, ◌&&◌, ℕ, Bool, true, false, if◌then◌else◌, slice_index_or, slice_set, Option, Some, None, option_map, unwrap_or, refl, sym, ap}
 use Rattle.std.proofs.lemmas.List.{get_or-set_same}
 use Rattle.host_types.specs.declared.status.Status.{Status}
 use Rattle.host_types.specs.declared.status.Status.TheVariants.{New, Volatile, Waiting, Grouped, Zero}
+use Rattle.host_types.specs.Pins.{pinned, broken_by}
 use Rattle.host_types.specs.Sharing.{Sharing, PageState, state_at, is_shared, is_shared_page, is_in_company, left_by, broken, broken_page, break_cost, cost_of}
 use Rattle.host_types.proofs.Unmerging.{state_inside}
 
@@ -23,7 +24,7 @@ own-cost company (Some state) own = by_status state.status own
     by_status Zero e = absurd (cc)
 
 -- a broken page has its own frame
-pub own-broken : (s : Sharing) (i : ℕ) → is_shared_page (state_at (broken s i) i) ≡ false
+own-broken : (s : Sharing) (i : ℕ) → is_shared_page (state_at (broken s i) i) ≡ false
 unfolding broken
 own-broken s i = by_shared (is_shared_page (state_at s i)) refl
   where
@@ -37,6 +38,15 @@ own-broken s i = by_shared (is_shared_page (state_at s i)) refl
         by_page (Some state) here e =
             ap is_shared_page (get_or-set_same s.pages i (option_map broken_page (state_at s i)) None (state_inside s.pages i state here)) ∙ ap (λ (x : Option PageState). is_shared_page (option_map broken_page x)) here
 
-pub cost-again : (s : Sharing) (i : ℕ) → break_cost (broken s i) i ≡ 0
+broken-cost : (s : Sharing) (i : ℕ) → break_cost (broken s i) i ≡ 0
 unfolding break_cost
-cost-again s i = own-cost (is_in_company (broken s i) i) (state_at (broken s i) i) (own-broken s i)
+broken-cost s i = own-cost (is_in_company (broken s i) i) (state_at (broken s i) i) (own-broken s i)
+
+-- whether or not it is pinned
+pub cost-again : (running : Bool) (s : Sharing) (i : ℕ) → break_cost (broken_by running s i) i ≡ 0
+unfolding broken_by break_cost
+cost-again running s i = by_pinned (running && is_shared_page (state_at s i))
+  where
+    by_pinned : (b : Bool) → break_cost (if b then pinned (broken s i) i else broken s i) i ≡ 0
+    by_pinned true = broken-cost s i
+    by_pinned false = broken-cost s i
