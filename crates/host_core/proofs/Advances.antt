@@ -35,7 +35,7 @@ use Rattle.tenant_runs.proofs.Roomy.{answered_slot}
 use Rattle.host_core.specs.declared.tenant.OpenRun.{OpenRun as KeptRun}
 use Rattle.host_core.specs.World.{pins_of}
 use Rattle.host_core.specs.Happens.{sharing_after}
-use Rattle.host_core.specs.Stretches.{IsUnderWayAt, HasAdvanced, AreMade, AreMadeFrom, went_on, answered, ended, needed_in, part_in, reserved_of}
+use Rattle.host_core.specs.Stretches.{IsUnderWayAt, HasAdvanced, AreMade, AreMadeFrom, IsAnswered, went_on, answered, ended, needed_in, part_in, reserved_of}
 use Rattle.host_core.proofs.Instructions.{instructions_before-within}
 
 -- the program that was taken is the one that stands at the place
@@ -261,7 +261,7 @@ private_room v t s n run released memory (next, reaches, on) =
     rw on.stands.slot has.frames
 
 -- the part of a tenant for whose run just what it may need is reserved
-part_recorded : (v : Accepted) (t : ℕ) (next : MachineState) (after : MemoryState) → (part after t).maps ≡ next.memory.maps → (part after t).running ≡ true → (part after t).reserve ≡ needed_from v (part after t) next.slot → part after t ≡ part_in v t after.sharing next
+pub part_recorded : (v : Accepted) (t : ℕ) (next : MachineState) (after : MemoryState) → (part after t).maps ≡ next.memory.maps → (part after t).running ≡ true → (part after t).reserve ≡ needed_from v (part after t) next.slot → part after t ≡ part_in v t after.sharing next
 part_recorded v t next after maps running reserve =
     let own : (part after t).reserve ≡ needed_in v t after.sharing next = reserve ∙ needed_of_part v t after next maps in
     ap (λ m. record { maps = m; reserve = (part after t).reserve; running = (part after t).running; pins = (part after t).pins }) maps
@@ -324,6 +324,35 @@ shares_alike owned sharing t (Lookup m key) flat running there = refl
 shares_alike owned sharing t (Delete m key) flat running there = refl
 shares_alike owned sharing t (Update m key flags) flat running there = rw (there, running) (update_shares sharing t m key flags flat (update_answer flat.shape key flags == 0))
 
+-- what is asked in the last of some steps is answered, and the run goes on
+pub answer_made : (v : Accepted) (s here : MachineState) (t n made : ℕ) (need : Need) (run after_run : Running) (before memory after : MemoryState)
+    → n ≡ suc made → AreMadeFrom v s made t before here memory.sharing → (asks : Asks v here need run) → IsAsking v here need run (part_with_have memory t)
+    → ((u : MachineState) → IsAsking v u need run (part_with_have memory t) → (next : MachineState) × (step v.subject.text u ≡ Some (Next next)) × IsUnderWay v after_run next (part after t))
+    → (part after t).reserve ≡ needed_from v (part after t) run.slot → after.sharing ≡ sharing_met (part memory t) memory.sharing t need
+    → IsAnswered v s n t before after_run after
+answer_made v s here t n made need run after_run before memory after last reached asks asking goes reserve sharing =
+    let (next, makes, way) = goes here asking in
+    let alike : Some (Next next) ≡ Some (Next asks.next) = sym makes ∙ asks.makes in
+    let same : next ≡ asks.next = cc in
+    let slot : run.slot ≡ next.slot = sym (answered_slot run.awaited run (answer_of need asks.flat)) ∙ asks.stands.slot ∙ ap (λ (u : MachineState). u.slot) (sym same) in
+    let owned : part after t ≡ part_in v t after.sharing next = part_recorded v t next after way.maps way.running (reserve ∙ ap (needed_from v (part after t)) slot) in
+    let there : map_at (part memory t).maps (map_of need) ≡ Some asks.flat = ap (λ maps. map_at maps (map_of need)) asking.maps ∙ asks.there in
+    record {
+      made = made;
+      last = last;
+      here = here;
+      between = memory.sharing;
+      reached = reached;
+      next = next;
+      makes = makes;
+      need = need;
+      value = value_of run;
+      writes = ap (λ (u : MachineState). u.memory.maps) same ∙ asks.maps;
+      stands = way.stands;
+      owned = owned;
+      sharing = sharing ∙ shares_alike (part memory t) memory.sharing t need asks.flat asking.running there ∙ ap (sharing_after memory.sharing t) (sym asks.writes);
+    }
+
 -- steps, and one more that asks, with its answer
 pub asked_advanced : (kept : KeptRun) (v : Accepted) (s : MachineState) (t limit many : ℕ) (need : Need) (run after_run : Running) (before released memory after : MemoryState)
     → IsStarted v t s before released → many ≡ min (instructions_of v.subject.text) limit
@@ -334,32 +363,11 @@ pub asked_advanced : (kept : KeptRun) (v : Accepted) (s : MachineState) (t limit
     → HasAdvanced v s t limit kept.run before None after_run after
 asked_advanced kept v s t limit many need run after_run before released memory after start least some going (n, follows, counted) most goes reserve steps sharing =
     let asked = asked_at v t s n need run released memory some going follows in
-    let asks = asked.asks in
-    let (next, makes, way) = goes asked.here (asking_at v t s n need run before released memory start asked) in
-    let alike : Some (Next next) ≡ Some (Next asks.next) = sym makes ∙ asks.makes in
-    let same : next ≡ asks.next = cc in
-    let slot : run.slot ≡ next.slot = sym (answered_slot run.awaited run (answer_of need asks.flat)) ∙ asks.stands.slot ∙ ap (λ (u : MachineState). u.slot) (sym same) in
-    let owned : part after t ≡ part_in v t after.sharing next = part_recorded v t next after way.maps way.running (reserve ∙ ap (needed_from v (part after t)) slot) in
-    let has = asked.roomy.room (reserve_from v asked.here.slot) (writes_from v asked.here.slot) (omega arith) (λ m writes. writes) in
-    let there : map_at (part memory t).maps (map_of need) ≡ Some asks.flat = ap (λ maps. map_at maps (map_of need)) asked.roomy.maps ∙ asks.there in
+    let reached = made_from v s asked.made t before released asked.here memory start asked.reached in
     let last = asked.last in (
       n,
       omega (arith, last),
       omega (arith, counted, most, least),
       steps ∙ counted,
-      answered (record {
-        made = asked.made;
-        last = asked.last;
-        here = asked.here;
-        between = memory.sharing;
-        reached = made_from v s asked.made t before released asked.here memory start asked.reached;
-        next = next;
-        makes = makes;
-        need = need;
-        value = value_of run;
-        writes = ap (λ (u : MachineState). u.memory.maps) same ∙ asks.maps;
-        stands = way.stands;
-        owned = owned;
-        sharing = sharing ∙ shares_alike (part memory t) memory.sharing t need asks.flat has.running there ∙ ap (sharing_after memory.sharing t) (sym asks.writes);
-      }),
+      answered (answer_made v s asked.here t n asked.made need run after_run before memory after last reached asked.asks (asking_at v t s n need run before released memory start asked) goes reserve sharing),
     )

@@ -11,6 +11,7 @@ pub mod Opening
 pub mod Loading
 pub mod Leaving
 pub mod Advances
+pub mod OneStep
 pub mod Stepping
 pub mod Making
 pub mod FoundOpen

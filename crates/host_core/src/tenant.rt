@@ -271,8 +271,18 @@ impl Tenant {
         requires kept { IsKept number self.old memory.old }
         ensures { IsServed number self.old memory.old (Step number) result self.new memory.new }
     {
-        match self.make_steps(memory, number, 1) {
-            Some(reply) => reply,
+        memory.facts();
+        let Some(open) = &mut self.run else {
+            return Reply::Refused(Fault::NoRun);
+        };
+        let ended = open.step(self.programs.as_slice(), memory, number);
+        memory.facts();
+        let steps = open.run.steps();
+        match ended {
+            Some(ret) => {
+                self.run = None;
+                Reply::Ended { ret, steps }
+            }
             None => Reply::Stepped,
         }
     }
@@ -347,6 +357,43 @@ impl OpenRun {
     ghost use Rattle.page_table.specs.Changes.{IsKeptBut};
     ghost use Rattle.tenant_runs.specs.Meeting.{KeepsSizes};
     ghost use Rattle.host_core.specs.Stretches.{IsUnderWayAt, HasAdvanced};
+
+    /// Makes one step: what the run returned, if it ended with it. What is reserved afterwards is what the rest of the run may
+    /// need. It stands apart from the loop over many steps, which keeps more at hand than one step pays for.
+    fn step(
+        &mut self,
+        programs: &[Option<Verified>],
+        memory: &mut Memory,
+        tenant: u32,
+    ) -> Option<u64>
+        requires under_way { (v : Accepted) × (s : MachineState) × IsUnderWayAt programs.now self.old v s (part memory.old tenant) }
+        ensures program { self.new.program ≡ self.old.program }
+        ensures advanced { (v : Accepted) (s : MachineState) → IsUnderWayAt programs.now self.old v s (part memory.old tenant)
+            → HasAdvanced v s tenant 1 self.old.run memory.old result self.new.run memory.new }
+        ensures others { IsKeptBut tenant memory.old memory.new }
+        ensures sizes { KeepsSizes memory.old memory.new }
+    {
+        let Some(program) = &programs[self.program as usize] else {
+            unreachable!();
+        };
+        program.facts();
+        memory.facts();
+        match self.run.next(program) {
+            Need::Private => {
+                let left = needed(program, memory, tenant, self.run.slot());
+                memory.record(tenant, left);
+                None
+            }
+            Need::Ended(ret) => {
+                release(memory, tenant);
+                Some(ret)
+            }
+            need => {
+                answer(memory, tenant, program, &mut self.run, need);
+                None
+            }
+        }
+    }
 
     /// Makes steps up to a limit, and none behind the first that asks for an update or a deletion in the tenant's maps:
     /// what the run returned, where it ended. What is reserved afterwards is what the rest of the run may need.

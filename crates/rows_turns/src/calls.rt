@@ -49,6 +49,32 @@ fn loaded(
     Ok([program.slots(), program.instructions(), program.reserve(0)])
 }
 
+/// What loads of the counter are answered: as it is, on its tenant's last map, on a map that isn't there, on a context
+/// of another size, and of no text.
+fn counters_loaded(
+    rt: &impl Wait,
+    alloc: Global,
+    shared: &Shared,
+    seat: &mut Seat,
+) -> [Result<[u32; 3], Fault>; 5]
+    requires idle { IsIdle shared.now seat.old }
+    requires resting { IsResting (own_part seat.old) }
+    ensures idle { IsIdle shared.now seat.new }
+    ensures resting { IsResting (own_part seat.new) }
+{
+    let mut last_map = COUNTER;
+    last_map[MAP_NUMBER] = 2;
+    let mut no_map = COUNTER;
+    no_map[MAP_NUMBER] = 3;
+    [
+        loaded(rt, alloc, shared, seat, &COUNTER, 0),
+        loaded(rt, alloc, shared, seat, &last_map, 8),
+        loaded(rt, alloc, shared, seat, &no_map, 8),
+        loaded(rt, alloc, shared, seat, &COUNTER, 12),
+        loaded(rt, alloc, shared, seat, &[], 256),
+    ]
+}
+
 /// How many bytes an element of a map has, and how many of them are zeros.
 pub(crate) fn read(
     rt: &impl Wait,
@@ -86,17 +112,7 @@ pub(crate) fn answers(rt: &(impl Wait + AllocGlobal)) -> Result<Made, Fault> {
         shared.create_map(rt, seat, 8, 1, true),
         shared.create_map(rt, seat, 8, 513, true),
     ];
-    let mut last_map = COUNTER;
-    last_map[MAP_NUMBER] = 2;
-    let mut no_map = COUNTER;
-    no_map[MAP_NUMBER] = 3;
-    let programs = [
-        loaded(rt, alloc, &shared, seat, &COUNTER, 0),
-        loaded(rt, alloc, &shared, seat, &last_map, 8),
-        loaded(rt, alloc, &shared, seat, &no_map, 8),
-        loaded(rt, alloc, &shared, seat, &COUNTER, 12),
-        loaded(rt, alloc, &shared, seat, &[], 256),
-    ];
+    let programs = counters_loaded(rt, alloc, &shared, seat);
     let updates = [
         shared.update(rt, seat, 0, 0, &[5, 0, 0, 0, 0, 0, 0, 9]),
         shared.update(rt, seat, 3, 0, &[5; 8]),

@@ -1,5 +1,6 @@
 ghost use Rattle.std.specs.Prelude.{◌≡◌, ◌+◌, ◌≤◌, ℕ, Some};
 ghost use Rattle.bpf_decode.specs.Text.{instructions_of};
+ghost use Rattle.verifier.specs.Verified.{Accepted};
 ghost use Rattle.page_table.specs.State.{part};
 ghost use Rattle.page_table.specs.Changes.{IsKeptBut};
 ghost use Rattle.admission.specs.Reserve.{needed_from};
@@ -38,6 +39,23 @@ pub fn answer(memory: &mut Memory, tenant: u32, program: &Verified, run: &mut Ru
     ensures sharing { memory.new.sharing ≡ sharing_met (part memory.old tenant) memory.old.sharing tenant need }
     ensures sizes { KeepsSizes memory.old memory.new }
 {
+    respond(memory, tenant, run, need);
+    let left = needed(program, memory, tenant, run.slot());
+    memory.record(tenant, left);
+}
+
+/// Does what a tenant's run asks, and gives it the answer. What is recorded for the run behind it and what `have()` tells
+/// are together enough for the rest of it: whoever stops there records what that may need.
+fn respond(memory: &mut Memory, tenant: u32, run: &mut Run, need: Need)
+    requires asks { (v : Accepted) × (s : MachineState) × IsAsking v s need run.old (part_with_have memory.old tenant) }
+    ensures goes_on { (v : Accepted) (s : MachineState) → IsAsking v s need run.old (part_with_have memory.old tenant)
+        → (next : MachineState) × (step v.subject.text s ≡ Some (Next next)) × IsUnderWay v run.new next (part_with_have memory.new tenant) }
+    ensures slot { run.new.slot ≡ run.old.slot }
+    ensures steps { run.new.steps ≡ run.old.steps }
+    ensures others { IsKeptBut tenant memory.old memory.new }
+    ensures sharing { memory.new.sharing ≡ sharing_met (part memory.old tenant) memory.old.sharing tenant need }
+    ensures sizes { KeepsSizes memory.old memory.new }
+{
     memory.facts();
     memory.maps_are_flat();
     let value: &[u8] = match need {
@@ -46,8 +64,6 @@ pub fn answer(memory: &mut Memory, tenant: u32, program: &Verified, run: &mut Ru
     };
     let number = meet(memory, tenant, need, value);
     run.answer(number);
-    let left = needed(program, memory, tenant, run.slot());
-    memory.record(tenant, left);
 }
 
 /// Makes all steps that are left of a tenant's run, on the memory of its maps. Each verified program
@@ -73,7 +89,7 @@ pub fn finish(memory: &mut Memory, tenant: u32, program: &Verified, run: &mut Ru
                     steps: run.steps(),
                 };
             }
-            need => answer(memory, tenant, program, run, need),
+            need => respond(memory, tenant, run, need),
         }
     }
 }

@@ -34,10 +34,9 @@ impl Shared {
         mergeable: bool,
     ) -> Result<MapNo, Fault>
         requires idle { IsIdle self.now seat.old }
-        requires resting { IsResting (own_part seat.old) }
         ensures idle { IsIdle self.now seat.new }
         ensures same { IsSameSeat seat.old seat.new }
-        ensures resting { IsResting (own_part seat.new) }
+        ensures resting { IsResting (own_part seat.old) → IsResting (own_part seat.new) }
         ensures fits { OnOk result (FitsNewMap (own_part seat.old) (shape_of value_size entries)) }
         ensures number { IfOk result (λ m. free_number (own_part seat.old) ≡ Some m) }
         ensures created { IfOk result (λ m.
@@ -68,10 +67,9 @@ impl Shared {
     #[tactic(auto, using(crate::proofs::Drops::refused_there, crate::proofs::Resting::dropped_rests))]
     pub fn drop_map(&self, rt: &impl Wait, seat: &mut Seat, map: MapNo) -> Result<(), Fault>
         requires idle { IsIdle self.now seat.old }
-        requires resting { IsResting (own_part seat.old) }
         ensures idle { IsIdle self.now seat.new }
         ensures same { IsSameSeat seat.old seat.new }
-        ensures resting { IsResting (own_part seat.new) }
+        ensures resting { IsResting (own_part seat.old) → IsResting (own_part seat.new) }
         ensures there { OnOk result (IsSome (map_at (own_part seat.old).maps map)) }
         ensures dropped { OnOk result (own_part seat.new ≡ part_dropped (own_part seat.old) map) }
         ensures made { OnOk result (HasChanged (HasDropped seat.old.view.first map) seat.old seat.new) }

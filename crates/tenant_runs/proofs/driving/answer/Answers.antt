@@ -1,79 +1,49 @@
-use Rattle.std.proofs.Common.{◌≡◌, ◌≤◌, ◌+◌, ◌*◌, ℕ, [], Some, option_map, unwrap_or, refl, sym, ap, subst, ◌∙◌, arith}
-use Rattle.host_types.specs.Memory.{map_at}
-use Rattle.host_types.specs.Bytes.{part_of}
-use Rattle.host_types.specs.Sharing.{Sharing}
+use Rattle.std.proofs.Common.{◌≡◌, length, sym, ap, ◌∙◌, arith}
 use Rattle.host_types.specs.Tenant.{TenantPart}
-use Rattle.page_table.specs.Changes.{pages_of_map}
-use Rattle.page_table.specs.State.{part, have_of}
-use Rattle.interp.specs.Needs.{map_of, answer_of, maps_after}
-use Rattle.interp.specs.StandsFor.{Running, StandsFor, answered, value_of}
+use Rattle.page_table.specs.State.{part}
 use Rattle.admission.specs.Reserve.{needed_from}
-use Rattle.tenant_runs.proofs.Pinning.{met_pays, met_room, pages_after}
-use Rattle.tenant_runs.proofs.Roomy.{answered_slot, unvalued}
 use Rattle.tenant_runs.proofs.driving.answer.Goals as goal
-use Rattle.tenant_runs.proofs.driving.answer.Goals.{in-Update, in_default, After-slot}
+
+pub respond-requires : goal.respond-requires
+respond-requires c =
+    let (s, asking) = c.requires.asks in
+    record { asks = (c.args.program.now, s, asking) }
+
+pub record-requires-clause-there : goal.record-requires-clause-there
+record-requires-clause-there c =
+    let (s, asking) = c.requires.asks in
+    let (next, makes, way) = c.respond.ensures.goes_on c.args.program.now s asking in
+    ap length way.maps ∙ way.stands.state.maps.eight
+
+pub record-requires-clause-room : goal.record-requires-clause-room
+record-requires-clause-room c =
+    let (s, asking) = c.requires.asks in
+    let (next, makes, way) = c.respond.ensures.goes_on c.args.program.now s asking in
+    let enough = way.reserve in
+    rw (c.needed-left.ensures, c.slot.ensures) enough
 
 pub returns-clause-goes_on : goal.returns-clause-goes_on
 returns-clause-goes_on c s asking =
     let v = c.args.program.now in
-    let need = c.args.need in
-    let run = c.args.run.now in
-    let owned = part c.args.memory.now c.args.tenant in
-    let later = part c.meet-number.new.memory c.args.tenant in
-    let asks = asking.asks in
-    let found : map_at owned.maps (map_of need) ≡ Some asks.flat = ap (λ maps. map_at maps (map_of need)) asking.maps ∙ asks.there in
-    let number : c.meet-number.result ≡ answer_of need asks.flat = c.meet-number.ensures.answer ∙ ap (λ flat. unwrap_or (option_map (answer_of need) flat) 0) found in
-    let valued : maps_after need c.match-need.value.now owned.maps ≡ maps_after need (value_of run) owned.maps = elim c.match-need.branch [
-      | in-Update w ↦ rw (w.value-is, w.value-value.ensures) refl
-      | in_default w ↦ unvalued need c.match-need.value.now (value_of run) owned.maps w.in_default.not-Update
-    ] in
-    let maps : later.maps ≡ asks.next.memory.maps =
-    ap (λ (one : TenantPart). one.maps) c.meet-number.ensures.part ∙ valued ∙ ap (maps_after need (value_of run)) asking.maps ∙ sym asks.maps in
-    let slot : c.answer.new.self.slot ≡ run.slot = ap (λ (one : Running). one.slot) c.answer.ensures ∙ answered_slot run.awaited run c.meet-number.result in
+    let later = part c.respond.new.memory c.args.tenant in
+    let (next, makes, way) = c.respond.ensures.goes_on v s asking in
     let recorded = c.record.ensures.recorded in
-    let same : needed_from v (part c.record.new.self c.args.tenant) c.answer.new.self.slot ≡ needed_from v later c.answer.new.self.slot = ap (λ (one : TenantPart). needed_from v one c.answer.new.self.slot) recorded in
-    let reserved : (part c.record.new.self c.args.tenant).reserve ≡ needed_from v later c.answer.new.self.slot =
+    let same : needed_from v (part c.record.new.self c.args.tenant) c.respond.new.run.slot ≡ needed_from v later c.respond.new.run.slot = ap (λ (one : TenantPart). needed_from v one c.respond.new.run.slot) recorded in
+    let reserved : (part c.record.new.self c.args.tenant).reserve ≡ needed_from v later c.respond.new.run.slot =
     ap (λ (one : TenantPart). one.reserve) recorded ∙ c.needed-left.ensures ∙ ap (needed_from v later) c.slot.ensures in (
-      asks.next,
-      asks.makes,
+      next,
+      makes,
       record {
-        stands = subst (λ one. StandsFor v one asks.next) (sym (c.answer.ensures ∙ ap (answered run) number)) asks.stands;
-        maps = ap (λ (one : TenantPart). one.maps) recorded ∙ maps;
-        running = ap (λ (one : TenantPart). one.running) recorded ∙ ap (λ (one : TenantPart). one.running) c.meet-number.ensures.part ∙ asking.running;
+        stands = way.stands;
+        maps = ap (λ (one : TenantPart). one.maps) recorded ∙ way.maps;
+        running = ap (λ (one : TenantPart). one.running) recorded ∙ way.running;
         reserve = rw (same, reserved) (omega arith);
       },
     )
 
-pub meet-number-requires-clause-room : goal.meet-number-requires-clause-room
-meet-number-requires-clause-room c =
-    let (s, asking) = c.requires.asks in
-    let flat = c.maps_are_flat.ensures.flat c.args.tenant asking.eight in
-    met_room c.args.program.now s c.args.need c.args.run.now c.args.memory.now c.args.tenant [] c.facts.ensures flat asking
-
--- a run that takes an answer stays at its slot
-stays : (c : After-slot) → c.slot.result ≡ c.args.run.now.slot
-stays c = c.slot.ensures ∙ ap (λ (one : Running). one.slot) c.answer.ensures ∙ answered_slot c.args.run.now.awaited c.args.run.now c.meet-number.result
-
-pub record-requires-clause-room : goal.record-requires-clause-room
-record-requires-clause-room c =
-    let v = c.args.program.now in
-    let t = c.args.tenant in
-    let old = c.args.memory.now in
-    let later = part c.meet-number.new.memory t in
-    let (s, asking) = c.requires.asks in
-    let flat = c.maps_are_flat.ensures.flat t asking.eight in
-    let pins = ap (λ (one : TenantPart). one.pins) c.meet-number.ensures.part ∙ ap (λ (sharing : Sharing). part_of sharing.pins (t * 2048) 2048) c.meet-number.ensures.sharing in
-    let pages : (k : ℕ) → pages_of_map later k ≡ pages_of_map (part old t) k =
-    λ k. ap (λ (one : TenantPart). pages_of_map one k) c.meet-number.ensures.part ∙ pages_after c.args.need c.match-need.value.now (part old t).maps k in
-    let pays = met_pays v s c.args.need c.args.run.now old t later c.facts.ensures flat asking pins pages in
-    let enough : needed_from v (part old t) s.slot ≤ have_of old + (part old t).reserve = asking.reserve in
-    let left : c.needed-left.result ≡ needed_from v later c.args.run.now.slot = c.needed-left.ensures ∙ ap (needed_from v later) (stays (goal.at.record-requires-clause-room c).After-slot) in
-    let have = c.meet-number.ensures.have in
-    omega (arith, pays, enough, left, have)
-
 pub returns-clause-reserve : goal.returns-clause-reserve
 returns-clause-reserve c =
     let v = c.args.program.now in
-    let later = part c.meet-number.new.memory c.args.tenant in
-    ap (λ (one : TenantPart). one.reserve) c.record.ensures.recorded ∙ c.needed-left.ensures ∙ ap (needed_from v later) (stays (goal.at.returns-clause-reserve c).After-slot)
+    let later = part c.respond.new.memory c.args.tenant in
+    ap (λ (one : TenantPart). one.reserve) c.record.ensures.recorded ∙ c.needed-left.ensures ∙ ap (needed_from v later) (c.slot.ensures ∙ c.respond.ensures.slot)
     ∙ sym (ap (λ (one : TenantPart). needed_from v one c.args.run.now.slot) c.record.ensures.recorded)

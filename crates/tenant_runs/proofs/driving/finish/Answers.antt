@@ -3,7 +3,6 @@ use Rattle.interp.proofs.OnMaps.{never_private_on}
 use Rattle.tenant_runs.specs.Storing.{maps_of, HasFrames, HasStored}
 use Rattle.tenant_runs.specs.UnderWay.{part_with_have}
 use Rattle.tenant_runs.proofs.Rooms.{record_keeps, keeps_twice}
-use Rattle.tenant_runs.proofs.Roomy.{under_way_roomy}
 use Rattle.tenant_runs.proofs.Finishing.{steps_below, followed_on}
 use Rattle.tenant_runs.proofs.OnMaps.{stands_on, eight_there, eight_still, asked_later, ended_later}
 use Rattle.tenant_runs.proofs.driving.finish.Goals as goal
@@ -60,8 +59,8 @@ returns-in-Ended-clause-sizes c =
     let recorded = record_keeps c.loop-ret.memory c.record.new.self c.args.tenant 0 c.record.ensures.all in
     keeps_twice c.args.memory.now c.record.new.self c.advance_on.new.memory (keeps_twice c.args.memory.now c.loop-ret.memory c.record.new.self finishing.sizes recorded) ended.keeps.sizes
 
-pub answer-requires : goal.answer-requires
-answer-requires c =
+pub respond-requires : goal.respond-requires
+respond-requires c =
     let v = c.args.program.now in
     let finishing = c.loop-ret.invariant in
     let (s, start) = finishing.some in
@@ -72,7 +71,7 @@ answer-requires c =
     let eight = eight_still c.args.tenant c.loop-ret.memory c.record.new.self (eight_there v c.args.tenant c.loop-ret.run followed.state c.loop-ret.memory followed.under_way) c.record.ensures.recorded in
     let later = asked_later v c.args.tenant followed.state n c.advance_on.result c.advance_on.new.self c.record.new.self c.advance_on.new.memory
     (λ e. never_private_on (maps_of c.args.tenant) (HasFrames c.args.tenant) (HasStored c.args.tenant) v followed.state c.record.new.self c.advance_on.new.memory c.advance_on.new.self n finishing.verified (rw e at follows) (omega (arith, many e, all))) c.in_default.not-Ended follows eight in
-    record { asks = (later.asked.state, later.asked.asking) }
+    record { asks = (v, later.asked.state, later.asked.asking) }
 
 pub loop-ret-smaller : goal.loop-ret-smaller
 loop-ret-smaller c =
@@ -88,7 +87,7 @@ loop-ret-smaller c =
     (λ e. never_private_on (maps_of c.args.tenant) (HasFrames c.args.tenant) (HasStored c.args.tenant) v followed.state c.record.new.self c.advance_on.new.memory c.advance_on.new.self n finishing.verified (rw e at follows) (omega (arith, many e, all))) c.in_default.not-Ended follows eight in
     let below = steps_below v c.loop-ret.run followed.state finishing.verified followed.under_way.stands in
     let count = later.asked.count in
-    omega (arith, below, more, count, c.answer.ensures.steps)
+    omega (arith, below, more, count, c.respond.ensures.steps)
 
 pub loop-ret-preserved : goal.loop-ret-preserved
 loop-ret-preserved c =
@@ -114,10 +113,10 @@ loop-ret-preserved c =
           let eight = eight_still c.args.tenant c.loop-ret.memory c.record.new.self (eight_there v c.args.tenant c.loop-ret.run followed.state c.loop-ret.memory followed.under_way) c.record.ensures.recorded in
           let later = asked_later v c.args.tenant followed.state n c.advance_on.result c.advance_on.new.self c.record.new.self c.advance_on.new.memory
           (λ e. never_private_on (maps_of c.args.tenant) (HasFrames c.args.tenant) (HasStored c.args.tenant) v followed.state c.record.new.self c.advance_on.new.memory c.advance_on.new.self n finishing.verified (rw e at follows) (omega (arith, many e, all))) c.in_default.not-Ended follows eight in
-          followed_on v c.args.run.now c.loop-ret.run c.advance_on.new.self c.answer.new.run s c.advance_on.result n (part_with_have c.loop-ret.memory c.args.tenant) (part_with_have c.advance_on.new.memory c.args.tenant) (part_with_have c.answer.new.memory c.args.tenant) followed later.asked more c.answer.ensures.steps
-          (λ t asking. let (next, makes, way) = c.answer.ensures.goes_on t asking in (next, makes, under_way_roomy v c.answer.new.run next c.answer.new.memory c.args.tenant way));
-      others = λ t other. c.answer.ensures.others t other ∙ later.keeps.others t other ∙ c.record.ensures.others t other ∙ finishing.others t other;
+          followed_on v c.args.run.now c.loop-ret.run c.advance_on.new.self c.respond.new.run s c.advance_on.result n (part_with_have c.loop-ret.memory c.args.tenant) (part_with_have c.advance_on.new.memory c.args.tenant) (part_with_have c.respond.new.memory c.args.tenant) followed later.asked more c.respond.ensures.steps
+          (λ t asking. c.respond.ensures.goes_on v t asking);
+      others = λ t other. c.respond.ensures.others t other ∙ later.keeps.others t other ∙ c.record.ensures.others t other ∙ finishing.others t other;
       sizes =
-          keeps_twice c.args.memory.now c.advance_on.new.memory c.answer.new.memory
-          (keeps_twice c.args.memory.now c.record.new.self c.advance_on.new.memory (keeps_twice c.args.memory.now c.loop-ret.memory c.record.new.self finishing.sizes recorded) later.keeps.sizes) c.answer.ensures.sizes;
+          keeps_twice c.args.memory.now c.advance_on.new.memory c.respond.new.memory
+          (keeps_twice c.args.memory.now c.record.new.self c.advance_on.new.memory (keeps_twice c.args.memory.now c.loop-ret.memory c.record.new.self finishing.sizes recorded) later.keeps.sizes) c.respond.ensures.sizes;
     }
