@@ -13,6 +13,7 @@ use verifier::Verified;
 /// How many frames a run of a tenant may need from a slot of its program on, which is what is reserved for it
 /// there: the smaller of what its stores may take in all, and of how many pages aren't pinned in the maps that
 /// they may write. At most eight numbers are read, and no page is looked at.
+#[inline]
 pub fn needed(program: &Verified, memory: &Memory, tenant: u32, slot: u32) -> u32
     ensures { result ≡ needed_from program.now (part memory.now tenant) slot }
 {
@@ -25,6 +26,7 @@ pub fn needed(program: &Verified, memory: &Memory, tenant: u32, slot: u32) -> u3
 }
 
 /// How many pages the rest of a run may take out: those that aren't pinned of the maps that it may write.
+#[inline(never)]
 fn pages_to_take_out(program: &Verified, memory: &Memory, tenant: u32, slot: u32) -> u32
     ensures { result ≡ unpinned_in (writes_from program.now slot) (pages_of_map (part memory.now tenant)) (part memory.now tenant).pins 0 8 }
 {

@@ -7,6 +7,7 @@ ghost use Rattle.page_table.specs.Limits.{AreLimits};
 ghost use Rattle.host_core.specs.World.{System, IsCovered, MetIsOpen, new_system};
 ghost use Rattle.host_core.specs.Happens.{Happens, IsPromised, AllHappen, StepsHappen, SetHappens, UnmergeHappens, JoinHappens, SplitHappens};
 ghost use Rattle.host_core.specs.HostView.{StandsForSystem, tenant_of, reply_of};
+ghost use Rattle.host_core.specs.declared.event.Event.TheVariants.{Step};
 
 use crate::event::{Event, Reply};
 use crate::tenant::Tenant;
@@ -69,9 +70,9 @@ impl Host {
             → (next : System) × StandsForSystem self.new next
             × Happens x event.now result next × IsPromised x event.now result next × IsCovered next }
     {
-        let reply = match event.tenant() {
-            Some(number) => self.apply_to(number, event),
-            None => self.apply_to_all(event),
+        let reply = match event {
+            Event::Step { tenant } => self.step(*tenant),
+            _ => self.serve(event),
         };
         self.memory.facts();
         reply
@@ -117,6 +118,32 @@ impl Host {
         ensures { result ≡ option_map (λ flat. flat.shape) (map_at (part self.now.memory tenant).maps map) }
     {
         self.memory.shape(tenant, map)
+    }
+
+    /// Lets a step of a tenant's open run happen, without the way through all other events: most events are steps.
+    fn step(&mut self, tenant: u32) -> Reply
+        ensures { (x : System) → StandsForSystem self.old x
+            → (next : System) × StandsForSystem self.new next
+            × Happens x (Step tenant) result next × IsPromised x (Step tenant) result next }
+    {
+        let place = tenant as usize;
+        if place >= self.tenants.len() {
+            return Reply::Refused(Fault::BadTenant);
+        }
+        self.tenants[place].step(&mut self.memory, tenant)
+    }
+
+    /// Lets any event happen.
+    #[inline(never)]
+    fn serve(&mut self, event: &Event) -> Reply
+        ensures { (x : System) → StandsForSystem self.old x
+            → (next : System) × StandsForSystem self.new next
+            × Happens x event.now result next × IsPromised x event.now result next }
+    {
+        match event.tenant() {
+            Some(number) => self.apply_to(number, event),
+            None => self.apply_to_all(event),
+        }
     }
 
     /// Lets an event of a tenant happen.

@@ -267,7 +267,7 @@ impl Tenant {
     }
 
     /// Makes a step of the open run.
-    fn step(&mut self, memory: &mut Memory, number: u32) -> Reply
+    pub(crate) fn step(&mut self, memory: &mut Memory, number: u32) -> Reply
         requires kept { IsKept number self.old memory.old }
         ensures { IsServed number self.old memory.old (Step number) result self.new memory.new }
     {
