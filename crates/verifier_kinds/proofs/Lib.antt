@@ -12,6 +12,7 @@ pub mod Least
 pub mod Calls
 pub mod Soundness
 pub mod Refinement
+pub mod Under
 pub mod Narrower
 pub mod NarrowerKinds
 pub mod NarrowerDescriptions
