@@ -31,7 +31,7 @@ same_as_itself a =
 
 -- the join of two pointers to the values of one map
 pub join_of_values : (m : ℕ) (a b : Offsets) → join_of_kinds (MapValue m a) (MapValue m b) ≡ Some (MapValue m (offsets_in (join_of_ranges (range_in a) (range_in b))))
-pub join_of_values m a b = cond-true (m == m) (Some (MapValue m (offsets_in (join_of_ranges (range_in a) (range_in b))))) None (eq-eqb m m refl)
+join_of_values m a b = cond-true (m == m) (Some (MapValue m (offsets_in (join_of_ranges (range_in a) (range_in b))))) None (eq-eqb m m refl)
 
 -- the join of a kind with itself
 join_with_itself : (a : Kind) → IsBelow (join_of_kinds a a) (Some a)
