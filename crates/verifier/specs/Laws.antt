@@ -6,8 +6,8 @@ use Rattle.verifier_kinds.specs.Descriptions.{start_description, join_of}
 use Rattle.verifier.specs.Subject.{Subject}
 use Rattle.verifier.specs.Flow.{flow}
 use Rattle.bpf_decode.specs.Text.{slots_of}
-use Rattle.verifier.specs.Table.{Table, IsTightTable, IsRefusal, IsLawful, HasNoLawful}
-use Rattle.verifier.specs.Wide.{IsWideLawful, HasNoWideLawful}
+use Rattle.verifier.specs.Table.{Table, IsTightTable, IsRefusal, IsLawful}
+use Rattle.verifier.specs.Wide.{IsWideLawful, HasNoLawful}
 use Rattle.verifier.specs.Verified.{Accepted, IsSubject}
 use Rattle.verifier.specs.Named.{is_map}
 use Rattle.verifier.specs.Reserve.{cost_at, reserve_from}
@@ -25,15 +25,12 @@ HasOneTable = (p : Subject) (table other : Table) → IsTightTable p table → I
 abbrev pub RefusalExcludesTable : Type 0
 RefusalExcludesTable = (p : Subject) (table : Table) (refused : Refused) → IsTightTable p table → IsRefusal p refused → ⊥
 
--- a text of bytes that has a refusal has no lawful table, whoever looks for one
+-- A text of bytes that has a refusal has no lawful table, whoever looks for one; nor has it one that says offsets
+-- below -65536, which no flow makes, but to which a table may weaken what it says.
 abbrev pub RefusalLeavesNoLawful : Type 0
 RefusalLeavesNoLawful = (p : Subject) (refused : Refused) → IsSubject p → All (λ byte. byte < 256) p.text → IsRefusal p refused → HasNoLawful p
 
--- nor has it one that says offsets below -65536, which no flow makes and a table may only weaken to
-abbrev pub RefusalLeavesNoWideLawful : Type 0
-RefusalLeavesNoWideLawful = (p : Subject) (refused : Refused) → IsSubject p → All (λ byte. byte < 256) p.text → IsRefusal p refused → HasNoWideLawful p
-
--- each lawful table is one of those: its numbers are 0 more
+-- each lawful table is one of those that it leaves none of: its numbers of offsets are 0 more
 abbrev pub LawfulIsWide : Type 0
 LawfulIsWide = (p : Subject) (table : Table) → IsLawful p table → IsWideLawful p 0 table
 

@@ -21,7 +21,7 @@ use Rattle.verifier_kinds.specs.declared.description.Description.{Description}
 use Rattle.verifier_kinds.specs.Descriptions.{register_of, settled, start_description}
 use Rattle.verifier_kinds.specs.Wide.{raised_kind, arith_by_at, IsWideAt}
 use Rattle.verifier.specs.declared.jumps.Compared.{Compared}
-use Rattle.verifier.specs.declared.jumps.Compared.TheVariants.{Answer}
+use Rattle.verifier.specs.declared.jumps.Compared.TheVariants.{Numbers, Answer}
 use Rattle.verifier.specs.Subject.{Subject}
 use Rattle.verifier.specs.Flow.{◌>>=◌, both, holds_or, known_or, read_kind, write_kind, operand_kind, dst_is_known, loaded_range, value_size_of, is_aligned_in_value, load_kind, wide_kind, is_number, stored, falls_to, jumps_to, target, comparands, holds_of_null, checked_kind, on_way, falls_on, flow_by}
 use Rattle.verifier.specs.Table.{Table, described, IsContained}
@@ -75,9 +75,9 @@ after_store_at extra p size source insn d =
 
 -- what is known on one way of a conditional jump
 abbrev pub on_way_at : ℕ → Comparison → Width → Bool → Insn → Description → Compared → Option Description
+on_way_at extra comparison width taken insn d (Numbers a b) = on_way comparison width taken insn d (Numbers a b)
 on_way_at extra comparison width true insn d (Answer m call) = Some (settled call (raised_kind extra (checked_kind m (holds_of_null comparison))) d)
 on_way_at extra comparison width false insn d (Answer m call) = Some (settled call (raised_kind extra (checked_kind m (not (holds_of_null comparison)))) d)
-on_way_at extra comparison width taken insn d compared = on_way comparison width taken insn d compared
 
 -- where a conditional jump leads
 abbrev pub flow_of_branch_at : ℕ → Subject → Comparison → Width → Source → Insn → ℕ → Description → Result (List (ℕ × Description)) ℕ
@@ -112,7 +112,7 @@ pub record IsWideLawful (p : Subject) (extra : ℕ) (table : Table) : Type 0 whe
   pub kinds : (slot : ℕ) → IfSome (described table slot) (IsWideAt slot)
   pub kept : (slot : ℕ) (d : Description) → described table slot ≡ Some d → IsKeptWide extra p table slot d
 
--- A subject that no table is lawful for, also none that says offsets below -65536. An alignment of offsets is
--- one of their numbers, so each is at most 8 and `extra` is a multiple of it.
-abbrev pub HasNoWideLawful : Subject → Type 0
-HasNoWideLawful p = (extra : ℕ) (table : Table) → extra % 8 ≡ 0 → IsWideLawful p extra table → ⊥
+-- A subject that no table is lawful for, also none that says offsets below -65536: whatever is said of its slots, a
+-- rule is broken. Numbers are aligned as the offsets are, since 8 divides `extra`.
+abbrev pub HasNoLawful : Subject → Type 0
+HasNoLawful p = (extra : ℕ) (table : Table) → extra % 8 ≡ 0 → IsWideLawful p extra table → ⊥
