@@ -1,5 +1,5 @@
 -- The flow of tables that say lower offsets, whose numbers are `extra` more, is with 0 more that of the verifier.
-use Rattle.std.proofs.Common.{◌≡◌, ℕ, ◌+◌, ◌&&◌, nat_le, ℤ, pos, negsuc, ◌+ℤ◌, ◌-ℤ◌, Bool, true, false, not, if◌then◌else◌, List, ◌++◌, All, IfSome, Option, Some, None, Result, Ok, Err, refl, ap, ◌∙◌, arith}
+use Rattle.std.proofs.Common.{◌≡◌, ℕ, ◌+◌, ◌&&◌, nat_le, ℤ, pos, negsuc, ◌+ℤ◌, ◌-ℤ◌, Bool, true, false, not, if◌then◌else◌, ◌++◌, IfSome, Option, Some, None, Result, Ok, Err, refl, ap, ◌∙◌, arith}
 use Rattle.std.specs.Prelude.{int_le}
 use Rattle.std.specs.Int.{cast_signed, w64}
 use Rattle.std.proofs.lemmas.Bool.{le-leb}
@@ -34,7 +34,7 @@ use Rattle.verifier.specs.declared.jumps.Compared.{Compared}
 use Rattle.verifier.specs.declared.jumps.Compared.TheVariants.{Numbers, Answer}
 use Rattle.verifier.specs.Subject.{Subject}
 use Rattle.verifier.specs.Flow.{◌>>=◌, both, holds_or, known_or, read_kind, write_kind, operand_kind, dst_is_known, computed_kind, after_alu, loaded_range, value_size_of, begins_in_value, is_aligned_in_value, value_access, load_kind, loaded_kind, after_load, wide_kind, after_load_immediate, is_number, stored, after_store, falls_to, jumps_to, target, comparands, holds_of_null, checked_kind, on_way, flow_of_branch, falls_on, flow_by, flow}
-use Rattle.verifier.specs.Table.{Table, described, IsContained, IsLawful}
+use Rattle.verifier.specs.Table.{Table, described, IsLawful}
 use Rattle.verifier.specs.Wide.{computed_kind_at, access_at, load_kind_at, loaded_kind_at, wide_kind_at, stored_at, after_store_at, on_way_at, flow_of_branch_at, flow_by_at, flow_at, IsWideLawful}
 
 -- ---- kinds

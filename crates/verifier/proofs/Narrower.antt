@@ -246,12 +246,12 @@ aligned_below extra offsets outer by size e p w t =
 
 begins_below : (extra : ℕ) (offsets outer : Offsets) (by : ℤ) → outer.low ≤ extra + offsets.low → begins_at extra outer by ≡ true → begins_in_value offsets by ≡ true
 begins_below extra offsets outer by h t =
-    let known = true_int_le (pos (extra + 65536)) (pos outer.low +ℤ by) t in
+    let known = true_int_le _ (pos outer.low +ℤ by) t in
     int_le_true (pos 65536) (pos offsets.low +ℤ by) (omega (arith, ints))
 
 ends_below : (extra value_size : ℕ) (offsets outer : Offsets) (by : ℤ) (size : ℕ) → extra + offsets.high ≤ outer.high → ends_at extra value_size outer by size ≡ true → ends_in_value value_size offsets by size ≡ true
 ends_below extra value_size offsets outer by size h t =
-    let known = true_int_le (pos (outer.high + size) +ℤ by) (pos (extra + (65536 + value_size))) t in
+    let known = true_int_le (pos (outer.high + size) +ℤ by) _ t in
     int_le_true (pos (offsets.high + size) +ℤ by) (pos (65536 + value_size)) (omega (arith, ints))
 
 access_below : (extra value_size : ℕ) (offsets outer : Offsets) (by : ℤ) (size : Size) → extra % 8 ≡ 0 → IsNormal (range_in offsets) → IsWithin (range_in (raised extra offsets)) (range_in outer) → IsResultBelow IsAsked (value_access value_size offsets by (byte_count size)) (access_at extra value_size outer by (byte_count size))

@@ -1,6 +1,6 @@
 -- Tables that also say offsets below -65536, and what flows on in them (this project's own profile). The rules
 -- are those of flow: where it speaks of offsets, the numbers are `extra` more here, and all else is just its.
-use Rattle.std.specs.Prelude.{◌≡◌, ℕ, ◌+◌, ◌%◌, int_le, ℤ, pos, ◌+ℤ◌, Bool, true, false, not, ◌&&◌, List, ◌++◌, All, IfSome, Option, Some, Result, Ok, Err}
+use Rattle.std.specs.Prelude.{◌≡◌, ℕ, ◌+◌, ◌%◌, int_le, ℤ, pos, ◌+ℤ◌, Bool, true, false, not, ◌&&◌, List, ◌++◌, All, IfSome, Option, Some, Result, Ok}
 use Rattle.host_types.specs.Rules.{unknown_opcode, outside_map, misaligned}
 use Rattle.bpf_decode.specs.declared.insn.Insn.{Insn}
 use Rattle.bpf_decode.specs.declared.operation.Source.{Source}

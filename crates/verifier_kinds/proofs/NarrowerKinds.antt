@@ -82,9 +82,9 @@ ends_narrow extra m d e (pos low) (pos high) (pos wide_low) (pos wide_high) whol
     (λ t.
     let small : wide_high ≤ extra + 131072 = leb-true wide_high (extra + 131072) (and_parts (nat_le extra wide_low) (nat_le wide_high (extra + 131072)) t).1 in
     let narrow : IsWithin (normal (extra + low) (extra + high) d) (normal wide_low wide_high e) =
-        normal_narrows (between (extra + low) (extra + high) d) (between wide_low wide_high e) (extra + low)
-            (record { low = omega arith; high = omega arith; aligned = raised_divided extra low d whole (divided low refl) })
-            (record { low = low_order; high = high_order; aligned = h }) in
+    normal_narrows (between (extra + low) (extra + high) d) (between wide_low wide_high e) (extra + low)
+    (record { low = omega arith; high = omega arith; aligned = raised_divided extra low d whole (divided low refl) })
+    (record { low = low_order; high = high_order; aligned = h }) in
     rw (cond-true (nat_le high 131072) (Ok (MapValue m (offsets_in (normal low high d)))) (Err outside_map) (le-leb high 131072 (omega arith))) (
       offsets_in (normal low high d),
       refl,
