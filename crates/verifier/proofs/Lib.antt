@@ -18,4 +18,4 @@ pub mod Narrower
 pub mod Complete
 pub mod Described
 pub mod Readings
-pub mod Agreed
+pub mod Raised

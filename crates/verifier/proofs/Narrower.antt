@@ -53,31 +53,31 @@ use Rattle.verifier.specs.declared.jumps.Compared.TheVariants.{Numbers, Answer}
 use Rattle.verifier.specs.Subject.{Subject}
 use Rattle.verifier.specs.Flow.{◌>>=◌, both, first_of, holds_or, known_or, read_kind, writable, write_kind, operand_kind, dst_is_known, computed_kind, after_alu, lies_below, aligned, context_place, stack_place, loaded_range, places, slot_kind, value_size_of, begins_in_value, ends_in_value, lies_in_value, is_aligned_in_value, value_access, load_kind, loaded_kind, after_load, wide_kind, after_load_immediate, written_slot, is_number, after_stack_store, stored, after_store, falls_to, jumps_to, target, is_null_check, compared_kinds, comparands, holds_of_null, checked_kind, on_way, flow_of_branch, byte_in_slot, bytes_known, argument, name_in, flags_in, named_map, key_argument, value_argument, flags_argument, update_arguments, called_map, answer_kind, without_arguments, after_call, falls_on, flow_of_exit, flow_by, flow}
 use Rattle.verifier.specs.Table.{Table, described, IsContained}
-use Rattle.verifier.specs.Wide.{computed_kind_at, begins_at, ends_at, lies_at, access_at, load_kind_at, loaded_kind_at, wide_kind_at, stored_at, after_store_at, on_way_at, flow_of_branch_at, flow_by_at, flow_at}
+use Rattle.verifier.specs.Wide.{computed_kind_at, begin_number, end_number, begins_at, ends_at, lies_at, access_at, load_kind_at, loaded_kind_at, wide_kind_at, stored_at, after_store_at, on_way_at, flow_of_branch_at, flow_by_at, flow_at}
 
 -- ---- questions
 
 -- that a rule isn't broken is all that some questions tell
-abbrev IsAsked : Unit {0} → Unit {0} → Type 0
+abbrev pub IsAsked : Unit {0} → Unit {0} → Type 0
 IsAsked x y = Unit {0}
 
-asked_self : (r : Result (Unit {0}) ℕ) → IsResultBelow IsAsked r r
+pub asked_self : (r : Result (Unit {0}) ℕ) → IsResultBelow IsAsked r r
 asked_self r = result_below_self IsAsked r (λ x. tt)
 
-then_below : {A B : Type 0} (P : A → A → Type 0) (Q : B → B → Type 0) (r s : Result A ℕ) (f g : A → Result B ℕ) → IsResultBelow P r s → ((x y : A) → P x y → IsResultBelow Q (f x) (g y)) → IsResultBelow Q (r >>= f) (s >>= g)
+pub then_below : {A B : Type 0} (P : A → A → Type 0) (Q : B → B → Type 0) (r s : Result A ℕ) (f g : A → Result B ℕ) → IsResultBelow P r s → ((x y : A) → P x y → IsResultBelow Q (f x) (g y)) → IsResultBelow Q (r >>= f) (s >>= g)
 then_below P Q r (Err n) f g p q = tt
 then_below P Q (Ok x) (Ok y) f g p q = q x y p
 then_below P Q (Err m) (Ok y) f g p q = absurd p
 
-then_same : {A B : Type 0} (Q : B → B → Type 0) (r : Result A ℕ) (f g : A → Result B ℕ) → ((x : A) → IsResultBelow Q (f x) (g x)) → IsResultBelow Q (r >>= f) (r >>= g)
+pub then_same : {A B : Type 0} (Q : B → B → Type 0) (r : Result A ℕ) (f g : A → Result B ℕ) → ((x : A) → IsResultBelow Q (f x) (g x)) → IsResultBelow Q (r >>= f) (r >>= g)
 then_same Q (Ok x) f g q = q x
 then_same Q (Err n) f g q = tt
 
 -- two answers of two questions
-abbrev AreBoth : {A B : Type 0} → (A → A → Type 0) → (B → B → Type 0) → A × B → A × B → Type 0
+abbrev pub AreBoth : {A B : Type 0} → (A → A → Type 0) → (B → B → Type 0) → A × B → A × B → Type 0
 AreBoth P Q x y = P x.0 y.0 × Q x.1 y.1
 
-both_below : {A B : Type 0} (P : A → A → Type 0) (Q : B → B → Type 0) (r s : Result A ℕ) (t u : Result B ℕ) → IsResultBelow P r s → IsResultBelow Q t u → IsResultBelow (AreBoth P Q) (both r t) (both s u)
+pub both_below : {A B : Type 0} (P : A → A → Type 0) (Q : B → B → Type 0) (r s : Result A ℕ) (t u : Result B ℕ) → IsResultBelow P r s → IsResultBelow Q t u → IsResultBelow (AreBoth P Q) (both r t) (both s u)
 both_below P Q r (Err m) t (Err n) p q = tt
 both_below P Q r (Err m) t (Ok y) p q = tt
 both_below P Q r (Ok x) t (Err n) p q = tt
@@ -89,7 +89,7 @@ first_below : (r s t u : Result (Unit {0}) ℕ) → IsResultBelow IsAsked r s �
 first_below r s t u p q =
     then_below (AreBoth IsAsked IsAsked) IsAsked (both r t) (both s u) (λ x. Ok tt) (λ x. Ok tt) (both_below IsAsked IsAsked r s t u p q) (λ x y h. tt)
 
-holds_below : (s t : Bool) (rule : ℕ) → (t ≡ true → s ≡ true) → IsResultBelow IsAsked (holds_or s rule) (holds_or t rule)
+pub holds_below : (s t : Bool) (rule : ℕ) → (t ≡ true → s ≡ true) → IsResultBelow IsAsked (holds_or s rule) (holds_or t rule)
 holds_below s false rule h = tt
 holds_below true true rule h = tt
 holds_below false true rule h = let wrong : false ≡ true = h refl in absurd cc
@@ -207,7 +207,7 @@ factor_divided Four = refl
 factor_divided Eight = refl
 
 -- what is raised by a multiple of 8 is divided by a size as it was
-raised_rest : (extra n : ℕ) (size : Size) → extra % 8 ≡ 0 → (extra + n) % byte_count size ≡ n % byte_count size
+pub raised_rest : (extra n : ℕ) (size : Size) → extra % 8 ≡ 0 → (extra + n) % byte_count size ≡ n % byte_count size
 raised_rest extra n Byte e = omega arith
 raised_rest extra n HalfWord e = omega arith
 raised_rest extra n Word e = omega arith
@@ -246,12 +246,12 @@ aligned_below extra offsets outer by size e p w t =
 
 begins_below : (extra : ℕ) (offsets outer : Offsets) (by : ℤ) → outer.low ≤ extra + offsets.low → begins_at extra outer by ≡ true → begins_in_value offsets by ≡ true
 begins_below extra offsets outer by h t =
-    let known = true_int_le _ (pos outer.low +ℤ by) t in
+    let known = true_int_le (pos (begin_number extra)) (pos outer.low +ℤ by) t in
     int_le_true (pos 65536) (pos offsets.low +ℤ by) (omega (arith, ints))
 
 ends_below : (extra value_size : ℕ) (offsets outer : Offsets) (by : ℤ) (size : ℕ) → extra + offsets.high ≤ outer.high → ends_at extra value_size outer by size ≡ true → ends_in_value value_size offsets by size ≡ true
 ends_below extra value_size offsets outer by size h t =
-    let known = true_int_le (pos (outer.high + size) +ℤ by) _ t in
+    let known = true_int_le (pos (outer.high + size) +ℤ by) (pos (end_number extra value_size)) t in
     int_le_true (pos (offsets.high + size) +ℤ by) (pos (65536 + value_size)) (omega (arith, ints))
 
 access_below : (extra value_size : ℕ) (offsets outer : Offsets) (by : ℤ) (size : Size) → extra % 8 ≡ 0 → IsNormal (range_in offsets) → IsWithin (range_in (raised extra offsets)) (range_in outer) → IsResultBelow IsAsked (value_access value_size offsets by (byte_count size)) (access_at extra value_size outer by (byte_count size))

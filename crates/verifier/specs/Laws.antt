@@ -1,5 +1,5 @@
 -- A subject has one answer at most, and the reserve of a verified program falls.
-use Rattle.std.specs.Prelude.{◌≡◌, ℕ, ◌+◌, ◌<◌, ◌≤◌, Bool, true, List, All, Ok}
+use Rattle.std.specs.Prelude.{◌≡◌, ℕ, ◌+◌, ◌%◌, ◌<◌, ◌≤◌, Bool, true, List, All, Ok}
 use Rattle.host_types.specs.declared.fault.Refused.{Refused}
 use Rattle.verifier_kinds.specs.declared.description.Description.{Description}
 use Rattle.verifier_kinds.specs.Descriptions.{start_description, join_of}
@@ -7,7 +7,7 @@ use Rattle.verifier.specs.Subject.{Subject}
 use Rattle.verifier.specs.Flow.{flow}
 use Rattle.bpf_decode.specs.Text.{slots_of}
 use Rattle.verifier.specs.Table.{Table, IsTightTable, IsRefusal, IsLawful}
-use Rattle.verifier.specs.Wide.{IsWideLawful, HasNoLawful}
+use Rattle.verifier.specs.Wide.{IsWideLawful, HasNoLawful, raised_table}
 use Rattle.verifier.specs.Verified.{Accepted, IsSubject}
 use Rattle.verifier.specs.Named.{is_map}
 use Rattle.verifier.specs.Reserve.{cost_at, reserve_from}
@@ -30,9 +30,10 @@ RefusalExcludesTable = (p : Subject) (table : Table) (refused : Refused) → IsT
 abbrev pub RefusalLeavesNoLawful : Type 0
 RefusalLeavesNoLawful = (p : Subject) (refused : Refused) → IsSubject p → All (λ byte. byte < 256) p.text → IsRefusal p refused → HasNoLawful p
 
--- each lawful table is one of those that it leaves none of: its numbers of offsets are 0 more
-abbrev pub LawfulIsWide : Type 0
-LawfulIsWide = (p : Subject) (table : Table) → IsLawful p table → IsWideLawful p 0 table
+-- Each lawful table is one of those that it leaves none of, once its numbers of offsets are 0 more, or more by any
+-- multiple of 8: the wider rules ask for nothing else.
+abbrev pub RaisedStaysLawful : Type 0
+RaisedStaysLawful = (p : Subject) (extra : ℕ) (table : Table) → extra % 8 ≡ 0 → IsLawful p table → IsWideLawful p extra (raised_table extra table)
 
 -- a reading of a text contains a description at a slot
 abbrev pub Contains : (ℕ → Description → Bool) → ℕ → Description → Type 0

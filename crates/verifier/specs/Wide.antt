@@ -1,6 +1,6 @@
 -- Tables that also say offsets below -65536, and what flows on in them (this project's own profile). The rules
 -- are those of flow: where it speaks of offsets, the numbers are `extra` more here, and all else is just its.
-use Rattle.std.specs.Prelude.{◌≡◌, ℕ, ◌+◌, ◌%◌, int_le, ℤ, pos, ◌+ℤ◌, Bool, true, false, not, ◌&&◌, List, ◌++◌, All, IfSome, Option, Some, Result, Ok}
+use Rattle.std.specs.Prelude.{◌≡◌, ℕ, ◌+◌, ◌%◌, int_le, ℤ, pos, ◌+ℤ◌, Bool, true, false, not, ◌&&◌, List, ◌++◌, map, option_map, All, IfSome, Option, Some, Result, Ok}
 use Rattle.host_types.specs.Rules.{unknown_opcode, outside_map, misaligned}
 use Rattle.bpf_decode.specs.declared.insn.Insn.{Insn}
 use Rattle.bpf_decode.specs.declared.operation.Source.{Source}
@@ -19,7 +19,7 @@ use Rattle.verifier_kinds.specs.declared.kind.Kind.{Kind}
 use Rattle.verifier_kinds.specs.declared.kind.Kind.TheVariants.{Scalar, MapValue}
 use Rattle.verifier_kinds.specs.declared.description.Description.{Description}
 use Rattle.verifier_kinds.specs.Descriptions.{register_of, settled, start_description}
-use Rattle.verifier_kinds.specs.Wide.{raised_kind, arith_by_at, IsWideAt}
+use Rattle.verifier_kinds.specs.Wide.{raised_kind, raised_description, arith_by_at, IsWideAt}
 use Rattle.verifier.specs.declared.jumps.Compared.{Compared}
 use Rattle.verifier.specs.declared.jumps.Compared.TheVariants.{Numbers, Answer}
 use Rattle.verifier.specs.Subject.{Subject}
@@ -31,13 +31,21 @@ abbrev pub computed_kind_at : ℕ → AluCode → Width → Source → Insn → 
 computed_kind_at extra code width source insn d =
     both (dst_is_known code insn d) (operand_kind width source insn d) >>= λ x. arith_by_at extra code width insn.offset (register_of d insn.dst) x.1
 
+-- the number of a value's first byte
+abbrev pub begin_number : ℕ → ℕ
+begin_number extra = extra + 65536
+
+-- and that of its end
+abbrev pub end_number : ℕ → ℕ → ℕ
+end_number extra value_size = extra + (65536 + value_size)
+
 -- an access begins in a value
 abbrev pub begins_at : ℕ → Offsets → ℤ → Bool
-begins_at extra offsets by = int_le (pos (extra + 65536)) (pos offsets.low +ℤ by)
+begins_at extra offsets by = int_le (pos (begin_number extra)) (pos offsets.low +ℤ by)
 
 -- and ends in it
 abbrev pub ends_at : ℕ → ℕ → Offsets → ℤ → ℕ → Bool
-ends_at extra value_size offsets by size = int_le (pos (offsets.high + size) +ℤ by) (pos (extra + (65536 + value_size)))
+ends_at extra value_size offsets by size = int_le (pos (offsets.high + size) +ℤ by) (pos (end_number extra value_size))
 
 -- an access lies whole in a value
 abbrev pub lies_at : ℕ → ℕ → Offsets → ℤ → ℕ → Result (Unit {0}) ℕ
@@ -100,6 +108,10 @@ flow_by_at extra p operation slot d = flow_by p operation slot d
 -- where the instruction at a slot leads from a description, or the rule that it breaks
 abbrev pub flow_at : ℕ → Subject → ℕ → Description → Result (List (ℕ × Description)) ℕ
 flow_at extra p slot d = known_or (operation_of (insn_at p.text slot).opcode) unknown_opcode >>= λ operation. flow_by_at extra p operation slot d
+
+-- a table as one says it whose numbers of offsets are `extra` more
+abbrev pub raised_table : ℕ → Table → Table
+raised_table extra table = map (option_map (raised_description extra)) table
 
 -- at a slot with this description no rule is broken, and all that flows on is contained
 abbrev pub IsKeptWide : ℕ → Subject → Table → ℕ → Description → Type 0

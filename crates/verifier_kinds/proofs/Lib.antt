@@ -15,5 +15,6 @@ pub mod Refinement
 pub mod Under
 pub mod Narrower
 pub mod NarrowerKinds
+pub mod Raised
 pub mod NarrowerDescriptions
 pub mod Keeping

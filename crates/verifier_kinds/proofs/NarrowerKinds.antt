@@ -48,10 +48,25 @@ result_below_self below (Err n) self = tt
 
 -- ---- pointers
 
+-- where two pointers that are moved alike may be
+pub displaced_alike : (P : Kind → Kind → Type 0) (kind : ℤ → Kind) (rule : ℕ) (code : AluCode) (width : Width) (offset : ℤ) (by : Range) → ((z : ℤ) → P (kind z) (kind z)) → IsResultBelow P (displaced kind rule code width offset by) (displaced kind rule code width offset by)
+displaced_alike P kind rule code width offset by self = moved_alike code width
+  where
+    kept : (to : ℤ) → IsResultBelow P (within_offsets kind rule to) (within_offsets kind rule to)
+    kept to = cond_both (int_le (negsuc 65535) to && int_le to (pos 65536)) (Ok (kind to)) (Err rule) (λ r. IsResultBelow P r r) (λ _. self to) (λ _. tt)
+
+    moved_by : (to : ℤ) → IsResultBelow P (if is_constant by then within_offsets kind rule to else Err wrong_kind) (if is_constant by then within_offsets kind rule to else Err wrong_kind)
+    moved_by to = cond_both (is_constant by) (within_offsets kind rule to) (Err wrong_kind) (λ r. IsResultBelow P r r) (λ _. kept to) (λ _. tt)
+
+    moved_alike : (code : AluCode) (width : Width) → IsResultBelow P (displaced kind rule code width offset by) (displaced kind rule code width offset by)
+    moved_alike Add Bits64 = moved_by (offset +ℤ cast_signed w64 by.low)
+    moved_alike Sub Bits64 = moved_by (offset -ℤ cast_signed w64 by.low)
+    moved_alike code width = tt
+
 -- a pointer is moved by constants alone, and a range within one is the same
 displaced_narrows : (extra : ℕ) (kind : ℤ → Kind) (rule : ℕ) (code : AluCode) (width : Width) (offset : ℤ) (by wide : Range) → ((z : ℤ) → IsKindUnder extra (kind z) (kind z)) → IsNormal by → IsNormal wide → IsWithin by wide → IsResultBelow (IsKindUnder extra) (displaced kind rule code width offset by) (displaced kind rule code width offset wide)
 displaced_narrows extra kind rule code width offset by wide self p q w = elim (cases_Bool (is_constant wide)) [
-  | inl t ↦ rw (same_constant by wide p q w t) (moved_alike code width)
+  | inl t ↦ rw (same_constant by wide p q w t) (displaced_alike (IsKindUnder extra) kind rule code width offset wide self)
   | inr f ↦ rw (refused kind rule code width offset wide f) tt
 ]
   where
@@ -59,18 +74,6 @@ displaced_narrows extra kind rule code width offset by wide self p q w = elim (c
     refused kind rule Add Bits64 offset by f = cond-false (is_constant by) _ _ f
     refused kind rule Sub Bits64 offset by f = cond-false (is_constant by) _ _ f
     refused kind rule code width offset by f = refl
-
-    -- what is moved to one place
-    kept : (to : ℤ) → IsResultBelow (IsKindUnder extra) (within_offsets kind rule to) (within_offsets kind rule to)
-    kept to = cond_both (int_le (negsuc 65535) to && int_le to (pos 65536)) (Ok (kind to)) (Err rule) (λ r. IsResultBelow (IsKindUnder extra) r r) (λ _. self to) (λ _. tt)
-
-    moved_by : (to : ℤ) → IsResultBelow (IsKindUnder extra) (if is_constant wide then within_offsets kind rule to else Err wrong_kind) (if is_constant wide then within_offsets kind rule to else Err wrong_kind)
-    moved_by to = cond_both (is_constant wide) (within_offsets kind rule to) (Err wrong_kind) (λ r. IsResultBelow (IsKindUnder extra) r r) (λ _. kept to) (λ _. tt)
-
-    moved_alike : (code : AluCode) (width : Width) → IsResultBelow (IsKindUnder extra) (displaced kind rule code width offset wide) (displaced kind rule code width offset wide)
-    moved_alike Add Bits64 = moved_by (offset +ℤ cast_signed w64 wide.low)
-    moved_alike Sub Bits64 = moved_by (offset -ℤ cast_signed w64 wide.low)
-    moved_alike code width = tt
 
 -- the ends of a pointer to a value that a number moves, and those of a wider one
 ends_narrow : (extra m : ℕ) (d e : Align) (low high wide_low wide_high : ℤ) → extra % 8 ≡ 0 → wide_low ≤ℤ (pos extra +ℤ low) → low ≤ℤ high → (pos extra +ℤ high) ≤ℤ wide_high → rank e ≤ rank d → ((n : ℕ) → low ≡ pos n → n % factor d ≡ 0) → IsResultBelow (IsKindUnder extra) (within_value m d low high) (within_value_at extra m e wide_low wide_high)

@@ -1,7 +1,7 @@
 -- Kinds of tables that also say offsets below -65536 (this project's own profile). The offsets of a pointer to
 -- a map's value may be any there: their numbers are `extra` more than those of the verifier, so that they are
 -- `extra + 65536` more than the offsets are. Each table with such offsets is one for a great enough `extra`.
-use Rattle.std.specs.Prelude.{ℕ, ◌+◌, nat_le, ℤ, pos, ◌+ℤ◌, ◌-ℤ◌, ◌&&◌, if◌then◌else◌, length, ◌≡◌, IfSome, Option, Some, None, Result, Ok, Err, ◌<◌}
+use Rattle.std.specs.Prelude.{ℕ, ◌+◌, nat_le, ℤ, pos, ◌+ℤ◌, ◌-ℤ◌, ◌&&◌, if◌then◌else◌, length, map, option_map, ◌≡◌, IfSome, Option, Some, None, Result, Ok, Err, ◌<◌}
 use Rattle.std.specs.Int.{cast_signed, w64}
 use Rattle.host_types.specs.Rules.{unset_register, wrong_kind, outside_map}
 use Rattle.bpf_decode.specs.declared.operation.Width.{Width}
@@ -29,6 +29,15 @@ raised extra offsets = record { low = extra + offsets.low; high = extra + offset
 abbrev pub raised_kind : ℕ → Kind → Kind
 raised_kind extra (MapValue m offsets) = MapValue m (raised extra offsets)
 raised_kind extra kind = kind
+
+-- a slot of the stack as such a table says it
+abbrev pub raised_slot : ℕ → StackSlot → StackSlot
+raised_slot extra (Kept kind) = Kept (raised_kind extra kind)
+raised_slot extra (Bytes set) = Bytes set
+
+-- a description as such a table says it
+abbrev pub raised_description : ℕ → Description → Description
+raised_description extra d = record { registers = map (option_map (raised_kind extra)) d.registers; stack = map (raised_slot extra) d.stack }
 
 -- a pointer to a map's value at the offsets between two ends, if a pointer may have them: from -65536 to 65536
 abbrev pub within_value_at : ℕ → ℕ → Align → ℤ → ℤ → Result Kind ℕ
