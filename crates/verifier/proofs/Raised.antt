@@ -1,6 +1,6 @@
 -- Each lawful table stays one once its offsets are `extra` more: what flows from a description flows from the raised
 -- one, raised.
-use Rattle.std.proofs.Common.{◌≡◌, ℕ, zero, suc, ◌+◌, ◌/◌, ◌%◌, ◌==◌, ◌&&◌, ◌∙◌, ◌⊎◌, ℤ, pos, ◌+ℤ◌, Bool, true, false, not, bit_and, bit_or, List, [], ◌∷◌, ◌++◌, All, IfSome, map, length, Option, Some, None, Result, Ok, Err, refl, sym, ap, subst, inl, inr, arith}
+use Rattle.std.proofs.Common.{◌≡◌, ℕ, zero, suc, ◌+◌, ◌/◌, ◌%◌, ◌==◌, ◌&&◌, ◌∙◌, ℤ, pos, ◌+ℤ◌, Bool, true, false, not, bit_and, bit_or, List, [], ◌∷◌, ◌++◌, All, IfSome, map, Option, Some, None, Result, Ok, Err, refl, sym, ap, subst, inl, inr, arith}
 use Rattle.std.specs.Prelude.{if◌then◌else◌, option_map}
 use Rattle.std.proofs.lemmas.Int.{ints}
 use Rattle.std.proofs.lemmas.Bool.{cases_Bool, cond_both, and_parts, and_from, eq-eqb, eqb-true, eqb-false}
@@ -24,7 +24,7 @@ use Rattle.bpf_decode.specs.declared.operation.AluCode.{AluCode}
 use Rattle.bpf_decode.specs.declared.operation.Operation.{Operation}
 use Rattle.bpf_decode.specs.declared.operation.Operation.TheVariants.{Alu, Load, Store, LoadImmediate, Jump, Branch, Call, Exit}
 use Rattle.bpf_decode.specs.Opcodes.{operation_of, byte_count, distance_of, sign_extended}
-use Rattle.bpf_decode.specs.Text.{insn_at, IsInstruction}
+use Rattle.bpf_decode.specs.Text.{insn_at}
 use Rattle.insn_alu.specs.Arithmetic.{reads_dst}
 use Rattle.verifier_kinds.specs.declared.kind.Range.{Range}
 use Rattle.verifier_kinds.specs.declared.kind.Offsets.{Offsets}
@@ -34,7 +34,7 @@ use Rattle.verifier_kinds.specs.declared.description.StackSlot.{StackSlot}
 use Rattle.verifier_kinds.specs.declared.description.StackSlot.TheVariants.{Kept, Bytes}
 use Rattle.verifier_kinds.specs.declared.description.Description.{Description}
 use Rattle.verifier_kinds.specs.Kinds.{factor, IsNormalKind, IsOfCallBelow}
-use Rattle.verifier_kinds.specs.Descriptions.{start_description, register_of, slot_of, settled, with_kind, with_slot, with_unset, IsLawfulAt, IsNormalSlot, IsOfCallsBelow, IsSlotOfCallBelow}
+use Rattle.verifier_kinds.specs.Descriptions.{start_description, register_of, slot_of, with_kind, with_slot, with_unset, IsLawfulAt, IsNormalSlot, IsSlotOfCallBelow}
 use Rattle.verifier_kinds.specs.Arithmetic.{arith_by}
 use Rattle.verifier_kinds.specs.Refinement.{refined}
 use Rattle.verifier_kinds.specs.Wide.{raised, raised_kind, raised_slot, raised_description, arith_by_at, IsWideKind, IsWideSlot, IsWideAt}

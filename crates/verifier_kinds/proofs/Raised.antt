@@ -44,7 +44,7 @@ ends_raised extra m d (pos low) (pos high) wide_low wide_high whole p q =
     (λ t.
     let small : high ≤ 131072 = leb-true high 131072 t in
     let reach : (nat_le extra (extra + low) && nat_le (extra + high) (extra + 131072)) ≡ true =
-        and_from (nat_le extra (extra + low)) (nat_le (extra + high) (extra + 131072)) (le-leb extra (extra + low) (omega arith)) (le-leb (extra + high) (extra + 131072) (omega arith)) in
+    and_from (nat_le extra (extra + low)) (nat_le (extra + high) (extra + 131072)) (le-leb extra (extra + low) (omega arith)) (le-leb (extra + high) (extra + 131072) (omega arith)) in
     rw (from, to, cond-true (nat_le extra (extra + low) && nat_le (extra + high) (extra + 131072)) (Ok (MapValue m (offsets_in (normal (extra + low) (extra + high) d)))) (Err outside_map) reach)
     (ap (λ r. MapValue m (offsets_in r)) (raised_normal extra low high d whole)))
     (λ _. tt)
