@@ -1,13 +1,10 @@
 -- Kinds of tables that also say offsets below -65536 (this project's own profile). The offsets of a pointer to
 -- a map's value may be any there: their numbers are `extra` more than those of the verifier, so that they are
 -- `extra + 65536` more than the offsets are. Each table with such offsets is one for a great enough `extra`.
-use Rattle.std.specs.Prelude.{ℕ, ◌+◌, nat_le, ℤ, pos, ◌+ℤ◌, ◌-ℤ◌, ◌&&◌, if◌then◌else◌, length, map, option_map, ◌≡◌, IfSome, Option, Some, None, Result, Ok, Err, ◌<◌}
-use Rattle.std.specs.Int.{cast_signed, w64}
-use Rattle.host_types.specs.Rules.{unset_register, wrong_kind, outside_map}
+use Rattle.std.specs.Prelude.{ℕ, ◌+◌, nat_le, ℤ, pos, ◌&&◌, if◌then◌else◌, length, map, option_map, ◌≡◌, IfSome, Option, Some, None, Result, Ok, Err, ◌<◌}
+use Rattle.host_types.specs.Rules.{unset_register, outside_map}
 use Rattle.bpf_decode.specs.declared.operation.Width.{Width}
-use Rattle.bpf_decode.specs.declared.operation.Width.TheVariants.{Bits64}
 use Rattle.bpf_decode.specs.declared.operation.AluCode.{AluCode}
-use Rattle.bpf_decode.specs.declared.operation.AluCode.TheVariants.{Add, Sub}
 use Rattle.insn_alu.specs.Arithmetic.{reads_dst}
 use Rattle.verifier_kinds.specs.declared.kind.Align.{Align}
 use Rattle.verifier_kinds.specs.declared.kind.Range.{Range}
@@ -17,9 +14,9 @@ use Rattle.verifier_kinds.specs.declared.kind.Kind.TheVariants.{Scalar, MapValue
 use Rattle.verifier_kinds.specs.declared.description.StackSlot.{StackSlot}
 use Rattle.verifier_kinds.specs.declared.description.StackSlot.TheVariants.{Kept, Bytes}
 use Rattle.verifier_kinds.specs.declared.description.Description.{Description}
-use Rattle.verifier_kinds.specs.Kinds.{is_constant, least_align, normal, offsets_in, IsNormal}
+use Rattle.verifier_kinds.specs.Kinds.{normal, offsets_in, IsNormal}
 use Rattle.verifier_kinds.specs.Descriptions.{register_of, slot_of, IsOfCallsBelow}
-use Rattle.verifier_kinds.specs.Arithmetic.{signed_offset, kind_of, copied}
+use Rattle.verifier_kinds.specs.Arithmetic.{displaced_by, kind_of, copied}
 
 -- the same offsets, their numbers `extra` more
 abbrev pub raised : ℕ → Offsets → Offsets
@@ -45,15 +42,9 @@ within_value_at extra m align (pos low) (pos high) =
     if nat_le extra low && nat_le high (extra + 131072) then Ok (MapValue m (offsets_in (normal low high align))) else Err outside_map
 within_value_at extra m align low high = Err outside_map
 
--- a pointer to a map's value is moved from wherever it is
+-- a pointer to a map's value is moved there from wherever it is
 abbrev pub displaced_value_at : ℕ → ℕ → AluCode → Width → Offsets → Range → Result Kind ℕ
-displaced_value_at extra m Add Bits64 offsets by =
-    within_value_at extra m (least_align offsets.align by.align) (pos offsets.low +ℤ signed_offset by by.low) (pos offsets.high +ℤ signed_offset by by.high)
-displaced_value_at extra m Sub Bits64 offsets by =
-    if is_constant by
-    then within_value_at extra m (least_align offsets.align by.align) (pos offsets.low -ℤ cast_signed w64 by.low) (pos offsets.high -ℤ cast_signed w64 by.low)
-    else Err wrong_kind
-displaced_value_at extra m code width offsets by = Err wrong_kind
+displaced_value_at extra m code width offsets by = displaced_by (within_value_at extra m) code width offsets by
 
 -- what an operation makes of kinds; of all others it makes what it does elsewhere
 abbrev pub kind_of_at : ℕ → AluCode → Width → ℤ → Kind → Kind → Result Kind ℕ
