@@ -52,7 +52,8 @@ use Rattle.verifier.specs.declared.jumps.Compared.{Compared}
 use Rattle.verifier.specs.declared.jumps.Compared.TheVariants.{Numbers, Answer}
 use Rattle.verifier.specs.Subject.{Subject}
 use Rattle.verifier.specs.Flow.{◌>>=◌, both, known_or, holds_or, read_kind, writable, write_kind, operand_kind, dst_is_known, computed_kind, after_alu, lies_below, aligned, context_place, stack_place, loaded_range, places, slot_kind, value_size_of, value_access, load_kind, loaded_kind, after_load, name_kind, at_offset, first_value_kind, wide_kind, after_load_immediate, written_slot, is_number, after_stack_store, stored, after_store, falls_to, jumps_to, target, is_null_check, compared_kinds, comparands, holds_of_null, checked_kind, on_way, flow_of_branch, called_map, answer_kind, without_arguments, after_call, falls_on, flow_by, flow}
-use Rattle.verifier.specs.Table.{Table, described, flows_by, flows_from, targets_of, IsRefusal, HasNoLawful}
+use Rattle.verifier.specs.Table.{Table, described, flows_by, flows_from, targets_of, IsRefusal}
+use Rattle.verifier.specs.Wide.{HasNoLawful}
 use Rattle.verifier.specs.Pass.{AreDescribed, FlowDescribed}
 use Rattle.verifier.specs.Verified.{HasShapes, IsSubject}
 use Rattle.verifier.specs.Way.{AreNormal}
@@ -386,7 +387,7 @@ tight_flows p tight (suc n) shapes bytes t s h =
 
 -- a refusal of a text of bytes leaves no lawful table
 pub refusal_leaves_none : (p : Subject) (refused : Refused) → IsSubject p → All (λ byte. byte < 256) p.text → IsRefusal p refused → HasNoLawful p
-refusal_leaves_none p refused subject bytes i table lawful =
-    broken_leaves_none p table i.table refused.slot refused.number
+refusal_leaves_none p refused subject bytes i =
+    broken_leaves_none p i.table refused.slot refused.number
     (tight_flows p i.table refused.slot subject.shapes bytes (λ s h. i.tight s (omega arith)))
-    (λ s h. i.tight s (omega arith)) i.breaks lawful
+    (λ s h. i.tight s (omega arith)) i.breaks

@@ -18,3 +18,4 @@ pub mod Narrower
 pub mod Complete
 pub mod Described
 pub mod Readings
+pub mod Raised

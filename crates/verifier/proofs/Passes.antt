@@ -10,7 +10,8 @@ use Rattle.verifier_kinds.specs.declared.description.Description.{Description}
 use Rattle.verifier_kinds.specs.Descriptions.{start_description, IsDescription}
 use Rattle.verifier.specs.Subject.{Subject}
 use Rattle.verifier.specs.Flow.{flow, target}
-use Rattle.verifier.specs.Table.{Table, described, flows_by, flows_from, targets_of, known_with, arrived, incoming, tight_up_to, tight_table, Breaks, IsTightTable, IsRefusal, HasNoLawful, IsCleanBefore}
+use Rattle.verifier.specs.Table.{Table, described, flows_by, flows_from, targets_of, known_with, arrived, incoming, tight_up_to, tight_table, Breaks, IsTightTable, IsRefusal, IsCleanBefore}
+use Rattle.verifier.specs.Wide.{HasNoLawful}
 use Rattle.verifier.specs.Pass.{AreDescribed, FlowDescribed, Kept, kinds_in, pending_at, falling, known_with_coming, next_at, IsPassed}
 use Rattle.verifier.specs.Verified.{IsSubject, IsVerified}
 use Rattle.verifier.proofs.Tables.{if_same, below_next, IsDescription-incoming}
@@ -74,10 +75,10 @@ known_refusal p kept pending coming slot number d instruction i is breaks =
 
 -- and leaves no lawful table
 pub known_incomplete : (p : Subject) (kept : Kept) (pending : List (Option (Box Description))) (coming : Option Description) (slot number : ℕ) (d : Description) → IsInstruction p.text slot → IsPassed p kept pending coming slot → Some d ≡ known_with_coming (pending_at pending slot) coming → flow p slot d ≡ Err number → HasNoLawful p
-known_incomplete p kept pending coming slot number d instruction i is breaks table lawful =
+known_incomplete p kept pending coming slot number d instruction i is breaks =
     let within = instruction.within in
-    broken_leaves_none p table (tight_table p) slot number i.flows (λ s h. tight_is_tight p (slots_of p.text) s (omega arith))
-    (record { description = d; found = known_at p kept pending coming slot instruction i ∙ sym is; breaks = breaks }) lawful
+    broken_leaves_none p (tight_table p) slot number i.flows (λ s h. tight_is_tight p (slots_of p.text) s (omega arith))
+    (record { description = d; found = known_at p kept pending coming slot instruction i ∙ sym is; breaks = breaks })
 
 -- the same slot breaks one rule at most, and none if it flows on
 flows_or_breaks : (p : Subject) (slot rule : ℕ) (known : Option Description) → IfSome known (λ d. (targets : List (ℕ × Description)) × (flow p slot d ≡ Ok targets)) → (d : Description) → known ≡ Some d → flow p slot d ≡ Err rule → ⊥

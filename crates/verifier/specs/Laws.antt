@@ -1,12 +1,13 @@
 -- A subject has one answer at most, and the reserve of a verified program falls.
-use Rattle.std.specs.Prelude.{◌≡◌, ℕ, ◌+◌, ◌<◌, ◌≤◌, Bool, true, List, All, Ok}
+use Rattle.std.specs.Prelude.{◌≡◌, ℕ, ◌+◌, ◌%◌, ◌<◌, ◌≤◌, Bool, true, List, All, Ok}
 use Rattle.host_types.specs.declared.fault.Refused.{Refused}
 use Rattle.verifier_kinds.specs.declared.description.Description.{Description}
 use Rattle.verifier_kinds.specs.Descriptions.{start_description, join_of}
 use Rattle.verifier.specs.Subject.{Subject}
 use Rattle.verifier.specs.Flow.{flow}
 use Rattle.bpf_decode.specs.Text.{slots_of}
-use Rattle.verifier.specs.Table.{Table, IsTightTable, IsRefusal, HasNoLawful}
+use Rattle.verifier.specs.Table.{Table, IsTightTable, IsRefusal, IsLawful}
+use Rattle.verifier.specs.Wide.{IsWideLawful, HasNoLawful, raised_table}
 use Rattle.verifier.specs.Verified.{Accepted, IsSubject}
 use Rattle.verifier.specs.Named.{is_map}
 use Rattle.verifier.specs.Reserve.{cost_at, reserve_from}
@@ -24,9 +25,15 @@ HasOneTable = (p : Subject) (table other : Table) → IsTightTable p table → I
 abbrev pub RefusalExcludesTable : Type 0
 RefusalExcludesTable = (p : Subject) (table : Table) (refused : Refused) → IsTightTable p table → IsRefusal p refused → ⊥
 
--- a text of bytes that has a refusal has no lawful table, whoever looks for one
+-- A text of bytes that has a refusal has no lawful table, whoever looks for one; nor has it one that says offsets
+-- below -65536, which no flow makes, but to which a table may weaken what it says.
 abbrev pub RefusalLeavesNoLawful : Type 0
 RefusalLeavesNoLawful = (p : Subject) (refused : Refused) → IsSubject p → All (λ byte. byte < 256) p.text → IsRefusal p refused → HasNoLawful p
+
+-- Each lawful table is one of those that it leaves none of, once its numbers of offsets are 0 more, or more by any
+-- multiple of 8: the wider rules ask for nothing else.
+abbrev pub RaisedStaysLawful : Type 0
+RaisedStaysLawful = (p : Subject) (extra : ℕ) (table : Table) → extra % 8 ≡ 0 → IsLawful p table → IsWideLawful p extra (raised_table extra table)
 
 -- a reading of a text contains a description at a slot
 abbrev pub Contains : (ℕ → Description → Bool) → ℕ → Description → Type 0

@@ -3,6 +3,7 @@ pub mod Named
 pub mod Flow
 pub mod Way
 pub mod Table
+pub mod Wide
 pub mod Verified
 pub mod Reserve
 pub mod Writes

@@ -99,7 +99,3 @@ pub record IsLawful (p : Subject) (table : Table) : Type 0 where
   pub instructions : (slot : ℕ) (d : Description) → described table slot ≡ Some d → IsInstruction p.text slot
   pub kinds : (slot : ℕ) → IfSome (described table slot) (IsLawfulAt slot)
   pub kept : (slot : ℕ) (d : Description) → described table slot ≡ Some d → IsKeptAt p table slot d
-
--- a subject that no table is lawful for: whatever is said of its slots, a rule is broken
-abbrev pub HasNoLawful : Subject → Type 0
-HasNoLawful p = (table : Table) → IsLawful p table → ⊥

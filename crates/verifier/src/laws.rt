@@ -1,4 +1,4 @@
-ghost use Rattle.verifier.specs.Laws.{HasOneRefusal, HasOneTable, RefusalExcludesTable, RefusalLeavesNoLawful, RefusalLeavesNoReading, ReserveCoversStep, ReserveEndsAtNone, WritesFall, WritesHere};
+ghost use Rattle.verifier.specs.Laws.{HasOneRefusal, HasOneTable, RefusalExcludesTable, RefusalLeavesNoLawful, RefusalLeavesNoReading, RaisedStaysLawful, ReserveCoversStep, ReserveEndsAtNone, WritesFall, WritesHere};
 
 /// A subject has one refusal or one tight table at most, and not both, so what `verify` answers
 /// is the only answer that there is. This is a law about the definitions: the function does nothing.
@@ -8,11 +8,14 @@ pub fn answer_is_one()
     ensures exclusive { RefusalExcludesTable }
 {}
 
-/// The verifier is complete: a text that has a refusal has no lawful table, and no reading of any kind that
-/// goes by the same rules, so it's the profile that refuses it and no whim of the code. This is a law about
-/// the definitions, for every body that refuses by them: the function does nothing.
+/// The verifier is complete: a text that has a refusal has no lawful table, whatever offsets it says, and no
+/// reading of any kind that goes by the same rules, so it's the profile that refuses it and no whim of the code.
+/// A table may say lower offsets than the verifier keeps: its numbers for them are all greater by one multiple of 8,
+/// and each lawful table stays one when its own are raised so. This is a law about the definitions, for every body
+/// that refuses by them: the function does nothing.
 pub fn refusal_leaves_none()
     ensures lawful { RefusalLeavesNoLawful }
+    ensures raised { RaisedStaysLawful }
     ensures reading { RefusalLeavesNoReading }
 {}
 

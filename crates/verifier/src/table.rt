@@ -8,7 +8,8 @@ ghost use Rattle.verifier_kinds.specs.declared.kind.Kind.TheVariants.{Scalar};
 ghost use Rattle.verifier_kinds.specs.Descriptions.{with_kind};
 ghost use Rattle.verifier.specs.declared.way.Way.TheVariants.{Checks, Forks};
 ghost use Rattle.verifier.specs.Flow.{target};
-ghost use Rattle.verifier.specs.Table.{arrived, known_with, tight_table, IsCleanBefore, IsRefusal, HasNoLawful};
+ghost use Rattle.verifier.specs.Table.{arrived, known_with, tight_table, IsCleanBefore, IsRefusal};
+ghost use Rattle.verifier.specs.Wide.{HasNoLawful};
 ghost use Rattle.verifier.specs.Way.{HasDst, FallsTo, LeadsBelow, ways_of};
 ghost use Rattle.verifier.specs.Pass.{FlowDescribed, falling, kinds_in, known_with_coming, pending_at, HasPassed};
 

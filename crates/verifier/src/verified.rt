@@ -4,7 +4,8 @@ ghost use Rattle.bpf_decode.specs.Text.{slots_of, insn_at, instructions_of, IsIn
 ghost use Rattle.verifier.specs.Subject.{IsContextSize, padded};
 ghost use Rattle.verifier.specs.Flow.{value_size_of};
 ghost use Rattle.verifier.specs.Named.{names};
-ghost use Rattle.verifier.specs.Table.{IsRefusal, HasNoLawful};
+ghost use Rattle.verifier.specs.Table.{IsRefusal};
+ghost use Rattle.verifier.specs.Wide.{HasNoLawful};
 ghost use Rattle.verifier.specs.Verified.{AreShapes, IsVerified, kind_at};
 ghost use Rattle.verifier.specs.Reserve.{reserve_from};
 ghost use Rattle.verifier.specs.Writes.{writes_from};

@@ -30,7 +30,7 @@ same_as_itself a =
     and_from (int_le a a) (int_le a a) same same
 
 -- the join of two pointers to the values of one map
-join_of_values : (m : ℕ) (a b : Offsets) → join_of_kinds (MapValue m a) (MapValue m b) ≡ Some (MapValue m (offsets_in (join_of_ranges (range_in a) (range_in b))))
+pub join_of_values : (m : ℕ) (a b : Offsets) → join_of_kinds (MapValue m a) (MapValue m b) ≡ Some (MapValue m (offsets_in (join_of_ranges (range_in a) (range_in b))))
 join_of_values m a b = cond-true (m == m) (Some (MapValue m (offsets_in (join_of_ranges (range_in a) (range_in b))))) None (eq-eqb m m refl)
 
 -- the join of a kind with itself

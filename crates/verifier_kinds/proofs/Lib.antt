@@ -12,7 +12,9 @@ pub mod Least
 pub mod Calls
 pub mod Soundness
 pub mod Refinement
+pub mod Under
 pub mod Narrower
 pub mod NarrowerKinds
+pub mod Raised
 pub mod NarrowerDescriptions
 pub mod Keeping

@@ -1,6 +1,7 @@
--- Narrower kinds: of kinds that are below others, arithmetic and conditional jumps make kinds that are.
+-- Narrower kinds: of kinds that are under others, arithmetic and conditional jumps make kinds that are, also
+-- where the others' offsets are `extra` more.
 use Rattle.std.proofs.Common.{◌≡◌, ℕ, ◌+◌, ◌-◌, ◌/◌, ◌*◌, ◌%◌, ◌^◌, ◌<◌, ◌≤◌, ◌==◌, min, max, nat_lt, nat_le, ℤ, pos, negsuc, ◌+ℤ◌, ◌-ℤ◌, ◌≤ℤ◌, ◌<ℤ◌, Bool, true, false, inl, inr, Option, Some, None, Result, Ok, Err, refl, subst, arith}
-use Rattle.std.specs.Prelude.{if◌then◌else◌}
+use Rattle.std.specs.Prelude.{if◌then◌else◌, int_le, ◌&&◌}
 use Rattle.std.specs.Int.{cast_signed, w64}
 use Rattle.std.proofs.lemmas.Int.{ints, to_z_pos}
 use Rattle.std.proofs.lemmas.Bool.{cases_Bool, cases_lt, cond_both, cond-true, cond-false, and_parts, and_from, eqb-true, eqb-false, le-leb, leb-true, lt-ltb, ltb-true}
@@ -19,14 +20,16 @@ use Rattle.verifier_kinds.specs.declared.kind.Range.{Range}
 use Rattle.verifier_kinds.specs.declared.kind.Offsets.{Offsets}
 use Rattle.verifier_kinds.specs.declared.kind.Kind.{Kind}
 use Rattle.verifier_kinds.specs.declared.kind.Kind.TheVariants.{Scalar, Context, Stack, MapValue, MaybeValue}
-use Rattle.verifier_kinds.specs.Kinds.{factor, rank, least_align, greatest_align, is_constant, normal, range_in, offsets_in, IsIn, IsNormal, IsNormalKind, IsWithin, IsKindBelow}
-use Rattle.verifier_kinds.specs.Arithmetic.{between, normal_of, range_of, displaced, signed_offset, within_value, displaced_value, kind_of, kind_with_dst, moved_number, copied, arith_by}
+use Rattle.verifier_kinds.specs.Kinds.{factor, rank, least_align, greatest_align, is_constant, normal, range_in, offsets_in, IsIn, IsNormal, IsNormalKind, IsWithin}
+use Rattle.verifier_kinds.specs.Arithmetic.{between, normal_of, range_of, within_offsets, displaced, signed_offset, within_value, displaced_value, kind_of, kind_with_dst, moved_number, copied, arith_by}
+use Rattle.verifier_kinds.specs.Wide.{raised, within_value_at, displaced_value_at, kind_of_at, kind_with_dst_at, arith_by_at, IsWideKind}
 use Rattle.verifier_kinds.specs.Refinement.{some_of, without_end, negated, kept_by, is_told, refined}
 use Rattle.verifier_kinds.proofs.Ranges.{first_divided, last_below}
-use Rattle.verifier_kinds.proofs.Order.{within_trans, kind_below_self}
+use Rattle.verifier_kinds.proofs.Order.{within_trans}
+use Rattle.verifier_kinds.proofs.Under.{raised_divided, raised_normal, IsKindUnder}
 use Rattle.verifier_kinds.proofs.Refinement.{first_above}
 use Rattle.verifier_kinds.proofs.RowLaws.{at_least_one, not_zero}
-use Rattle.verifier_kinds.proofs.Values.{added_divided, subtracted_divided, signed_open, signed_ordered, refused_above}
+use Rattle.verifier_kinds.proofs.Values.{added_divided, subtracted_divided, signed_open, signed_ordered}
 use Rattle.verifier_kinds.proofs.Narrower.{below_greatest_left, rank_least, rank_greatest, normal_narrows, normal_within, same_constant, range_narrows}
 
 -- ---- answers
@@ -45,10 +48,25 @@ result_below_self below (Err n) self = tt
 
 -- ---- pointers
 
+-- where two pointers that are moved alike may be
+pub displaced_alike : (P : Kind → Kind → Type 0) (kind : ℤ → Kind) (rule : ℕ) (code : AluCode) (width : Width) (offset : ℤ) (by : Range) → ((z : ℤ) → P (kind z) (kind z)) → IsResultBelow P (displaced kind rule code width offset by) (displaced kind rule code width offset by)
+displaced_alike P kind rule code width offset by self = moved_alike code width
+  where
+    kept : (to : ℤ) → IsResultBelow P (within_offsets kind rule to) (within_offsets kind rule to)
+    kept to = cond_both (int_le (negsuc 65535) to && int_le to (pos 65536)) (Ok (kind to)) (Err rule) (λ r. IsResultBelow P r r) (λ _. self to) (λ _. tt)
+
+    moved_by : (to : ℤ) → IsResultBelow P (if is_constant by then within_offsets kind rule to else Err wrong_kind) (if is_constant by then within_offsets kind rule to else Err wrong_kind)
+    moved_by to = cond_both (is_constant by) (within_offsets kind rule to) (Err wrong_kind) (λ r. IsResultBelow P r r) (λ _. kept to) (λ _. tt)
+
+    moved_alike : (code : AluCode) (width : Width) → IsResultBelow P (displaced kind rule code width offset by) (displaced kind rule code width offset by)
+    moved_alike Add Bits64 = moved_by (offset +ℤ cast_signed w64 by.low)
+    moved_alike Sub Bits64 = moved_by (offset -ℤ cast_signed w64 by.low)
+    moved_alike code width = tt
+
 -- a pointer is moved by constants alone, and a range within one is the same
-displaced_narrows : (kind : ℤ → Kind) (rule : ℕ) (code : AluCode) (width : Width) (offset : ℤ) (by wide : Range) → IsNormal by → IsNormal wide → IsWithin by wide → IsResultBelow IsKindBelow (displaced kind rule code width offset by) (displaced kind rule code width offset wide)
-displaced_narrows kind rule code width offset by wide p q w = elim (cases_Bool (is_constant wide)) [
-  | inl t ↦ rw (same_constant by wide p q w t) (result_below_self IsKindBelow (displaced kind rule code width offset wide) kind_below_self)
+displaced_narrows : (extra : ℕ) (kind : ℤ → Kind) (rule : ℕ) (code : AluCode) (width : Width) (offset : ℤ) (by wide : Range) → ((z : ℤ) → IsKindUnder extra (kind z) (kind z)) → IsNormal by → IsNormal wide → IsWithin by wide → IsResultBelow (IsKindUnder extra) (displaced kind rule code width offset by) (displaced kind rule code width offset wide)
+displaced_narrows extra kind rule code width offset by wide self p q w = elim (cases_Bool (is_constant wide)) [
+  | inl t ↦ rw (same_constant by wide p q w t) (displaced_alike (IsKindUnder extra) kind rule code width offset wide self)
   | inr f ↦ rw (refused kind rule code width offset wide f) tt
 ]
   where
@@ -58,45 +76,64 @@ displaced_narrows kind rule code width offset by wide p q w = elim (cases_Bool (
     refused kind rule code width offset by f = refl
 
 -- the ends of a pointer to a value that a number moves, and those of a wider one
-ends_narrow : (m : ℕ) (d e : Align) (low high wide_low wide_high : ℤ) → wide_low ≤ℤ low → low ≤ℤ high → high ≤ℤ wide_high → rank e ≤ rank d → ((n : ℕ) → low ≡ pos n → n % factor d ≡ 0) → IsResultBelow IsKindBelow (within_value m d low high) (within_value m e wide_low wide_high)
-ends_narrow m d e (pos low) (pos high) (pos wide_low) (pos wide_high) p ordered q h divided =
-    let low_order : wide_low ≤ low = omega (arith, ints) in
+ends_narrow : (extra m : ℕ) (d e : Align) (low high wide_low wide_high : ℤ) → extra % 8 ≡ 0 → wide_low ≤ℤ (pos extra +ℤ low) → low ≤ℤ high → (pos extra +ℤ high) ≤ℤ wide_high → rank e ≤ rank d → ((n : ℕ) → low ≡ pos n → n % factor d ≡ 0) → IsResultBelow (IsKindUnder extra) (within_value m d low high) (within_value_at extra m e wide_low wide_high)
+ends_narrow extra m d e (pos low) (pos high) (pos wide_low) (pos wide_high) whole p ordered q h divided =
+    let low_order : wide_low ≤ extra + low = omega (arith, ints) in
     let order : low ≤ high = omega (arith, ints) in
-    let high_order : high ≤ wide_high = omega (arith, ints) in
-    cond_both (nat_le wide_high 131072) (Ok (MapValue m (offsets_in (normal wide_low wide_high e)))) (Err outside_map) (IsResultBelow IsKindBelow (within_value m d (pos low) (pos high)))
+    let high_order : extra + high ≤ wide_high = omega (arith, ints) in
+    cond_both (nat_le extra wide_low && nat_le wide_high (extra + 131072)) (Ok (MapValue m (offsets_in (normal wide_low wide_high e)))) (Err outside_map) (IsResultBelow (IsKindUnder extra) (within_value m d (pos low) (pos high)))
     (λ t.
-    let small : wide_high ≤ 131072 = leb-true wide_high 131072 t in
+    let small : wide_high ≤ extra + 131072 = leb-true wide_high (extra + 131072) (and_parts (nat_le extra wide_low) (nat_le wide_high (extra + 131072)) t).1 in
+    let narrow : IsWithin (normal (extra + low) (extra + high) d) (normal wide_low wide_high e) =
+    normal_narrows (between (extra + low) (extra + high) d) (between wide_low wide_high e) (extra + low)
+    (record { low = omega arith; high = omega arith; aligned = raised_divided extra low d whole (divided low refl) })
+    (record { low = low_order; high = high_order; aligned = h }) in
     rw (cond-true (nat_le high 131072) (Ok (MapValue m (offsets_in (normal low high d)))) (Err outside_map) (le-leb high 131072 (omega arith))) (
       offsets_in (normal low high d),
       refl,
-      normal_narrows (between low high d) (between wide_low wide_high e) low
-          (record { low = omega arith; high = order; aligned = divided low refl }) (record { low = low_order; high = high_order; aligned = h }),
+      subst (λ r. IsWithin r (normal wide_low wide_high e)) (raised_normal extra low high d whole) narrow,
     ))
     (λ _. tt)
-ends_narrow m d e (pos low) (negsuc high) (pos wide_low) (pos wide_high) p ordered q h divided = absurd (omega (arith, ints))
-ends_narrow m d e (negsuc low) high (pos wide_low) (pos wide_high) p ordered q h divided = absurd (omega (arith, ints))
-ends_narrow m d e low high (pos wide_low) (negsuc wide_high) p ordered q h divided = tt
-ends_narrow m d e low high (negsuc wide_low) wide_high p ordered q h divided = tt
+ends_narrow extra m d e (pos low) (negsuc high) (pos wide_low) (pos wide_high) whole p ordered q h divided = absurd (omega (arith, ints))
+ends_narrow extra m d e (negsuc low) high (pos wide_low) (pos wide_high) whole p ordered q h divided =
+    cond_both (nat_le extra wide_low && nat_le wide_high (extra + 131072)) (Ok (MapValue m (offsets_in (normal wide_low wide_high e)))) (Err outside_map) (IsResultBelow (IsKindUnder extra) (within_value m d (negsuc low) high))
+    (λ t.
+    let least : extra ≤ wide_low = leb-true extra wide_low (and_parts (nat_le extra wide_low) (nat_le wide_high (extra + 131072)) t).0 in
+    absurd (omega (arith, ints)))
+    (λ _. tt)
+ends_narrow extra m d e low high (pos wide_low) (negsuc wide_high) whole p ordered q h divided = tt
+ends_narrow extra m d e low high (negsuc wide_low) wide_high whole p ordered q h divided = tt
+
+-- where a wider one ends past what a pointer may have, nothing is asked of the other
+ends_past : (extra m : ℕ) (e : Align) (r : Result Kind ℕ) (wide_low wide_high : ℤ) → pos (extra + 131072) <ℤ wide_high → IsResultBelow (IsKindUnder extra) r (within_value_at extra m e wide_low wide_high)
+ends_past extra m e r (pos wide_low) (pos wide_high) far =
+    cond_both (nat_le extra wide_low && nat_le wide_high (extra + 131072)) (Ok (MapValue m (offsets_in (normal wide_low wide_high e)))) (Err outside_map) (IsResultBelow (IsKindUnder extra) r)
+    (λ t. absurd (omega (arith, ints, leb-true wide_high (extra + 131072) (and_parts (nat_le extra wide_low) (nat_le wide_high (extra + 131072)) t).1)))
+    (λ _. tt)
+ends_past extra m e r (pos wide_low) (negsuc wide_high) far = tt
+ends_past extra m e r (negsuc wide_low) wide_high far = tt
 
 -- what a number moves by is between the ends of a wider range, where that is no constant and moves less than 2^63
 open_low : (by : Range) (n : ℕ) → n < 2 ^ 63 → signed_offset by n ≡ pos n
 open_low by n h = cond_both (is_constant by) (cast_signed w64 n) (pos n) (λ z. z ≡ pos n) (λ _. to_z_pos w64 n h) (λ _. refl)
 
--- a pointer to a value that a number moves
-added_narrows : (m : ℕ) (offsets outer : Offsets) (by wide : Range) → IsNormal (range_in offsets) → IsNormal (range_in outer) → IsNormal by → IsNormal wide → IsWithin (range_in offsets) (range_in outer) → IsWithin by wide → IsResultBelow IsKindBelow (displaced_value m Add Bits64 offsets by) (displaced_value m Add Bits64 outer wide)
-added_narrows m offsets outer by wide p outer_p q wide_q w by_w = elim (cases_Bool (is_constant wide)) [
+-- A pointer to a value that a number moves. A range that isn't constant and has numbers from 2^63 on moves a
+-- wider one past its limit, wherever the other may be.
+added_narrows : (extra m : ℕ) (offsets outer : Offsets) (by wide : Range) → extra % 8 ≡ 0 → IsNormal (range_in offsets) → IsNormal by → IsNormal wide → IsWithin (range_in (raised extra offsets)) (range_in outer) → IsWithin by wide → IsResultBelow (IsKindUnder extra) (displaced_value m Add Bits64 offsets by) (displaced_value_at extra m Add Bits64 outer wide)
+added_narrows extra m offsets outer by wide whole p q wide_q w by_w = elim (cases_Bool (is_constant wide)) [
   | inl t ↦
       let same : by ≡ wide = same_constant by wide q wide_q by_w t in
       let w_low = w.low in
       let w_high = w.high in
       let ordered = p.ordered in
       rw same
-      (ends_narrow m (least_align offsets.align wide.align) (least_align outer.align wide.align)
+      (ends_narrow extra m (least_align offsets.align wide.align) (least_align outer.align wide.align)
       (pos offsets.low +ℤ signed_offset wide wide.low) (pos offsets.high +ℤ signed_offset wide wide.high)
       (pos outer.low +ℤ signed_offset wide wide.low) (pos outer.high +ℤ signed_offset wide wide.high)
-      (sum_order outer.low offsets.low (signed_offset wide wide.low) w_low)
+      whole
+      (sum_above outer.low offsets.low (signed_offset wide wide.low) w_low)
       (sums_order offsets.low offsets.high (signed_offset wide wide.low) (signed_offset wide wide.high) ordered (signed_ordered wide wide_q.ordered))
-      (sum_order offsets.high outer.high (signed_offset wide wide.high) w_high)
+      (sum_below offsets.high outer.high (signed_offset wide wide.high) w_high)
       (rank_least outer.align wide.align offsets.align wide.align w.aligned (omega arith))
       (λ n is. added_divided offsets wide n p wide_q is))
   | inr f ↦ elim (cases_lt wide.high (2 ^ 63)) [
@@ -111,117 +148,131 @@ added_narrows m offsets outer by wide p outer_p q wide_q w by_w = elim (cases_Bo
         let high : signed_offset by by.high ≡ pos by.high = open_low by by.high (omega arith) in
         let wide_low : signed_offset wide wide.low ≡ pos wide.low = signed_open wide wide.low f in
         let wide_high : signed_offset wide wide.high ≡ pos wide.high = signed_open wide wide.high f in
-        ends_narrow m (least_align offsets.align by.align) (least_align outer.align wide.align)
+        ends_narrow extra m (least_align offsets.align by.align) (least_align outer.align wide.align)
         (pos offsets.low +ℤ signed_offset by by.low) (pos offsets.high +ℤ signed_offset by by.high)
         (pos outer.low +ℤ signed_offset wide wide.low) (pos outer.high +ℤ signed_offset wide wide.high)
+        whole
         (rw (low, wide_low) (omega (arith, ints)))
         (rw (low, high) (omega (arith, ints)))
         (rw (high, wide_high) (omega (arith, ints)))
         (rank_least outer.align wide.align offsets.align by.align w.aligned by_w.aligned)
         (λ n is. added_divided offsets by n p q is)
     | inr more ↦
+        let w_high = w.high in
         let wide_high : signed_offset wide wide.high ≡ pos wide.high = signed_open wide wide.high f in
-        let far : pos 131072 <ℤ (pos outer.high +ℤ signed_offset wide wide.high) = rw wide_high (omega (arith, ints)) in
-        rw (refused_above m (least_align outer.align wide.align) (pos outer.low +ℤ signed_offset wide wide.low) (pos outer.high +ℤ signed_offset wide wide.high) far) tt
+        let far : pos (extra + 131072) <ℤ (pos outer.high +ℤ signed_offset wide wide.high) = rw wide_high (omega (arith, ints)) in
+        ends_past extra m (least_align outer.align wide.align) (displaced_value m Add Bits64 offsets by) (pos outer.low +ℤ signed_offset wide wide.low) (pos outer.high +ℤ signed_offset wide wide.high) far
   ]
 ]
   where
-    sum_order : (a b : ℕ) (z : ℤ) → a ≤ b → (pos a +ℤ z) ≤ℤ (pos b +ℤ z)
-    sum_order a b z h = omega (arith, ints)
+    sum_above : (a b : ℕ) (z : ℤ) → a ≤ extra + b → (pos a +ℤ z) ≤ℤ (pos extra +ℤ (pos b +ℤ z))
+    sum_above a b z h = omega (arith, ints)
+
+    sum_below : (a b : ℕ) (z : ℤ) → extra + a ≤ b → (pos extra +ℤ (pos a +ℤ z)) ≤ℤ (pos b +ℤ z)
+    sum_below a b z h = omega (arith, ints)
 
     sums_order : (a b : ℕ) (y z : ℤ) → a ≤ b → y ≤ℤ z → (pos a +ℤ y) ≤ℤ (pos b +ℤ z)
     sums_order a b y z h k = omega (arith, ints)
 
 -- and one that a constant moves back
-subtracted_narrows : (m : ℕ) (offsets outer : Offsets) (by wide : Range) → IsNormal (range_in offsets) → IsNormal (range_in outer) → IsNormal by → IsNormal wide → IsWithin (range_in offsets) (range_in outer) → IsWithin by wide → IsResultBelow IsKindBelow (displaced_value m Sub Bits64 offsets by) (displaced_value m Sub Bits64 outer wide)
-subtracted_narrows m offsets outer by wide p outer_p q wide_q w by_w = elim (cases_Bool (is_constant wide)) [
+subtracted_narrows : (extra m : ℕ) (offsets outer : Offsets) (by wide : Range) → extra % 8 ≡ 0 → IsNormal (range_in offsets) → IsNormal by → IsNormal wide → IsWithin (range_in (raised extra offsets)) (range_in outer) → IsWithin by wide → IsResultBelow (IsKindUnder extra) (displaced_value m Sub Bits64 offsets by) (displaced_value_at extra m Sub Bits64 outer wide)
+subtracted_narrows extra m offsets outer by wide whole p q wide_q w by_w = elim (cases_Bool (is_constant wide)) [
   | inl t ↦
       let same : by ≡ wide = same_constant by wide q wide_q by_w t in
       let z : ℤ = cast_signed w64 wide.low in
       rw (same, t)
-      (ends_narrow m (least_align offsets.align wide.align) (least_align outer.align wide.align)
+      (ends_narrow extra m (least_align offsets.align wide.align) (least_align outer.align wide.align)
       (pos offsets.low -ℤ z) (pos offsets.high -ℤ z) (pos outer.low -ℤ z) (pos outer.high -ℤ z)
-      (difference_order outer.low offsets.low z w.low)
+      whole
+      (difference_above outer.low offsets.low z w.low)
       (difference_order offsets.low offsets.high z p.ordered)
-      (difference_order offsets.high outer.high z w.high)
+      (difference_below offsets.high outer.high z w.high)
       (rank_least outer.align wide.align offsets.align wide.align w.aligned (omega arith))
       (λ n is. subtracted_divided offsets wide n p wide_q is))
   | inr f ↦ rw f tt
 ]
   where
+    difference_above : (a b : ℕ) (z : ℤ) → a ≤ extra + b → (pos a -ℤ z) ≤ℤ (pos extra +ℤ (pos b -ℤ z))
+    difference_above a b z h = omega (arith, ints)
+
+    difference_below : (a b : ℕ) (z : ℤ) → extra + a ≤ b → (pos extra +ℤ (pos a -ℤ z)) ≤ℤ (pos b -ℤ z)
+    difference_below a b z h = omega (arith, ints)
+
     difference_order : (a b : ℕ) (z : ℤ) → a ≤ b → (pos a -ℤ z) ≤ℤ (pos b -ℤ z)
     difference_order a b z h = omega (arith, ints)
 
-value_narrows : (m : ℕ) (code : AluCode) (width : Width) (offsets outer : Offsets) (by wide : Range) → IsNormal (range_in offsets) → IsNormal (range_in outer) → IsNormal by → IsNormal wide → IsWithin (range_in offsets) (range_in outer) → IsWithin by wide → IsResultBelow IsKindBelow (displaced_value m code width offsets by) (displaced_value m code width outer wide)
-value_narrows m Add Bits64 offsets outer by wide p outer_p q wide_q w by_w = added_narrows m offsets outer by wide p outer_p q wide_q w by_w
-value_narrows m Sub Bits64 offsets outer by wide p outer_p q wide_q w by_w = subtracted_narrows m offsets outer by wide p outer_p q wide_q w by_w
-value_narrows m code width offsets outer by wide p outer_p q wide_q w by_w = tt
+value_narrows : (extra m : ℕ) (code : AluCode) (width : Width) (offsets outer : Offsets) (by wide : Range) → extra % 8 ≡ 0 → IsNormal (range_in offsets) → IsNormal by → IsNormal wide → IsWithin (range_in (raised extra offsets)) (range_in outer) → IsWithin by wide → IsResultBelow (IsKindUnder extra) (displaced_value m code width offsets by) (displaced_value_at extra m code width outer wide)
+value_narrows extra m Add Bits64 offsets outer by wide whole p q wide_q w by_w = added_narrows extra m offsets outer by wide whole p q wide_q w by_w
+value_narrows extra m Sub Bits64 offsets outer by wide whole p q wide_q w by_w = subtracted_narrows extra m offsets outer by wide whole p q wide_q w by_w
+value_narrows extra m code width offsets outer by wide whole p q wide_q w by_w = tt
 
 -- ---- arithmetic
 
--- one kind is below another, and the ranges of both are normal
-pub record IsKindNarrower (a b : Kind) : Type 0 where
-  pub below : IsKindBelow a b
+-- One kind is under another whose offsets are `extra` more, and the ranges of both are normal, but for the
+-- offsets of the other.
+pub record IsKindNarrower (extra : ℕ) (a b : Kind) : Type 0 where
+  pub whole : extra % 8 ≡ 0
+  pub below : IsKindUnder extra a b
   pub smaller : IsNormalKind a
-  pub larger : IsNormalKind b
+  pub larger : IsWideKind b
 
-kinds_narrow : (code : AluCode) (width : Width) (offset : ℤ) (a b c d : Kind) → IsKindNarrower a c → IsKindNarrower b d → IsResultBelow IsKindBelow (kind_of code width offset a b) (kind_of code width offset c d)
-kinds_narrow code width offset a b (Scalar c) (Scalar d) p q =
+kinds_narrow : (extra : ℕ) (code : AluCode) (width : Width) (offset : ℤ) (a b c d : Kind) → IsKindNarrower extra a c → IsKindNarrower extra b d → IsResultBelow (IsKindUnder extra) (kind_of code width offset a b) (kind_of_at extra code width offset c d)
+kinds_narrow extra code width offset a b (Scalar c) (Scalar d) p q =
     let (x, left, within) = p.below in
     let (y, right, also) = q.below in
     let x_normal : IsNormal x = subst IsNormalKind left p.smaller in
     let y_normal : IsNormal y = subst IsNormalKind right q.smaller in
     rw (left, right) (range_of code width offset x y, refl, range_narrows code width offset x y c d x_normal y_normal p.larger q.larger within also)
-kinds_narrow code width offset a b (Context k) (Scalar d) p q =
+kinds_narrow extra code width offset a b (Context k) (Scalar d) p q =
     let (y, right, also) = q.below in
     let y_normal : IsNormal y = subst IsNormalKind right q.smaller in
-    rw (p.below, right) (displaced_narrows Context 16 code width k y d y_normal q.larger also)
-kinds_narrow code width offset a b (Stack k) (Scalar d) p q =
+    rw (p.below, right) (displaced_narrows extra Context 16 code width k y d (λ z. refl) y_normal q.larger also)
+kinds_narrow extra code width offset a b (Stack k) (Scalar d) p q =
     let (y, right, also) = q.below in
     let y_normal : IsNormal y = subst IsNormalKind right q.smaller in
-    rw (p.below, right) (displaced_narrows Stack 17 code width k y d y_normal q.larger also)
-kinds_narrow code width offset a b (MapValue m outer) (Scalar d) p q =
+    rw (p.below, right) (displaced_narrows extra Stack 17 code width k y d (λ z. refl) y_normal q.larger also)
+kinds_narrow extra code width offset a b (MapValue m outer) (Scalar d) p q =
     let (x, left, within) = p.below in
     let (y, right, also) = q.below in
     let x_normal : IsNormal (range_in x) = subst IsNormalKind left p.smaller in
     let y_normal : IsNormal y = subst IsNormalKind right q.smaller in
-    rw (left, right) (value_narrows m code width x outer y d x_normal p.larger y_normal q.larger within also)
-kinds_narrow code width offset a b (MaybeValue m id) d p q = tt
-kinds_narrow code width offset a b c (MaybeValue m id) p q = tt
-kinds_narrow code width offset a b c d p q = tt
+    rw (left, right) (value_narrows extra m code width x outer y d p.whole x_normal y_normal q.larger within also)
+kinds_narrow extra code width offset a b (MaybeValue m id) d p q = tt
+kinds_narrow extra code width offset a b c (MaybeValue m id) p q = tt
+kinds_narrow extra code width offset a b c d p q = tt
 
--- one thing that is known is below another, and the ranges of both are normal
-abbrev pub IsKnownNarrower : Option Kind → Option Kind → Type 0
-IsKnownNarrower a None = Unit {0}
-IsKnownNarrower a (Some outer) = (inner : Kind) × (a ≡ Some inner) × IsKindNarrower inner outer
+-- one thing that is known is under another, and the ranges of both are normal
+abbrev pub IsKnownNarrower : ℕ → Option Kind → Option Kind → Type 0
+IsKnownNarrower extra a None = Unit {0}
+IsKnownNarrower extra a (Some outer) = (inner : Kind) × (a ≡ Some inner) × IsKindNarrower extra inner outer
 
-with_dst_narrows : (code : AluCode) (width : Width) (offset : ℤ) (a c : Option Kind) (b d : Kind) → IsKnownNarrower a c → IsKindNarrower b d → IsResultBelow IsKindBelow (kind_with_dst code width offset a b) (kind_with_dst code width offset c d)
-with_dst_narrows code width offset a None b d p q = tt
-with_dst_narrows code width offset a (Some c) b d (x, is, narrow) q = rw is (kinds_narrow code width offset x b c d narrow q)
+with_dst_narrows : (extra : ℕ) (code : AluCode) (width : Width) (offset : ℤ) (a c : Option Kind) (b d : Kind) → IsKnownNarrower extra a c → IsKindNarrower extra b d → IsResultBelow (IsKindUnder extra) (kind_with_dst code width offset a b) (kind_with_dst_at extra code width offset c d)
+with_dst_narrows extra code width offset a None b d p q = tt
+with_dst_narrows extra code width offset a (Some c) b d (x, is, narrow) q = rw is (kinds_narrow extra code width offset x b c d narrow q)
 
-moved_narrows : (width : Width) (offset : ℤ) (b d : Kind) → IsKindNarrower b d → IsResultBelow IsKindBelow (moved_number width offset b) (moved_number width offset d)
-moved_narrows width offset b (Scalar d) q =
+moved_narrows : (extra : ℕ) (width : Width) (offset : ℤ) (b d : Kind) → IsKindNarrower extra b d → IsResultBelow (IsKindUnder extra) (moved_number width offset b) (moved_number width offset d)
+moved_narrows extra width offset b (Scalar d) q =
     let (y, right, also) = q.below in
     let y_normal : IsNormal y = subst IsNormalKind right q.smaller in
     rw right (range_of Mov width offset y y, refl, range_narrows Mov width offset y y d d y_normal y_normal q.larger q.larger also also)
-moved_narrows width offset b (MaybeValue m id) q = tt
-moved_narrows width offset b d q = tt
+moved_narrows extra width offset b (MaybeValue m id) q = tt
+moved_narrows extra width offset b d q = tt
 
-copied_narrows : (width : Width) (offset : ℤ) (b d : Kind) → IsKindNarrower b d → IsResultBelow IsKindBelow (copied width offset b) (copied width offset d)
-copied_narrows Bits32 offset b d q = moved_narrows Bits32 offset b d q
-copied_narrows Bits64 offset b d q = by_test (is offset 0)
+copied_narrows : (extra : ℕ) (width : Width) (offset : ℤ) (b d : Kind) → IsKindNarrower extra b d → IsResultBelow (IsKindUnder extra) (copied width offset b) (copied width offset d)
+copied_narrows extra Bits32 offset b d q = moved_narrows extra Bits32 offset b d q
+copied_narrows extra Bits64 offset b d q = by_test (is offset 0)
   where
-    by_test : (t : Bool) → IsResultBelow IsKindBelow (if t then Ok b else moved_number Bits64 offset b) (if t then Ok d else moved_number Bits64 offset d)
+    by_test : (t : Bool) → IsResultBelow (IsKindUnder extra) (if t then Ok b else moved_number Bits64 offset b) (if t then Ok d else moved_number Bits64 offset d)
     by_test true = q.below
-    by_test false = moved_narrows Bits64 offset b d q
+    by_test false = moved_narrows extra Bits64 offset b d q
 
--- arithmetic on kinds that are below others makes kinds that are; only code that reads dst asks for it
-pub arithmetic_narrows : (code : AluCode) (width : Width) (offset : ℤ) (a c : Option Kind) (b d : Kind) → IsKnownNarrower a c → IsKindNarrower b d → IsResultBelow IsKindBelow (arith_by code width offset a b) (arith_by code width offset c d)
-arithmetic_narrows code width offset a c b d p q = by_test (reads_dst code)
+-- arithmetic on kinds that are under others makes kinds that are; only code that reads dst asks for it
+pub arithmetic_narrows : (extra : ℕ) (code : AluCode) (width : Width) (offset : ℤ) (a c : Option Kind) (b d : Kind) → IsKnownNarrower extra a c → IsKindNarrower extra b d → IsResultBelow (IsKindUnder extra) (arith_by code width offset a b) (arith_by_at extra code width offset c d)
+arithmetic_narrows extra code width offset a c b d p q = by_test (reads_dst code)
   where
-    by_test : (t : Bool) → IsResultBelow IsKindBelow (if t then kind_with_dst code width offset a b else copied width offset b) (if t then kind_with_dst code width offset c d else copied width offset d)
-    by_test true = with_dst_narrows code width offset a c b d p q
-    by_test false = copied_narrows width offset b d q
+    by_test : (t : Bool) → IsResultBelow (IsKindUnder extra) (if t then kind_with_dst code width offset a b else copied width offset b) (if t then kind_with_dst_at extra code width offset c d else copied width offset d)
+    by_test true = with_dst_narrows extra code width offset a c b d p q
+    by_test false = copied_narrows extra width offset b d q
 
 -- ---- what a conditional jump tells
 

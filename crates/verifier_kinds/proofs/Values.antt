@@ -1,10 +1,10 @@
 -- Pointers to the values of maps, which a number moves.
-use Rattle.std.proofs.Common.{◌≡◌, ℕ, suc, ◌+◌, ◌-◌, ◌*◌, ◌%◌, ◌<◌, ◌≤◌, ◌^◌, ℤ, pos, negsuc, ◌+ℤ◌, ◌≤ℤ◌, ◌<ℤ◌, inl, inr, ◌∙◌, nat_le, true, false, length, Option, Some, None, IfSome, Result, Ok, Err, FitsSigned, to_z, of_z, refl, sym, ap, subst, arith}
+use Rattle.std.proofs.Common.{◌≡◌, ℕ, suc, ◌+◌, ◌-◌, ◌*◌, ◌%◌, ◌<◌, ◌≤◌, ◌^◌, ℤ, pos, negsuc, ◌+ℤ◌, ◌≤ℤ◌, inl, inr, ◌∙◌, nat_le, true, false, length, Option, Some, None, IfSome, Result, Ok, Err, FitsSigned, to_z, of_z, refl, sym, ap, subst, arith}
 use Rattle.std.specs.Prelude.{◌-ℤ◌, IsSomeAnd}
 use Rattle.std.specs.Int.{cast_signed, w64, w128}
 use Rattle.std.proofs.lemmas.Int.{ints, to_z_pos, to_z-of_z}
 use Rattle.std.proofs.Math.Facts.{to_z-neg}
-use Rattle.std.proofs.lemmas.Bool.{cond_both, cond-true, cond-false, cases_Bool, cases_lt, eqb-true, leb-true, leb-false}
+use Rattle.std.proofs.lemmas.Bool.{cond_both, cond-true, cond-false, cases_Bool, cases_lt, eqb-true, leb-true}
 use Rattle.std.proofs.lemmas.Nat.{mul-le}
 use Rattle.std.proofs.lemmas.List.{get_or_past}
 use Rattle.host_types.specs.declared.shape.Shape.{Shape}
@@ -23,25 +23,7 @@ use Rattle.verifier_kinds.proofs.Ranges.{divided_by_least_left, divided_by_least
 
 -- ---- the offsets that a pointer may have
 
--- offsets below the first or above the last are refused
-pub refused_below : (m : ℕ) (align : Align) (low high : ℤ) → low <ℤ pos 0 → within_value m align low high ≡ Err outside_map
-refused_below m align (pos low) high h = absurd (omega (arith, ints))
-refused_below m align (negsuc low) high h = refl
-
-pub refused_above : (m : ℕ) (align : Align) (low high : ℤ) → pos 131072 <ℤ high → within_value m align low high ≡ Err outside_map
-refused_above m align (pos low) (pos high) h =
-    cond_both (nat_le high 131072) (Ok (MapValue m (offsets_in (normal low high align)))) (Err outside_map) (λ r. r ≡ Err outside_map)
-    (λ t. absurd (omega (arith, ints, leb-true high 131072 t))) (λ _. refl)
-refused_above m align (pos low) (negsuc high) h = refl
-refused_above m align (negsuc low) high h = refl
-
--- what is between is taken
-pub value_kept : (m : ℕ) (align : Align) (low high : ℕ) → high ≤ 131072 → within_value m align (pos low) (pos high) ≡ Ok (MapValue m (offsets_in (normal low high align)))
-value_kept m align low high h =
-    cond_both (nat_le high 131072) (Ok (MapValue m (offsets_in (normal low high align)))) (Err outside_map) (λ r. r ≡ Ok (MapValue m (offsets_in (normal low high align))))
-    (λ _. refl) (λ f. absurd (omega (arith, leb-false high 131072 f)))
-
--- and meets what offsets meet
+-- what is between the ends meets what offsets meet
 pub are_offsets : (align : Align) (low high : ℕ) → low ≤ high → low % factor align ≡ 0 → high ≤ 131072 → AreOffsets (offsets_in (normal low high align))
 are_offsets align low high ordered divided h =
     let below = last_below align high in

@@ -156,15 +156,20 @@ abbrev pub within_value : ℕ → Align → ℤ → ℤ → Result Kind ℕ
 within_value m align (pos low) (pos high) = if nat_le high 131072 then Ok (MapValue m (offsets_in (normal low high align))) else Err outside_map
 within_value m align low high = Err outside_map
 
--- a pointer to a map's value is moved by any number, and moved back by a constant
-abbrev pub displaced_value : ℕ → AluCode → Width → Offsets → Range → Result Kind ℕ
-displaced_value m Add Bits64 offsets by =
-    within_value m (least_align offsets.align by.align) (pos offsets.low +ℤ signed_offset by by.low) (pos offsets.high +ℤ signed_offset by by.high)
-displaced_value m Sub Bits64 offsets by =
+-- A pointer to a map's value is moved by any number, and moved back by a constant; what it may become there is
+-- told of the alignment and the two ends.
+abbrev pub displaced_by : (Align → ℤ → ℤ → Result Kind ℕ) → AluCode → Width → Offsets → Range → Result Kind ℕ
+displaced_by within Add Bits64 offsets by =
+    within (least_align offsets.align by.align) (pos offsets.low +ℤ signed_offset by by.low) (pos offsets.high +ℤ signed_offset by by.high)
+displaced_by within Sub Bits64 offsets by =
     if is_constant by
-    then within_value m (least_align offsets.align by.align) (pos offsets.low -ℤ cast_signed w64 by.low) (pos offsets.high -ℤ cast_signed w64 by.low)
+    then within (least_align offsets.align by.align) (pos offsets.low -ℤ cast_signed w64 by.low) (pos offsets.high -ℤ cast_signed w64 by.low)
     else Err wrong_kind
-displaced_value m code width offsets by = Err wrong_kind
+displaced_by within code width offsets by = Err wrong_kind
+
+-- where it is moved to the offsets that a pointer may have
+abbrev pub displaced_value : ℕ → AluCode → Width → Offsets → Range → Result Kind ℕ
+displaced_value m code width offsets by = displaced_by (within_value m) code width offsets by
 
 -- What an operation makes of the kinds of dst and of the second operand. A pointer is moved as dst alone,
 -- and the answer of a lookup not before it is checked.

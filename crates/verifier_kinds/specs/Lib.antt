@@ -3,3 +3,4 @@ pub mod Descriptions
 pub mod Arithmetic
 pub mod Refinement
 pub mod Laws
+pub mod Wide

@@ -2,7 +2,7 @@ use Rattle.std.proofs.Common.{◌≡◌, ◌⊎◌, Result, Ok, Err, sym, subst}
 use Rattle.std.specs.Result.{IfErr, IsErrAnd}
 use Rattle.host_types.specs.declared.fault.Refused.{Refused}
 use Rattle.verifier.specs.Subject.{Subject}
-use Rattle.verifier.specs.Table.{HasNoLawful}
+use Rattle.verifier.specs.Wide.{HasNoLawful}
 use Rattle.verifier.specs.Verified.{IsSubject}
 use Rattle.verifier.proofs.Passes.{passed_verified}
 use Rattle.verifier.proofs.verified.verify.Goals as goal
