@@ -32,6 +32,7 @@ pub mod Following
 pub mod Asking
 pub mod Leading
 pub mod Advancing
+pub mod Ahead
 pub mod Beginning
 pub mod Driving
 pub mod OnMaps
