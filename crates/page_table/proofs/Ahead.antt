@@ -9,9 +9,9 @@ use Rattle.page_table.specs.declared.entry.Entry.{Entry}
 use Rattle.page_table.specs.declared.pass.Pass.{Pass}
 use Rattle.page_table.specs.Table.{TableState, entry_at, state_of, states_of, sharing_of, marked}
 use Rattle.page_table.specs.View.{IsAhead}
-use Rattle.page_table.proofs.Facts.{told_at}
 use Rattle.page_table.proofs.Next.{next-is}
 use Rattle.page_table.proofs.Partners.{entry-may}
+use Rattle.page_table.proofs.Entries.{told_at}
 
 -- what may be merged stays so
 abbrev pub StayMergeable : List (Option PageState) → List (Option PageState) → Type 0

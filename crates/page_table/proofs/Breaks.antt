@@ -72,21 +72,12 @@ pages_on-gone f xs i (suc n) h =
 
 filter-twice : {X : Type 0} (p : X → Bool) (xs : List X) → filter p (filter p xs) ≡ filter p xs
 filter-twice p [] = refl
-filter-twice p (x ∷ xs) = by_head (filter-twice p xs) (p x) refl
-  where
-    by_head : filter p (filter p xs) ≡ filter p xs → (b : Bool) → p x ≡ b → filter p (if b then x ∷ filter p xs else filter p xs) ≡ (if b then x ∷ filter p xs else filter p xs)
-    by_head rest true e = rw e (ap (λ l. x ∷ l) rest)
-    by_head rest false e = rest
+filter-twice p (x ∷ xs) = grind (arith, filter-twice p xs)
 
 -- what doesn't pass a test needn't be there where no change lets it pass
 filter-map : {X : Type 0} (p : X → Bool) (f : X → X) (xs : List X) → ((x : X) → p x ≡ false → p (f x) ≡ false) → filter p (map f (filter p xs)) ≡ filter p (map f xs)
 filter-map p f [] h = refl
-filter-map p f (x ∷ xs) h = by_head (filter-map p f xs h) (p x) refl
-  where
-    by_head : filter p (map f (filter p xs)) ≡ filter p (map f xs) → (b : Bool) → p x ≡ b
-        → filter p (map f (if b then x ∷ filter p xs else filter p xs)) ≡ (if p (f x) then f x ∷ filter p (map f xs) else filter p (map f xs))
-    by_head rest true e = ap (λ l. if p (f x) then f x ∷ l else l) rest
-    by_head rest false e = rw (h x e) rest
+filter-map p f (x ∷ xs) h = grind (arith, h x, filter-map p f xs h)
 
 -- a group with pages
 abbrev filled : List ℕ → Bool

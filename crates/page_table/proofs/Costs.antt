@@ -7,18 +7,13 @@ use Rattle.host_types.specs.declared.status.Status.TheVariants.{New, Volatile, W
 use Rattle.host_types.specs.Sharing.{PageState, state_at, is_in_company, cost_of, break_cost, is_shared}
 use Rattle.page_table.specs.declared.entry.Entry.{Entry}
 use Rattle.page_table.specs.Table.{TableState, CountsState, IsTable, IsSound, IsEntry, IsGroup, LiesRight, times, one_if_zero, entry_at, is_on, state_of, states_of, groups_of, sharing_of, pages_on, break_frames}
-use Rattle.page_table.proofs.Entries.{one_when, equal, some_on, one_if_zero-above}
+use Rattle.page_table.proofs.Entries.{one_when, equal, some_on, one_if_zero-above, told_at}
 use Rattle.page_table.proofs.Groups.{company-places}
 use Rattle.page_table.proofs.Putting.{entry_fits}
 
 -- the state of a page is that of its entry
 pub state-at : (table : TableState) (pass : Pass) (i : ℕ) → state_at (sharing_of table pass) i ≡ option_map state_of (entry_at table.entries i)
-state-at table pass i = by_list table.entries i
-  where
-    by_list : (xs : List (Option Entry)) (i : ℕ) → slice_index_or (states_of xs) i None ≡ option_map state_of (entry_at xs i)
-    by_list [] i = refl
-    by_list (x ∷ xs) zero = refl
-    by_list (x ∷ xs) (suc i) = by_list xs i
+state-at table pass i = told_at state_of table.entries i
 
 -- what the break of the page of an entry takes
 cost-entry : (table : TableState) (i : ℕ) (entry : Entry) → entry_at table.entries i ≡ Some entry

@@ -43,12 +43,7 @@ outside-place first end place h = grind (arith, nat_tests)
 
 listed-outside : (first end i : ℕ) (ws : List Waiter) → is_listed i ws ≡ false → is_listed i (outside first end ws) ≡ false
 listed-outside first end i [] none = refl
-listed-outside first end i (w ∷ ws) none =
-    by_head (not (nat_le first w.place && nat_lt w.place end)) (either (w.place == i) (is_listed i ws) none) (listed-outside first end i ws (either (w.place == i) (is_listed i ws) none).1)
-  where
-    by_head : (b : Bool) → ((w.place == i) ≡ false) × (is_listed i ws ≡ false) → is_listed i (outside first end ws) ≡ false → is_listed i (if b then w ∷ outside first end ws else outside first end ws) ≡ false
-    by_head true parts rest = rw parts.0 rest
-    by_head false parts rest = rest
+listed-outside first end i (w ∷ ws) none = grind (arith, listed-outside first end i ws)
 
 waiters-outside : (old new : TableState) (c : Option ℕ) (first n : ℕ) (ws : List Waiter) → AreOwnKeptOutside first n old new → AreWaiters old.entries c ws → AreWaiters new.entries c (outside first (first + n) ws)
 waiters-outside old new c first n [] kept are = tt
@@ -86,11 +81,7 @@ pass-outside old new pass first n is kept arena long few inside =
 -- a page that goes isn't pinned
 gone-pins : (s : Sharing) (i : ℕ) → (gone s i).pins ≡ slice_set s.pins i false
 unfolding gone broken
-gone-pins s i = by_test (is_shared_page (state_at s i)) refl
-  where
-    by_test : (b : Bool) → is_shared_page (state_at s i) ≡ b → (gone s i).pins ≡ slice_set s.pins i false
-    by_test true e = rw e refl
-    by_test false e = rw e refl
+gone-pins s i = grind arith
 
 gone_from-pins : (s : Sharing) (i n : ℕ) → i + n ≤ length s.pins → (gone_from s i n).pins ≡ with_part s.pins i (replicate n false)
 unfolding gone_from
@@ -134,12 +125,7 @@ ended-pins s (Some i) = by_test (is_some (next_from s (i + 1)))
 -- the waiting list without some pages, as callers see it
 waiting-outside : (first n : ℕ) (ws : List Waiter) → map waiting_of (outside first (first + n) ws) ≡ waiting_outside first n (map waiting_of ws)
 waiting-outside first n [] = refl
-waiting-outside first n (w ∷ ws) = by_head (not (nat_le first w.place && nat_lt w.place (first + n))) (waiting-outside first n ws)
-  where
-    by_head : (b : Bool) → map waiting_of (outside first (first + n) ws) ≡ waiting_outside first n (map waiting_of ws)
-        → map waiting_of (if b then w ∷ outside first (first + n) ws else outside first (first + n) ws) ≡ (if b then waiting_of w ∷ waiting_outside first n (map waiting_of ws) else waiting_outside first n (map waiting_of ws))
-    by_head true rest = ap (λ l. waiting_of w ∷ l) rest
-    by_head false rest = rest
+waiting-outside first n (w ∷ ws) = grind (arith, waiting-outside first n ws)
 
 -- which pages share frames after the pages went, before the pass is looked at
 pub sharing-outside : (old new : TableState) (pass : Pass) (first n : ℕ) → n ≤ 256 → first + 256 ≤ length pass.pins

@@ -15,6 +15,7 @@ use Rattle.page_table.proofs.Costs.{state-at, group-frame}
 use Rattle.page_table.proofs.Entries.{times-head, times-tail, one_when, on_one, elsewhere, not_equal, equal, pages_on-set, some_on, inside, alone, at_set, contents-set}
 use Rattle.page_table.proofs.Groups.{length-places, without-places}
 use Rattle.page_table.proofs.Putting.{entry_fits, content_at}
+use Rattle.page_table.proofs.Leaving.{sharing-broken}
 
 -- a list of frames without one of them
 abbrev pub but : ℕ → List ℕ → List ℕ
@@ -45,15 +46,6 @@ left-groups old new f i (g ∷ gs) gone stay =
         ∙ some_kept (places_on 0 g new) (left_by i (map (λ g. places_on 0 g old) gs)) told.1
         ∙ ap (λ (groups : List (List ℕ)). places_on 0 g new ∷ groups) rest
         ∙ sym (ap (λ (b : Bool). map (λ g. places_on 0 g new) (if not b then g ∷ but f gs else but f gs)) test)
-
--- a state after the break of a page that is shared
-pub sharing-broken : (old new : TableState) (pass : Pass) (i : ℕ) (entry : Entry) (state : PageState) → entry_at old.entries i ≡ Some entry → is_shared entry.status ≡ true
-    → state ≡ broken_page (state_of entry) → states_of new.entries ≡ slice_set (states_of old.entries) i (Some state) → groups_of new ≡ left_by i (groups_of old)
-    → sharing_of new pass ≡ broken (sharing_of old pass) i
-unfolding broken
-sharing-broken old new pass i entry state here shared made states groups =
-    let at : state_at (sharing_of old pass) i ≡ Some (state_of entry) = state-at old pass i ∙ ap (option_map state_of) here in
-    rw (at, shared, states, groups, made) refl
 
 -- a page with a frame of its own stays
 pub sharing-unbroken : (table : TableState) (pass : Pass) (i : ℕ) (entry : Entry) → IsTable table → entry_at table.entries i ≡ Some entry → entry.protected ≡ false
@@ -132,15 +124,12 @@ module _ (table : TableState) (i : ℕ) (entry new : Entry) (is : IsTable table)
       )
 
   pub sharing-ended : (pass : Pass) → sharing_of (ended table i new entry.frame) pass ≡ broken (sharing_of table pass) i
-  sharing-ended pass =
-      sharing-broken table (ended table i new entry.frame) pass i entry (state_of new) here shared state (map-set (option_map state_of) table.entries i (Some new)) groups-ended
+  sharing-ended =
+      sharing-broken table (ended table i new entry.frame) i entry here shared
+      (map-set (option_map state_of) table.entries i (Some new) ∙ ap (λ s. slice_set (states_of table.entries) i (Some s)) state) groups-ended
 
   status-ended : new.status ≡ Volatile
   status-ended = ap (λ (s : PageState). s.status) state
-
-  pub own-ended : IsOwnAt (ended table i new entry.frame) i
-  own-ended =
-      subst (λ (x : Option Entry). IfSome x (λ entry. is_shared entry.status ≡ false)) (sym (get_or-set_same table.entries i (Some new) None there)) (ap is_shared status-ended)
 
   pub used-ended : used_by (ended table i new entry.frame) ≡ used_by table
   used-ended =

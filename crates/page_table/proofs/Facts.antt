@@ -23,7 +23,7 @@ use Rattle.page_table.specs.State.{MemoryState, free_of, part, bytes_of_map}
 use Rattle.page_table.specs.Table.{TableState, CountsState, IsTable, IsEntry, IsAlone, IsGroup, IsSound, IsPageAt, AreCounts, LiesRight, maps_of, contents_of, times, one_if_zero, entry_at, state_of, states_of, frames_of, groups_of, sharing_of, is_on, pages_on, places_on}
 use Rattle.page_table.specs.View.{view_of, IsMemory}
 use Rattle.page_table.specs.Reads.{ReadsAs, AreGroups, AreMerged, HasPage, status_at, has_both, is_frame, free_frames}
-use Rattle.page_table.proofs.Entries.{one_when, alone, inside, equal, times-head, times-tail, one_if_zero-above}
+use Rattle.page_table.proofs.Entries.{one_when, alone, inside, equal, times-head, times-tail, one_if_zero-above, times-cons, told_at, group_of}
 use Rattle.page_table.proofs.Putting.{entry_fits, page_there as no_page}
 use Rattle.page_table.proofs.Maps.{length-maps_of}
 use Rattle.page_table.proofs.Reading.{map_at-part, bytes_in, is_page_at}
@@ -33,12 +33,6 @@ use Rattle.page_table.proofs.Creating.{length-contents}
 use Rattle.page_table.proofs.Free.{free_is}
 use Rattle.page_table.proofs.Groups.{among-places, length-places}
 use Rattle.page_table.proofs.Counting.{same_either_way, length-unused, empty-frame}
-
--- what is told of the entry at a place
-pub told_at : {X : Type 0} (tell : Entry → X) (xs : List (Option Entry)) (i : ℕ) → slice_index_or (map (option_map tell) xs) i None ≡ option_map tell (entry_at xs i)
-told_at tell [] i = refl
-told_at tell (x ∷ xs) zero = refl
-told_at tell (x ∷ xs) (suc i) = told_at tell xs i
 
 status_is : (table : TableState) (pass : Pass) (i : ℕ) → status_at (sharing_of table pass) i ≡ option_map (λ (entry : Entry). entry.status) (entry_at table.entries i)
 status_is table pass i = ap (option_map (λ (state : PageState). state.status)) (told_at state_of table.entries i) ∙ of_entry (entry_at table.entries i)
@@ -100,15 +94,12 @@ kind table entry fits = by_status entry.status refl fits.right
     by_status Grouped e right = inr (inl (e, right))
     by_status Zero e right = inr (inr (e, right))
 
-group : (table : TableState) (f : ℕ) → IsTable table → 1 ≤ times f table.groups → IsGroup table f
-group table f is some = ⊎_elim (λ none. absurd (omega (arith, none, some))) (λ group. group) (is.groups f)
-
 -- a page on the zero frame is told to be there
 zero_status : (table : TableState) (entry : Entry) → IsTable table → IsEntry table entry → entry.frame ≡ 0 → entry.status ≡ Zero
 unfolding Kind
 zero_status table entry is fits e =
     ⊎_elim (λ lone. absurd (let above = IsAlone.above lone in omega (arith, above, e)))
-    (λ other. ⊎_elim (λ in_group. absurd (let above = IsGroup.above (group table entry.frame is (omega (arith, in_group.1))) in omega (arith, above, e))) (λ zeros. zeros.0) other)
+    (λ other. ⊎_elim (λ in_group. absurd (let above = IsGroup.above (group_of table entry.frame is (omega (arith, in_group.1))) in omega (arith, above, e))) (λ zeros. zeros.0) other)
     (kind table entry fits)
 
 -- a page on a group's frame is told to be in a group
@@ -116,7 +107,7 @@ grouped_status : (table : TableState) (entry : Entry) → IsTable table → IsEn
 unfolding Kind
 grouped_status table entry is fits some =
     ⊎_elim (λ lone. absurd (let none = IsAlone.no_group lone in omega (arith, none, some)))
-    (λ other. ⊎_elim (λ in_group. in_group.0) (λ zeros. absurd (let above = IsGroup.above (group table entry.frame is some) in omega (arith, above, zeros.1))) other)
+    (λ other. ⊎_elim (λ in_group. in_group.0) (λ zeros. absurd (let above = IsGroup.above (group_of table entry.frame is some) in omega (arith, above, zeros.1))) other)
     (kind table entry fits)
 
 among : (f : ℕ) (xs : List (Option Entry)) (i : ℕ) → is_among i (places_on 0 f xs) ≡ is_on f (entry_at xs i)
@@ -136,37 +127,14 @@ both_there : (xs : List (Option Entry)) (groups : List ℕ) (i j f : ℕ) → is
     → has_both (map (λ g. places_on 0 g xs) groups) i j ≡ true
 both_there xs [] i j f one other some = absurd (omega (arith, some))
 both_there xs (g ∷ gs) i j f one other some =
-    ⊎_elim
-    (λ here. first (subst (λ n. is_among i (places_on 0 n xs) ≡ true) (sym here.1) (among f xs i ∙ one)) (subst (λ n. is_among j (places_on 0 n xs) ≡ true) (sym here.1) (among f xs j ∙ other)))
-    (λ there. let split = sum_by-cons (λ (x : ℕ). if x == f then 1 else 0) g gs in
-    let none = ap one_when there.0 in
-    later (both_there xs gs i j f one other (omega (arith, some, split, none))))
-    (eqb_tells g f)
-  where
-    first : is_among i (places_on 0 g xs) ≡ true → is_among j (places_on 0 g xs) ≡ true → has_both (map (λ g. places_on 0 g xs) (g ∷ gs)) i j ≡ true
-    first one other = rw (one, other) refl
-
-    later : has_both (map (λ g. places_on 0 g xs) gs) i j ≡ true → has_both (map (λ g. places_on 0 g xs) (g ∷ gs)) i j ≡ true
-    later rest = by_test (is_among i (places_on 0 g xs) && is_among j (places_on 0 g xs)) rest
-      where
-        by_test : (b : Bool) → has_both (map (λ g. places_on 0 g xs) gs) i j ≡ true → (b || has_both (map (λ g. places_on 0 g xs) gs) i j) ≡ true
-        by_test true rest = refl
-        by_test false rest = rest
+    grind (arith, nat_tests, times-cons f g gs, among g xs i, among g xs j, both_there xs gs i j f one other)
 
 -- two pages of a group lie on one frame
 both_lie : (xs : List (Option Entry)) (groups : List ℕ) (i j : ℕ) (one other : Entry) → entry_at xs i ≡ Some one → entry_at xs j ≡ Some other
     → has_both (map (λ g. places_on 0 g xs) groups) i j ≡ true → one.frame ≡ other.frame
 both_lie xs [] i j one other e k h = absurd (cc)
-both_lie xs (g ∷ gs) i j one other e k h = by_test (one.frame == g) (other.frame == g) refl refl (both_lie xs gs i j one other e k) now
-  where
-    now : ((one.frame == g) && (other.frame == g) || has_both (map (λ g. places_on 0 g xs) gs) i j) ≡ true
-    now = rw (among-entry g xs i one e, among-entry g xs j other k) at h
-
-    by_test : (b c : Bool) → (one.frame == g) ≡ b → (other.frame == g) ≡ c → (has_both (map (λ g. places_on 0 g xs) gs) i j ≡ true → one.frame ≡ other.frame)
-        → (b && c || has_both (map (λ g. places_on 0 g xs) gs) i j) ≡ true → one.frame ≡ other.frame
-    by_test true true p q rest h = frame_equal one.frame g p ∙ sym (frame_equal other.frame g q)
-    by_test true false p q rest h = rest h
-    by_test false c p q rest h = rest h
+both_lie xs (g ∷ gs) i j one other e k h =
+    grind (arith, nat_tests, among-entry g xs i one e, among-entry g xs j other k, both_lie xs gs i j one other e k)
 
 -- what holds of each group's places holds of all groups
 all_groups : (P : List ℕ → Type 0) (xs : List (Option Entry)) (groups : List ℕ) → ((g : ℕ) → 1 ≤ times g groups → P (places_on 0 g xs)) → All P (map (λ g. places_on 0 g xs) groups)
@@ -213,7 +181,7 @@ module _ (table : TableState) (pass : Pass) (is : IsTable table) where
   unfolding groups_of
   are_groups =
       record {
-        some = all_groups (λ group. 0 < length group) table.entries table.groups (λ g some. let long = length-places 0 g table.entries in let pages = IsGroup.some (group table g is some) in omega (arith, long, pages));
+        some = all_groups (λ group. 0 < length group) table.entries table.groups (λ g some. let long = length-places 0 g table.entries in let pages = IsGroup.some (group_of table g is some) in omega (arith, long, pages));
         ordered = all_groups (AllPairs (λ i j. i < j)) table.entries table.groups (λ g some. places_ordered 0 g table.entries);
         grouped = all_groups (λ group. (i : ℕ) → is_among i group ≡ true → status_at (sharing_of table pass) i ≡ Some Grouped) table.entries table.groups (λ g some i h. member g i some (entry_at table.entries i) refl (sym (among g table.entries i) ∙ h));
         once = λ i h. let entry = told table pass i Grouped is h in one entry.0 i entry.1 entry.2 entry.3;

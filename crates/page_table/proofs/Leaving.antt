@@ -6,11 +6,11 @@ use Rattle.std.proofs.lemmas.Bool.Decides.{eqb_tells}
 use Rattle.page_table.specs.declared.pass.Pass.{Pass}
 use Rattle.host_types.specs.declared.status.Status.{Status}
 use Rattle.host_types.specs.declared.status.Status.TheVariants.{New, Volatile, Waiting, Grouped, Zero}
-use Rattle.host_types.specs.Sharing.{broken, broken_page, is_shared, left_by, without}
+use Rattle.host_types.specs.Sharing.{broken, broken_page, is_shared, left_by, without, state_at}
 use Rattle.frame_arena.specs.Pages.{page_at}
 use Rattle.page_table.specs.declared.entry.Entry.{Entry}
 use Rattle.page_table.specs.Table.{TableState, CountsState, IsTable, IsEntry, IsAlone, IsGroup, IsSound, AreCountsOf, LiesRight, times, one_if_zero, entry_at, state_of, states_of, contents_of, groups_of, sharing_of, is_on, places_on, pages_on, used_by}
-use Rattle.page_table.proofs.Entries.{one_when, on_one, elsewhere, not_equal, equal, pages_on-set, none_on, inside, alone, at_set, entry_content-kept, contents-set, pages-set, times-head, times-tail, one_if_zero-above}
+use Rattle.page_table.proofs.Entries.{one_when, on_one, elsewhere, not_equal, equal, pages_on-set, none_on, inside, alone, at_set, entry_content-kept, contents-set, pages-set, times-head, times-tail, one_if_zero-above, group_of, told_here}
 use Rattle.page_table.proofs.Adding.{own_one, own_pages-set, IsEntry-kept, IsUnused}
 use Rattle.page_table.proofs.Putting.{entry_fits, content_at}
 use Rattle.page_table.proofs.Groups.{length-places, without-places}
@@ -36,8 +36,7 @@ pub sharing-broken : (old new : TableState) (i : ℕ) (entry : Entry) → entry_
     → (pass : Pass) → sharing_of new pass ≡ broken (sharing_of old pass) i
 unfolding broken
 sharing-broken old new i entry here shared states groups pass =
-    let at : slice_index_or (states_of old.entries) i None ≡ Some (state_of entry) =
-    get_or-map (option_map state_of) old.entries i None None (inside old.entries i entry here) ∙ ap (option_map state_of) here in
+    let at : state_at (sharing_of old pass) i ≡ Some (state_of entry) = told_here state_of old.entries i entry here in
     rw (at, shared, states, groups) refl
 
 -- the table where the page at a place lies on a frame of its own, with a copy
@@ -100,9 +99,6 @@ module _ (table : TableState) (i : ℕ) (entry next : Entry) (is : IsTable table
   states-left : states_of (left table i entry next).entries ≡ slice_set (states_of table.entries) i (Some (broken_page (state_of entry)))
   states-left = map-set (option_map state_of) table.entries i (Some next) ∙ ap (λ s. slice_set (states_of table.entries) i (Some s)) state
 
-  is_group : (g : ℕ) → 1 ≤ times g table.groups → IsGroup table g
-  is_group g le = ⊎_elim (λ e. absurd (omega (arith, e, le))) (λ group. group) (is.groups g)
-
   no_new_group : (g : ℕ) → 1 ≤ times g table.groups → next.frame ≢ g
   no_new_group g le e = absurd (omega (arith, subst (λ (n : ℕ). 1 ≤ times n table.groups) (sym e) le, free.no_group))
 
@@ -124,7 +120,7 @@ module _ (table : TableState) (i : ℕ) (entry next : Entry) (is : IsTable table
       let start : i ≡ 0 + i = omega arith in
       groups-left table.entries (left table i entry next).entries i table.groups
       (λ g le. ap (λ (n : ℕ). without n (places_on 0 g table.entries)) start ∙ without-places 0 g table.entries i (Some next) (not_equal g next.frame (no_new_group g le)))
-      (λ g le. still g (is_group g le) (no_new_group g le))
+      (λ g le. still g (group_of table g is le) (no_new_group g le))
 
   pub sharing-left : (pass : Pass) → sharing_of (left table i entry next) pass ≡ broken (sharing_of table pass) i
   sharing-left = sharing-broken table (left table i entry next) i entry here shared states-left groups_of-left

@@ -8,10 +8,10 @@ use Rattle.host_types.specs.Visits.{with_page}
 use Rattle.page_table.specs.declared.entry.Entry.{Entry}
 use Rattle.page_table.specs.declared.pass.Pass.{Pass}
 use Rattle.page_table.specs.Table.{TableState, CountsState, IsOwnAt, IsTable, IsEntry, IsAlone, IsGroup, IsSound, AreCountsOf, LiesRight, one_if_zero, entry_at, contents_of, groups_of, state_of, states_of, sharing_of, is_on, pages_on, used_by, marked}
-use Rattle.page_table.proofs.Entries.{one_when, on_one, pages_on-set, inside, at_set, places_on-set, groups-kept}
+use Rattle.page_table.proofs.Entries.{one_when, on_one, pages_on-set, inside, at_set, places_on-set, groups-kept, states-set}
 use Rattle.page_table.proofs.Adding.{own_one, own_pages-set}
 use Rattle.page_table.proofs.Putting.{is_alone, entry_fits}
-use Rattle.page_table.proofs.Moving.{with_entry, state_here, contents-entry, fits-after}
+use Rattle.page_table.proofs.Moving.{with_entry, contents-entry, fits-after}
 
 -- an entry with another status and fingerprint
 abbrev pub marked_entry : Entry → Status → ℕ → Entry
@@ -69,9 +69,7 @@ module _ (table : TableState) (i : ℕ) (entry : Entry) (status : Status) (last 
 
   pub sharing-marked : (pass : Pass) → sharing_of (with_entry table i x) pass ≡ with_page (sharing_of table pass) i (marked status last)
   sharing-marked pass =
-      let page : Some (state_of x) ≡ option_map (marked status last) (state_at (sharing_of table pass) i) = sym (ap (option_map (marked status last)) (state_here table i entry pass here)) in
-      let pages : states_of (with_entry table i x).entries ≡ slice_set (states_of table.entries) i (option_map (marked status last) (state_at (sharing_of table pass) i)) =
-      map-set (option_map state_of) table.entries i (Some x) ∙ ap (slice_set (states_of table.entries) i) page in
+      let pages = states-set (marked status last) table.entries i entry x here refl in
       let groups = groups-marked in
       cc
 

@@ -2,7 +2,7 @@
 use Rattle.std.proofs.Common.{◌≡◌, ◌≢◌, ◌∙◌, inl, inr, ⊎_elim, ℕ, zero, suc, ◌+◌, ◌-◌, ◌<◌, ◌≤◌, ◌==◌, Bool, true, false, if◌then◌else◌, List, [], ◌∷◌, length, slice_index_or, slice_set, Option, Some, None, IfSome, option_map, refl, sym, ap, subst, arith}
 use Rattle.std.proofs.lemmas.List.{get_or-set_same, get_or-set_other, length-set, set-get_or, get_or-map}
 use Rattle.std.proofs.lemmas.List.Sums.{sum_by-cons}
-use Rattle.std.proofs.lemmas.Bool.Decides.{eqb_tells}
+use Rattle.std.proofs.lemmas.Bool.Decides.{eqb_tells, nat_tests}
 use Rattle.page_table.specs.declared.pass.Pass.{Pass}
 use Rattle.host_types.specs.declared.status.Status.{Status}
 use Rattle.host_types.specs.declared.status.Status.TheVariants.{New, Volatile, Waiting, Grouped, Zero}
@@ -10,7 +10,7 @@ use Rattle.host_types.specs.Sharing.{is_shared, state_at}
 use Rattle.frame_arena.specs.Pages.{page_at}
 use Rattle.page_table.specs.declared.entry.Entry.{Entry}
 use Rattle.page_table.specs.Table.{TableState, CountsState, IsTable, IsEntry, IsAlone, IsGroup, IsSound, AreCountsOf, LiesRight, times, one_if_zero, entry_at, contents_of, state_of, sharing_of, is_on, pages_on, used_by}
-use Rattle.page_table.proofs.Entries.{one_when, on_one, elsewhere, not_equal, equal, pages_on-set, inside, alone, at_set, contents-set, one_if_zero-above}
+use Rattle.page_table.proofs.Entries.{one_when, on_one, elsewhere, not_equal, equal, pages_on-set, inside, alone, at_set, contents-set, one_if_zero-above, told_here}
 use Rattle.page_table.proofs.Adding.{own_one, own_pages-set}
 use Rattle.page_table.proofs.Putting.{is_alone, entry_fits, content_at}
 
@@ -21,8 +21,7 @@ with_entry table i x = record table { entries = slice_set table.entries i (Some 
 -- what callers know of a page that is there
 pub state_here : (table : TableState) (i : ℕ) (entry : Entry) (pass : Pass) → entry_at table.entries i ≡ Some entry
     → state_at (sharing_of table pass) i ≡ Some (state_of entry)
-state_here table i entry pass e =
-    get_or-map (option_map state_of) table.entries i None None (inside table.entries i entry e) ∙ ap (option_map state_of) e
+state_here table i entry pass e = told_here state_of table.entries i entry e
 
 -- the contents, where a page moves to a frame of the same bytes
 pub contents-entry : (table : TableState) (i : ℕ) (entry x : Entry) (groups : List ℕ) → entry_at table.entries i ≡ Some entry → page_at table.arena x.frame ≡ page_at table.arena entry.frame
@@ -52,15 +51,7 @@ fits-after old new entry long lone grouped is =
 pub pages_on-le : (f : ℕ) (xs : List (Option Entry)) → pages_on f xs ≤ length xs
 unfolding pages_on
 pages_on-le f [] = omega arith
-pages_on-le f (x ∷ xs) =
-    let split = sum_by-cons (on_one f) x xs in
-    let rest = pages_on-le f xs in
-    let one = bit (is_on f x) in
-    omega (arith, split, rest, one)
-  where
-    bit : (b : Bool) → one_when b ≤ 1
-    bit true = omega arith
-    bit false = omega arith
+pages_on-le f (x ∷ xs) = grind (arith, sum_by-cons (on_one f) x xs, pages_on-le f xs)
 
 one_holder : (f : ℕ) → one_if_zero f ≤ 1
 one_holder zero = omega arith
@@ -69,42 +60,12 @@ one_holder (suc f) = omega arith
 -- the counts after one more holds the frame
 counts-shared : (counts : List ℕ) (f g : ℕ) → f < length counts
     → slice_index_or (slice_set counts f (slice_index_or counts f 0 + 1)) g 0 ≡ slice_index_or counts g 0 + one_when (f == g)
-counts-shared counts f g h = ⊎_elim (λ e. here e.0 e.1) (λ e. other e.0 e.1) (eqb_tells f g)
-  where
-    here : (f == g) ≡ true → f ≡ g → slice_index_or (slice_set counts f (slice_index_or counts f 0 + 1)) g 0 ≡ slice_index_or counts g 0 + one_when (f == g)
-    here e same =
-        let read = get_or-set_same counts f (slice_index_or counts f 0 + 1) 0 h in
-        let moved : slice_index_or (slice_set counts f (slice_index_or counts f 0 + 1)) f 0 ≡ slice_index_or (slice_set counts f (slice_index_or counts f 0 + 1)) g 0 =
-        ap (λ n. slice_index_or (slice_set counts f (slice_index_or counts f 0 + 1)) n 0) same in
-        let old : slice_index_or counts f 0 ≡ slice_index_or counts g 0 = ap (λ n. slice_index_or counts n 0) same in
-        let one : one_when (f == g) ≡ 1 = ap one_when e in
-        omega (arith, read, moved, old, one)
-
-    other : (f == g) ≡ false → f ≢ g → slice_index_or (slice_set counts f (slice_index_or counts f 0 + 1)) g 0 ≡ slice_index_or counts g 0 + one_when (f == g)
-    other e ne =
-        let read = get_or-set_other counts f g (slice_index_or counts f 0 + 1) 0 (λ q. ne (sym q)) in
-        let none : one_when (f == g) ≡ 0 = ap one_when e in
-        omega (arith, read, none)
+counts-shared counts f g h = grind (arith, nat_tests, get_or-set_same counts f (slice_index_or counts f 0 + 1) 0, get_or-set_other counts f g (slice_index_or counts f 0 + 1) 0)
 
 -- the counts after one less holds the frame
 pub counts-released : (counts : List ℕ) (f g : ℕ) → f < length counts → 1 ≤ slice_index_or counts f 0
     → slice_index_or (slice_set counts f (slice_index_or counts f 0 - 1)) g 0 + one_when (f == g) ≡ slice_index_or counts g 0
-counts-released counts f g h k = ⊎_elim (λ e. here e.0 e.1) (λ e. other e.0 e.1) (eqb_tells f g)
-  where
-    here : (f == g) ≡ true → f ≡ g → slice_index_or (slice_set counts f (slice_index_or counts f 0 - 1)) g 0 + one_when (f == g) ≡ slice_index_or counts g 0
-    here e same =
-        let read = get_or-set_same counts f (slice_index_or counts f 0 - 1) 0 h in
-        let moved : slice_index_or (slice_set counts f (slice_index_or counts f 0 - 1)) f 0 ≡ slice_index_or (slice_set counts f (slice_index_or counts f 0 - 1)) g 0 =
-        ap (λ n. slice_index_or (slice_set counts f (slice_index_or counts f 0 - 1)) n 0) same in
-        let old : slice_index_or counts f 0 ≡ slice_index_or counts g 0 = ap (λ n. slice_index_or counts n 0) same in
-        let one : one_when (f == g) ≡ 1 = ap one_when e in
-        omega (arith, read, moved, old, one, k)
-
-    other : (f == g) ≡ false → f ≢ g → slice_index_or (slice_set counts f (slice_index_or counts f 0 - 1)) g 0 + one_when (f == g) ≡ slice_index_or counts g 0
-    other e ne =
-        let read = get_or-set_other counts f g (slice_index_or counts f 0 - 1) 0 (λ q. ne (sym q)) in
-        let none : one_when (f == g) ≡ 0 = ap one_when e in
-        omega (arith, read, none)
+counts-released counts f g h k = grind (arith, nat_tests, get_or-set_same counts f (slice_index_or counts f 0 - 1) 0, get_or-set_other counts f g (slice_index_or counts f 0 - 1) 0)
 
 -- The page at a place has its own frame, and another entry puts it on a shared frame of the same bytes.
 pub record IsMove (table : TableState) (i : ℕ) (entry x : Entry) : Type 0 where

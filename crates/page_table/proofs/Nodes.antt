@@ -49,41 +49,14 @@ times-last b xs x =
 
 times-gone : (c : List ℕ) (xs : List (List ℕ)) → times_among c (out c xs) ≡ 0
 times-gone c [] = times-none c
-times-gone c (x ∷ xs) = by_test (bytes_eq x c) refl (times-gone c xs)
-  where
-    by_test : (t : Bool) → bytes_eq x c ≡ t → times_among c (out c xs) ≡ 0 → times_among c (if not t then x ∷ out c xs else out c xs) ≡ 0
-    by_test true e rest = rest
-    by_test false e rest =
-        let split = times-cons c x (out c xs) in
-        let none = ap one_when e in
-        omega (arith, rest, split, none)
+times-gone c (x ∷ xs) = grind (arith, times-cons c x (out c xs), times-gone c xs)
 
 times-other : (b c : List ℕ) (xs : List (List ℕ)) → b ≢ c → times_among b (out c xs) ≡ times_among b xs
 times-other b c [] ne = refl
-times-other b c (x ∷ xs) ne = by_test (bytes_eq x c) refl (times-other b c xs ne)
-  where
-    by_test : (t : Bool) → bytes_eq x c ≡ t → times_among b (out c xs) ≡ times_among b xs → times_among b (if not t then x ∷ out c xs else out c xs) ≡ times_among b (x ∷ xs)
-    by_test true e rest =
-        let is : x ≡ c = (bytes_eq-Decides x c).0 e in
-        let split = times-cons b x xs in
-        let none = ap one_when (differ x b (λ same. ne (sym same ∙ is))) in
-        omega (arith, rest, split, none)
-    by_test false e rest =
-        let split = times-cons b x xs in
-        let kept = times-cons b x (out c xs) in
-        omega (arith, rest, split, kept)
+times-other b c (x ∷ xs) ne = grind (arith, times-cons b x xs, times-cons b x (out c xs), (bytes_eq-Decides x c).0, (bytes_eq-Decides x b).0, times-other b c xs)
 
 many-more : (k : ℕ) → one_when (k == 1) + many_in k ≡ many_in (k + 1)
-many-more zero = refl
-many-more (suc zero) = refl
-many-more (suc (suc k)) =
-    let here : nat_lt 1 (suc (suc k)) ≡ true = grind (arith, nat_tests) in
-    let more : nat_lt 1 (suc (suc k) + 1) ≡ true = grind (arith, nat_tests) in
-    let above : (suc (suc k) == 1) ≡ false = grind (arith, nat_tests) in
-    let a = ap one_when here in
-    let b = ap one_when more in
-    let c = ap one_when above in
-    omega (arith, a, b, c)
+many-more k = grind (arith, nat_tests)
 
 seconds-cons : (before : List (List ℕ)) (x : List ℕ) (xs : List (List ℕ)) → seconds_behind before (x ∷ xs) ≡ one_when (times_among x before == 1) + seconds_behind (before ++ x ∷ []) xs
 unfolding seconds_behind
@@ -146,18 +119,10 @@ abbrev share : ℕ → ℕ → ℕ
 share n m = if nat_lt 1 n then m else 0
 
 share-none : (n : ℕ) → share n 0 ≡ 0
-share-none n = by_test (nat_lt 1 n) 0 refl
-  where
-    by_test : (b : Bool) (m : ℕ) → m ≡ 0 → (if b then m else 0) ≡ 0
-    by_test true m e = e
-    by_test false m e = refl
+share-none n = grind arith
 
 share-more : (n m : ℕ) → share n (1 + m) ≡ many_in n + share n m
-share-more n m = by_test (nat_lt 1 n)
-  where
-    by_test : (b : Bool) → (if b then 1 + m else 0) ≡ (if b then 1 else 0) + (if b then m else 0)
-    by_test true = refl
-    by_test false = refl
+share-more n m = grind arith
 
 repeated-cons : (all : List (List ℕ)) (x : List ℕ) (xs : List (List ℕ)) → repeated_among all (x ∷ xs) ≡ many_in (times_among x all) + repeated_among all xs
 unfolding repeated_among
@@ -202,18 +167,7 @@ module _ (arena : List (List ℕ)) where
   -- as many frames have the bytes
   pub times-has : (b : List ℕ) (frames : List ℕ) → times_among b (map (page_at arena) frames) ≡ length (filter (has arena b) frames)
   times-has b [] = times-none b
-  times-has b (f ∷ fs) = by_test (bytes_eq (page_at arena f) b) refl (times-has b fs)
-    where
-      by_test : (t : Bool) → bytes_eq (page_at arena f) b ≡ t → times_among b (map (page_at arena) fs) ≡ length (filter (has arena b) fs)
-          → times_among b (page_at arena f ∷ map (page_at arena) fs) ≡ length (if t then f ∷ filter (has arena b) fs else filter (has arena b) fs)
-      by_test true e rest =
-          let split = times-cons b (page_at arena f) (map (page_at arena) fs) in
-          let one = ap one_when e in
-          omega (arith, rest, split, one)
-      by_test false e rest =
-          let split = times-cons b (page_at arena f) (map (page_at arena) fs) in
-          let one = ap one_when e in
-          omega (arith, rest, split, one)
+  times-has b (f ∷ fs) = grind (arith, times-cons b (page_at arena f) (map (page_at arena) fs), times-has b fs)
 
   has-split : (b chain : List ℕ) (chains : List (List ℕ)) → IsChain arena chain
       → length (filter (has arena b) (chain ++ concat chains)) ≡ length (if bytes_eq (content arena chain) b then chain else []) + length (filter (has arena b) (concat chains))

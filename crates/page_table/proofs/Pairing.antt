@@ -10,12 +10,12 @@ use Rattle.host_types.specs.Sharing.{PageState, is_shared, with_status, state_at
 use Rattle.frame_arena.specs.Pages.{page_at}
 use Rattle.page_table.specs.declared.entry.Entry.{Entry}
 use Rattle.page_table.specs.Table.{TableState, CountsState, IsOwnAt, IsTable, IsEntry, IsAlone, IsGroup, IsSound, AreCountsOf, LiesRight, times, one_if_zero, entry_at, contents_of, groups_of, state_of, states_of, sharing_of, forgets, is_on, places_on, pages_on, used_by}
-use Rattle.page_table.proofs.Entries.{one_when, on_one, on_one-true, on_one-false, some_on, elsewhere, not_equal, equal, pages_on-set, inside, alone, at_set, places_on-set, groups-kept}
+use Rattle.page_table.proofs.Entries.{one_when, on_one, on_one-true, on_one-false, some_on, elsewhere, not_equal, equal, pages_on-set, inside, alone, at_set, places_on-set, groups-kept, pages_on-cons, none_on, states-set, told_here}
 use Rattle.page_table.proofs.Adding.{own_one, own_pages-set}
 use Rattle.page_table.proofs.Putting.{is_alone, entry_fits, content_at}
 use Rattle.page_table.proofs.Unused.{times-push}
 use Rattle.page_table.proofs.Waiters.{others_of, waiting-forgets}
-use Rattle.page_table.proofs.Moving.{IsMove, with_entry, state_here, contents-entry, fits-after, contents-moved, used-moved, sound-moved}
+use Rattle.page_table.proofs.Moving.{IsMove, with_entry, contents-entry, fits-after, contents-moved, used-moved, sound-moved}
 
 is_below : (n m : ℕ) → n < m → nat_lt n m ≡ true
 is_below n m h = grind (arith, nat_tests)
@@ -25,77 +25,35 @@ is_not_below n m h = grind (arith, nat_tests)
 
 -- no places are on a frame without pages
 places-none : (n f : ℕ) (xs : List (Option Entry)) → pages_on f xs ≡ 0 → places_on n f xs ≡ []
-unfolding places_on pages_on
+unfolding places_on
 places-none n f [] h = refl
-places-none n f (x ∷ xs) h = by_head (is_on f x) refl (sum_by-cons (on_one f) x xs) (places-none (n + 1) f xs)
-  where
-    by_head : (b : Bool) → is_on f x ≡ b → pages_on f (x ∷ xs) ≡ on_one f x + pages_on f xs → (pages_on f xs ≡ 0 → places_on (n + 1) f xs ≡ [])
-        → (if b then n ∷ places_on (n + 1) f xs else places_on (n + 1) f xs) ≡ []
-    by_head true e split rest = absurd (let one = on_one-true f x e in omega (arith, one, split, h))
-    by_head false e split rest = rest (omega (arith, split, h))
+places-none n f (x ∷ xs) h = grind (arith, pages_on-cons f x xs, places-none (n + 1) f xs)
 
 -- the place of the one page on a frame
 places-one : (n f : ℕ) (xs : List (Option Entry)) (i : ℕ) → pages_on f xs ≡ 1 → is_on f (entry_at xs i) ≡ true → places_on n f xs ≡ (n + i) ∷ []
-unfolding places_on pages_on
+unfolding places_on
 places-one n f [] i h on = absurd (cc)
-places-one n f (x ∷ xs) zero h on =
-    let split = sum_by-cons (on_one f) x xs in
-    let one = on_one-true f x on in
-    let here : n + 0 ≡ n = omega arith in
-    rw (on, here) (ap (λ (l : List ℕ). n ∷ l) (places-none (n + 1) f xs (omega (arith, split, one, h))))
-places-one n f (x ∷ xs) (suc i) h on = by_head (is_on f x) refl (sum_by-cons (on_one f) x xs) (some_on f xs i on) (λ one. places-one (n + 1) f xs i one on)
-  where
-    by_head : (b : Bool) → is_on f x ≡ b → pages_on f (x ∷ xs) ≡ on_one f x + pages_on f xs → 1 ≤ pages_on f xs
-        → (pages_on f xs ≡ 1 → places_on (n + 1) f xs ≡ (n + 1 + i) ∷ [])
-        → (if b then n ∷ places_on (n + 1) f xs else places_on (n + 1) f xs) ≡ (n + suc i) ∷ []
-    by_head true e split some rest = absurd (let one = on_one-true f x e in omega (arith, one, split, some, h))
-    by_head false e split some rest =
-        let none = on_one-false f x e in
-        let next : n + 1 + i ≡ n + suc i = omega arith in
-        rest (omega (arith, none, split, h)) ∙ ap (λ (m : ℕ). m ∷ []) next
+places-one n f (x ∷ xs) zero h on = grind (arith, pages_on-cons f x xs, places-none (n + 1) f xs)
+places-one n f (x ∷ xs) (suc i) h on = grind (arith, pages_on-cons f x xs, places-one (n + 1) f xs i, none_on f xs i)
 
 -- a place before all others joins them as the first
 joined-first : (n m f : ℕ) (xs : List (Option Entry)) → n < m → joined_by n (places_on m f xs) ≡ n ∷ places_on m f xs
 unfolding places_on joined_by
 joined-first n m f [] h = refl
-joined-first n m f (x ∷ xs) h = by_head (is_on f x) (joined-first n (m + 1) f xs (omega arith))
-  where
-    by_head : (b : Bool) → joined_by n (places_on (m + 1) f xs) ≡ n ∷ places_on (m + 1) f xs
-        → joined_by n (if b then m ∷ places_on (m + 1) f xs else places_on (m + 1) f xs) ≡ n ∷ (if b then m ∷ places_on (m + 1) f xs else places_on (m + 1) f xs)
-    by_head true rest = rw (is_below n m h) refl
-    by_head false rest = rest
+joined-first n m f (x ∷ xs) h = grind (arith, nat_tests, joined-first n (m + 1) f xs)
 
 -- the places on a frame to which a page moves
 pub places-joined : (n f : ℕ) (xs : List (Option Entry)) (j : ℕ) (y : Option Entry) → j < length xs → is_on f y ≡ true → is_on f (entry_at xs j) ≡ false
     → places_on n f (slice_set xs j y) ≡ joined_by (n + j) (places_on n f xs)
 unfolding places_on joined_by
 places-joined n f [] j y h on off = absurd (omega arith)
-places-joined n f (x ∷ xs) zero y h on off =
-    let here : n + 0 ≡ n = omega arith in
-    rw (here, on, off) (sym (joined-first n (n + 1) f xs (omega arith)))
-places-joined n f (x ∷ xs) (suc j) y h on off =
-    let next : n + suc j ≡ n + 1 + j = omega arith in
-    by_head (is_on f x) (places-joined (n + 1) f xs j y (omega arith) on off ∙ ap (λ (m : ℕ). joined_by m (places_on (n + 1) f xs)) (sym next))
-  where
-    by_head : (b : Bool) → places_on (n + 1) f (slice_set xs j y) ≡ joined_by (n + suc j) (places_on (n + 1) f xs)
-        → (if b then n ∷ places_on (n + 1) f (slice_set xs j y) else places_on (n + 1) f (slice_set xs j y))
-        ≡ joined_by (n + suc j) (if b then n ∷ places_on (n + 1) f xs else places_on (n + 1) f xs)
-    by_head true rest = rw (is_not_below (n + suc j) n (omega arith)) (ap (λ (l : List ℕ). n ∷ l) rest)
-    by_head false rest = rest
+places-joined n f (x ∷ xs) zero y h on off = grind (arith, nat_tests, joined-first n (n + 1) f xs)
+places-joined n f (x ∷ xs) (suc j) y h on off = grind (arith, nat_tests, places-joined (n + 1) f xs j y)
 
 -- two places in their order
 joined-two : (i j : ℕ) → i ≢ j → joined_by j (i ∷ []) ≡ joined_by i (j ∷ [])
 unfolding joined_by
-joined-two i j ne = ⊎_elim (λ le. first (below le.1)) (λ gt. second gt.1) (leb_tells i j)
-  where
-    below : i ≤ j → i < j
-    below le = grind arith
-
-    first : i < j → joined_by j (i ∷ []) ≡ joined_by i (j ∷ [])
-    first h = rw (is_not_below j i (omega arith), is_below i j h) refl
-
-    second : j < i → joined_by j (i ∷ []) ≡ joined_by i (j ∷ [])
-    second h = rw (is_below j i h, is_not_below i j (omega arith)) refl
+joined-two i j ne = grind (arith, nat_tests)
 
 -- an entry of a page in a group
 pub record IsGroupEntry (old new : Entry) (f : ℕ) : Type 0 where
@@ -341,12 +299,12 @@ module _ (table : TableState) (i j : ℕ) (one other x y : Entry) (pairing : IsP
   unfolding paired
   sharing-pair pass =
       let grouped : Option PageState → Option PageState = option_map (with_status Grouped) in
-      let at_first : Some (state_of x) ≡ grouped (state_at (sharing_of table pass) i) = ap Some to_first.state ∙ sym (ap grouped (state_here table i one pass first)) in
-      let at_second : Some (state_of y) ≡ grouped (state_at (sharing_of table pass) j) = ap Some to_second.state ∙ sym (ap grouped (state_here table j other pass second)) in
+      let at_second : state_at (sharing_of table pass) j ≡ slice_index_or (states_of (founded table i x).entries) j None =
+      told_here state_of table.entries j other second ∙ sym (told_here state_of (founded table i x).entries j other here-founded) in
       let pages : states_of (with_pair table i j x y).entries ≡ slice_set (slice_set (states_of table.entries) i (grouped (state_at (sharing_of table pass) i))) j (grouped (state_at (sharing_of table pass) j)) =
-      map-set (option_map state_of) (founded table i x).entries j (Some y)
-      ∙ ap (λ (l : List (Option PageState)). slice_set l j (Some (state_of y))) (map-set (option_map state_of) table.entries i (Some x) ∙ ap (slice_set (states_of table.entries) i) at_first)
-      ∙ ap (slice_set (slice_set (states_of table.entries) i (grouped (state_at (sharing_of table pass) i))) j) at_second in
+      states-set (with_status Grouped) (founded table i x).entries j other y here-founded to_second.state
+      ∙ ap (λ (l : List (Option PageState)). slice_set l j (grouped (slice_index_or (states_of (founded table i x).entries) j None))) (states-set (with_status Grouped) table.entries i one x first to_first.state)
+      ∙ ap (λ (s : Option PageState). slice_set (slice_set (states_of table.entries) i (grouped (state_at (sharing_of table pass) i))) j (grouped s)) (sym at_second) in
       let groups = groups-pair in
       let waiting = waiting-forgets i (others_of j pass.waiting.listed) ∙ ap (waiting_without i) (waiting-forgets j pass.waiting.listed) in
       cc

@@ -18,6 +18,7 @@ use Rattle.page_table.specs.Changes.{IsPageOf}
 use Rattle.page_table.specs.Table.{TableState, IsPageAt, maps_of, flat_of, ArePages, ArePagesOf, AreMaps, contents_of, entry_at, state_of, states_of, frames_of}
 use Rattle.page_table.specs.View.{view_of, IsMemory}
 use Rattle.page_table.proofs.Maps.{map_at-maps_of, page_bytes-page}
+use Rattle.page_table.proofs.Entries.{told_here}
 
 -- a tenant's map by its number, among the maps of all tenants
 pub map_at-part : (maps : FlatMaps) (t m : ℕ) → m < 8 → map_at (part_of maps (t * 8) 8) m ≡ map_at maps (map_place t m)
@@ -110,18 +111,8 @@ module _ (table : TableState) (shapes : List (Option Shape)) (tenants : List Ten
 
   pub state_is : (entry : Entry) → entry_at table.entries (page_place page) ≡ Some entry → state_at (view_of table shapes tenants pass).sharing (page_place page) ≡ Some (state_of entry)
   unfolding view_of
-  state_is entry e = by_list table.entries (page_place page) e
-    where
-      by_list : (xs : List (Option Entry)) (i : ℕ) → entry_at xs i ≡ Some entry → slice_index_or (states_of xs) i None ≡ Some (state_of entry)
-      by_list [] i e = absurd (cc)
-      by_list (x ∷ xs) zero e = ap (option_map state_of) e
-      by_list (x ∷ xs) (suc i) e = by_list xs i e
+  state_is entry e = told_here state_of table.entries (page_place page) entry e
 
   pub frame_is : (entry : Entry) → entry_at table.entries (page_place page) ≡ Some entry → frame_at (view_of table shapes tenants pass) (page_place page) ≡ Some entry.frame
   unfolding view_of
-  frame_is entry e = by_list table.entries (page_place page) e
-    where
-      by_list : (xs : List (Option Entry)) (i : ℕ) → entry_at xs i ≡ Some entry → slice_index_or (frames_of xs) i None ≡ Some entry.frame
-      by_list [] i e = absurd (cc)
-      by_list (x ∷ xs) zero e = ap (option_map (λ (entry : Entry). entry.frame)) e
-      by_list (x ∷ xs) (suc i) e = by_list xs i e
+  frame_is entry e = told_here (λ (entry : Entry). entry.frame) table.entries (page_place page) entry e

@@ -16,9 +16,8 @@ use Rattle.page_table.specs.Changes.{contents_now}
 use Rattle.page_table.specs.Table.{TableState, IsTable, entry_at, states_of, state_of, groups_of, places_on, times}
 use Rattle.page_table.specs.Tallies.{IsTally, shared_at}
 use Rattle.page_table.specs.View.{view_of, IsMemory}
-use Rattle.page_table.proofs.Entries.{times-head, times-tail}
+use Rattle.page_table.proofs.Entries.{times-head, times-tail, told_at}
 use Rattle.page_table.proofs.Scanning.{bytes-of_group}
-use Rattle.page_table.proofs.Facts.{told_at}
 
 -- what is counted after another page stands at a place
 pub counted-set : (f : Option PageState → ℕ) (pages : List (Option Entry)) (i count : ℕ) (x : Option Entry) → i < length pages

@@ -11,8 +11,8 @@ use Rattle.stable_tree.proofs.Removing.{has-itself}
 use Rattle.page_table.specs.Table.{TableState, CountsState, IsSound, IsGroup, IsTreeOf, times, pages_on, is_open_frame}
 use Rattle.page_table.proofs.Ending.{but}
 use Rattle.host_types.proofs.Without.{without-length, times-gone, times-kept}
-use Rattle.page_table.proofs.Entries.{one_when, times-head, times-tail, not_equal, one_if_zero-above}
-use Rattle.page_table.proofs.Joining.{group_of, group-inside}
+use Rattle.page_table.proofs.Entries.{one_when, times-head, times-tail, not_equal, one_if_zero-above, group_of}
+use Rattle.page_table.proofs.Joining.{group-inside}
 
 -- a number that stands nowhere
 pub nowhere : (f : ℕ) (xs : List ℕ) → times f xs ≡ 0 → All (λ g. g ≢ f) xs
@@ -153,14 +153,7 @@ tree-pushed arena groups old new f is sorted room inserted =
 -- one test after another
 filter-filter : (p q : ℕ → Bool) (xs : List ℕ) → filter p (filter q xs) ≡ filter q (filter p xs)
 filter-filter p q [] = refl
-filter-filter p q (x ∷ xs) = by_tests (p x) (q x) refl refl (filter-filter p q xs)
-  where
-    by_tests : (a b : Bool) → p x ≡ a → q x ≡ b → filter p (filter q xs) ≡ filter q (filter p xs)
-        → filter p (if b then x ∷ filter q xs else filter q xs) ≡ filter q (if a then x ∷ filter p xs else filter p xs)
-    by_tests true true is also rest = rw (is, also) (ap (λ l. x ∷ l) rest)
-    by_tests true false is also rest = rw also rest
-    by_tests false true is also rest = rw is rest
-    by_tests false false is also rest = rest
+filter-filter p q (x ∷ xs) = grind (arith, filter-filter p q xs)
 
 -- a group less
 pub tree-removed : (arena : List (List ℕ)) (groups : List ℕ) (old new : Groups) (f : ℕ) → IsTreeOf arena groups old → IsSorted arena new.chains → new.room ≡ old.room
@@ -194,15 +187,7 @@ pub find-open : (table : TableState) (counts bytes : List ℕ) (limit : ℕ) (gs
     → find (λ f. nat_lt (slice_index_or counts f 0) limit) (filter (has table.arena bytes) gs) ≡ find (is_open_frame table bytes limit) gs
 find-open table counts bytes limit [] same = refl
 find-open table counts bytes limit (g ∷ gs) same =
-    by_bytes (bytes_eq (page_at table.arena g) bytes) (find-open table counts bytes limit gs (λ f some. let more = times-tail f g gs in same f (omega (arith, some, more))))
-  where
-    by_bytes : (b : Bool) → find (λ f. nat_lt (slice_index_or counts f 0) limit) (filter (has table.arena bytes) gs) ≡ find (is_open_frame table bytes limit) gs
-        → find (λ f. nat_lt (slice_index_or counts f 0) limit) (if b then g ∷ filter (has table.arena bytes) gs else filter (has table.arena bytes) gs)
-        ≡ (if b && nat_lt (pages_on g table.entries) limit then Some g else find (is_open_frame table bytes limit) gs)
-    by_bytes true rest =
-        ap (λ (n : ℕ). if nat_lt n limit then Some g else find (λ f. nat_lt (slice_index_or counts f 0) limit) (filter (has table.arena bytes) gs)) (same g (times-head g gs))
-        ∙ ap (λ (o : Option ℕ). if nat_lt (pages_on g table.entries) limit then Some g else o) rest
-    by_bytes false rest = rest
+    grind (arith, same g (times-head g gs), find-open table counts bytes limit gs (λ f some. let more = times-tail f g gs in same f (omega (arith, some, more))))
 
 module _ (table : TableState) (counts : CountsState) (tree : Groups) (sound : IsSound table counts) (is : IsTreeOf table.arena table.groups tree) where
   -- there is room for one more group

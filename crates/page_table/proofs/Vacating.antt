@@ -9,7 +9,7 @@ use Rattle.page_table.specs.declared.entry.Entry.{Entry}
 use Rattle.page_table.specs.Table.{TableState, CountsState, IsTable, IsEntry, IsGroup, IsOwnAt, IsSound, AreCountsOf, times, one_if_zero, entry_at, entry_content, state_of, states_of, contents_of, groups_of, sharing_of, is_on, places_on, pages_on, used_by}
 use Rattle.page_table.proofs.Adding.{own_one, own_pages-set, IsEntry-kept}
 use Rattle.page_table.proofs.Costs.{state-at, count-some}
-use Rattle.page_table.proofs.Entries.{one_when, on_one, elsewhere, not_equal, equal, pages_on-set, places_on-set, groups-kept, inside, alone, at_set, one_if_zero-above}
+use Rattle.page_table.proofs.Entries.{one_when, on_one, elsewhere, not_equal, equal, pages_on-set, places_on-set, groups-kept, inside, alone, at_set, one_if_zero-above, group_of}
 use Rattle.page_table.proofs.Groups.{without-places}
 use Rattle.page_table.proofs.Leaving.{groups-left}
 use Rattle.page_table.proofs.Moving.{counts-released}
@@ -63,9 +63,6 @@ module _ (table : TableState) (i : ℕ) (entry : Entry) (is : IsTable table) (he
       by_test true e = refl
       by_test false e = absurd (let none = (is_alone table entry fits e).no_group in omega (arith, none, once))
 
-  is_group : (g : ℕ) → 1 ≤ times g table.groups → IsGroup table g
-  is_group g le = ⊎_elim (λ e. absurd (omega (arith, e, le))) (λ group. group) (is.groups g)
-
   -- each group still has pages
   still : (g : ℕ) → IsGroup table g → 1 ≤ pages_on g (vacated table i).entries
   still g group = ⊎_elim (λ same. old same.1) (λ other. let e = pages_on-other g other.1 in omega (arith, e, IsGroup.some group)) (eqb_tells g entry.frame)
@@ -85,7 +82,7 @@ module _ (table : TableState) (i : ℕ) (entry : Entry) (is : IsTable table) (he
       let start : i ≡ 0 + i = omega arith in
       groups-left table.entries (vacated table i).entries i table.groups
       (λ g le. ap (λ (n : ℕ). without n (places_on 0 g table.entries)) start ∙ without-places 0 g table.entries i None refl)
-      (λ g le. still g (is_group g le))
+      (λ g le. still g (group_of table g is le))
 
   groups-own : is_shared entry.status ≡ false → groups_of (vacated table i) ≡ groups_of table
   unfolding groups_of

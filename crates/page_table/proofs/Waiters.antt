@@ -48,20 +48,12 @@ others_of i ws = filter (λ w. not (w.place == i)) ws
 
 pub listed-others : (i : ℕ) (ws : List Waiter) → is_listed i (others_of i ws) ≡ false
 listed-others i [] = refl
-listed-others i (w ∷ ws) = by_head (w.place == i) refl (listed-others i ws)
-  where
-    by_head : (b : Bool) → (w.place == i) ≡ b → is_listed i (others_of i ws) ≡ false → is_listed i (if not b then w ∷ others_of i ws else others_of i ws) ≡ false
-    by_head true e rest = rest
-    by_head false e rest = rw e rest
+listed-others i (w ∷ ws) = grind (arith, listed-others i ws)
 
 -- a page that doesn't wait doesn't wait among fewer
 pub listed-fewer : (i j : ℕ) (ws : List Waiter) → is_listed i ws ≡ false → is_listed i (others_of j ws) ≡ false
 listed-fewer i j [] none = refl
-listed-fewer i j (w ∷ ws) none = by_head (not (w.place == j)) (either (w.place == i) (is_listed i ws) none) (listed-fewer i j ws (either (w.place == i) (is_listed i ws) none).1)
-  where
-    by_head : (b : Bool) → ((w.place == i) ≡ false) × (is_listed i ws ≡ false) → is_listed i (others_of j ws) ≡ false → is_listed i (if b then w ∷ others_of j ws else others_of j ws) ≡ false
-    by_head true parts rest = rw parts.0 rest
-    by_head false parts rest = rest
+listed-fewer i j (w ∷ ws) none = grind (arith, listed-fewer i j ws)
 
 pub waiters-fewer : (entries : List (Option Entry)) (c : Option ℕ) (i : ℕ) (ws : List Waiter) → AreWaiters entries c ws → AreWaiters entries c (others_of i ws)
 waiters-fewer entries c i [] are = tt

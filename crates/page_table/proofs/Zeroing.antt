@@ -8,10 +8,10 @@ use Rattle.host_types.specs.Pages.{zero_page}
 use Rattle.frame_arena.specs.Pages.{page_at}
 use Rattle.page_table.specs.declared.entry.Entry.{Entry}
 use Rattle.page_table.specs.Table.{TableState, IsOwnAt, IsTable, IsGroup, LiesRight, times, entry_at, contents_of, groups_of, state_of, states_of, sharing_of, forgets, is_on}
-use Rattle.page_table.proofs.Entries.{not_equal, places_on-set, groups-kept}
+use Rattle.page_table.proofs.Entries.{not_equal, places_on-set, groups-kept, states-set}
 use Rattle.page_table.proofs.Putting.{content_at}
 use Rattle.page_table.proofs.Waiters.{waiting-forgets}
-use Rattle.page_table.proofs.Moving.{IsMove, with_entry, state_here, lone}
+use Rattle.page_table.proofs.Moving.{IsMove, with_entry, lone}
 
 -- an entry of a page on the zero frame
 pub record IsZeroEntry (old new : Entry) : Type 0 where
@@ -65,10 +65,7 @@ module _ (table : TableState) (i : ℕ) (entry x : Entry) (move : IsMove table i
   pub sharing-zeroed : (pass : Pass) → sharing_of (with_entry table i x) (forgets i pass) ≡ zeroed (sharing_of table pass) i
   unfolding zeroed
   sharing-zeroed pass =
-      let page : Some (state_of x) ≡ option_map (with_status Zero) (state_at (sharing_of table pass) i) =
-      ap Some to.state ∙ sym (ap (option_map (with_status Zero)) (state_here table i entry pass here)) in
-      let pages : states_of (with_entry table i x).entries ≡ slice_set (states_of table.entries) i (option_map (with_status Zero) (state_at (sharing_of table pass) i)) =
-      map-set (option_map state_of) table.entries i (Some x) ∙ ap (slice_set (states_of table.entries) i) page in
+      let pages = states-set (with_status Zero) table.entries i entry x here to.state in
       let groups = groups-zeroed in
       let waiting = waiting-forgets i pass.waiting.listed in
       cc
