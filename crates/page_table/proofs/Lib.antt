@@ -19,6 +19,7 @@ pub mod Moving
 pub mod Pairing
 pub mod Zeroing
 pub mod Merging
+pub mod Seen
 pub mod Breaks
 pub mod Counting
 pub mod Facts

@@ -120,8 +120,13 @@ unfolding places_on pages_on
 first-places none read told g n [] h some = absurd (omega arith)
 first-places {X} none read told g n (x ∷ xs) h some =
     let start : n ≡ n + 0 = omega arith in
-    grind (arith, sum_by-cons (on_one g) x xs, ap read start, h 0,
-    first-places none read told g (n + 1) xs (λ k on. let next : n + 1 + k ≡ n + suc k = omega arith in ap read next ∙ h (suc k) on))
+    grind (
+      arith,
+      sum_by-cons (on_one g) x xs,
+      ap read start,
+      h 0,
+      first-places none read told g (n + 1) xs (λ k on. let next : n + 1 + k ≡ n + suc k = omega arith in ap read next ∙ h (suc k) on),
+    )
 
 -- what is found stands in the list, and passes the test
 pub find-in : (test : ℕ → Bool) (gs : List ℕ) (f : ℕ) → find test gs ≡ Some f → (1 ≤ times f gs) × (test f ≡ true)

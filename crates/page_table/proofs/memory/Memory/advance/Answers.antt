@@ -42,28 +42,22 @@ invariant_of-self c =
 pub invariant_of-self-else-is_some : goal.invariant_of-self-else-is_some
 invariant_of-self-else-is_some c = (c.self.invariant.0, rw c.end.ensures (pass-ended c.self.inside.table c.self.inside.pass _ c.self.invariant.1), rw c.end.ensures tt)
 
-pub returns-then-is_some-clause-moved : goal.returns-then-is_some-clause-moved
+pub returns-then-is_some : goal.returns-then-is_some
 unfolding view_of
-returns-then-is_some-clause-moved c =
-    let d = (goal.at.returns-then-is_some-clause-moved c).After-is_some in
-    rw (← c.self.view_is, c.place_of-place.ensures)
-    (moved-on c.self.inside.table c.self.inside.shapes.items c.self.inside.tenants.items c.self.inside.pass (page_place c.args.page) (more d ∙ c.if-is_some.true))
+returns-then-is_some c = record {
+  moved = let d = (goal.at.returns-then-is_some c).After-is_some in
+      rw (← c.self.view_is, c.place_of-place.ensures)
+      (moved-on c.self.inside.table c.self.inside.shapes.items c.self.inside.tenants.items c.self.inside.pass (page_place c.args.page) (more d ∙ c.if-is_some.true));
+  free = let d = (goal.at.returns-then-is_some c).After-is_some in
+      waits-not c.self.inside.table c.self.inside.shapes.items c.self.inside.tenants.items c.self.inside.pass c.args.page (gone d).1;
+}
 
-pub returns-then-is_some-clause-free : goal.returns-then-is_some-clause-free
+pub returns-else-is_some : goal.returns-else-is_some
 unfolding view_of
-returns-then-is_some-clause-free c =
-    let d = (goal.at.returns-then-is_some-clause-free c).After-is_some in
-    waits-not c.self.inside.table c.self.inside.shapes.items c.self.inside.tenants.items c.self.inside.pass c.args.page (gone d).1
-
-pub returns-else-is_some-clause-moved : goal.returns-else-is_some-clause-moved
-unfolding view_of
-returns-else-is_some-clause-moved c =
-    let d = (goal.at.returns-else-is_some-clause-moved c).After-is_some in
-    rw (← c.self.view_is, c.end.ensures)
-    (moved-ended c.self.inside.table c.self.inside.shapes.items c.self.inside.tenants.items c.self.inside.pass (page_place c.args.page) (more d ∙ c.if-is_some.false))
-
-pub returns-else-is_some-clause-free : goal.returns-else-is_some-clause-free
-unfolding view_of
-returns-else-is_some-clause-free c =
-    let d = (goal.at.returns-else-is_some-clause-free c).After-is_some in
-    rw (c.end.ensures) (waits-not c.self.inside.table c.self.inside.shapes.items c.self.inside.tenants.items c.self.inside.pass c.args.page (gone d).1)
+returns-else-is_some c = record {
+  moved = let d = (goal.at.returns-else-is_some c).After-is_some in
+      rw (← c.self.view_is, c.end.ensures)
+      (moved-ended c.self.inside.table c.self.inside.shapes.items c.self.inside.tenants.items c.self.inside.pass (page_place c.args.page) (more d ∙ c.if-is_some.false));
+  free = let d = (goal.at.returns-else-is_some c).After-is_some in
+      rw (c.end.ensures) (waits-not c.self.inside.table c.self.inside.shapes.items c.self.inside.tenants.items c.self.inside.pass c.args.page (gone d).1);
+}

@@ -18,14 +18,10 @@ index_mut-requires c =
 pub invariant_of-self : goal.invariant_of-self
 invariant_of-self c = (record_memory c.self.inside.table c.self.inside.shapes.items c.self.inside.tenants.items c.self.inside.pass c.self.inside.reserved c.self.invariant.0 c.args.self.now c.self.view_is c.args.tenant c.reserve-before.result c.args.kept c.requires.there c.requires.room c.reserve-before.ensures, c.self.invariant.1, c.self.invariant.2)
 
-pub returns-clause-part : goal.returns-clause-part
-returns-clause-part c = (records c.self.inside.table c.self.inside.shapes.items c.self.inside.tenants.items c.self.inside.pass c.self.inside.reserved c.self.invariant.0 c.args.self.now c.self.view_is c.args.tenant c.reserve-before.result c.args.kept c.requires.there c.requires.room c.reserve-before.ensures).recorded_part
-
-pub returns-clause-others : goal.returns-clause-others
-returns-clause-others c = (records c.self.inside.table c.self.inside.shapes.items c.self.inside.tenants.items c.self.inside.pass c.self.inside.reserved c.self.invariant.0 c.args.self.now c.self.view_is c.args.tenant c.reserve-before.result c.args.kept c.requires.there c.requires.room c.reserve-before.ensures).others
-
-pub returns-clause-have : goal.returns-clause-have
-returns-clause-have c = (records c.self.inside.table c.self.inside.shapes.items c.self.inside.tenants.items c.self.inside.pass c.self.inside.reserved c.self.invariant.0 c.args.self.now c.self.view_is c.args.tenant c.reserve-before.result c.args.kept c.requires.there c.requires.room c.reserve-before.ensures).have
-
-pub returns-clause-all : goal.returns-clause-all
-returns-clause-all c = (records c.self.inside.table c.self.inside.shapes.items c.self.inside.tenants.items c.self.inside.pass c.self.inside.reserved c.self.invariant.0 c.args.self.now c.self.view_is c.args.tenant c.reserve-before.result c.args.kept c.requires.there c.requires.room c.reserve-before.ensures).all
+pub returns : goal.returns
+returns c = record {
+  part = (records c.self.inside.table c.self.inside.shapes.items c.self.inside.tenants.items c.self.inside.pass c.self.inside.reserved c.self.invariant.0 c.args.self.now c.self.view_is c.args.tenant c.reserve-before.result c.args.kept c.requires.there c.requires.room c.reserve-before.ensures).recorded_part;
+  others = (records c.self.inside.table c.self.inside.shapes.items c.self.inside.tenants.items c.self.inside.pass c.self.inside.reserved c.self.invariant.0 c.args.self.now c.self.view_is c.args.tenant c.reserve-before.result c.args.kept c.requires.there c.requires.room c.reserve-before.ensures).others;
+  have = (records c.self.inside.table c.self.inside.shapes.items c.self.inside.tenants.items c.self.inside.pass c.self.inside.reserved c.self.invariant.0 c.args.self.now c.self.view_is c.args.tenant c.reserve-before.result c.args.kept c.requires.there c.requires.room c.reserve-before.ensures).have;
+  all = (records c.self.inside.table c.self.inside.shapes.items c.self.inside.tenants.items c.self.inside.pass c.self.inside.reserved c.self.invariant.0 c.args.self.now c.self.view_is c.args.tenant c.reserve-before.result c.args.kept c.requires.there c.requires.room c.reserve-before.ensures).all;
+}

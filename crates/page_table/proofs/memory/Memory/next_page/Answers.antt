@@ -29,22 +29,16 @@ there c =
     let entry = entry-may c.self.inside.table c.self.inside.pass c.in-Some.place (next c).mergeable in
     is_page_at_entry c.self.inside.table c.in-Some.place entry.0 (c.facts.ensures.1).fits entry.1
 
-pub returns-in-Some-clause-place : goal.returns-in-Some-clause-place
+pub returns-in-Some : goal.returns-in-Some
 unfolding view_of
-returns-in-Some-clause-place c =
-    rw (← c.self.view_is) (ap Some c.page_at.ensures.place ∙ sym (told (goal.at.returns-in-Some-clause-place c).In-Some))
-
-pub returns-in-Some-clause-there : goal.returns-in-Some-clause-there
-returns-in-Some-clause-there c =
-    rw (← c.self.view_is)
-    (page_there c.self.inside.table c.self.inside.shapes.items c.self.inside.tenants.items c.self.inside.pass c.self.inside.reserved c.self.invariant.0 c.page_at.result c.page_at.ensures.map c.page_at.ensures.number
-    (subst (IsPageAt c.self.inside.table) (sym c.page_at.ensures.place) (there (goal.at.returns-in-Some-clause-there c).In-Some)))
-
-pub returns-in-Some-clause-mergeable : goal.returns-in-Some-clause-mergeable
-unfolding view_of
-returns-in-Some-clause-mergeable c =
-    rw (← c.self.view_is)
-    (ap (λ i. is_mergeable (state_at (sharing_of c.self.inside.table c.self.inside.pass) i)) c.page_at.ensures.place ∙ (next (goal.at.returns-in-Some-clause-mergeable c).In-Some).mergeable)
+returns-in-Some c = record {
+  place = rw (← c.self.view_is) (ap Some c.page_at.ensures.place ∙ sym (told (goal.at.returns-in-Some c).In-Some));
+  there = rw (← c.self.view_is)
+      (page_there c.self.inside.table c.self.inside.shapes.items c.self.inside.tenants.items c.self.inside.pass c.self.inside.reserved c.self.invariant.0 c.page_at.result c.page_at.ensures.map c.page_at.ensures.number
+      (subst (IsPageAt c.self.inside.table) (sym c.page_at.ensures.place) (there (goal.at.returns-in-Some c).In-Some)));
+  mergeable = rw (← c.self.view_is)
+      (ap (λ i. is_mergeable (state_at (sharing_of c.self.inside.table c.self.inside.pass) i)) c.page_at.ensures.place ∙ (next (goal.at.returns-in-Some c).In-Some).mergeable);
+}
 
 pub returns-in-None-clause-place : goal.returns-in-None-clause-place
 unfolding view_of

@@ -3,6 +3,7 @@ use Rattle.page_table.proofs.Moving.{IsMove, few, contents-moved, used-moved, so
 use Rattle.page_table.proofs.Pairing.{IsGroupEntry}
 use Rattle.page_table.proofs.Joining.{move-joined, groups-joined, states-joined}
 use Rattle.page_table.proofs.table.Table.join.Goals as goal
+use Rattle.std.proofs.Common.{rules}
 
 pub share-requires-clause-few : goal.share-requires-clause-few
 share-requires-clause-few c =
@@ -29,14 +30,12 @@ invariant_of-self c = (
   c.self.invariant.2,
 )
 
-pub returns-clause-contents : goal.returns-clause-contents
-returns-clause-contents c = rw (c.set.ensures, ← c.self.view_is) (contents-moved (table c) c.args.place c.page-entry.result c.merged.result (move c))
-
-pub returns-clause-states : goal.returns-clause-states
-returns-clause-states c = rw (c.set.ensures, ← c.self.view_is) (states-joined (table c) c.args.place c.page-entry.result c.merged.result c.args.frame (move c) (to c))
-
-pub returns-clause-groups : goal.returns-clause-groups
-returns-clause-groups c = rw (c.set.ensures, ← c.self.view_is) (groups-joined (table c) c.args.place c.page-entry.result c.merged.result c.args.frame (move c) (to c))
-
-pub returns-clause-used : goal.returns-clause-used
-returns-clause-used c = rw (c.set.ensures, ← c.self.view_is) (used-moved (table c) c.args.place c.page-entry.result c.merged.result (move c))
+pub returns : goal.returns
+returns c = record {
+  contents = rw (c.set.ensures, ← c.self.view_is) (contents-moved (table c) c.args.place c.page-entry.result c.merged.result (move c));
+  states = rw (c.set.ensures, ← c.self.view_is) (states-joined (table c) c.args.place c.page-entry.result c.merged.result c.args.frame (move c) (to c));
+  groups = rw (c.set.ensures, ← c.self.view_is) (groups-joined (table c) c.args.place c.page-entry.result c.merged.result c.args.frame (move c) (to c));
+  used = rw (c.set.ensures, ← c.self.view_is) (used-moved (table c) c.args.place c.page-entry.result c.merged.result (move c));
+  arena = search rules;
+  others = search rules;
+}

@@ -1,4 +1,4 @@
-use Rattle.std.proofs.Common.{◌≡◌, ◌∙◌, ◌∷◌, ◌++◌, [], false, ℕ, slice_set, Option, Some, None, IfSome, sym, ap, subst, ◌<◌, length, arith}
+use Rattle.std.proofs.Common.{◌≡◌, ◌∙◌, ◌∷◌, ◌++◌, [], false, ℕ, slice_set, Option, Some, None, IfSome, sym, ap, subst, ◌<◌, length, arith, rules}
 use Rattle.host_types.specs.Sharing.{is_shared}
 use Rattle.frame_arena.specs.Counted.{CountedPages}
 use Rattle.page_table.specs.declared.entry.Entry.{Entry}
@@ -25,19 +25,14 @@ alone_first c =
     is_alone before c.page-one.result (entry_fits before c.args.first c.page-one.result c.self.invariant.0.fits there)
     (subst (λ (x : Option Entry). IfSome x (λ (entry : Entry). is_shared entry.status ≡ false)) there own)
 
-pub push-requires-clause-above : goal.push-requires-clause-above
-push-requires-clause-above c = (alone_first (goal.at.push-requires-clause-above c).After-release).above
-
-pub push-requires-clause-there : goal.push-requires-clause-there
-push-requires-clause-there c =
-    let inside = fits_first (goal.at.push-requires-clause-there c).After-release in
-    omega (arith, inside, c.self.invariant.1)
-
-pub push-requires-clause-new : goal.push-requires-clause-new
-push-requires-clause-new c = (alone_first (goal.at.push-requires-clause-new c).After-release).no_group
-
-pub push-requires-clause-room : goal.push-requires-clause-room
-push-requires-clause-room c = omega (arith, c.self.invariant.0.counted.used, c.self.invariant.1)
+pub push-requires : goal.push-requires
+push-requires c = record {
+  above = (alone_first (goal.at.push-requires c).After-release).above;
+  there = let inside = fits_first (goal.at.push-requires c).After-release in
+      omega (arith, inside, c.self.invariant.1);
+  new = (alone_first (goal.at.push-requires c).After-release).no_group;
+  room = omega (arith, c.self.invariant.0.counted.used, c.self.invariant.1);
+}
 
 pub insert-requires-clause-new : goal.insert-requires-clause-new
 insert-requires-clause-new c = tree-absent c.self.inside.arena c.self.inside.groups.listed c.self.inside.tree c.self.invariant.2 c.page-one.result.frame (alone_first (goal.at.insert-requires-clause-new c).After-release).no_group
@@ -73,23 +68,16 @@ invariant_of-self c = (
       (tree-pushed c.self.inside.arena c.self.inside.groups.listed c.self.inside.tree c.insert.new.self c.page-one.result.frame c.self.invariant.2 (rw (ap (λ (counted : CountedPages). counted.pages) c.new.ensures) at c.insert.ensures.sorted) c.insert.ensures.room (rw (ap (λ (counted : CountedPages). counted.pages) c.new.ensures) at c.insert.ensures.inserted)),
 )
 
-pub returns-clause-contents : goal.returns-clause-contents
-returns-clause-contents c =
-    rw (c.set-2.ensures, c.set.ensures, ← c.self.view_is, pushed c)
-    (contents-pair (table c) c.args.first c.args.second c.page-one.result c.page-other.result c.merged.result c.merged-2.result (pairs c))
-
-pub returns-clause-sharing : goal.returns-clause-sharing
-returns-clause-sharing c pass =
-    rw (c.set-2.ensures, c.set.ensures, ← c.self.view_is, pushed c)
-    (sharing-pair (table c) c.args.first c.args.second c.page-one.result c.page-other.result c.merged.result c.merged-2.result (pairs c) pass)
-
-pub returns-clause-used : goal.returns-clause-used
-returns-clause-used c =
-    rw (c.set-2.ensures, c.set.ensures, ← c.self.view_is, pushed c)
-    (used-pair (table c) c.args.first c.args.second c.page-one.result c.page-other.result c.merged.result c.merged-2.result (pairs c))
-
-pub returns-clause-others : goal.returns-clause-others
-returns-clause-others c i ne_first ne_second =
-    rw (c.set-2.ensures, c.set.ensures, ← c.self.view_is)
-    (get_or-set_other (slice_set (table c).entries c.args.first (Some c.merged.result)) c.args.second i (Some c.merged-2.result) None ne_second
-    ∙ get_or-set_other (table c).entries c.args.first i (Some c.merged.result) None ne_first)
+pub returns : goal.returns
+returns c = record {
+  contents = rw (c.set-2.ensures, c.set.ensures, ← c.self.view_is, pushed c)
+      (contents-pair (table c) c.args.first c.args.second c.page-one.result c.page-other.result c.merged.result c.merged-2.result (pairs c));
+  others = λ i ne_first ne_second. rw (c.set-2.ensures, c.set.ensures, ← c.self.view_is)
+      (get_or-set_other (slice_set (table c).entries c.args.first (Some c.merged.result)) c.args.second i (Some c.merged-2.result) None ne_second
+      ∙ get_or-set_other (table c).entries c.args.first i (Some c.merged.result) None ne_first);
+  sharing = λ pass. rw (c.set-2.ensures, c.set.ensures, ← c.self.view_is, pushed c)
+      (sharing-pair (table c) c.args.first c.args.second c.page-one.result c.page-other.result c.merged.result c.merged-2.result (pairs c) pass);
+  used = rw (c.set-2.ensures, c.set.ensures, ← c.self.view_is, pushed c)
+      (used-pair (table c) c.args.first c.args.second c.page-one.result c.page-other.result c.merged.result c.merged-2.result (pairs c));
+  arena = search rules;
+}

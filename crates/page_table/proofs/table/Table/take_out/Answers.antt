@@ -86,16 +86,13 @@ leave-requires-clause-room c =
     let one = cost_more (goal.at.leave-requires-clause-room c).In-Some c.count.result c.if-not-entry.false c.count.ensures c.if-count-gt1.true in
     omega (arith, one, c.requires.room)
 
-pub end_group-requires-clause-there : goal.end_group-requires-clause-there
-end_group-requires-clause-there c = rw (← c.self.view_is) (here (goal.at.end_group-requires-clause-there c).In-Some)
-
-pub end_group-requires-clause-shared : goal.end_group-requires-clause-shared
-end_group-requires-clause-shared c = shared (goal.at.end_group-requires-clause-shared c).In-Some c.if-not-entry.false
-
-pub end_group-requires-clause-last : goal.end_group-requires-clause-last
-end_group-requires-clause-last c =
-    let known = counted (goal.at.end_group-requires-clause-last c).In-Some c.count.result c.count.ensures in
-    rw (← c.self.view_is) (omega (arith, known.0, known.1, c.if-count-gt1.false))
+pub end_group-requires : goal.end_group-requires
+end_group-requires c = record {
+  there = rw (← c.self.view_is) (here (goal.at.end_group-requires c).In-Some);
+  shared = shared (goal.at.end_group-requires c).In-Some c.if-not-entry.false;
+  last = let known = counted (goal.at.end_group-requires c).In-Some c.count.result c.count.ensures in
+      rw (← c.self.view_is) (omega (arith, known.0, known.1, c.if-count-gt1.false));
+}
 
 pub returns-then-count-gt1-clause-used : goal.returns-then-count-gt1-clause-used
 returns-then-count-gt1-clause-used c =

@@ -3,6 +3,7 @@ use Rattle.page_table.proofs.Moving.{IsMove, few, contents-moved, used-moved, so
 use Rattle.page_table.proofs.Zeroing.{IsZeroEntry, move-zeroed, sharing-zeroed}
 use Rattle.std.proofs.lemmas.List.{get_or-set_other}
 use Rattle.page_table.proofs.table.Table.zero.Goals as goal
+use Rattle.std.proofs.Common.{rules}
 
 pub share-requires-clause-few : goal.share-requires-clause-few
 share-requires-clause-few c =
@@ -29,14 +30,11 @@ invariant_of-self c = (
   c.self.invariant.2,
 )
 
-pub returns-clause-contents : goal.returns-clause-contents
-returns-clause-contents c = rw (c.set.ensures, ← c.self.view_is) (contents-moved (table c) c.args.place c.page-entry.result c.merged.result (move c))
-
-pub returns-clause-sharing : goal.returns-clause-sharing
-returns-clause-sharing c pass = rw (c.set.ensures, ← c.self.view_is) (sharing-zeroed (table c) c.args.place c.page-entry.result c.merged.result (move c) (to c) pass)
-
-pub returns-clause-used : goal.returns-clause-used
-returns-clause-used c = rw (c.set.ensures, ← c.self.view_is) (used-moved (table c) c.args.place c.page-entry.result c.merged.result (move c))
-
-pub returns-clause-others : goal.returns-clause-others
-returns-clause-others c i ne = rw (c.set.ensures, ← c.self.view_is) (get_or-set_other (table c).entries c.args.place i _ _ ne)
+pub returns : goal.returns
+returns c = record {
+  contents = rw (c.set.ensures, ← c.self.view_is) (contents-moved (table c) c.args.place c.page-entry.result c.merged.result (move c));
+  others = λ i ne. rw (c.set.ensures, ← c.self.view_is) (get_or-set_other (table c).entries c.args.place i _ _ ne);
+  sharing = λ pass. rw (c.set.ensures, ← c.self.view_is) (sharing-zeroed (table c) c.args.place c.page-entry.result c.merged.result (move c) (to c) pass);
+  used = rw (c.set.ensures, ← c.self.view_is) (used-moved (table c) c.args.place c.page-entry.result c.merged.result (move c));
+  arena = search rules;
+}
