@@ -12,9 +12,9 @@ use Rattle.host_types.specs.Bytes.{part_of}
 use Rattle.host_types.specs.Sharing.{Sharing, PageState, state_at, is_shared, is_shared_page, is_in_company, is_among, without, broken, broken_page, break_cost, broken_from, cost_from, cost_of}
 use Rattle.page_table.specs.declared.entry.Entry.{Entry}
 use Rattle.page_table.specs.Table.{TableState, CountsState, IsTable, IsSound, LiesRight, times, one_if_zero, entry_at, state_of, groups_of, sharing_of, is_on, places_on, pages_on}
+use Rattle.page_table.proofs.Changing.{is_alone, entry_fits}
 use Rattle.page_table.proofs.Entries.{one_when, on_one, not_equal, equal, pages_on-set, some_on, places_on-set, groups-kept}
 use Rattle.page_table.proofs.Groups.{without-places, company-places}
-use Rattle.page_table.proofs.Putting.{is_alone, entry_fits}
 use Rattle.page_table.proofs.Costs.{state-at, group-frame}
 
 -- the break of one page more

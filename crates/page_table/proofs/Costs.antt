@@ -1,15 +1,15 @@
 -- What the break of a page costs, told by its group and by its frame.
-use Rattle.std.proofs.Common.{◌≡◌, ◌∙◌, ◌⊎◌, inl, inr, ⊎_elim, ℕ, zero, suc, ◌+◌, ◌<◌, ◌≤◌, nat_lt, Bool, true, false, List, [], ◌∷◌, slice_index_or, Option, Some, None, option_map, unwrap_or, refl, sym, ap, arith}
+use Rattle.std.proofs.Common.{◌≡◌, ◌∙◌, ◌⊎◌, inl, inr, ⊎_elim, ℕ, ◌+◌, ◌<◌, ◌≤◌, nat_lt, Bool, true, false, slice_index_or, Option, Some, None, option_map, unwrap_or, refl, sym, ap, arith}
 use Rattle.std.proofs.lemmas.Bool.Decides.{nat_tests, leb_tells}
 use Rattle.page_table.specs.declared.pass.Pass.{Pass}
 use Rattle.host_types.specs.declared.status.Status.{Status}
 use Rattle.host_types.specs.declared.status.Status.TheVariants.{New, Volatile, Waiting, Grouped, Zero}
 use Rattle.host_types.specs.Sharing.{PageState, state_at, is_in_company, cost_of, break_cost, is_shared}
 use Rattle.page_table.specs.declared.entry.Entry.{Entry}
-use Rattle.page_table.specs.Table.{TableState, CountsState, IsTable, IsSound, IsEntry, IsGroup, LiesRight, times, one_if_zero, entry_at, is_on, state_of, states_of, groups_of, sharing_of, pages_on, break_frames}
+use Rattle.page_table.specs.Table.{TableState, CountsState, IsTable, IsSound, IsEntry, IsGroup, LiesRight, times, one_if_zero, entry_at, is_on, state_of, groups_of, sharing_of, pages_on, break_frames}
+use Rattle.page_table.proofs.Changing.{entry_fits}
 use Rattle.page_table.proofs.Entries.{one_when, equal, some_on, one_if_zero-above, told_at}
 use Rattle.page_table.proofs.Groups.{company-places}
-use Rattle.page_table.proofs.Putting.{entry_fits}
 
 -- the state of a page is that of its entry
 pub state-at : (table : TableState) (pass : Pass) (i : ℕ) → state_at (sharing_of table pass) i ≡ option_map state_of (entry_at table.entries i)

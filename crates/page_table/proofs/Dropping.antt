@@ -1,5 +1,5 @@
 -- What a memory tells of a map that was taken away.
-use Rattle.std.proofs.Common.{◌≡◌, ◌≢◌, ◌∙◌, ◌⊎◌, inl, inr, ⊎_elim, ℕ, zero, suc, ◌+◌, ◌-◌, ◌*◌, ◌<◌, ◌≤◌, ◌==◌, ◌&&◌, nat_le, nat_lt, not, Bool, true, false, if◌then◌else◌, List, [], ◌∷◌, length, map, filter, replicate, slice_index_or, slice_set, Option, Some, None, IsSomeAnd, is_some, option_map, refl, sym, ap, subst, arith}
+use Rattle.std.proofs.Common.{◌≡◌, ◌≢◌, ◌∙◌, ◌⊎◌, inl, inr, ⊎_elim, ℕ, zero, suc, ◌+◌, ◌-◌, ◌*◌, ◌<◌, ◌≤◌, ◌&&◌, nat_le, nat_lt, not, Bool, true, false, if◌then◌else◌, List, [], ◌∷◌, length, map, filter, replicate, slice_index_or, slice_set, Option, Some, None, IsSomeAnd, is_some, option_map, refl, sym, ap, subst, arith}
 use Rattle.std.proofs.lemmas.List.{get_or-set_same, get_or-set_other, get_or_past, length-map, length-replicate, length-set}
 use Rattle.std.proofs.lemmas.Bool.Decides.{nat_tests}
 use Rattle.page_table.specs.declared.pass.Pass.{Pass}
@@ -9,7 +9,7 @@ use Rattle.host_types.specs.Memory.{FlatMap, map_at}
 use Rattle.host_types.specs.Pages.{map_place}
 use Rattle.host_types.specs.declared.status.Status.TheVariants.{Volatile}
 use Rattle.host_types.specs.Pins.{PinsFit}
-use Rattle.host_types.specs.Sharing.{Sharing, PageState, state_at, is_shared, is_shared_page, broken, gone, gone_from}
+use Rattle.host_types.specs.Sharing.{Sharing, PageState, state_at, is_shared, broken, gone, gone_from}
 use Rattle.host_types.specs.Tenant.{part_dropped}
 use Rattle.host_types.specs.Visits.{waiting_outside, ended_at, dropped, moved_on, next_from, one_more}
 use Rattle.host_types.proofs.Lists.{length-with_part}
@@ -28,7 +28,7 @@ use Rattle.page_table.proofs.Free.{free_is}
 use Rattle.page_table.proofs.Maps.{maps_of-changed, AreMaps-changed}
 use Rattle.page_table.proofs.Reading.{content_in, few_pages}
 use Rattle.page_table.proofs.Shapes.{map_past, shape_told}
-use Rattle.page_table.proofs.Waiters.{either, waiter-kept}
+use Rattle.page_table.proofs.Waiters.{waiter-kept}
 use Rattle.page_table.proofs.Writing.{part-set_same, part-set_other, maps-set_other}
 use Rattle.page_table.proofs.Scanning.{is_page_at_entry}
 use Rattle.page_table.proofs.Unpinning.{fit-fewer, outside-pinned, others-unpinned, tenant-unpinned, pins-inside}

@@ -1,6 +1,6 @@
 -- A page table stays sound where the last page leaves its group and keeps the frame.
-use Rattle.std.proofs.Common.{◌≡◌, ◌≢◌, ◌∙◌, inl, inr, ◌⊎◌, ⊎_elim, ℕ, ◌+◌, ◌<◌, ◌≤◌, ◌==◌, not, Bool, true, false, if◌then◌else◌, List, [], ◌∷◌, length, map, filter, slice_index_or, slice_set, Option, Some, None, IfSome, option_map, refl, sym, ap, subst, arith}
-use Rattle.std.proofs.lemmas.List.{length-set, map-set, set-get_or, nil_from_length, get_or-set_same}
+use Rattle.std.proofs.Common.{◌≡◌, ◌≢◌, ◌∙◌, inl, inr, ◌⊎◌, ⊎_elim, ℕ, ◌+◌, ◌<◌, ◌≤◌, ◌==◌, not, Bool, true, false, if◌then◌else◌, List, [], ◌∷◌, length, map, filter, slice_index_or, slice_set, Option, Some, None, option_map, refl, sym, ap, subst, arith}
+use Rattle.std.proofs.lemmas.List.{map-set, set-get_or, nil_from_length}
 use Rattle.std.proofs.lemmas.Bool.Decides.{eqb_tells}
 use Rattle.page_table.specs.declared.pass.Pass.{Pass}
 use Rattle.host_types.specs.declared.status.Status.{Status}
@@ -9,12 +9,13 @@ use Rattle.host_types.specs.Sharing.{PageState, state_at, is_shared, broken, bro
 use Rattle.host_types.proofs.Without.{without-length, times-gone, times-kept, kept_group, some_kept}
 use Rattle.frame_arena.specs.Pages.{page_at}
 use Rattle.page_table.specs.declared.entry.Entry.{Entry}
-use Rattle.page_table.specs.Table.{TableState, CountsState, IsTable, IsEntry, IsAlone, IsGroup, IsOwnAt, IsSound, AreCountsOf, LiesRight, times, one_if_zero, entry_at, state_of, states_of, contents_of, groups_of, sharing_of, is_on, places_on, pages_on, used_by}
-use Rattle.page_table.proofs.Adding.{own_one, own_pages-set, IsEntry-kept}
+use Rattle.page_table.specs.Table.{TableState, CountsState, IsTable, IsEntry, IsAlone, IsGroup, IsSound, AreCountsOf, LiesRight, times, one_if_zero, entry_at, state_of, states_of, contents_of, groups_of, sharing_of, is_on, places_on, pages_on, used_by}
+use Rattle.page_table.proofs.Changing.{entry_fits, table-set, counted-changed, lies_alone, apart_alone}
+use Rattle.page_table.proofs.Adding.{own_one, own_pages-set}
 use Rattle.page_table.proofs.Costs.{state-at, group-frame}
-use Rattle.page_table.proofs.Entries.{times-head, times-tail, one_when, on_one, elsewhere, not_equal, equal, pages_on-set, some_on, inside, alone, at_set, contents-set}
+use Rattle.page_table.proofs.Entries.{times-head, times-tail, one_when, on_one, not_equal, equal, pages_on-set, some_on, inside, contents-set, group_of}
 use Rattle.page_table.proofs.Groups.{length-places, without-places}
-use Rattle.page_table.proofs.Putting.{entry_fits, content_at}
+use Rattle.page_table.proofs.Putting.{content_at}
 use Rattle.page_table.proofs.Leaving.{sharing-broken}
 
 -- a list of frames without one of them
@@ -141,39 +142,24 @@ module _ (table : TableState) (i : ℕ) (entry new : Entry) (is : IsTable table)
 
   IsTable-ended : new.protected ≡ false → IsTable (ended table i new entry.frame)
   IsTable-ended unlocked =
-      record {
-        some = is.some;
-        small = is.small;
-        pages = is.pages;
-        zero = is.zero;
-        entries = λ j. at_set (λ x. IfSome x (IsEntry after)) table.entries i j (Some new) tt made (λ ne. other j ne (entry_at table.entries j) refl (is.entries j));
-        groups = each;
-        few = rw (length-set table.entries i (Some new)) is.few;
-      }
+      let fits = entry_fits table i entry is here in
+      let group = group_of table entry.frame is (omega (arith, one_group)) in
+      let lone : IsAlone after entry.frame = record { above = group.above; one = pages_on-ended entry.frame ∙ alone_there; no_group = times-gone entry.frame table.groups } in
+      table-set table after i (Some new) is refl refl is.pages is.zero
+      (record {
+        frame = omega (arith, frame, fits.frame);
+        protected = unlocked ∙ sym (ap is_shared status-ended);
+        right = lies_alone after new.frame new.status (ap is_shared status-ended) (subst (IsAlone after) (sym frame) lone);
+      })
+      (λ j y ne e.
+      let same = times-kept entry.frame y.frame table.groups (λ q. apart_alone table j i y entry e here (λ p. ne (sym p)) alone_there (sym q)) in (
+        λ a. record { above = a.above; one = pages_on-ended y.frame ∙ a.one; no_group = same ∙ a.no_group },
+        λ once. same ∙ once,
+      ))
+      each
     where
       after : TableState
       after = ended table i new entry.frame
-
-      made : IsEntry after new
-      made =
-          let fits = entry_fits table i entry is here in
-          let above : 0 < entry.frame = ⊎_elim (λ none. absurd (omega (arith, none, one_group))) (λ group. IsGroup.above group) (is.groups entry.frame) in
-          let lone : IsAlone after entry.frame = record { above = above; one = pages_on-ended entry.frame ∙ alone_there; no_group = times-gone entry.frame table.groups } in
-          record {
-            frame = omega (arith, frame, fits.frame);
-            protected = unlocked ∙ sym (ap is_shared status-ended);
-            right = subst (LiesRight after new.frame) (sym status-ended) (subst (IsAlone after) (sym frame) lone);
-          }
-
-      apart : (j : ℕ) → j ≢ i → (page : Entry) → entry_at table.entries j ≡ Some page → page.frame ≢ entry.frame
-      apart j ne page e =
-          elsewhere entry.frame page.frame
-          (sym (ap (is_on entry.frame) e) ∙ alone entry.frame table.entries i j there alone_there (ap (is_on entry.frame) here ∙ equal entry.frame) ne)
-
-      other : (j : ℕ) → j ≢ i → (x : Option Entry) → entry_at table.entries j ≡ x → IfSome x (IsEntry table) → IfSome x (IsEntry after)
-      other j ne None e h = tt
-      other j ne (Some page) e h =
-          IsEntry-kept table after page refl (λ one lone. pages_on-ended page.frame ∙ one) (times-kept entry.frame page.frame table.groups (apart j ne page e)) h
 
       each : (g : ℕ) → (times g after.groups ≡ 0) ⊎ IsGroup after g
       each g =
@@ -190,9 +176,5 @@ module _ (table : TableState) (i : ℕ) (entry new : Entry) (is : IsTable table)
   sound-ended counts unlocked counted =
       record {
         fits = IsTable-ended unlocked;
-        counted = record {
-          sized = counted.sized;
-          counted = λ g h. let pages = pages_on-ended g in let known = counted.counted g h in omega (arith, pages, known);
-          used = let same = used-ended in omega (arith, same, counted.used);
-        };
+        counted = counted-changed table (ended table i new entry.frame) counts counts counted refl refl (let same = used-ended in omega (arith, same)) (λ g h. let pages = pages_on-ended g in omega (arith, pages));
       }

@@ -1,8 +1,8 @@
 -- Entries by place: what a change of one of them changes.
-use Rattle.std.proofs.Common.{◌≡◌, ◌≢◌, ◌∙◌, ⊎_elim, ℕ, zero, suc, ◌+◌, ◌<◌, ◌≤◌, ◌==◌, Bool, true, false, if◌then◌else◌, List, [], ◌∷◌, length, map, option_map, sum_by, slice_set, Option, Some, None, refl, sym, ap, arith, slice_index_or}
+use Rattle.std.proofs.Common.{◌≡◌, ◌≢◌, ◌∙◌, ⊎_elim, ℕ, zero, suc, ◌+◌, ◌<◌, ◌≤◌, ◌==◌, Bool, true, false, if◌then◌else◌, List, [], ◌∷◌, length, map, option_map, slice_set, Option, Some, None, refl, sym, ap, arith, slice_index_or}
 use Rattle.std.proofs.lemmas.List.{get_or-set_same, get_or-set_other, length-set, map-set}
 use Rattle.std.proofs.lemmas.List.Sums.{sum_by-set, sum_by-cons}
-use Rattle.std.proofs.lemmas.Bool.Decides.{nat_tests, eqb_tells}
+use Rattle.std.proofs.lemmas.Bool.Decides.{nat_tests}
 use Rattle.host_types.specs.Sharing.{is_shared, PageState}
 use Rattle.frame_arena.specs.Pages.{page_at}
 use Rattle.page_table.specs.declared.entry.Entry.{Entry}
@@ -28,9 +28,6 @@ equal g = grind (arith, nat_tests)
 
 pub on_one-true : (f : ℕ) (x : Option Entry) → is_on f x ≡ true → on_one f x ≡ 1
 on_one-true f x h = ap one_when h
-
-pub on_one-false : (f : ℕ) (x : Option Entry) → is_on f x ≡ false → on_one f x ≡ 0
-on_one-false f x h = ap one_when h
 
 -- a frame other than the zero frame has no holders but its pages
 pub one_if_zero-above : (f : ℕ) → 0 < f → one_if_zero f ≡ 0
@@ -85,14 +82,15 @@ states-set change xs i entry x here same =
 pub group_of : (table : TableState) (f : ℕ) → IsTable table → 1 ≤ times f table.groups → IsGroup table f
 group_of table f is some = ⊎_elim (λ none. absurd (omega (arith, none, some))) (λ group. group) (is.groups f)
 
+-- the counts after one of them became n
+pub counts-set : (counts : List ℕ) (f n g : ℕ) → f < length counts → slice_index_or (slice_set counts f n) g 0 ≡ (if f == g then n else slice_index_or counts g 0)
+counts-set counts f n g h = grind (arith, nat_tests, get_or-set_same counts f n 0, get_or-set_other counts f g n 0)
+
 -- of two pages on a frame where one lies, both are that one
 pub alone : (f : ℕ) (xs : List (Option Entry)) (i j : ℕ) → i < length xs → pages_on f xs ≡ 1 → is_on f (entry_at xs i) ≡ true → j ≢ i
     → is_on f (entry_at xs j) ≡ false
 alone f xs i j there one here ne =
-    let count = pages_on-set f xs i None there in
-    let counted = on_one-true f (entry_at xs i) here in
-    let left : pages_on f (slice_set xs i None) ≡ 0 = omega arith in
-    sym (ap (is_on f) (get_or-set_other xs i j None None ne)) ∙ none_on f (slice_set xs i None) j left
+    grind (arith, pages_on-set f xs i None there, get_or-set_other xs i j None None, none_on f (slice_set xs i None) j)
 
 -- what holds of the new entry and of each other one holds at each place
 pub at_set : (P : Option Entry → Type 0) (xs : List (Option Entry)) (i j : ℕ) (x : Option Entry) → P None → P x → (j ≢ i → P (entry_at xs j)) → P (entry_at (slice_set xs i x) j)

@@ -1,13 +1,12 @@
 -- Groups as lists of places: who is among those on a frame, and who has company there.
-use Rattle.std.proofs.Common.{◌≡◌, ◌≢◌, ◌∙◌, ⊎_elim, ℕ, zero, suc, ◌+◌, ◌<◌, ◌==◌, ◌&&◌, ◌||◌, nat_lt, Bool, true, false, if◌then◌else◌, List, [], ◌∷◌, length, map, slice_set, Option, Some, refl, sym, ap, arith}
+use Rattle.std.proofs.Common.{◌≡◌, ◌∙◌, ℕ, zero, suc, ◌+◌, ◌<◌, ◌==◌, ◌&&◌, nat_lt, Bool, false, List, [], ◌∷◌, length, map, slice_set, Option, Some, refl, ap, arith}
 use Rattle.std.specs.List.{list_any}
 use Rattle.std.proofs.lemmas.List.Sums.{sum_by-cons}
-use Rattle.std.proofs.lemmas.Bool.Decides.{eqb_tells, nat_tests}
-use Rattle.std.proofs.Math.Bool.{or-false}
+use Rattle.std.proofs.lemmas.Bool.Decides.{nat_tests}
 use Rattle.host_types.specs.Sharing.{is_among, without}
 use Rattle.page_table.specs.declared.entry.Entry.{Entry}
 use Rattle.page_table.specs.Table.{times, entry_at, is_on, places_on, pages_on}
-use Rattle.page_table.proofs.Entries.{one_when, on_one, on_one-true, on_one-false, not_equal, equal, times-cons, pages_on-cons}
+use Rattle.page_table.proofs.Entries.{on_one, times-cons}
 
 -- a place before the first one isn't among them
 before-places : (n f : ℕ) (xs : List (Option Entry)) (i : ℕ) → i < n → is_among i (places_on n f xs) ≡ false

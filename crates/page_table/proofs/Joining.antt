@@ -1,15 +1,13 @@
 -- A page moves to the frame of a group of its bytes.
-use Rattle.std.proofs.Common.{◌≡◌, ◌∙◌, ⊎_elim, ℕ, zero, suc, ◌+◌, ◌<◌, ◌≤◌, ◌==◌, ◌&&◌, ◌↔◌, IsTrue, nat_lt, bytes_eq, Bool, true, false, if◌then◌else◌, List, [], ◌∷◌, length, map, slice_index_or, slice_set, Option, Some, None, IfSome, option_map, refl, sym, ap, subst, arith}
-use Rattle.std.proofs.lemmas.List.{map-set}
+use Rattle.std.proofs.Common.{◌≡◌, ◌∙◌, ℕ, zero, suc, ◌<◌, ◌≤◌, ◌==◌, Bool, true, false, List, [], ◌∷◌, length, map, slice_index_or, slice_set, Option, Some, None, IfSome, option_map, refl, sym, ap, subst, arith}
 use Rattle.std.proofs.lemmas.List.Sums.{sum_by-cons}
 use Rattle.std.proofs.lemmas.Bool.Decides.{nat_tests}
-use Rattle.std.proofs.lemmas.Slice.Eq.{bytes_eq-Decides}
 use Rattle.host_types.specs.declared.status.Status.TheVariants.{Grouped}
-use Rattle.host_types.specs.Sharing.{is_shared, with_status, joined_by}
+use Rattle.host_types.specs.Sharing.{is_shared, with_status}
 use Rattle.frame_arena.specs.Pages.{page_at}
 use Rattle.page_table.specs.declared.entry.Entry.{Entry}
-use Rattle.page_table.specs.Table.{TableState, CountsState, IsSound, is_open_frame, IsOwnAt, IsTable, IsEntry, IsGroup, LiesRight, times, entry_at, contents_of, groups_of, state_of, states_of, is_on, places_on, pages_on, joined_on}
-use Rattle.page_table.proofs.Entries.{on_one, on_one-false, not_equal, equal, inside, places_on-set, times-head, times-tail, one_if_zero-above, groups-each, group_of, states-set}
+use Rattle.page_table.specs.Table.{TableState, IsOwnAt, IsTable, IsEntry, LiesRight, times, entry_at, contents_of, groups_of, states_of, is_on, places_on, pages_on, joined_on}
+use Rattle.page_table.proofs.Entries.{on_one, not_equal, inside, places_on-set, groups-each, group_of, states-set}
 use Rattle.page_table.proofs.Putting.{content_at}
 use Rattle.page_table.proofs.Pairing.{IsGroupEntry, places-joined}
 use Rattle.page_table.proofs.Moving.{IsMove, with_entry, lone}

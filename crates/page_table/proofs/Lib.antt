@@ -1,4 +1,5 @@
 pub mod Entries
+pub mod Changing
 pub mod Adding
 pub mod Unused
 pub mod Unmerging

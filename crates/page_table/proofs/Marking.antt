@@ -1,17 +1,15 @@
 -- A page that keeps its own frame gets another status and fingerprint.
-use Rattle.std.proofs.Common.{◌≡◌, ◌∙◌, inl, inr, ⊎_elim, ℕ, ◌+◌, ◌<◌, Bool, false, if◌then◌else◌, length, slice_set, Option, Some, None, IfSome, option_map, refl, sym, ap, subst, arith}
-use Rattle.std.proofs.lemmas.List.{length-set, map-set}
+use Rattle.std.proofs.Common.{◌≡◌, ◌∙◌, ℕ, ◌<◌, Bool, false, if◌then◌else◌, length, slice_set, Option, Some, IfSome, refl, sym, ap, subst, arith}
 use Rattle.host_types.specs.declared.status.Status.{Status}
-use Rattle.host_types.specs.declared.status.Status.TheVariants.{New, Volatile, Waiting, Grouped, Zero}
-use Rattle.host_types.specs.Sharing.{is_shared, state_at}
+use Rattle.host_types.specs.Sharing.{is_shared}
 use Rattle.host_types.specs.Visits.{with_page}
 use Rattle.page_table.specs.declared.entry.Entry.{Entry}
 use Rattle.page_table.specs.declared.pass.Pass.{Pass}
-use Rattle.page_table.specs.Table.{TableState, CountsState, IsOwnAt, IsTable, IsEntry, IsAlone, IsGroup, IsSound, AreCountsOf, LiesRight, one_if_zero, entry_at, contents_of, groups_of, state_of, states_of, sharing_of, is_on, pages_on, used_by, marked}
-use Rattle.page_table.proofs.Entries.{one_when, on_one, pages_on-set, inside, at_set, places_on-set, groups-kept, states-set}
+use Rattle.page_table.specs.Table.{TableState, CountsState, IsOwnAt, IsTable, IsSound, AreCountsOf, entry_at, contents_of, groups_of, sharing_of, is_on, pages_on, used_by, marked}
+use Rattle.page_table.proofs.Changing.{is_alone, entry_fits, table-changed, counted-changed, lies_alone}
+use Rattle.page_table.proofs.Entries.{one_when, on_one, pages_on-set, inside, places_on-set, groups-kept, states-set}
 use Rattle.page_table.proofs.Adding.{own_one, own_pages-set}
-use Rattle.page_table.proofs.Putting.{is_alone, entry_fits}
-use Rattle.page_table.proofs.Moving.{with_entry, contents-entry, fits-after}
+use Rattle.page_table.proofs.Moving.{with_entry, contents-entry}
 
 -- an entry with another status and fingerprint
 abbrev pub marked_entry : Entry → Status → ℕ → Entry
@@ -75,48 +73,20 @@ module _ (table : TableState) (i : ℕ) (entry : Entry) (status : Status) (last 
 
   IsTable-marked : IsTable (with_entry table i x)
   IsTable-marked =
-      record {
-        some = is.some;
-        small = is.small;
-        pages = is.pages;
-        zero = is.zero;
-        entries = λ j. at_set (λ y. IfSome y (IsEntry (with_entry table i x))) table.entries i j (Some x) tt its_own (λ ne. other (entry_at table.entries j) (is.entries j));
-        groups = λ g. ⊎_elim (λ e. inl e)
-            (λ group. inr (record { above = IsGroup.above group; once = IsGroup.once group; some = let same = pages_on-marked g in omega (arith, same, IsGroup.some group) }))
-            (is.groups g);
-        few = rw (length-set table.entries i (Some x)) is.few;
-      }
-    where
-      stays : (f : ℕ) → IsAlone table f → IsAlone (with_entry table i x) f
-      stays f a = record { above = a.above; one = pages_on-marked f ∙ a.one; no_group = a.no_group }
-
-      lies : (status : Status) → is_shared status ≡ false → IsAlone (with_entry table i x) entry.frame → LiesRight (with_entry table i x) entry.frame status
-      lies New e a = a
-      lies Volatile e a = a
-      lies Waiting e a = a
-      lies Grouped e a = absurd (cc)
-      lies Zero e a = absurd (cc)
-
-      its_own : IsEntry (with_entry table i x) x
-      its_own =
-          let fits = entry_fits table i entry is here in
-          record {
-            frame = fits.frame;
-            protected = fits.protected ∙ own ∙ sym own_new;
-            right = lies status own_new (stays entry.frame (is_alone table entry fits own));
-          }
-
-      other : (y : Option Entry) → IfSome y (IsEntry table) → IfSome y (IsEntry (with_entry table i x))
-      other None h = tt
-      other (Some y) h = fits-after table (with_entry table i x) y refl (stays y.frame) (λ once. once) h
+      let fits = entry_fits table i entry is here in
+      let lone = is_alone table entry fits own in
+      table-changed table (with_entry table i x) i (Some x) is refl refl refl is.pages is.zero
+      (record {
+        frame = fits.frame;
+        protected = fits.protected ∙ own ∙ sym own_new;
+        right = lies_alone (with_entry table i x) entry.frame status own_new (record { above = lone.above; one = pages_on-marked entry.frame ∙ lone.one; no_group = lone.no_group });
+      })
+      (λ j y ne e a. pages_on-marked y.frame ∙ a.one)
+      (λ g group. let same = pages_on-marked g in omega (arith, same, group.some))
 
   pub sound-marked : (counts : CountsState) → AreCountsOf table counts → IsSound (with_entry table i x) counts
   sound-marked counts counted =
       record {
         fits = IsTable-marked;
-        counted = record {
-          sized = counted.sized;
-          counted = λ g h. counted.counted g h ∙ ap (λ (n : ℕ). one_if_zero g + n) (sym (pages_on-marked g));
-          used = let same = used-marked in let used = counted.used in omega (arith, same, used);
-        };
+        counted = counted-changed table (with_entry table i x) counts counts counted refl refl (let same = used-marked in omega (arith, same)) (λ g h. let same = pages_on-marked g in omega (arith, same));
       }

@@ -1,27 +1,21 @@
 -- Two pages of the same bytes become a new last group: the first one founds the group, and the second one moves to its frame.
-use Rattle.std.proofs.Common.{◌≡◌, ◌≢◌, ◌∙◌, ◌⊎◌, inl, inr, ⊎_elim, ℕ, zero, suc, ◌+◌, ◌-◌, ◌<◌, ◌≤◌, ◌==◌, nat_lt, Bool, true, false, if◌then◌else◌, List, [], ◌∷◌, ◌++◌, length, slice_index_or, slice_set, Option, Some, None, IfSome, option_map, refl, sym, ap, subst, arith}
-use Rattle.std.proofs.lemmas.List.{get_or-set_other, length-set, length-append, map-set, map-append}
-use Rattle.std.proofs.lemmas.List.Sums.{sum_by-cons}
-use Rattle.std.proofs.lemmas.Bool.Decides.{nat_tests, eqb_tells, leb_tells}
+use Rattle.std.proofs.Common.{◌≡◌, ◌≢◌, ◌∙◌, ◌⊎◌, inl, inr, ⊎_elim, ℕ, zero, suc, ◌+◌, ◌-◌, ◌<◌, ◌≤◌, ◌==◌, Bool, true, false, if◌then◌else◌, List, [], ◌∷◌, ◌++◌, length, slice_index_or, slice_set, Option, Some, None, IfSome, option_map, refl, sym, ap, subst, arith}
+use Rattle.std.proofs.lemmas.List.{get_or-set_other, length-append, map-append}
+use Rattle.std.proofs.lemmas.Bool.Decides.{nat_tests, eqb_tells}
 use Rattle.page_table.specs.declared.pass.Pass.{Pass}
 use Rattle.host_types.specs.declared.status.Status.{Status}
 use Rattle.host_types.specs.declared.status.Status.TheVariants.{Grouped}
 use Rattle.host_types.specs.Sharing.{PageState, is_shared, with_status, state_at, joined_by, paired, waiting_without}
 use Rattle.frame_arena.specs.Pages.{page_at}
 use Rattle.page_table.specs.declared.entry.Entry.{Entry}
-use Rattle.page_table.specs.Table.{TableState, CountsState, IsOwnAt, IsTable, IsEntry, IsAlone, IsGroup, IsSound, AreCountsOf, LiesRight, times, one_if_zero, entry_at, contents_of, groups_of, state_of, states_of, sharing_of, forgets, is_on, places_on, pages_on, used_by}
-use Rattle.page_table.proofs.Entries.{one_when, on_one, on_one-true, on_one-false, some_on, elsewhere, not_equal, equal, pages_on-set, inside, alone, at_set, places_on-set, groups-kept, pages_on-cons, none_on, states-set, told_here}
+use Rattle.page_table.specs.Table.{TableState, CountsState, IsOwnAt, IsTable, IsAlone, IsGroup, IsSound, AreCountsOf, LiesRight, times, one_if_zero, entry_at, contents_of, groups_of, state_of, states_of, sharing_of, forgets, is_on, places_on, pages_on, used_by}
+use Rattle.page_table.proofs.Changing.{is_alone, entry_fits, table-set, counted-changed, apart_alone}
+use Rattle.page_table.proofs.Entries.{one_when, on_one, not_equal, equal, pages_on-set, inside, alone, places_on-set, groups-kept, pages_on-cons, none_on, states-set, told_here}
 use Rattle.page_table.proofs.Adding.{own_one, own_pages-set}
-use Rattle.page_table.proofs.Putting.{is_alone, entry_fits, content_at}
+use Rattle.page_table.proofs.Putting.{content_at}
 use Rattle.page_table.proofs.Unused.{times-push}
 use Rattle.page_table.proofs.Waiters.{others_of, waiting-forgets}
-use Rattle.page_table.proofs.Moving.{IsMove, with_entry, contents-entry, fits-after, contents-moved, used-moved, sound-moved}
-
-is_below : (n m : ℕ) → n < m → nat_lt n m ≡ true
-is_below n m h = grind (arith, nat_tests)
-
-is_not_below : (n m : ℕ) → m ≤ n → nat_lt n m ≡ false
-is_not_below n m h = grind (arith, nat_tests)
+use Rattle.page_table.proofs.Moving.{IsMove, with_entry, contents-entry, contents-moved, used-moved, sound-moved}
 
 -- no places are on a frame without pages
 places-none : (n f : ℕ) (xs : List (Option Entry)) → pages_on f xs ≡ 0 → places_on n f xs ≡ []
@@ -99,17 +93,10 @@ module _ (table : TableState) (i : ℕ) (entry x : Entry) (founding : IsFounding
   times-founded g = times-push g x.frame table.groups ∙ ap (λ (f : ℕ). times g table.groups + one_when (f == g)) to.frame
 
   pub once-founded : times entry.frame (founded table i x).groups ≡ 1
-  once-founded =
-      let count = times-founded entry.frame in
-      let none = lone.no_group in
-      let one : one_when (entry.frame == entry.frame) ≡ 1 = ap one_when (equal entry.frame) in
-      omega (arith, count, none, one)
+  once-founded = grind (arith, nat_tests, times-founded entry.frame, lone.no_group)
 
   times-other : (g : ℕ) → g ≢ entry.frame → times g (founded table i x).groups ≡ times g table.groups
-  times-other g ne =
-      let count = times-founded g in
-      let none : one_when (entry.frame == g) ≡ 0 = ap one_when (not_equal g entry.frame (λ e. ne (sym e))) in
-      omega (arith, count, none)
+  times-other g ne = grind (arith, nat_tests, times-founded g)
 
   pub contents-founded : contents_of (founded table i x) ≡ contents_of table
   contents-founded = contents-entry table i entry x (founded table i x).groups here (ap (page_at table.arena) to.frame)
@@ -124,33 +111,20 @@ module _ (table : TableState) (i : ℕ) (entry x : Entry) (founding : IsFounding
 
   pub IsTable-founded : IsTable (founded table i x)
   IsTable-founded =
-      let new : TableState = founded table i x in
-      record {
-        some = is.some;
-        small = is.small;
-        pages = is.pages;
-        zero = is.zero;
-        entries = λ j. at_set (λ y. IfSome y (IsEntry new)) table.entries i j (Some x) tt founder (λ ne. other j ne (entry_at table.entries j) refl (is.entries j));
-        groups = λ g. ⊎_elim (λ e. its_own g e.1) (λ e. another g e.1 (is.groups g)) (eqb_tells g entry.frame);
-        few = rw (length-set table.entries i (Some x)) is.few;
-      }
-    where
-      founder : IsEntry (founded table i x) x
-      founder = record {
+      table-set table (founded table i x) i (Some x) is refl refl is.pages is.zero
+      (record {
         frame = let fits = (entry_fits table i entry is here).frame in let same = to.frame in omega (arith, fits, same);
         protected = to.protected ∙ ap is_shared (sym to.status);
         right = subst (LiesRight (founded table i x) x.frame) (sym to.status) (ap (λ (f : ℕ). times f (founded table i x).groups) to.frame ∙ once-founded);
-      }
-
-      other : (j : ℕ) → j ≢ i → (y : Option Entry) → entry_at table.entries j ≡ y → IfSome y (IsEntry table) → IfSome y (IsEntry (founded table i x))
-      other j ne None e h = tt
-      other j ne (Some y) e h =
-          let ne : y.frame ≢ entry.frame = elsewhere entry.frame y.frame (sym (ap (is_on entry.frame) e) ∙ alone entry.frame table.entries i j there lone.one lies ne) in
-          fits-after table (founded table i x) y refl
-          (λ a. record { above = a.above; one = pages_on-founded y.frame ∙ a.one; no_group = times-other y.frame ne ∙ a.no_group })
-          (λ once. times-other y.frame ne ∙ once)
-          h
-
+      })
+      (λ j y ne e.
+      let apart = apart_alone table j i y entry e here (λ q. ne (sym q)) lone.one in
+      let same = times-other y.frame (λ q. apart (sym q)) in (
+        λ a. record { above = a.above; one = pages_on-founded y.frame ∙ a.one; no_group = same ∙ a.no_group },
+        λ once. same ∙ once,
+      ))
+      (λ g. ⊎_elim (λ e. its_own g e.1) (λ e. another g e.1 (is.groups g)) (eqb_tells g entry.frame))
+    where
       its_own : (g : ℕ) → g ≡ entry.frame → (times g (founded table i x).groups ≡ 0) ⊎ IsGroup (founded table i x) g
       its_own g e = subst (λ n. (times n (founded table i x).groups ≡ 0) ⊎ IsGroup (founded table i x) n) (sym e)
           (inr (record { above = lone.above; once = once-founded; some = let one = pages_on-founded entry.frame in let lone = lone.one in omega (arith, one, lone) }))
@@ -161,11 +135,7 @@ module _ (table : TableState) (i : ℕ) (entry x : Entry) (founding : IsFounding
 
   pub counted-founded : (counts : CountsState) → AreCountsOf table counts → AreCountsOf (founded table i x) counts
   counted-founded counts counted =
-      record {
-        sized = counted.sized;
-        counted = λ g h. counted.counted g h ∙ ap (λ (n : ℕ). one_if_zero g + n) (sym (pages_on-founded g));
-        used = let same = used-founded in let used = counted.used in omega (arith, same, used);
-      }
+      counted-changed table (founded table i x) counts counts counted refl refl (let same = used-founded in omega (arith, same)) (λ g h. let same = pages_on-founded g in omega (arith, same))
 
 -- Two pages of the same bytes, each with its own frame, and their entries in the new group of the first page's frame.
 pub record IsPairing (table : TableState) (i j : ℕ) (one other x y : Entry) : Type 0 where

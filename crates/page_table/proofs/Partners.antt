@@ -20,8 +20,8 @@ use Rattle.page_table.specs.declared.tenant.Tenant.{Tenant}
 use Rattle.page_table.specs.Changes.{IsNotWaiting, MayMerge}
 use Rattle.page_table.specs.Table.{TableState, IsTable, AreOthersKept, entry_at, waiting_of, states_of, state_of, groups_of, sharing_of, marked}
 use Rattle.page_table.specs.View.{view_of, IsMemory, IsPass, IsWaiter, AreWaiters, is_listed, is_behind}
+use Rattle.page_table.proofs.Changing.{entry_fits}
 use Rattle.page_table.proofs.Fitting.{not-pinned}
-use Rattle.page_table.proofs.Putting.{entry_fits}
 use Rattle.page_table.proofs.Scanning.{frame_told}
 use Rattle.page_table.proofs.Costs.{state-at}
 use Rattle.page_table.proofs.Next.{next-is}

@@ -15,7 +15,7 @@ use Rattle.page_table.specs.declared.tenant.Tenant.{Tenant}
 use Rattle.page_table.specs.Limits.{page_count}
 use Rattle.page_table.specs.State.{part, bytes_of_map, frame_at}
 use Rattle.page_table.specs.Changes.{IsPageOf}
-use Rattle.page_table.specs.Table.{TableState, IsPageAt, maps_of, flat_of, ArePages, ArePagesOf, AreMaps, contents_of, entry_at, state_of, states_of, frames_of}
+use Rattle.page_table.specs.Table.{TableState, IsPageAt, maps_of, flat_of, ArePages, ArePagesOf, AreMaps, contents_of, entry_at, state_of}
 use Rattle.page_table.specs.View.{view_of, IsMemory}
 use Rattle.page_table.proofs.Maps.{map_at-maps_of, page_bytes-page}
 use Rattle.page_table.proofs.Entries.{told_here}

@@ -1,10 +1,10 @@
 -- What a memory tells of pages by their places, of open groups and of waiting pages.
-use Rattle.std.proofs.Common.{◌≡◌, ◌∙◌, ◌⊎◌, ⊎_elim, ℕ, zero, suc, ◌+◌, ◌*◌, ◌/◌, ◌%◌, ◌<◌, ◌≤◌, ◌==◌, ◌&&◌, ◌||◌, nat_lt, bytes_eq, Bool, true, false, if◌then◌else◌, List, [], ◌∷◌, length, map, find, slice_index_or, slice_set, Option, Some, None, option_map, is_some, refl, sym, ap, subst, arith}
+use Rattle.std.proofs.Common.{◌≡◌, ◌∙◌, ◌⊎◌, ⊎_elim, ℕ, suc, ◌+◌, ◌*◌, ◌/◌, ◌%◌, ◌<◌, ◌≤◌, ◌==◌, ◌&&◌, nat_lt, bytes_eq, Bool, true, if◌then◌else◌, List, [], ◌∷◌, length, map, find, slice_index_or, slice_set, Option, Some, None, option_map, is_some, refl, sym, ap, subst, arith}
 use Rattle.std.specs.List.{concat, list_any}
 use Rattle.std.proofs.lemmas.List.{length-take-le}
 use Rattle.std.proofs.lemmas.List.Sums.{sum_by-cons}
 use Rattle.std.proofs.lemmas.Slice.Eq.{bytes_eq-Decides}
-use Rattle.std.proofs.lemmas.Bool.Decides.{nat_tests, eqb_tells}
+use Rattle.std.proofs.lemmas.Bool.Decides.{nat_tests}
 use Rattle.host_types.specs.declared.shape.Page.{Page}
 use Rattle.host_types.specs.declared.status.Status.TheVariants.{Grouped}
 use Rattle.host_types.specs.declared.shape.Shape.{Shape}
@@ -23,12 +23,13 @@ use Rattle.page_table.specs.State.{MemoryState, part, bytes_of_map, frame_at}
 use Rattle.page_table.specs.Changes.{IsPageOf, frame_of_group, open_frame}
 use Rattle.page_table.specs.Table.{TableState, IsTable, IsPageAt, ArePages, ArePagesOf, maps_of, flat_of, contents_of, entry_at, groups_of, sharing_of, states_of, frames_of, times, is_on, places_on, pages_on, is_open_frame, joined_on}
 use Rattle.page_table.specs.View.{view_of, IsMemory}
+use Rattle.page_table.proofs.Changing.{entry_fits}
 use Rattle.page_table.proofs.Maps.{map_at-maps_of, length-concat}
 use Rattle.page_table.proofs.Reading.{map_at-part, bytes_in, content_in, content_is}
 use Rattle.page_table.proofs.Creating.{length-contents}
-use Rattle.page_table.proofs.Entries.{one_when, on_one, on_one-false, times-head, times-tail, times-cons, told_at, group_of}
+use Rattle.page_table.proofs.Entries.{on_one, times-head, times-tail, times-cons, told_at, group_of}
 use Rattle.page_table.proofs.Groups.{length-places}
-use Rattle.page_table.proofs.Putting.{page_inside, content_at, entry_fits}
+use Rattle.page_table.proofs.Putting.{page_inside, content_at}
 use Rattle.page_table.proofs.Merging.{map_small, number_small}
 
 -- a page with an entry is there

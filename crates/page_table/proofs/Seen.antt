@@ -1,5 +1,5 @@
 -- What callers say of a page, told of the page's place in the table: the bridge from a memory's view to its parts.
-use Rattle.std.proofs.Common.{◌≡◌, ℕ, List, [], false, slice_index_or, Option, ap}
+use Rattle.std.proofs.Common.{◌≡◌, ℕ, List, [], false, slice_index_or, Option}
 use Rattle.host_types.specs.declared.shape.Shape.{Shape}
 use Rattle.host_types.specs.declared.shape.Page.{Page}
 use Rattle.host_types.specs.Pages.{page_place, page_bytes}

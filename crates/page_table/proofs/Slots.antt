@@ -19,12 +19,6 @@ empty x h = grind (arith, nat_tests)
 some : (x : ℕ) → (x == 0) ≡ false → 0 < x
 some x h = grind (arith, nat_tests)
 
-other : (x f : ℕ) → x ≢ f → (x == f) ≡ false
-other x f ne = grind (arith, nat_tests)
-
-itself : (x : ℕ) → (x == x) ≡ true
-itself x = grind (arith, nat_tests)
-
 -- the group in a slot is one of the groups
 pub in-groups : (slots : List ℕ) (i : ℕ) → i < length slots → 0 < slice_index_or slots i 0 → 1 ≤ times (slice_index_or slots i 0) (groups_in slots)
 in-groups [] i h above = absurd (omega (arith, h))

@@ -1,13 +1,12 @@
 -- A page of zeros moves to the zero frame.
-use Rattle.std.proofs.Common.{◌≡◌, ◌∙◌, ⊎_elim, ℕ, ◌<◌, ◌≤◌, ◌==◌, true, false, [], slice_index_or, slice_set, Option, Some, IfSome, option_map, sym, ap, subst, arith}
-use Rattle.std.proofs.lemmas.List.{map-set}
+use Rattle.std.proofs.Common.{◌≡◌, ◌∙◌, ⊎_elim, ℕ, ◌<◌, ◌≤◌, ◌==◌, true, false, [], slice_index_or, Option, Some, IfSome, sym, ap, subst, arith}
 use Rattle.page_table.specs.declared.pass.Pass.{Pass}
 use Rattle.host_types.specs.declared.status.Status.TheVariants.{Zero}
-use Rattle.host_types.specs.Sharing.{is_shared, with_status, state_at, zeroed}
+use Rattle.host_types.specs.Sharing.{is_shared, with_status, zeroed}
 use Rattle.host_types.specs.Pages.{zero_page}
 use Rattle.frame_arena.specs.Pages.{page_at}
 use Rattle.page_table.specs.declared.entry.Entry.{Entry}
-use Rattle.page_table.specs.Table.{TableState, IsOwnAt, IsTable, IsGroup, LiesRight, times, entry_at, contents_of, groups_of, state_of, states_of, sharing_of, forgets, is_on}
+use Rattle.page_table.specs.Table.{TableState, IsOwnAt, IsTable, IsGroup, LiesRight, times, entry_at, contents_of, groups_of, state_of, sharing_of, forgets, is_on}
 use Rattle.page_table.proofs.Entries.{not_equal, places_on-set, groups-kept, states-set}
 use Rattle.page_table.proofs.Putting.{content_at}
 use Rattle.page_table.proofs.Waiters.{waiting-forgets}

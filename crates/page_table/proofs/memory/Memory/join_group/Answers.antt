@@ -1,4 +1,4 @@
-use Rattle.std.proofs.Common.{◌≡◌, ◌∙◌, ◌≤◌, true, find, Some, refl, sym, arith, slice_index_or, false}
+use Rattle.std.proofs.Common.{◌≡◌, ◌∙◌, ◌≤◌, true, find, Some, refl, sym, arith}
 use Rattle.host_types.specs.Pages.{page_place}
 use Rattle.page_table.specs.Changes.{IsPageOf, contents_now, open_frame}
 use Rattle.host_types.specs.declared.status.Status.TheVariants.{Grouped}

@@ -2,7 +2,7 @@ use Rattle.std.proofs.Common.{◌≡◌, ◌∙◌, ◌≤◌, ◌+◌, ◌&&◌
 use Rattle.host_types.specs.Pages.{page_place}
 use Rattle.host_types.specs.Pins.{broken_by}
 use Rattle.host_types.specs.Sharing.{state_at, is_shared_page, broken, break_cost, Sharing}
-use Rattle.page_table.specs.State.{MemoryState, part, have_of}
+use Rattle.page_table.specs.State.{MemoryState, part}
 use Rattle.page_table.specs.Changes.{IsPageOf}
 use Rattle.page_table.specs.Table.{used_by, break_frames, sharing_of}
 use Rattle.page_table.specs.View.{view_of, IsPass}

@@ -1,7 +1,7 @@
 use Rattle.std.proofs.Common.{◌≡◌, ◌≤◌, ◌+◌, length, ap, arith}
 use Rattle.host_types.specs.Unmerging.{unmerge_need, unmerged, SharesNothing}
 use Rattle.page_table.specs.declared.pass.Pass.{Pass}
-use Rattle.page_table.specs.State.{MemoryState, have_of}
+use Rattle.page_table.specs.State.{MemoryState}
 use Rattle.page_table.specs.Table.{used_by, sharing_of}
 use Rattle.page_table.specs.View.{view_of}
 use Rattle.page_table.proofs.Merging.{memory_kept, moves}

@@ -1,4 +1,4 @@
-use Rattle.std.proofs.Common.{◌≡◌, ◌∙◌, ◌≤◌, IfSome, true, false, refl, length, ap, arith, slice_index_or}
+use Rattle.std.proofs.Common.{◌≡◌, ◌∙◌, ◌≤◌, IfSome, refl, length, ap, arith}
 use Rattle.host_types.specs.declared.status.Status.TheVariants.{Waiting}
 use Rattle.host_types.specs.Pages.{page_place}
 use Rattle.host_types.specs.Visits.{waits}

@@ -1,7 +1,8 @@
 use Rattle.std.proofs.Common.{◌≡◌, ◌∙◌, Some, ⊎_elim, sym, arith}
 use Rattle.page_table.specs.Table.{TableState, IsPageAt, entry_at}
+use Rattle.page_table.proofs.Changing.{entry_fits}
 use Rattle.page_table.proofs.Costs.{cost-own, cost-counted}
-use Rattle.page_table.proofs.Putting.{entry_fits, page_inside, page_there}
+use Rattle.page_table.proofs.Putting.{page_inside, page_there}
 use Rattle.page_table.proofs.table.Table.break_cost.Goals as goal
 use Rattle.page_table.proofs.table.Table.break_cost.Goals.{then-entry, else-entry}
 

@@ -3,9 +3,9 @@ use Rattle.host_types.specs.Sharing.{is_shared}
 use Rattle.frame_arena.specs.Counted.{CountedPages}
 use Rattle.page_table.specs.declared.entry.Entry.{Entry}
 use Rattle.page_table.specs.Table.{TableState, GroupsState, IsAlone, IsOwnAt, entry_at}
+use Rattle.page_table.proofs.Changing.{is_alone, entry_fits}
 use Rattle.page_table.proofs.Pairing.{IsPairing, IsGroupEntry, pairing-from, contents-pair, used-pair, sound-pair, sharing-pair}
 use Rattle.std.proofs.lemmas.List.{get_or-set_other}
-use Rattle.page_table.proofs.Putting.{is_alone, entry_fits}
 use Rattle.page_table.proofs.Trees.{tree-absent, tree-room, tree-pushed}
 use Rattle.page_table.proofs.table.Table.pair.Goals as goal
 use Rattle.page_table.proofs.table.Table.pair.Goals.{After-release}

@@ -5,7 +5,8 @@ use Rattle.frame_arena.specs.Pages.{page_at}
 use Rattle.host_types.proofs.Lists.{length-with_part}
 use Rattle.page_table.specs.declared.entry.Entry.{Entry}
 use Rattle.page_table.specs.Table.{TableState, IsAlone, IsPageAt, entry_at}
-use Rattle.page_table.proofs.Putting.{is_alone, entry_fits, contents-put, sound-put, content_at, page_inside, page_there}
+use Rattle.page_table.proofs.Changing.{is_alone, entry_fits}
+use Rattle.page_table.proofs.Putting.{contents-put, sound-put, content_at, page_inside, page_there}
 use Rattle.page_table.proofs.Trees.{tree-set}
 use Rattle.page_table.proofs.table.Table.put.Goals as goal
 

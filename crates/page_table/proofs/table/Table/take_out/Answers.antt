@@ -1,9 +1,10 @@
 use Rattle.std.proofs.Common.{◌≡◌, ◌∙◌, ◌+◌, ◌≤◌, ◌<◌, ℕ, not, slice_index_or, Bool, true, false, Some, refl, sym, arith}
 use Rattle.host_types.specs.Sharing.{is_shared}
 use Rattle.page_table.specs.Table.{TableState, IsEntry, IsPageAt, entry_at, pages_on, one_if_zero, break_frames}
+use Rattle.page_table.proofs.Changing.{entry_fits}
 use Rattle.page_table.proofs.Costs.{cost-own, cost-one, cost-last, count-some}
 use Rattle.page_table.proofs.Ending.{sharing-unbroken}
-use Rattle.page_table.proofs.Putting.{entry_fits, page_inside, page_there}
+use Rattle.page_table.proofs.Putting.{page_inside, page_there}
 use Rattle.page_table.proofs.table.Table.take_out.Goals as goal
 use Rattle.page_table.proofs.table.Table.take_out.Goals.{In-Some}
 
