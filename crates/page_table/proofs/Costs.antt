@@ -1,5 +1,5 @@
 -- What the break of a page costs, told by its group and by its frame.
-use Rattle.std.proofs.Common.{◌≡◌, ◌∙◌, ◌⊎◌, inl, inr, ⊎_elim, ℕ, ◌+◌, ◌<◌, ◌≤◌, nat_lt, Bool, true, false, slice_index_or, Option, Some, None, option_map, unwrap_or, refl, sym, ap, arith}
+use Rattle.std.proofs.Common.{◌≡◌, ◌∙◌, ◌⊎◌, inl, inr, ⊎_elim, ℕ, ◌+◌, ◌<◌, ◌≤◌, nat_lt, Bool, true, false, slice_index_or, Option, Some, None, option_map, unwrap_or, refl, sym, ap, arith, ◌&&◌}
 use Rattle.std.proofs.lemmas.Bool.Decides.{nat_tests, leb_tells}
 use Rattle.page_table.specs.declared.pass.Pass.{Pass}
 use Rattle.host_types.specs.declared.status.Status.{Status}
@@ -31,12 +31,6 @@ cost-none table i none = ap taken none
     taken : Option Entry → ℕ
     taken x = unwrap_or (option_map (λ (entry : Entry). cost_of (nat_lt 1 (pages_on entry.frame table.entries)) entry.status) x) 0
 
-more_than_one : (n : ℕ) → 1 < n → nat_lt 1 n ≡ true
-more_than_one n h = grind (arith, nat_tests)
-
-one_at_most : (n : ℕ) → n ≤ 1 → nat_lt 1 n ≡ false
-one_at_most n h = grind (arith, nat_tests)
-
 -- a page of a group is in company where more than one page lies on its frame
 company : (table : TableState) (pass : Pass) (i : ℕ) (entry : Entry) → entry_at table.entries i ≡ Some entry → IsEntry table entry
     → cost_of (is_in_company (sharing_of table pass) i) entry.status ≡ cost_of (nat_lt 1 (pages_on entry.frame table.entries)) entry.status
@@ -66,56 +60,40 @@ cost-is table pass i is = by_entry (entry_at table.entries i) refl
         ∙ company table pass i entry e (entry_fits table i entry is e)
         ∙ sym (cost-entry table i entry e)
 
--- a page with a frame of its own costs nothing
-pub cost-own : (table : TableState) (i : ℕ) (entry : Entry) → IsTable table → entry_at table.entries i ≡ Some entry → entry.protected ≡ false → break_frames table i ≡ 0
-cost-own table i entry is here own =
-    let fits = entry_fits table i entry is here in
-    cost-entry table i entry here ∙ by_status entry.status (sym fits.protected ∙ own)
-  where
-    by_status : (status : Status) → is_shared status ≡ false → cost_of (nat_lt 1 (pages_on entry.frame table.entries)) status ≡ 0
-    by_status New e = refl
-    by_status Volatile e = refl
-    by_status Waiting e = refl
-    by_status Grouped e = absurd (cc)
-    by_status Zero e = absurd (cc)
-
 -- where a group has the frame, the frame isn't the zero frame
 pub group-frame : (table : TableState) (f : ℕ) → IsTable table → times f table.groups ≡ 1 → one_if_zero f ≡ 0
 group-frame table f is one =
     one_if_zero-above f (⊎_elim (λ none. absurd (omega (arith, one, none))) (λ group. IsGroup.above group) (is.groups f))
 
+-- the break of a page takes a frame where it shares its own, and others hold that too
+cost-told : (table : TableState) (i : ℕ) (entry : Entry) → IsTable table → entry_at table.entries i ≡ Some entry
+    → break_frames table i ≡ one_when (is_shared entry.status && nat_lt 1 (one_if_zero entry.frame + pages_on entry.frame table.entries))
+cost-told table i entry is here = cost-entry table i entry here ∙ by_status entry.status (entry_fits table i entry is here).right
+  where
+    by_status : (status : Status) → LiesRight table entry.frame status
+        → cost_of (nat_lt 1 (pages_on entry.frame table.entries)) status ≡ one_when (is_shared status && nat_lt 1 (one_if_zero entry.frame + pages_on entry.frame table.entries))
+    by_status New right = refl
+    by_status Volatile right = refl
+    by_status Waiting right = refl
+    by_status Grouped right = ap (λ (m : ℕ). one_when (nat_lt 1 m)) (omega (arith, group-frame table entry.frame is right))
+    by_status Zero right =
+        let lies = some_on entry.frame table.entries i (ap (is_on entry.frame) here ∙ equal entry.frame) in
+        let one : one_if_zero entry.frame ≡ 1 = ap one_if_zero right in
+        grind (arith, nat_tests, lies, one)
+
+-- a page with a frame of its own costs nothing
+pub cost-own : (table : TableState) (i : ℕ) (entry : Entry) → IsTable table → entry_at table.entries i ≡ Some entry → entry.protected ≡ false → break_frames table i ≡ 0
+cost-own table i entry is here own = grind (arith, cost-told table i entry is here, (entry_fits table i entry is here).protected)
+
 -- a page on a frame that more hold takes a frame
 pub cost-one : (table : TableState) (i : ℕ) (entry : Entry) → IsTable table → entry_at table.entries i ≡ Some entry → is_shared entry.status ≡ true
     → 1 < one_if_zero entry.frame + pages_on entry.frame table.entries → break_frames table i ≡ 1
-cost-one table i entry is here shared more =
-    let fits = entry_fits table i entry is here in
-    cost-entry table i entry here ∙ by_status entry.status shared fits.right
-  where
-    by_status : (status : Status) → is_shared status ≡ true → LiesRight table entry.frame status → cost_of (nat_lt 1 (pages_on entry.frame table.entries)) status ≡ 1
-    by_status New e a = absurd (cc)
-    by_status Volatile e a = absurd (cc)
-    by_status Waiting e a = absurd (cc)
-    by_status Grouped e a = let none = group-frame table entry.frame is a in ap one_when (more_than_one (pages_on entry.frame table.entries) (omega (arith, more, none)))
-    by_status Zero e a = refl
+cost-one table i entry is here shared more = grind (arith, nat_tests, cost-told table i entry is here)
 
 -- the last page of a group takes none
 pub cost-last : (table : TableState) (i : ℕ) (entry : Entry) → IsTable table → entry_at table.entries i ≡ Some entry → is_shared entry.status ≡ true
     → one_if_zero entry.frame + pages_on entry.frame table.entries ≤ 1 → break_frames table i ≡ 0
-cost-last table i entry is here shared last =
-    let fits = entry_fits table i entry is here in
-    cost-entry table i entry here ∙ by_status entry.status shared fits.right
-  where
-    on_zero : (f : ℕ) → f ≡ 0 → one_if_zero f ≡ 1
-    on_zero f e = ap one_if_zero e
-
-    by_status : (status : Status) → is_shared status ≡ true → LiesRight table entry.frame status → cost_of (nat_lt 1 (pages_on entry.frame table.entries)) status ≡ 0
-    by_status New e a = absurd (cc)
-    by_status Volatile e a = absurd (cc)
-    by_status Waiting e a = absurd (cc)
-    by_status Grouped e a = ap one_when (one_at_most (pages_on entry.frame table.entries) (omega (arith, last)))
-    by_status Zero e a =
-        let lies = some_on entry.frame table.entries i (ap (is_on entry.frame) here ∙ equal entry.frame) in
-        absurd (omega (arith, last, lies, on_zero entry.frame a))
+cost-last table i entry is here shared last = grind (arith, nat_tests, cost-told table i entry is here)
 
 -- the same, told by the count of the page's frame
 pub cost-counted : (table : TableState) (counts : CountsState) (i : ℕ) (entry : Entry) → IsSound table counts → entry_at table.entries i ≡ Some entry → entry.protected ≡ true

@@ -1,5 +1,5 @@
 -- What a memory tells of a map that was taken away.
-use Rattle.std.proofs.Common.{◌≡◌, ◌≢◌, ◌∙◌, ◌⊎◌, inl, inr, ⊎_elim, ℕ, zero, suc, ◌+◌, ◌-◌, ◌*◌, ◌<◌, ◌≤◌, ◌&&◌, nat_le, nat_lt, not, Bool, true, false, if◌then◌else◌, List, [], ◌∷◌, length, map, filter, replicate, slice_index_or, slice_set, Option, Some, None, IsSomeAnd, is_some, option_map, refl, sym, ap, subst, arith}
+use Rattle.std.proofs.Common.{◌≡◌, ◌≢◌, ◌∙◌, ◌⊎◌, inl, inr, ⊎_elim, ℕ, zero, suc, ◌+◌, ◌-◌, ◌*◌, ◌<◌, ◌≤◌, ◌&&◌, nat_le, nat_lt, not, Bool, true, false, if◌then◌else◌, List, [], ◌∷◌, length, map, filter, replicate, slice_index_or, slice_set, Option, Some, None, IsSomeAnd, option_map, refl, sym, ap, subst, arith}
 use Rattle.std.proofs.lemmas.List.{get_or-set_same, get_or-set_other, get_or_past, length-map, length-replicate, length-set}
 use Rattle.std.proofs.lemmas.Bool.Decides.{nat_tests}
 use Rattle.page_table.specs.declared.pass.Pass.{Pass}
@@ -11,7 +11,7 @@ use Rattle.host_types.specs.declared.status.Status.TheVariants.{Volatile}
 use Rattle.host_types.specs.Pins.{PinsFit}
 use Rattle.host_types.specs.Sharing.{Sharing, PageState, state_at, is_shared, broken, gone, gone_from}
 use Rattle.host_types.specs.Tenant.{part_dropped}
-use Rattle.host_types.specs.Visits.{waiting_outside, ended_at, dropped, moved_on, next_from, one_more}
+use Rattle.host_types.specs.Visits.{waiting_outside, ended_at, dropped, moved_on}
 use Rattle.host_types.proofs.Lists.{length-with_part}
 use Rattle.unstable_tree.specs.declared.tree.Waiter.{Waiter}
 use Rattle.page_table.specs.declared.entry.Entry.{Entry}
@@ -21,7 +21,8 @@ use Rattle.page_table.specs.State.{MemoryState, part, free_of, have_of}
 use Rattle.page_table.specs.Changes.{IsKeptBut, AreMapsKeptBut, KeepsSettings}
 use Rattle.page_table.specs.Table.{TableState, IsTable, AreOwnKeptOutside, ArePagesOf, ArePages, IsPageAt, entry_at, state_of, states_of, contents_of, sharing_of, waiting_of, used_by, maps_of, flat_of}
 use Rattle.page_table.specs.View.{view_of, is_listed, AreWaiters, IsMemory, IsPass}
-use Rattle.page_table.proofs.Creating.{behind_filled, filled_more, in_filled, with_part-none, length-contents, others-filled, part_of-short}
+use Rattle.page_table.proofs.Sides.{order}
+use Rattle.page_table.proofs.Creating.{behind_filled, filled_more, with_part-none, length-contents, others-filled, part_of-short, filled_at}
 use Rattle.page_table.proofs.Costs.{state-at}
 use Rattle.page_table.proofs.Fitting.{pins-kept}
 use Rattle.page_table.proofs.Free.{free_is}
@@ -116,11 +117,7 @@ filled-same pins at n (suc d) inside none =
 ended-pins : (s : Sharing) (c : Option ℕ) → (ended_at s c).pins ≡ s.pins
 unfolding moved_on
 ended-pins s None = refl
-ended-pins s (Some i) = by_test (is_some (next_from s (i + 1)))
-  where
-    by_test : (b : Bool) → (if b then record s { cursor = Some i } else record s { cursor = None; full_scans = one_more s.full_scans }).pins ≡ s.pins
-    by_test true = refl
-    by_test false = refl
+ended-pins s (Some i) = grind arith
 
 -- the waiting list without some pages, as callers see it
 waiting-outside : (first n : ℕ) (ws : List Waiter) → map waiting_of (outside first (first + n) ws) ≡ waiting_outside first n (map waiting_of ws)
@@ -150,9 +147,6 @@ sharing-outside old new pass first n few inside none told =
 pub number_small : (memory : MemoryState) (t m : ℕ) (shape : Shape) → option_map (λ (flat : FlatMap). flat.shape) (map_at (part memory t).maps m) ≡ Some shape → m < 8
 number_small memory t m shape e =
     ⊎_elim (λ less. less) (λ more. absurd (let none = ap (option_map (λ (flat : FlatMap). flat.shape)) (map_past memory t m more) in cc)) (order m 8)
-  where
-    order : (a b : ℕ) → (a < b) ⊎ (b ≤ a)
-    order a b = grind arith
 
 -- a map was taken away, and nothing else has changed
 pub record Drops (old new : MemoryState) (tenant m : ℕ) (shape : Shape) : Type 0 where
@@ -232,13 +226,10 @@ module _ (table : TableState) (shapes : List (Option Shape)) (tenants : List Ten
   module _ (new : TableState) (contents : contents_of new ≡ with_part (contents_of table) (k * 256) (replicate (page_count shape) []))
       (used : used_by new ≤ used_by table) (arena : length new.arena ≡ length table.arena) where
     others_new : (j : ℕ) → j ≢ k → part_of (contents_of new) (j * 256) 256 ≡ part_of (contents_of table) (j * 256) 256
-    others_new j ne = ap (λ l. part_of l (j * 256) 256) contents ∙ others-filled (contents_of table) k (page_count shape) j [] few all ne
+    others_new j ne = ap (λ l. part_of l (j * 256) 256) contents ∙ others-filled (contents_of table) (k * 256) k 0 (page_count shape) j 256 [] (omega arith) (let f = few in omega (arith, f)) (let f = few in let h = all in omega (arith, f, h)) ne
 
     abbrev pages_new : List (List ℕ)
     pages_new = part_of (contents_of new) (k * 256) 256
-
-    order : (a b : ℕ) → (a < b) ⊎ (b ≤ a)
-    order a b = grind arith
 
     none_new : (n : ℕ) → slice_index_or pages_new n [] ≡ []
     none_new n = ⊎_elim (λ less. within less) (λ more. get_or_past pages_new n [] (past more)) (order n 256)
@@ -246,16 +237,13 @@ module _ (table : TableState) (shapes : List (Option Shape)) (tenants : List Ten
         past : 256 ≤ n → length pages_new ≤ n
         past more = let h = part_of-short (contents_of new) (k * 256) 256 in omega (arith, h, more)
 
-        at : n < 256 → slice_index_or (with_part (contents_of table) (k * 256) (replicate (page_count shape) [])) (k * 256 + n) [] ≡ []
-        at less = let f = few in
-            let h = all in
-            ⊎_elim (λ one. in_filled (contents_of table) (k * 256) (page_count shape) n [] [] (omega (arith, f, h)) one)
-            (λ behind. behind_filled (contents_of table) (k * 256) (page_count shape) (k * 256 + n) [] [] (omega (arith, f, h)) (omega (arith, behind))
-            ∙ content_in (contents_of table) k n less ∙ old_pages.none n behind)
-            (order n (page_count shape))
-
         within : n < 256 → slice_index_or pages_new n [] ≡ []
-        within less = sym (content_in (contents_of new) k n less) ∙ ap (λ (l : List (List ℕ)). slice_index_or l (k * 256 + n) []) contents ∙ at less
+        within less =
+            let f = few in
+            let h = all in
+            let read = filled_at (contents_of table) (k * 256) (page_count shape) (k * 256 + n) [] [] (omega (arith, f, h)) in
+            sym (content_in (contents_of new) k n less) ∙ ap (λ (l : List (List ℕ)). slice_index_or l (k * 256 + n) []) contents
+            ∙ grind (arith, nat_tests, read, content_in (contents_of table) k n less, old_pages.none n)
 
     abbrev shapes_new : List (Option Shape)
     shapes_new = slice_set shapes k None

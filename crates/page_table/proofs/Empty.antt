@@ -1,5 +1,5 @@
 -- A memory without maps.
-use Rattle.std.proofs.Common.{◌≡◌, ◌∙◌, ℕ, zero, suc, ◌+◌, ◌*◌, ◌<◌, ◌≤◌, List, [], ◌∷◌, length, take, drop, replicate, slice_index_or, sum_by, false, Option, None, option_map, refl, sym, ap, arith, ⊎_elim, ◌⊎◌}
+use Rattle.std.proofs.Common.{◌≡◌, ◌∙◌, ℕ, zero, suc, ◌+◌, ◌*◌, List, [], ◌∷◌, length, take, drop, replicate, slice_index_or, sum_by, false, Option, None, option_map, refl, sym, ap, arith, ⊎_elim}
 use Rattle.std.proofs.lemmas.List.{length-map, length-replicate, length-take, get_or-take, get_or-drop, get_or_past}
 use Rattle.std.proofs.lemmas.List.Folds.{sum_by-replicate}
 use Rattle.host_types.specs.declared.options.Options.{Options}
@@ -13,6 +13,7 @@ use Rattle.page_table.specs.Limits.{AreLimits}
 use Rattle.page_table.specs.State.{new_memory, unreserved_tenant}
 use Rattle.page_table.specs.Table.{TableState, ArePages, entry_content, contents_of, groups_of, own_pages, state_of, maps_of, used_by, new_pass}
 use Rattle.page_table.specs.View.{view_of, IsMemory, IsPass}
+use Rattle.page_table.proofs.Sides.{order}
 use Rattle.page_table.proofs.Adding.{own_one}
 use Rattle.page_table.proofs.Putting.{empty_table}
 
@@ -39,9 +40,6 @@ no_maps (suc n) contents = ap (λ l. None ∷ l) (no_maps n (drop 256 contents))
 part_nothing : (xs : List (List ℕ)) (at w n : ℕ) → ((i : ℕ) → slice_index_or xs i [] ≡ []) → slice_index_or (part_of xs at w) n [] ≡ []
 unfolding part_of
 part_nothing xs at w n none = ⊎_elim (λ less. get_or-take w (drop at xs) n [] less ∙ get_or-drop at xs n [] ∙ none (at + n)) (λ more. get_or_past (take w (drop at xs)) n [] (let h = length-take w (drop at xs) in omega arith)) (order n w)
-  where
-    order : (a b : ℕ) → (a < b) ⊎ (b ≤ a)
-    order a b = grind arith
 
 module _ (frames tenants : ℕ) (options : Options) (limits : AreLimits frames tenants) where
   abbrev table : TableState

@@ -1,5 +1,5 @@
 -- How many pages are pinned, where one is pinned more, and where those of a map aren't any more.
-use Rattle.std.proofs.Common.{◌≡◌, ◌≢◌, ◌∙◌, ◌⊎◌, ⊎_elim, ℕ, zero, suc, ◌+◌, ◌-◌, ◌*◌, ◌/◌, ◌%◌, ◌<◌, ◌≤◌, Bool, true, false, if◌then◌else◌, List, [], ◌∷◌, ◌++◌, length, take, drop, replicate, slice_index_or, slice_set, refl, sym, ap, subst, arith}
+use Rattle.std.proofs.Common.{◌≡◌, ◌≢◌, ◌∙◌, ⊎_elim, ℕ, zero, suc, ◌+◌, ◌-◌, ◌*◌, ◌/◌, ◌%◌, ◌<◌, ◌≤◌, Bool, true, false, if◌then◌else◌, List, [], ◌∷◌, ◌++◌, length, take, drop, replicate, slice_index_or, slice_set, refl, sym, ap, subst, arith}
 use Rattle.std.proofs.lemmas.List.{get_or-set_same, get_or-set_other, length-set, length-replicate, take-replicate, drop-replicate, get_or-replicate, get_or-take, get_or-drop}
 use Rattle.std.proofs.Math.Seq.{take-append_seam}
 use Rattle.std.proofs.lemmas.List.Sums.{sum_by-cons, sum_by-set}
@@ -8,6 +8,7 @@ use Rattle.host_types.specs.Bytes.{part_of, with_part}
 use Rattle.host_types.proofs.Lists.{length-part_of, length-with_part, part-with_part_same}
 use Rattle.frame_arena.proofs.Parts.{with_part-same}
 use Rattle.page_table.specs.Pins.{pinned_among, ArePinsOf}
+use Rattle.page_table.proofs.Sides.{is_same}
 use Rattle.page_table.proofs.Creating.{filled_more, with_part-none, others-filled}
 use Rattle.page_table.proofs.Maps.{part_of-set_same, part_of-set_other}
 
@@ -17,11 +18,7 @@ one_if b = if b then 1 else 0
 -- no more pages are pinned than there are
 few-pinned : (pins : List Bool) → pinned_among pins ≤ length pins
 few-pinned [] = omega arith
-few-pinned (b ∷ pins) = let rest = few-pinned pins in let head = few b in let split = sum_by-cons one_if b pins in omega (arith, rest, head, split)
-  where
-    few : (b : Bool) → one_if b ≤ 1
-    few true = omega arith
-    few false = omega arith
+few-pinned (b ∷ pins) = grind (arith, few-pinned pins, sum_by-cons one_if b pins)
 
 pub none-pinned : (n : ℕ) → pinned_among (replicate n false) ≡ 0
 none-pinned n = sum_by-replicate one_if n false ∙ omega arith
@@ -108,12 +105,9 @@ module _ (pins : List Bool) (numbers : List ℕ) (are : ArePinsOf pins numbers) 
     pub pins-more : ArePinsOf (slice_set pins (k * 256 + n) true) (slice_set numbers k (slice_index_or numbers k 0 + 1))
     pins-more = record {
       maps = let a = length-set pins (k * 256 + n) true in let b = length-set numbers k (slice_index_or numbers k 0 + 1) in omega (arith, a, b, are.maps);
-      each = λ j less. ⊎_elim (λ same. at_same j same) (λ other. at_other j other (let b = length-set numbers k (slice_index_or numbers k 0 + 1) in omega (arith, less, b))) (order j k);
+      each = λ j less. ⊎_elim (λ same. at_same j same) (λ other. at_other j other (let b = length-set numbers k (slice_index_or numbers k 0 + 1) in omega (arith, less, b))) (is_same j k);
     }
       where
-        order : (a b : ℕ) → (a ≡ b) ⊎ (a ≢ b)
-        order a b = grind arith
-
         at_k : slice_index_or (slice_set numbers k (slice_index_or numbers k 0 + 1)) k 0 ≡ pinned_among (part_of (slice_set pins (k * 256 + n) true) (k * 256) 256)
         at_k =
             get_or-set_same numbers k (slice_index_or numbers k 0 + 1) 0 here
@@ -151,12 +145,9 @@ module _ (pins : List Bool) (numbers : List ℕ) (are : ArePinsOf pins numbers) 
     pub pins-cleared : ArePinsOf (with_part pins (k * 256) (replicate 256 false)) (slice_set numbers k 0)
     pins-cleared = record {
       maps = let a = length-with_part pins (k * 256) (replicate 256 false) whole in let b = length-set numbers k 0 in omega (arith, a, b, are.maps);
-      each = λ j less. ⊎_elim (λ same. at_same j same) (λ other. at_other j other (let b = length-set numbers k 0 in omega (arith, less, b))) (order j k);
+      each = λ j less. ⊎_elim (λ same. at_same j same) (λ other. at_other j other (let b = length-set numbers k 0 in omega (arith, less, b))) (is_same j k);
     }
       where
-        order : (a b : ℕ) → (a ≡ b) ⊎ (a ≢ b)
-        order a b = grind arith
-
         at_k : slice_index_or (slice_set numbers k 0) k 0 ≡ pinned_among (part_of (with_part pins (k * 256) (replicate 256 false)) (k * 256) 256)
         at_k =
             get_or-set_same numbers k 0 0 inside ∙ sym (none-pinned 256)
@@ -168,7 +159,7 @@ module _ (pins : List Bool) (numbers : List ℕ) (are : ArePinsOf pins numbers) 
         at_other : (j : ℕ) → j ≢ k → j < length numbers → slice_index_or (slice_set numbers k 0) j 0 ≡ pinned_among (part_of (with_part pins (k * 256) (replicate 256 false)) (j * 256) 256)
         at_other j ne less =
             get_or-set_other numbers k j 0 0 ne ∙ are.each j less
-            ∙ sym (ap pinned_among (others-filled pins k 256 j false (omega arith) whole ne))
+            ∙ sym (ap pinned_among (others-filled pins (k * 256) k 0 256 j 256 false (omega arith) (omega arith) whole ne))
 
 -- another map more has no pinned pages
 pub filled-more : (pins : List Bool) (first n : ℕ) → first * 256 + n * 256 + 256 ≤ length pins

@@ -1,3 +1,4 @@
+pub mod Sides
 pub mod Entries
 pub mod Changing
 pub mod Adding

@@ -1,5 +1,5 @@
 -- Maps as flat bytes, out of the contents of their pages.
-use Rattle.std.proofs.Common.{◌≡◌, ◌≢◌, ◌∙◌, ◌⊎◌, ⊎_elim, ℕ, zero, suc, ◌+◌, ◌-◌, ◌*◌, ◌<◌, ◌≤◌, List, [], ◌∷◌, ◌++◌, length, take, drop, replicate, slice_index_or, slice_set, Option, None, option_map, refl, sym, ap, subst, arith, append_assoc, length-append, length-drop}
+use Rattle.std.proofs.Common.{◌≡◌, ◌≢◌, ◌∙◌, ⊎_elim, ℕ, zero, suc, ◌+◌, ◌-◌, ◌*◌, ◌<◌, ◌≤◌, List, [], ◌∷◌, ◌++◌, length, take, drop, replicate, slice_index_or, slice_set, Option, None, option_map, refl, sym, ap, subst, arith, append_assoc, length-append, length-drop}
 use Rattle.std.specs.List.{concat}
 use Rattle.std.proofs.lemmas.List.{get_or-set_same, get_or-set_other, length-set, ext_get_or, length-take-le, drop_at, take_at, append-nil, drop-append-le, take-append-le, drop-drop, take-append-drop, take-replicate, drop-set-lt, drop-set-add, take-set-le}
 use Rattle.std.proofs.Math.Seq.{take-set-lt, take-append-add}
@@ -12,6 +12,7 @@ use Rattle.host_types.specs.Shapes.{byte_len_of}
 use Rattle.frame_arena.proofs.Parts.{part_of-drop, part_of-first, with_part-append}
 use Rattle.page_table.specs.Limits.{page_count}
 use Rattle.page_table.specs.Table.{maps_of, flat_of, ArePages, ArePagesOf, AreMaps}
+use Rattle.page_table.proofs.Sides.{apart_order}
 
 -- parts of lists
 
@@ -31,11 +32,8 @@ part_of-set_same xs k n width x h = ap (take width) (drop-set-add k xs n x) ∙ 
 
 pub part_of-set_other : {X : Type 0} (xs : List X) (k n j width : ℕ) (x : X) → n < width → j ≢ k → part_of (slice_set xs (k * width + n) x) (j * width) width ≡ part_of xs (j * width) width
 unfolding part_of
-part_of-set_other xs k n j width x h ne = ⊎_elim (λ less. before less) (λ more. behind more) (order j k ne)
+part_of-set_other xs k n j width x h ne = ⊎_elim (λ less. before less) (λ more. behind more) (apart_order j k ne)
   where
-    order : (j k : ℕ) → j ≢ k → (j < k) ⊎ (k < j)
-    order j k ne = grind arith
-
     before : j < k → take width (drop (j * width) (slice_set xs (k * width + n) x)) ≡ take width (drop (j * width) xs)
     before less =
         let rest : ℕ = k - suc j in

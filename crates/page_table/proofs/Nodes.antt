@@ -134,34 +134,9 @@ repeated-none all = refl
 
 -- those of a content, and those of all others
 repeated-split : (c : List ℕ) (all xs : List (List ℕ)) → repeated_among all xs ≡ share (times_among c all) (times_among c xs) + repeated_among (out c all) (out c xs)
-repeated-split c all [] =
-    let none = ap (share (times_among c all)) (times-none c) ∙ share-none (times_among c all) in
-    let left = repeated-none all in
-    let right = repeated-none (out c all) in
-    omega (arith, none, left, right)
-repeated-split c all (x ∷ xs) = by_test (bytes_eq x c) refl (repeated-split c all xs)
-  where
-    by_test : (t : Bool) → bytes_eq x c ≡ t → repeated_among all xs ≡ share (times_among c all) (times_among c xs) + repeated_among (out c all) (out c xs)
-        → repeated_among all (x ∷ xs) ≡ share (times_among c all) (times_among c (x ∷ xs)) + repeated_among (out c all) (if not t then x ∷ out c xs else out c xs)
-    by_test true e rest =
-        let is : x ≡ c = (bytes_eq-Decides x c).0 e in
-        let one = ap one_when e in
-        let split = times-cons c x xs in
-        let long : times_among c (x ∷ xs) ≡ 1 + times_among c xs = omega (arith, one, split) in
-        let shared = ap (share (times_among c all)) long ∙ share-more (times_among c all) (times_among c xs) in
-        let first = ap (λ (y : List ℕ). many_in (times_among y all)) is in
-        let next = repeated-cons all x xs in
-        omega (arith, rest, shared, first, next)
-    by_test false e rest =
-        let apart : x ≢ c = λ is. let yes = (bytes_eq-Decides x c).1 is in cc in
-        let none = ap one_when e in
-        let split = times-cons c x xs in
-        let long : times_among c (x ∷ xs) ≡ times_among c xs = omega (arith, none, split) in
-        let shared = ap (share (times_among c all)) long in
-        let first = ap many_in (times-other x c all apart) in
-        let next = repeated-cons all x xs in
-        let after = repeated-cons (out c all) x (out c xs) in
-        omega (arith, rest, shared, first, next, after)
+repeated-split c all [] = grind (arith, times-none c, repeated-none all, repeated-none (out c all))
+repeated-split c all (x ∷ xs) =
+    grind (arith, nat_tests, times-cons c x xs, (bytes_eq-Decides x c).0, (bytes_eq-Decides x c).1, repeated-cons all x xs, repeated-cons (out c all) x (out c xs), times-other x c all, repeated-split c all xs)
 
 module _ (arena : List (List ℕ)) where
   -- as many frames have the bytes

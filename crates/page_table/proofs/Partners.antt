@@ -1,5 +1,5 @@
 -- Waiting pages as callers see them.
-use Rattle.std.proofs.Common.{◌≡◌, ◌∙◌, ℕ, ◌+◌, ◌<◌, ◌≤◌, ◌==◌, ◌&&◌, ◌||◌, nat_le, bytes_eq, Bool, true, false, if◌then◌else◌, All, is_some, drop, slice_index_or, slice_set, List, [], ◌∷◌, ◌++◌, length, map, find, Option, Some, None, IfSome, option_map, refl, sym, ap, subst, arith}
+use Rattle.std.proofs.Common.{◌≡◌, ◌∙◌, ℕ, ◌+◌, ◌<◌, ◌≤◌, ◌==◌, ◌&&◌, nat_le, bytes_eq, Bool, true, false, if◌then◌else◌, All, is_some, drop, slice_index_or, slice_set, List, [], ◌∷◌, ◌++◌, length, map, find, Option, Some, None, IfSome, option_map, refl, sym, ap, subst, arith}
 use Rattle.std.proofs.lemmas.List.{map-append}
 use Rattle.std.proofs.lemmas.List.Elements.{All-nil, All-cons}
 use Rattle.std.proofs.lemmas.Slice.Eq.{bytes_eq-Decides}
@@ -47,21 +47,9 @@ found-waiter entries c test (v ∷ ws) w are e = by_head (test v) refl (found-wa
     one : Some v ≡ Some w → v ≡ w
     one e = cc
 
-    same_place : (v.place == v.place) ≡ true
-    same_place = grind (arith, nat_tests)
-
-    first : test v ≡ true → IsFound entries c test (v ∷ ws) v
-    first h = record { waiter = are.0; passes = h; listed = ap (λ b. b || is_listed v.place ws) same_place }
-
-    any : (b : Bool) → (b || true) ≡ true
-    any true = refl
-    any false = refl
-
     by_head : (b : Bool) → test v ≡ b → (find test ws ≡ Some w → IsFound entries c test ws w) → (if b then Some v else find test ws) ≡ Some w → IsFound entries c test (v ∷ ws) w
-    by_head true h rest e = subst (IsFound entries c test (v ∷ ws)) (one e) (first h)
-    by_head false h rest e =
-        let later = rest e in
-        record { waiter = later.waiter; passes = later.passes; listed = ap (λ b. (v.place == w.place) || b) later.listed ∙ any (v.place == w.place) }
+    by_head true h rest e = subst (IsFound entries c test (v ∷ ws)) (one e) (record { waiter = are.0; passes = h; listed = grind (arith, nat_tests) })
+    by_head false h rest e = let later = rest e in record { waiter = later.waiter; passes = later.passes; listed = grind (arith, later.listed) }
 
 module _ (table : TableState) (shapes : List (Option Shape)) (tenants : List Tenant) (pass : Pass) (reserved : ℕ) (is : IsMemory table shapes tenants reserved) (fits : IsTable table) where
   abbrev contents : ℕ → List ℕ
@@ -76,14 +64,7 @@ module _ (table : TableState) (shapes : List (Option Shape)) (tenants : List Ten
   pub partners-told : (fingerprint : ℕ) (bytes : List ℕ) (c : Option ℕ) (ws : List Waiter) → AreWaiters table.entries c ws
       → option_map (λ (entry : ℕ × ℕ). entry.0) (find (is_partner contents fingerprint bytes) (map waiting_of ws)) ≡ option_map (λ (w : Waiter). w.place) (find (is_match table.arena fingerprint bytes) ws)
   partners-told fingerprint bytes c [] are = refl
-  partners-told fingerprint bytes c (w ∷ ws) are =
-      ap (λ (b : Bool). option_map (λ (entry : ℕ × ℕ). entry.0) (if b then Some (waiting_of w) else find (is_partner contents fingerprint bytes) (map waiting_of ws))) (partner-told fingerprint bytes c w are.0)
-      ∙ by_head (is_match table.arena fingerprint bytes w) (partners-told fingerprint bytes c ws are.2)
-    where
-      by_head : (b : Bool) → option_map (λ (entry : ℕ × ℕ). entry.0) (find (is_partner contents fingerprint bytes) (map waiting_of ws)) ≡ option_map (λ (w : Waiter). w.place) (find (is_match table.arena fingerprint bytes) ws)
-          → option_map (λ (entry : ℕ × ℕ). entry.0) (if b then Some (waiting_of w) else find (is_partner contents fingerprint bytes) (map waiting_of ws)) ≡ option_map (λ (w : Waiter). w.place) (if b then Some w else find (is_match table.arena fingerprint bytes) ws)
-      by_head true rest = refl
-      by_head false rest = rest
+  partners-told fingerprint bytes c (w ∷ ws) are = grind (arith, partner-told fingerprint bytes c w are.0, partners-told fingerprint bytes c ws are.2)
 
 -- there is room for one more
 pub room-left : (table : TableState) (shapes : List (Option Shape)) (tenants : List Tenant) (reserved : ℕ) (c : Option ℕ) (ws : List Waiter) (room : ℕ) → IsMemory table shapes tenants reserved → AreWaiters table.entries c ws → length table.arena ≤ room → length ws < room
@@ -189,11 +170,7 @@ may-free table shapes tenants pass page may = not-pinned pass.pins (page_place p
 
 -- a match has the bytes
 pub match-bytes : (arena : List (List ℕ)) (fingerprint : ℕ) (bytes : List ℕ) (w : Waiter) → is_match arena fingerprint bytes w ≡ true → page_at arena w.frame ≡ bytes
-match-bytes arena fingerprint bytes w h = by_test (w.fingerprint == fingerprint) h
-  where
-    by_test : (b : Bool) → (b && bytes_eq (page_at arena w.frame) bytes) ≡ true → page_at arena w.frame ≡ bytes
-    by_test true h = (bytes_eq-Decides (page_at arena w.frame) bytes).0 h
-    by_test false h = absurd (cc)
+match-bytes arena fingerprint bytes w h = grind (arith, (bytes_eq-Decides (page_at arena w.frame) bytes).0)
 
 -- an entry of a page that may be merged
 pub entry-may : (table : TableState) (pass : Pass) (i : ℕ) → is_mergeable (state_at (sharing_of table pass) i) ≡ true → (entry : Entry) × (entry_at table.entries i ≡ Some entry)

@@ -1,5 +1,5 @@
 -- Frames reserved for open runs, and what the maps of a memory meet.
-use Rattle.std.proofs.Common.{◌≡◌, ◌∙◌, ◌⊎◌, ⊎_elim, ℕ, ◌+◌, ◌-◌, ◌*◌, ◌<◌, ◌≤◌, List, length, sum_by, slice_index_or, slice_set, Option, IfSome, refl, sym, ap, subst, arith, All, length-set}
+use Rattle.std.proofs.Common.{◌≡◌, ◌∙◌, ⊎_elim, ℕ, ◌+◌, ◌-◌, ◌*◌, ◌<◌, ◌≤◌, List, length, sum_by, slice_index_or, slice_set, Option, IfSome, refl, sym, ap, subst, arith, All, length-set}
 use Rattle.std.proofs.lemmas.List.{get_or-set_same, get_or-set_other}
 use Rattle.std.proofs.lemmas.List.Sums.{sum_by-set}
 use Rattle.host_types.specs.declared.shape.Shape.{Shape}
@@ -12,6 +12,7 @@ use Rattle.page_table.specs.State.{MemoryState, part, unreserved_tenant, free_of
 use Rattle.page_table.specs.Changes.{IsKeptBut}
 use Rattle.page_table.specs.Table.{TableState, contents_of, maps_of, used_by}
 use Rattle.page_table.specs.View.{view_of, IsMemory}
+use Rattle.page_table.proofs.Sides.{order}
 use Rattle.page_table.proofs.Maps.{length-maps_of}
 use Rattle.page_table.proofs.Free.{free_is}
 use Rattle.page_table.proofs.Shapes.{length-part, map_ok, map_past}
@@ -56,9 +57,6 @@ module _ (table : TableState) (shapes : List (Option Shape)) (tenants : List Ten
   pub flat_maps : All IsPage table.arena → (t : ℕ) → length (part memory t).maps ≡ 8 → AreFlatMaps (part memory t).maps
   flat_maps bytes t eight = record { eight = eight; each = λ m. ⊎_elim (λ less. map_ok table shapes tenants pass t m is.maps less bytes) (λ past. none m past) (order m 8) }
     where
-      order : (a b : ℕ) → (a < b) ⊎ (b ≤ a)
-      order a b = grind arith
-
       none : (m : ℕ) → 8 ≤ m → IfSome (map_at (part memory t).maps m) IsFlatMap
       none m past = subst (λ (x : Option FlatMap). IfSome x IsFlatMap) (sym (map_past memory t m past)) tt
 

@@ -1,5 +1,5 @@
 -- What a memory tells of pages by their places, of open groups and of waiting pages.
-use Rattle.std.proofs.Common.{◌≡◌, ◌∙◌, ◌⊎◌, ⊎_elim, ℕ, suc, ◌+◌, ◌*◌, ◌/◌, ◌%◌, ◌<◌, ◌≤◌, ◌==◌, ◌&&◌, nat_lt, bytes_eq, Bool, true, if◌then◌else◌, List, [], ◌∷◌, length, map, find, slice_index_or, slice_set, Option, Some, None, option_map, is_some, refl, sym, ap, subst, arith}
+use Rattle.std.proofs.Common.{◌≡◌, ◌∙◌, ⊎_elim, ℕ, suc, ◌+◌, ◌*◌, ◌/◌, ◌%◌, ◌<◌, ◌≤◌, ◌==◌, ◌&&◌, nat_lt, bytes_eq, Bool, true, if◌then◌else◌, List, [], ◌∷◌, length, map, find, slice_index_or, slice_set, Option, Some, None, option_map, is_some, refl, sym, ap, subst, arith}
 use Rattle.std.specs.List.{concat, list_any}
 use Rattle.std.proofs.lemmas.List.{length-take-le}
 use Rattle.std.proofs.lemmas.List.Sums.{sum_by-cons}
@@ -23,6 +23,7 @@ use Rattle.page_table.specs.State.{MemoryState, part, bytes_of_map, frame_at}
 use Rattle.page_table.specs.Changes.{IsPageOf, frame_of_group, open_frame}
 use Rattle.page_table.specs.Table.{TableState, IsTable, IsPageAt, ArePages, ArePagesOf, maps_of, flat_of, contents_of, entry_at, groups_of, sharing_of, states_of, frames_of, times, is_on, places_on, pages_on, is_open_frame, joined_on}
 use Rattle.page_table.specs.View.{view_of, IsMemory}
+use Rattle.page_table.proofs.Sides.{order}
 use Rattle.page_table.proofs.Changing.{entry_fits}
 use Rattle.page_table.proofs.Maps.{map_at-maps_of, length-concat}
 use Rattle.page_table.proofs.Reading.{map_at-part, bytes_in, content_in, content_is}
@@ -72,9 +73,6 @@ module _ (table : TableState) (shapes : List (Option Shape)) (tenants : List Ten
           let bytes = ap (λ flat. length (bytes_in flat)) known in
           let below : page.number < page_count shape = ⊎_elim (λ less. less) (λ past. absurd (omega (arith, content, ap length (pages.none page.number past)))) (order page.number (page_count shape)) in
           omega (arith, bytes, front, below)
-        where
-          order : (a b : ℕ) → (a < b) ⊎ (b ≤ a)
-          order a b = grind arith
 
   -- the bytes at a page's place
   pub contents_told : (page : Page) → page.map < 8 → page.number < 256 → contents_in view.maps (page_place page) ≡ page_bytes (bytes_of_map view page) page.number
