@@ -29,13 +29,10 @@ pub cost_from-last : (s : Sharing) (i n : ℕ) → cost_from s i (suc n) ≡ cos
 unfolding broken_from cost_from
 cost_from-last s i zero =
     let here : i ≡ i + 0 = omega arith in
-    let same = ap (break_cost s) here in
-    omega (arith, same)
+    omega (arith, ap (break_cost s) here)
 cost_from-last s i (suc n) =
     let next : i + 1 + n ≡ i + suc n = omega arith in
-    let rest = cost_from-last (broken s i) (i + 1) n in
-    let last = ap (break_cost (broken_from (broken s i) (i + 1) n)) next in
-    omega (arith, rest, last)
+    omega (arith, cost_from-last (broken s i) (i + 1) n, ap (break_cost (broken_from (broken s i) (i + 1) n)) next)
 
 -- the entries without those at n places from i on
 pub gone : List (Option Entry) → ℕ → ℕ → List (Option Entry)
@@ -236,9 +233,7 @@ pub count-part : (table : TableState) (counts : CountsState) (i n : ℕ) (entry 
     → entry_at table.entries (i + n) ≡ Some entry → pages_on entry.frame (part_of table.entries i n) ≤ slice_index_or counts.counts entry.frame 0
 count-part table counts i n entry sound h e =
     let fits = entry_fits table (i + n) entry sound.fits e in
-    let counted = sound.counted.counted entry.frame fits.frame in
-    let split = pages_on-gone entry.frame table.entries i n (omega arith) in
-    omega (arith, counted, split)
+    omega (arith, sound.counted.counted entry.frame fits.frame, pages_on-gone entry.frame table.entries i n (omega arith))
 
 -- the page behind n others from the place i on, in a list that was split there
 pub entry-behind : (xs slice run from : List (Option Entry)) (i n : ℕ) → slice ≡ xs → run ≡ drop i slice → from ≡ drop n run → entry_at from 0 ≡ entry_at xs (i + n)

@@ -45,8 +45,7 @@ occurrences-all a n (x ∷ xs) h =
     let split = occurrences-cons (range_with_len a n) x xs in
     let within = h x (times-head x xs) in
     let first = range-once x a n within.0 within.1 in
-    let rest = occurrences-all a n xs (λ y some. h y (omega (arith, some, times-tail y x xs))) in
-    omega (arith, split, first, rest)
+    omega (arith, split, first, occurrences-all a n xs (λ y some. h y (omega (arith, some, times-tail y x xs))))
 
 -- where each number that passes a test occurs once and no other does, as many occur as pass
 occurrences-passed : (p : ℕ → Bool) (a n : ℕ) (xs : List ℕ) → ((f : ℕ) → a ≤ f → f < a + n → times f xs ≡ one_when (p f))
@@ -59,8 +58,7 @@ occurrences-passed p a n xs h = counted a n h ∙ sym (length-filter p (range_wi
         let whole = sum_by-cons (λ f. times f xs) a (range_with_len (a + 1) n) in
         let passed = sum_by-cons (λ f. one_when (p f)) a (range_with_len (a + 1) n) in
         let first = h a (omega arith) (omega arith) in
-        let rest = counted (a + 1) n (λ f low high. h f (omega arith) (omega arith)) in
-        omega (arith, whole, passed, first, rest)
+        omega (arith, whole, passed, first, counted (a + 1) n (λ f low high. h f (omega arith) (omega arith)))
 
 -- as many frames are unused as pass a test which just those above the zero frame pass that nobody holds
 pub length-unused : (counts unused : List ℕ) (p : ℕ → Bool) → AreCounts (record { counts = counts; unused = unused })

@@ -149,11 +149,7 @@ module _ (table : TableState) (shapes : List (Option Shape)) (tenants : List Ten
   index_inside = omega (arith, is.numbers, inside, small)
 
   pub places_inside : map_place tenant m * 256 + page_count shape ≤ length table.entries
-  places_inside =
-      let few = few_pages shape shaped in
-      let h = index_inside in
-      let long = length-contents table in
-      omega (arith, is.maps.places, long, few, h)
+  places_inside = omega (arith, is.maps.places, length-contents table, few_pages shape shaped, index_inside)
 
   pub few_entries : length table.entries ≤ 32768
   few_entries = let long = length-contents table in omega (arith, is.maps.places, long, is.numbers, is.few)
@@ -302,8 +298,7 @@ module _ (table new : TableState) (shapes : List (Option Shape)) (tenants : List
   free_after : free_of after + page_count shape ≡ free_of before
   free_after =
       let old = free_is table shapes tenants pass (omega (arith, room)) in
-      let newer = free_is new shapes_new tenants pass (omega (arith, room, used, arena)) in
-      omega (arith, old, newer, used, arena)
+      omega (arith, old, free_is new shapes_new tenants pass (omega (arith, room, used, arena)), used, arena)
 
   settings_after : KeepsSettings before after
   unfolding view_of
@@ -334,6 +329,5 @@ module _ (table : TableState) (shapes : List (Option Shape)) (tenants : List Ten
   pub room_inside : (reserved count : ℕ) → IsMemory table shapes tenants reserved → count ≤ have_of now → reserved + used_by table + count ≤ length table.arena
   unfolding view_of
   room_inside reserved count is h =
-      let told = free_is table shapes tenants pass (omega (arith, is.room)) in
       let enough = rw (← same) at h in
-      omega (arith, told, enough, is.sum, is.room)
+      omega (arith, free_is table shapes tenants pass (omega (arith, is.room)), enough, is.sum, is.room)

@@ -194,11 +194,7 @@ module _ (table : TableState) (shapes : List (Option Shape)) (tenants : List Ten
   pages_there i less = let f = few in ap length (content_in (contents_of table) k i (omega (arith, less, f))) ∙ old_pages.there i less
 
   pub map_pins : PinsFit (states_of table.entries) pass.pins → k * 256 + 256 ≤ length pass.pins
-  map_pins fit =
-      let long = length-contents table in
-      let states = length-map table.entries (option_map state_of) in
-      let h = all in
-      omega (arith, long, states, h, fit.as_many)
+  map_pins fit = omega (arith, length-contents table, length-map table.entries (option_map state_of), all, fit.as_many)
 
   -- no place behind the map's pages is pinned
   pub unpinned_behind : IsTable table → PinsFit (states_of table.entries) pass.pins → (i : ℕ) → k * 256 + page_count shape ≤ i → i < k * 256 + 256 → slice_index_or pass.pins i false ≡ false

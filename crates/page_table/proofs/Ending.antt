@@ -137,8 +137,7 @@ module _ (table : TableState) (i : ℕ) (entry new : Entry) (is : IsTable table)
       let count = own_pages-set table.entries i (Some new) there in
       let none : own_one (entry_at table.entries i) ≡ 0 = ap own_one here ∙ ap (λ (b : Bool). if b then 0 else 1) shared in
       let one : own_one (Some new) ≡ 1 = ap (λ (s : Status). if is_shared s then 0 else 1) status-ended in
-      let long = without-length entry.frame table.groups in
-      omega (arith, count, none, one, long, one_group)
+      omega (arith, count, none, one, without-length entry.frame table.groups, one_group)
 
   IsTable-ended : new.protected ≡ false → IsTable (ended table i new entry.frame)
   IsTable-ended unlocked =

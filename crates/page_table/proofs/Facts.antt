@@ -153,8 +153,7 @@ in_groups xs groups i entry e = length-filter (is_among i) (map (λ g. places_on
         let split = sum_by-cons (λ group. if is_among i group then 1 else 0) (places_on 0 g xs) (map (λ g. places_on 0 g xs) gs) in
         let part = sum_by-cons (λ (x : ℕ). if x == entry.frame then 1 else 0) g gs in
         let first : one_when (is_among i (places_on 0 g xs)) ≡ one_when (g == entry.frame) = ap one_when (among-entry g xs i entry e ∙ same_either_way entry.frame g) in
-        let rest = counted gs in
-        omega (arith, split, part, first, rest)
+        omega (arith, split, part, first, counted gs)
 
 -- the places on a frame are in order
 places_above : (n f : ℕ) (xs : List (Option Entry)) → All (λ i. n ≤ i) (places_on n f xs)
@@ -266,8 +265,7 @@ module _ (table : TableState) (shapes : List (Option Shape)) (tenants : List Ten
       has None e h = absurd (let none = ap (λ (x : Option Entry). is_some (option_map state_of x)) e in cc)
       has (Some entry) e h =
           let there = page_there table shapes tenants pass reserved is (named i) (omega arith) (omega arith) (subst (IsPageAt table) (sym place) (is_page_at_entry table i entry fits e)) in
-          let same = ap (λ bytes. length bytes) (map_named i) in
-          omega (arith, there, same)
+          omega (arith, there, ap (λ bytes. length bytes) (map_named i))
 
       found : (x : Option Entry) → entry_at table.entries i ≡ x → HasPage view i → is_some (option_map state_of (entry_at table.entries i)) ≡ true
       found None e h =
@@ -323,8 +321,7 @@ module _ (table : TableState) (shapes : List (Option Shape)) (tenants : List Ten
       pinned_places : PinsFit (states_of table.entries) pass.pins → length pass.pins ≡ length tenants * 2048
       pinned_places fit =
           let states = length-map table.entries (option_map state_of) in
-          let contents = length-contents table in
-          omega (arith, fit.as_many, states, contents, is.maps.places, is.numbers)
+          omega (arith, fit.as_many, states, length-contents table, is.maps.places, is.numbers)
 
       to_zero : (i : ℕ) → Lies table i 0 → status_at (sharing_of table pass) i ≡ Some Zero
       to_zero i a = status_there table pass i a.entry Zero a.here (zero_status table a.entry sound.fits a.fits a.on)

@@ -70,9 +70,7 @@ module _ (pins : List Bool) (numbers : List ℕ) (are : ArePinsOf pins numbers) 
   pub number-small : (k : ℕ) → k < length numbers → slice_index_or numbers k 0 ≤ 256
   number-small k less =
       let few = few-pinned (part_of pins (k * 256) 256) in
-      let long = length-part_of pins (k * 256) 256 (omega (arith, are.maps, less)) in
-      let told = are.each k less in
-      omega (arith, few, long, told)
+      omega (arith, few, length-part_of pins (k * 256) 256 (omega (arith, are.maps, less)), are.each k less)
 
   pub map-inside : (k : ℕ) → k * 256 < length pins → k < length numbers
   map-inside k less = omega (arith, are.maps, less)
@@ -98,9 +96,7 @@ module _ (pins : List Bool) (numbers : List ℕ) (are : ArePinsOf pins numbers) 
     more : pinned_among (slice_set part n true) ≡ pinned_among part + 1
     more =
         let l = long in
-        let count = sum_by-set one_if part n true false (omega (arith, l, small)) in
-        let none = ap one_if was in
-        omega (arith, count, none)
+        omega (arith, sum_by-set one_if part n true false (omega (arith, l, small)), ap one_if was)
 
     pub pins-more : ArePinsOf (slice_set pins (k * 256 + n) true) (slice_set numbers k (slice_index_or numbers k 0 + 1))
     pins-more = record {

@@ -85,17 +85,13 @@ module _ (table : TableState) (shapes : List (Option Shape)) (tenants : List Ten
       → used_by table + break_frames table i ≤ length table.arena
   unfolding view_of
   cost_fits reserved i is enough =
-      let told = costs pass i in
-      let free = free_is table shapes tenants pass (omega (arith, is.room)) in
-      omega (arith, told, enough, free, is.room, is.sum)
+      omega (arith, costs pass i, enough, free_is table shapes tenants pass (omega (arith, is.room)), is.room, is.sum)
 
   pub cost_reserved : (reserved i : ℕ) → IsMemory table shapes tenants reserved → break_cost (view_of table shapes tenants pass).sharing i ≤ have_of (view_of table shapes tenants pass)
       → reserved + (used_by table + break_frames table i) ≤ length table.arena
   unfolding view_of
   cost_reserved reserved i is enough =
-      let told = costs pass i in
-      let free = free_is table shapes tenants pass (omega (arith, is.room)) in
-      omega (arith, told, enough, free, is.room, is.sum)
+      omega (arith, costs pass i, enough, free_is table shapes tenants pass (omega (arith, is.room)), is.room, is.sum)
 
 -- what holds of an entry holds of the state at its place
 pub state_of_entry : (P : PageState → Type 0) (entries : List (Option Entry)) (i : ℕ) → IfSome (entry_at entries i) (λ entry. P (state_of entry)) → IfSome (slice_index_or (states_of entries) i None) P
@@ -132,9 +128,7 @@ module _ (table : TableState) (shapes : List (Option Shape)) (tenants : List Ten
   pub number_small : (page : Page) → IsPageOf (view_of table shapes tenants pass) page → page.number < 256
   number_small page there =
       let loc = page_located table shapes tenants pass reserved page is there in
-      let few = few_pages loc.shape loc.pages.shaped in
-      let h = page_number table shapes tenants pass reserved page is there in
-      omega arith
+      omega (arith, page_number table shapes tenants pass reserved page is there, few_pages loc.shape loc.pages.shaped)
 
   pub map_small : (page : Page) → IsPageOf (view_of table shapes tenants pass) page → page.map < 8
   map_small page there = (page_located table shapes tenants pass reserved page is there).small

@@ -110,9 +110,7 @@ module _ (table : TableState) (i : ℕ) (entry x : Entry) (move : IsMove table i
   pub single : (counts : CountsState) → AreCountsOf table counts → slice_index_or counts.counts entry.frame 0 ≡ 1
   single counts counted =
       let known = counted.counted entry.frame (entry_fits table i entry is here).frame in
-      let none = one_if_zero-above entry.frame lone.above in
-      let one = lone.one in
-      omega (arith, known, none, one)
+      omega (arith, known, one_if_zero-above entry.frame lone.above, lone.one)
 
   -- fewer pages lie on the new frame than there are places
   pub few : (counts : CountsState) → AreCountsOf table counts → slice_index_or counts.counts x.frame 0 ≤ 32768

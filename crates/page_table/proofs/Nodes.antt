@@ -43,9 +43,7 @@ times-last : (b : List ℕ) (xs : List (List ℕ)) (x : List ℕ) → times_amon
 unfolding times_among
 times-last b xs x =
     let split = sum_by-append (λ (other : List ℕ). if bytes_eq other b then 1 else 0) xs (x ∷ []) in
-    let one = times-cons b x [] in
-    let none = times-none b in
-    omega (arith, split, one, none)
+    omega (arith, split, times-cons b x [], times-none b)
 
 times-gone : (c : List ℕ) (xs : List (List ℕ)) → times_among c (out c xs) ≡ 0
 times-gone c [] = times-none c
@@ -73,8 +71,7 @@ seconds-split c before [] =
     let left = seconds-none before in
     let right = seconds-none (out c before) in
     let same : times_among c before + times_among c [] ≡ times_among c before = omega (arith, none) in
-    let many = ap many_in same in
-    omega (arith, left, right, many)
+    omega (arith, left, right, ap many_in same)
 seconds-split c before (x ∷ xs) = by_test (bytes_eq x c) refl (seconds-split c (before ++ x ∷ []) xs)
   where
     last : out c (before ++ x ∷ []) ≡ out c before ++ out c (x ∷ [])
@@ -95,9 +92,7 @@ seconds-split c before (x ∷ xs) = by_test (bytes_eq x c) refl (seconds-split c
         let same : out c (before ++ x ∷ []) ≡ out c before = last ∙ ap (λ (b : Bool). out c before ++ (if not b then x ∷ [] else [])) e ∙ append-nil (out c before) in
         let behind = ap (λ l. seconds_behind l (out c xs)) same in
         let first = ap (λ (y : List ℕ). one_when (times_among y before == 1)) is in
-        let next = seconds-cons before x xs in
-        let more = many-more (times_among c before) in
-        omega (arith, rest, many, most, behind, first, next, more)
+        omega (arith, rest, many, most, behind, first, seconds-cons before x xs, many-more (times_among c before))
     by_test false e rest =
         let apart : x ≢ c = λ is. let yes = (bytes_eq-Decides x c).1 is in cc in
         let none = ap one_when e in
@@ -110,9 +105,7 @@ seconds-split c before (x ∷ xs) = by_test (bytes_eq x c) refl (seconds-split c
         let same : out c (before ++ x ∷ []) ≡ out c before ++ x ∷ [] = last ∙ ap (λ (b : Bool). out c before ++ (if not b then x ∷ [] else [])) e in
         let behind = ap (λ l. seconds_behind l (out c xs)) same in
         let first = ap (λ (n : ℕ). one_when (n == 1)) (times-other x c before apart) in
-        let next = seconds-cons before x xs in
-        let after = seconds-cons (out c before) x (out c xs) in
-        omega (arith, rest, many, most, behind, first, next, after)
+        omega (arith, rest, many, most, behind, first, seconds-cons before x xs, seconds-cons (out c before) x (out c xs))
 
 -- as many, where a content occurs more than once
 abbrev share : ℕ → ℕ → ℕ

@@ -106,8 +106,7 @@ module _ (table : TableState) (i : ℕ) (entry x : Entry) (founding : IsFounding
       let count = own_pages-set table.entries i (Some x) there in
       let old : own_one (entry_at table.entries i) ≡ 1 = ap own_one here ∙ ap (λ (b : Bool). if b then 0 else 1) own in
       let new : own_one (Some x) ≡ 0 = ap (λ (s : Status). if is_shared s then 0 else 1) to.status in
-      let long = length-append table.groups (x.frame ∷ []) in
-      omega (arith, count, old, new, long)
+      omega (arith, count, old, new, length-append table.groups (x.frame ∷ []))
 
   pub IsTable-founded : IsTable (founded table i x)
   IsTable-founded =

@@ -69,8 +69,7 @@ module _ (table : TableState) (shapes : List (Option Shape)) (tenants : List Ten
 -- there is room for one more
 pub room-left : (table : TableState) (shapes : List (Option Shape)) (tenants : List Tenant) (reserved : ℕ) (c : Option ℕ) (ws : List Waiter) (room : ℕ) → IsMemory table shapes tenants reserved → AreWaiters table.entries c ws → length table.arena ≤ room → length ws < room
 room-left table shapes tenants reserved c ws room is are fitting =
-    let few = waiters-few table.entries c ws are in
-    omega (arith, few, fitting, is.room)
+    omega (arith, waiters-few table.entries c ws are, fitting, is.room)
 
 -- the page that becomes the one visited last stands behind those that wait
 pub waiters-behind : (entries : List (Option Entry)) (c i : ℕ) (ws : List Waiter) → c < i → AreWaiters entries (Some c) ws → AreWaiters entries (Some i) ws

@@ -40,18 +40,12 @@ module _ (table : TableState) (shapes : List (Option Shape)) (tenants : List Ten
   -- a tenant has eight places for maps
   pub eight_maps : (t : ℕ) → t < length memory.tenants → length (part memory t).maps ≡ 8
   unfolding view_of part
-  eight_maps t inside =
-      let short = length-part (maps_of shapes (contents_of table)) (t * 8) 8 in
-      let all = long in
-      omega (arith, short, all, inside)
+  eight_maps t inside = omega (arith, length-part (maps_of shapes (contents_of table)) (t * 8) 8, long, inside)
 
   -- a tenant with eight places for maps is there
   pub tenant_there : (t : ℕ) → length (part memory t).maps ≡ 8 → t < length tenants
   unfolding view_of part
-  tenant_there t eight =
-      let short = length-part (maps_of shapes (contents_of table)) (t * 8) 8 in
-      let all = long in
-      omega (arith, short, all, eight)
+  tenant_there t eight = omega (arith, length-part (maps_of shapes (contents_of table)) (t * 8) 8, long, eight)
 
   -- the maps of a tenant are flat maps
   pub flat_maps : All IsPage table.arena → (t : ℕ) → length (part memory t).maps ≡ 8 → AreFlatMaps (part memory t).maps
@@ -63,9 +57,7 @@ module _ (table : TableState) (shapes : List (Option Shape)) (tenants : List Ten
   -- no more frames are reserved than are free
   pub reserved_fits : sum_by reserve_in memory.tenants ≤ free_of memory
   unfolding view_of
-  reserved_fits =
-      let told = free_is table shapes tenants pass (omega (arith, is.room)) in
-      omega (arith, told, is.room, is.sum)
+  reserved_fits = omega (arith, free_is table shapes tenants pass (omega (arith, is.room)), is.room, is.sum)
 
   -- another record of one tenant
   module _ (t : ℕ) (kept : Tenant) (eight : length (part memory t).maps ≡ 8) (room : kept.reserve ≤ have_of memory + (part memory t).reserve) where
@@ -80,10 +72,7 @@ module _ (table : TableState) (shapes : List (Option Shape)) (tenants : List Ten
 
     pub fits : reserved - before + kept.reserve + used_by table ≤ length table.arena
     unfolding view_of part
-    fits =
-        let told = free_is table shapes tenants pass (omega (arith, is.room)) in
-        let small = before_small in
-        omega (arith, told, is.room, is.sum, room, small)
+    fits = omega (arith, free_is table shapes tenants pass (omega (arith, is.room)), is.room, is.sum, room, before_small)
 
     pub memory_recorded : IsMemory table shapes recorded (reserved - before + kept.reserve)
     memory_recorded =
@@ -119,8 +108,7 @@ module _ (table : TableState) (shapes : List (Option Shape)) (tenants : List Ten
         let sum = sum-recorded tenants t kept (tenant_there t eight) in
         let small = reserve-small tenants t (tenant_there t eight) in
         let told = free_is table shapes tenants pass (omega (arith, is.room)) in
-        let same = free_is table shapes recorded pass (omega (arith, is.room)) in
-        omega (arith, sum, small, told, same, is.room, is.sum, room)
+        omega (arith, sum, small, told, free_is table shapes recorded pass (omega (arith, is.room)), is.room, is.sum, room)
 
 -- what another record of one tenant leaves, over what callers see
 pub record Records (old new : MemoryState) (t : ℕ) (kept : Tenant) : Type 0 where
@@ -149,16 +137,10 @@ module _ (table : TableState) (shapes : List (Option Shape)) (tenants : List Ten
   record_there = tenant_there table shapes tenants pass reserved is t eight_here
 
   pub record_before : before ≤ reserved
-  record_before =
-      let small = before_small table shapes tenants pass reserved is t kept eight_here room_here in
-      let e = before_is in
-      omega (arith, small, e)
+  record_before = omega (arith, before_small table shapes tenants pass reserved is t kept eight_here room_here, before_is)
 
   pub record_fits : reserved - before + kept.reserve ≤ 4096
-  record_fits =
-      let few = fits table shapes tenants pass reserved is t kept eight_here room_here in
-      let e = before_is in
-      omega (arith, few, e, is.frames)
+  record_fits = omega (arith, fits table shapes tenants pass reserved is t kept eight_here room_here, before_is, is.frames)
 
   pub record_memory : IsMemory table shapes renewed (reserved - before + kept.reserve)
   record_memory = rw before_is (memory_recorded table shapes tenants pass reserved is t kept eight_here room_here)

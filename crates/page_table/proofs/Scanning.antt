@@ -51,10 +51,7 @@ module _ (table : TableState) (shapes : List (Option Shape)) (tenants : List Ten
       k = map_place page.tenant page.map
 
       inside_shapes : map_place page.tenant page.map < length shapes
-      inside_shapes =
-          let there = page_inside table (page_place page) at in
-          let long = length-contents table in
-          omega (arith, there, long, is.maps.places, few)
+      inside_shapes = omega (arith, page_inside table (page_place page) at, length-contents table, is.maps.places, few)
 
       content : length (slice_index_or (part_of (contents_of table) (map_place page.tenant page.map * 256) 256) page.number []) ≡ 4096
       content = sym (ap length (content_in (contents_of table) (map_place page.tenant page.map) page.number few)) ∙ at

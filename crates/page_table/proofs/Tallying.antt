@@ -34,9 +34,7 @@ counted-set f pages i count x inside e =
 -- at most all pages are counted
 pub counted-few : (f : Option PageState → ℕ) (pages : List (Option Entry)) (count : ℕ) → ((x : Option PageState) → f x ≤ 1) → count ≡ sum_by f (states_of pages) → count ≤ length pages
 counted-few f pages count one e =
-    let long = length-map pages (option_map state_of) in
-    let most = sum_by-le f 1 (states_of pages) (λ i d less. one _) in
-    omega (arith, e, most, long)
+    omega (arith, e, sum_by-le f 1 (states_of pages) (λ i d less. one _), length-map pages (option_map state_of))
 
 pub unshared-one : (x : Option PageState) → unshared_at x ≤ 1
 unshared-one x = grind arith

@@ -31,13 +31,10 @@ times-filter f test (x ∷ xs) passes =
   where
     by_test : (b : Bool) → test x ≡ b → times f (filter test xs) ≡ times f xs → times f (x ∷ xs) ≡ one_when (x == f) + times f xs
         → times f (if b then x ∷ filter test xs else filter test xs) ≡ times f (x ∷ xs)
-    by_test true e rest split =
-        let kept = sum_by-cons (λ (y : ℕ). one_when (y == f)) x (filter test xs) in
-        omega (arith, rest, split, kept)
+    by_test true e rest split = omega (arith, rest, split, sum_by-cons (λ (y : ℕ). one_when (y == f)) x (filter test xs))
     by_test false e rest split =
         let apart : x ≢ f = λ same. let passed : test x ≡ true = ap test same ∙ passes in cc in
-        let none = ap one_when (not_equal f x apart) in
-        omega (arith, rest, split, none)
+        omega (arith, rest, split, ap one_when (not_equal f x apart))
 
 -- lists with the same numbers are as long
 same-length : (n : ℕ) (xs ys : List ℕ) → length xs ≤ n → ((f : ℕ) → times f xs ≡ times f ys) → length xs ≡ length ys
@@ -48,9 +45,7 @@ same-length (suc n) (x ∷ xs) ys few same =
     let here = times-head x xs in
     let left = without-length x (x ∷ xs) in
     let right = without-length x ys in
-    let both = same x in
-    let rest = same-length n (but x (x ∷ xs)) (but x ys) (omega (arith, left, here, few)) less in
-    omega (arith, rest, left, right, both)
+    omega (arith, same-length n (but x (x ∷ xs)) (but x ys) (omega (arith, left, here, few)) less, left, right, same x)
   where
     less : (f : ℕ) → times f (but x (x ∷ xs)) ≡ times f (but x ys)
     less f =
@@ -83,9 +78,7 @@ in-chain : (chains : List (List ℕ)) (k : ℕ) (d : List ℕ) (f : ℕ) → k <
 in-chain [] k d f h some = absurd (omega (arith, h))
 in-chain (c ∷ cs) zero d f h some = let split = sum_by-append (λ (y : ℕ). one_when (y == f)) c (concat cs) in omega (arith, split, some)
 in-chain (c ∷ cs) (suc k) d f h some =
-    let split = sum_by-append (λ (y : ℕ). one_when (y == f)) c (concat cs) in
-    let rest = in-chain cs k d f (omega arith) some in
-    omega (arith, split, rest)
+    omega (arith, sum_by-append (λ (y : ℕ). one_when (y == f)) c (concat cs), in-chain cs k d f (omega arith) some)
 
 -- frames whose pages stay have their bytes still
 filter-kept : (old new : List (List ℕ)) (bytes xs : List ℕ) → ((f : ℕ) → 1 ≤ times f xs → page_at new f ≡ page_at old f) → filter (has new bytes) xs ≡ filter (has old bytes) xs
@@ -192,15 +185,12 @@ find-open table counts bytes limit (g ∷ gs) same =
 module _ (table : TableState) (counts : CountsState) (tree : Groups) (sound : IsSound table counts) (is : IsTreeOf table.arena table.groups tree) where
   -- there is room for one more group
   pub tree-room : length (concat tree.chains) < tree.room
-  tree-room =
-      let long = tree-length table.arena table.groups tree is in
-      omega (arith, long, is.room, sound.counted.used)
+  tree-room = omega (arith, tree-length table.arena table.groups tree is, is.room, sound.counted.used)
 
   counted : (f : ℕ) → 1 ≤ times f table.groups → slice_index_or counts.counts f 0 ≡ pages_on f table.entries
   counted f some =
       let known = sound.counted.counted f (group-inside table f sound.fits some) in
-      let none = one_if_zero-above f (IsGroup.above (group_of table f sound.fits some)) in
-      omega (arith, known, none)
+      omega (arith, known, one_if_zero-above f (IsGroup.above (group_of table f sound.fits some)))
 
   -- the earliest open group is the earliest one of its bytes in the tree
   pub found-open : (bytes : List ℕ) (limit : ℕ) (gs : List ℕ) → gs ≡ filter (has table.arena bytes) (concat tree.chains)

@@ -65,10 +65,7 @@ listed-frames : (xs : List (Option Entry)) (groups : List ℕ) (i : ℕ) → law
 listed-frames xs [] i = sym (held-none (entry_at xs i))
 listed-frames xs (g ∷ gs) i =
     let split = sum_by-cons (without.times i) (places_on 0 g xs) (map (λ g. places_on 0 g xs) gs) in
-    let here = times-at_frame g xs i in
-    let rest = listed-frames xs gs i in
-    let more = held-cons (entry_at xs i) g gs in
-    omega (arith, split, here, rest, more)
+    omega (arith, split, times-at_frame g xs i, listed-frames xs gs i, held-cons (entry_at xs i) g gs)
 
 -- what holds of each group's pages holds where one is left out
 some-groups : (xs : List (Option Entry)) (groups : List ℕ) → ((g : ℕ) → 1 ≤ times g groups → 1 ≤ pages_on g xs) → law.AreSome (map (λ g. places_on 0 g xs) groups)
@@ -80,18 +77,13 @@ members-frames : (xs : List (Option Entry)) (groups : List ℕ) → sum_by (λ (
 members-frames xs [] = refl
 members-frames xs (g ∷ gs) =
     let split = sum_by-cons (λ (group : List ℕ). length group) (places_on 0 g xs) (map (λ g. places_on 0 g xs) gs) in
-    let whole = sum_by-cons (λ (g : ℕ). pages_on g xs) g gs in
-    let long = length-places 0 g xs in
-    let rest = members-frames xs gs in
-    omega (arith, split, whole, long, rest)
+    omega (arith, split, sum_by-cons (λ (g : ℕ). pages_on g xs) g gs, length-places 0 g xs, members-frames xs gs)
 
 some-members : (xs : List (Option Entry)) (groups : List ℕ) → ((g : ℕ) → 1 ≤ times g groups → 1 ≤ pages_on g xs) → length groups ≤ sum_by (λ (g : ℕ). pages_on g xs) groups
 some-members xs [] h = omega arith
 some-members xs (g ∷ gs) h =
-    let whole = sum_by-cons (λ (g : ℕ). pages_on g xs) g gs in
-    let pages = h g (times-head g gs) in
     let rest = some-members xs gs (λ f le. let more = times-tail f g gs in h f (omega (arith, le, more))) in
-    omega (arith, whole, pages, rest)
+    omega (arith, sum_by-cons (λ (g : ℕ). pages_on g xs) g gs, h g (times-head g gs), rest)
 
 -- the pages on the groups' frames, counted group by group and page by page
 held-frames : (xs : List (Option Entry)) (groups : List ℕ) → sum_by (λ (g : ℕ). pages_on g xs) groups ≡ sum_by (λ (x : Option Entry). held x groups) xs
@@ -115,10 +107,7 @@ unfolding pages_on
 zeros-frames [] h = refl
 zeros-frames (x ∷ xs) h =
     let split = sum_by-cons zeros_at (option_map state_of x) (states_of xs) in
-    let whole = sum_by-cons (on_one 0) x xs in
-    let first = h 0 in
-    let rest = zeros-frames xs (λ i. h (suc i)) in
-    omega (arith, split, whole, first, rest)
+    omega (arith, split, sum_by-cons (on_one 0) x xs, h 0, zeros-frames xs (λ i. h (suc i)))
 
 -- the pages that share a frame are those of the groups and those of zeros
 shared-frames : (xs : List (Option Entry)) (groups : List ℕ)
@@ -129,9 +118,7 @@ shared-frames (x ∷ xs) groups h =
     let shared = sum_by-cons shared_at (option_map state_of x) (states_of xs) in
     let grouped = sum_by-cons (λ (y : Option Entry). held y groups) x xs in
     let zeros = sum_by-cons zeros_at (option_map state_of x) (states_of xs) in
-    let first = h 0 in
-    let rest = shared-frames xs groups (λ i. h (suc i)) in
-    omega (arith, shared, grouped, zeros, first, rest)
+    omega (arith, shared, grouped, zeros, h 0, shared-frames xs groups (λ i. h (suc i)))
 
 length-map_groups : (xs : List (Option Entry)) (groups : List ℕ) → length (map (λ g. places_on 0 g xs) groups) ≡ length groups
 length-map_groups xs groups = length-map groups (λ g. places_on 0 g xs)
@@ -283,8 +270,7 @@ module _ (table : TableState) (is : IsTable table) (pass : Pass) where
       let here = ap (λ (s : Sharing). break_cost s n) broken in
       let m : ℕ = length table.entries - (n + 1) in
       let less = cost_from-less (sharing_of table pass) (n + 1) m in
-      let all = all_cost (n + 1 + m) (omega (arith, there)) in
-      omega (arith, last, here, less, all, taken, room)
+      omega (arith, last, here, less, all_cost (n + 1 + m) (omega (arith, there)), taken, room)
 
 -- the need hangs on the table alone
 need_of_table : (table : TableState) (pass now : Pass) → unmerge_need (sharing_of table now) ≡ unmerge_need (sharing_of table pass)
@@ -296,16 +282,11 @@ module _ (table : TableState) (shapes : List (Option Shape)) (tenants : List Ten
     (enough : unmerge_need (view_of table shapes tenants pass).sharing ≤ have_of (view_of table shapes tenants pass)) where
   pub need_reserved : reserved + (used_by table + unmerge_need (view_of table shapes tenants pass).sharing) ≤ length table.arena
   unfolding view_of
-  need_reserved =
-      let free = free_is table shapes tenants pass (omega (arith, is.room)) in
-      omega (arith, enough, free, is.room, is.sum)
+  need_reserved = omega (arith, enough, free_is table shapes tenants pass (omega (arith, is.room)), is.room, is.sum)
 
   pub need_fits : (now : Pass) → used_by table + unmerge_need (sharing_of table now) ≤ length table.arena
   unfolding view_of
-  need_fits now =
-      let same = need_of_table table pass now in
-      let room = need_reserved in
-      omega (arith, same, room)
+  need_fits now = omega (arith, need_of_table table pass now, need_reserved)
 
 -- the state of sharing after all pages were taken out and the scanner was stopped
 module _ (old new : TableState) (pass now : Pass) (stopped : now ≡ record pass { options = record pass.options { run = 2 } })

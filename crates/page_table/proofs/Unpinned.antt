@@ -58,10 +58,9 @@ fewer-pinned pins at zero d inside none =
 fewer-pinned pins at (suc n) d inside none =
     let next : suc n + d ≡ suc (n + d) = omega arith in
     let long = ap (λ (m : ℕ). pinned_among (part_of pins at m)) next in
-    let more = pinned-cons pins at (n + d) (omega (arith, inside)) in
     let less = pinned-cons pins at n (omega (arith, inside)) in
     let rest = fewer-pinned pins (at + 1) n d (omega (arith, inside)) (λ i from less. none i (omega (arith, from)) (omega (arith, less))) in
-    omega (arith, long, more, less, rest)
+    omega (arith, long, pinned-cons pins at (n + d) (omega (arith, inside)), less, rest)
 
 -- a part's pages, in the part
 unpinned-in_part : (pins : List Bool) (first at n : ℕ) → at + n ≤ 2048 → unpinned_from (part_of pins first 2048) at n ≡ unpinned_from pins (first + at) n
@@ -112,8 +111,7 @@ module _ (table : TableState) (shapes : List (Option Shape)) (tenants : List Ten
         let none = fewer-pinned pass.pins (k * 256) (page_count shape) (256 - page_count shape) (omega (arith, inside, small))
         (λ i from less. unpinned_behind table shapes tenants pass reserved t m shape now same is tenant-inside here fits fit i from (omega (arith, less, small))) in
         let as_many = ap (λ (n : ℕ). pinned_among (part_of pass.pins (k * 256) n)) rest in
-        let told = all-told pass.pins (k * 256) (page_count shape) (omega (arith, inside, small)) in
-        omega (arith, none, as_many, told)
+        omega (arith, none, as_many, all-told pass.pins (k * 256) (page_count shape) (omega (arith, inside, small)))
 
     pins : (part now t).pins ≡ part_of pass.pins (t * 2048) 2048
     unfolding view_of part

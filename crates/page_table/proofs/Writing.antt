@@ -115,8 +115,7 @@ module _ (table new : TableState) (shapes : List (Option Shape)) (tenants : List
   in_bytes =
       let long : length (bytes_of_map (view_of table shapes tenants pass) page) ≡ length (take (byte_len_of loc.shape) (concat old_pages)) = ap (λ flat. length (bytes_in flat)) loc.flat in
       let whole_is = length-concat old_pages (page_count loc.shape) loc.pages.there loc.pages.none in
-      let front = length-take-le (byte_len_of loc.shape) (concat old_pages) (omega arith) in
-      omega (arith, in_map, long, front)
+      omega (arith, in_map, long, length-take-le (byte_len_of loc.shape) (concat old_pages) (omega arith))
 
   contents_new : contents_of new ≡ slice_set (contents_of table) (k * 256 + page.number) (with_part (slice_index_or old_pages page.number []) at bytes)
   contents_new = contents ∙ ap (λ l. slice_set (contents_of table) (k * 256 + page.number) (with_part l at bytes)) (content_in (contents_of table) k page.number small)

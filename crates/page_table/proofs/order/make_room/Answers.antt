@@ -43,5 +43,4 @@ returns-clause-listed c =
 pub returns-clause-room : goal.returns-clause-room
 returns-clause-room c =
     let d = (goal.at.returns-clause-room c).After-deref in
-    let long = ap length (left d) in
-    omega (arith, long, c.requires.room, c.place_all.ensures.frames)
+    omega (arith, ap length (left d), c.requires.room, c.place_all.ensures.frames)

@@ -27,9 +27,8 @@ small : (c : After-is_some) → page_place c.args.page < 32768
 small c =
     let inside = (next-is (states_of c.self.inside.table.entries) (look_from c.self.inside.pass.cursor) (page_place c.args.page) (next c)).inside in
     let long = length-map c.self.inside.table.entries (option_map state_of) in
-    let all = length-contents c.self.inside.table in
     let is = c.self.invariant.0 in
-    omega (arith, inside, long, all, is.maps.places, is.numbers, is.few)
+    omega (arith, inside, long, length-contents c.self.inside.table, is.maps.places, is.numbers, is.few)
 
 more : (c : After-is_some) → is_some (first_mergeable (page_place c.args.page + 1) (drop (page_place c.args.page + 1) (states_of c.self.inside.table.entries))) ≡ c.is_some.result
 more c = rw (← c.place_of-place.ensures) (ap is_some (sym c.next_mergeable.ensures) ∙ sym c.is_some.ensures)

@@ -18,8 +18,7 @@ next c = next-is (states_of c.self.inside.table.entries) (look_from c.self.insid
 
 small : (c : In-Some) → c.in-Some.place < 32768
 small c =
-    let long = length-map c.self.inside.table.entries (option_map state_of) in
-    omega (arith, long, (next c).inside, (c.facts.ensures.1).fits.few)
+    omega (arith, length-map c.self.inside.table.entries (option_map state_of), (next c).inside, (c.facts.ensures.1).fits.few)
 
 pub page_at-requires : goal.page_at-requires
 page_at-requires c = small (goal.at.page_at-requires c).In-Some

@@ -19,8 +19,7 @@ room : (c : goal.After-set) → c.self.inside.reserved + used_by c.take_out_all.
 unfolding view_of
 room c =
     let room = need_reserved c.self.inside.table c.self.inside.shapes.items c.self.inside.tenants.items c.self.inside.pass c.self.inside.reserved c.self.invariant.0 (rw (← c.self.view_is) at c.requires) in
-    let used = c.take_out_all.ensures.used c.self.inside.pass in
-    omega (arith, used, room)
+    omega (arith, c.take_out_all.ensures.used c.self.inside.pass, room)
 
 pub invariant_of-self : goal.invariant_of-self
 invariant_of-self c = (

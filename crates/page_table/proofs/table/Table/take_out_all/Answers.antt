@@ -13,8 +13,7 @@ pub take_out_at-requires : goal.take_out_at-requires
 take_out_at-requires c = record {
   there = let old = length-contents c.args.self.now in
       let now = length-contents c.loop-place.self in
-      let same = ap length c.loop-place.invariant.contents in
-      omega (arith, old, now, same, c.places-place-end.ensures, c.loop-place-test.true);
+      omega (arith, old, now, ap length c.loop-place.invariant.contents, c.places-place-end.ensures, c.loop-place-test.true);
   room = λ pass. let room = c.requires pass in
       let fits =
       next_fits c.args.self.now c.facts.ensures.1.fits pass (sharing_of c.loop-place.self pass) c.loop-place.place _ _ (length c.args.self.now.arena)
@@ -33,8 +32,7 @@ loop-place-preserved c =
       used = λ pass. let now = c.take_out_at.ensures.used pass in
           let before = c.loop-place.invariant.used pass in
           let here = ap (λ (s : Sharing). break_cost s c.loop-place.place) (c.loop-place.invariant.sharing pass) in
-          let next = cost_next (sharing_of c.args.self.now pass) c.loop-place.place in
-          omega (arith, now, before, here, next);
+          omega (arith, now, before, here, cost_next (sharing_of c.args.self.now pass) c.loop-place.place);
       arena = c.take_out_at.ensures.arena ∙ c.loop-place.invariant.arena;
     }
 
@@ -44,5 +42,4 @@ returns-clause-none c pass = nothing_shared c.args.self.now c.facts.ensures.1.fi
 pub returns-clause-used : goal.returns-clause-used
 returns-clause-used c pass =
     let all = all_cost c.args.self.now c.facts.ensures.1.fits pass c.loop-place.place (omega (arith, c.places-place-end.ensures, c.loop-place-test.false, c.loop-place.auto.place-end)) in
-    let used = c.loop-place.invariant.used pass in
-    omega (arith, all, used)
+    omega (arith, all, c.loop-place.invariant.used pass)
