@@ -1,12 +1,12 @@
 -- A page table stays sound where the last page leaves its group and keeps the frame.
 use Rattle.std.proofs.Common.{◌≡◌, ◌≢◌, ◌∙◌, inl, inr, ◌⊎◌, ⊎_elim, ℕ, ◌+◌, ◌<◌, ◌≤◌, ◌==◌, not, Bool, true, false, if◌then◌else◌, List, [], ◌∷◌, length, map, filter, slice_index_or, slice_set, Option, Some, None, option_map, refl, sym, ap, subst, arith}
 use Rattle.std.proofs.lemmas.List.{map-set, set-get_or, nil_from_length}
-use Rattle.std.proofs.lemmas.Bool.Decides.{eqb_tells}
+use Rattle.std.proofs.lemmas.Bool.Decides.{eqb_tells, nat_tests}
 use Rattle.page_table.specs.declared.pass.Pass.{Pass}
 use Rattle.host_types.specs.declared.status.Status.{Status}
 use Rattle.host_types.specs.declared.status.Status.TheVariants.{New, Volatile, Waiting, Grouped, Zero}
 use Rattle.host_types.specs.Sharing.{PageState, state_at, is_shared, broken, broken_page, without, left_by}
-use Rattle.host_types.proofs.Without.{without-length, times-gone, times-kept, kept_group, some_kept}
+use Rattle.host_types.proofs.Without.{without-length, times-gone, times-kept, some_kept}
 use Rattle.frame_arena.specs.Pages.{page_at}
 use Rattle.page_table.specs.declared.entry.Entry.{Entry}
 use Rattle.page_table.specs.Table.{TableState, CountsState, IsTable, IsEntry, IsAlone, IsGroup, IsSound, AreCountsOf, LiesRight, times, one_if_zero, entry_at, state_of, states_of, contents_of, groups_of, sharing_of, is_on, places_on, pages_on, used_by}
@@ -28,25 +28,14 @@ left-groups : (old new : List (Option Entry)) (f i : ℕ) (groups : List ℕ) �
     → left_by i (map (λ g. places_on 0 g old) groups) ≡ map (λ g. places_on 0 g new) (but f groups)
 left-groups old new f i [] gone stay = refl
 left-groups old new f i (g ∷ gs) gone stay =
-    let rest : left_by i (map (λ g. places_on 0 g old) gs) ≡ map (λ g. places_on 0 g new) (but f gs) =
-    left-groups old new f i gs gone (λ h le ne. let more = times-tail h g gs in stay h (omega (arith, le, more)) ne) in
-    ⊎_elim (λ same. its_own same.0 same.1 rest) (λ other. another other.0 other.1 rest) (eqb_tells g f)
-  where
-    its_own : (g == f) ≡ true → g ≡ f → left_by i (map (λ g. places_on 0 g old) gs) ≡ map (λ g. places_on 0 g new) (but f gs)
-        → kept_group (without i (places_on 0 g old)) (left_by i (map (λ g. places_on 0 g old) gs)) ≡ map (λ g. places_on 0 g new) (but f (g ∷ gs))
-    its_own test same rest =
-        ap (λ (group : List ℕ). kept_group group (left_by i (map (λ g. places_on 0 g old) gs))) (ap (λ (n : ℕ). without i (places_on 0 n old)) same ∙ gone)
-        ∙ rest
-        ∙ sym (ap (λ (b : Bool). map (λ g. places_on 0 g new) (if not b then g ∷ but f gs else but f gs)) test)
-
-    another : (g == f) ≡ false → g ≢ f → left_by i (map (λ g. places_on 0 g old) gs) ≡ map (λ g. places_on 0 g new) (but f gs)
-        → kept_group (without i (places_on 0 g old)) (left_by i (map (λ g. places_on 0 g old) gs)) ≡ map (λ g. places_on 0 g new) (but f (g ∷ gs))
-    another test ne rest =
-        let told = stay g (times-head g gs) ne in
-        ap (λ (group : List ℕ). kept_group group (left_by i (map (λ g. places_on 0 g old) gs))) told.0
-        ∙ some_kept (places_on 0 g new) (left_by i (map (λ g. places_on 0 g old) gs)) told.1
-        ∙ ap (λ (groups : List (List ℕ)). places_on 0 g new ∷ groups) rest
-        ∙ sym (ap (λ (b : Bool). map (λ g. places_on 0 g new) (if not b then g ∷ but f gs else but f gs)) test)
+    grind (
+      arith,
+      nat_tests,
+      gone,
+      stay g (times-head g gs),
+      some_kept (places_on 0 g new) (left_by i (map (λ g. places_on 0 g old) gs)),
+      left-groups old new f i gs gone (λ h le ne. let more = times-tail h g gs in stay h (omega (arith, le, more)) ne),
+    )
 
 -- a page with a frame of its own stays
 pub sharing-unbroken : (table : TableState) (pass : Pass) (i : ℕ) (entry : Entry) → IsTable table → entry_at table.entries i ≡ Some entry → entry.protected ≡ false

@@ -33,7 +33,7 @@ use Rattle.page_table.proofs.Scanning.{is_page_at_entry, page_there, frame_told}
 use Rattle.page_table.proofs.Creating.{length-contents}
 use Rattle.page_table.proofs.Free.{free_is}
 use Rattle.page_table.proofs.Groups.{among-places, length-places}
-use Rattle.page_table.proofs.Counting.{same_either_way, length-unused, empty-frame}
+use Rattle.page_table.proofs.Counting.{length-unused, empty-frame}
 
 status_is : (table : TableState) (pass : Pass) (i : ℕ) → status_at (sharing_of table pass) i ≡ option_map (λ (entry : Entry). entry.status) (entry_at table.entries i)
 status_is table pass i = ap (option_map (λ (state : PageState). state.status)) (told_at state_of table.entries i) ∙ of_entry (entry_at table.entries i)
@@ -99,8 +99,8 @@ kind table entry fits = by_status entry.status refl fits.right
 zero_status : (table : TableState) (entry : Entry) → IsTable table → IsEntry table entry → entry.frame ≡ 0 → entry.status ≡ Zero
 unfolding Kind
 zero_status table entry is fits e =
-    ⊎_elim (λ lone. absurd (let above = IsAlone.above lone in omega (arith, above, e)))
-    (λ other. ⊎_elim (λ in_group. absurd (let above = IsGroup.above (group_of table entry.frame is (omega (arith, in_group.1))) in omega (arith, above, e))) (λ zeros. zeros.0) other)
+    ⊎_elim (λ lone. absurd (omega (arith, IsAlone.above lone, e)))
+    (λ other. ⊎_elim (λ in_group. absurd (omega (arith, IsGroup.above (group_of table entry.frame is (omega (arith, in_group.1))), e))) (λ zeros. zeros.0) other)
     (kind table entry fits)
 
 -- a page on a group's frame is told to be in a group
@@ -116,9 +116,6 @@ among f xs i = let same : 0 + i ≡ i = omega arith in ap (λ n. is_among n (pla
 
 among-entry : (f : ℕ) (xs : List (Option Entry)) (i : ℕ) (entry : Entry) → entry_at xs i ≡ Some entry → is_among i (places_on 0 f xs) ≡ (entry.frame == f)
 among-entry f xs i entry e = among f xs i ∙ ap (is_on f) e
-
-equal_frame : (f g : ℕ) → f ≡ g → (f == g) ≡ true
-equal_frame f g e = grind (arith, nat_tests)
 
 frame_equal : (f g : ℕ) → (f == g) ≡ true → f ≡ g
 frame_equal f g e = grind (arith, nat_tests)
@@ -151,9 +148,7 @@ in_groups xs groups i entry e = length-filter (is_among i) (map (λ g. places_on
     counted [] = refl
     counted (g ∷ gs) =
         let split = sum_by-cons (λ group. if is_among i group then 1 else 0) (places_on 0 g xs) (map (λ g. places_on 0 g xs) gs) in
-        let part = sum_by-cons (λ (x : ℕ). if x == entry.frame then 1 else 0) g gs in
-        let first : one_when (is_among i (places_on 0 g xs)) ≡ one_when (g == entry.frame) = ap one_when (among-entry g xs i entry e ∙ same_either_way entry.frame g) in
-        omega (arith, split, part, first, counted gs)
+        grind (arith, nat_tests, split, times-cons entry.frame g gs, among-entry g xs i entry e, counted gs)
 
 -- the places on a frame are in order
 places_above : (n f : ℕ) (xs : List (Option Entry)) → All (λ i. n ≤ i) (places_on n f xs)
@@ -214,7 +209,7 @@ module _ (table : TableState) (pass : Pass) (is : IsTable table) where
           on_one = ap (is_on a.entry.frame) a.here ∙ equal a.entry.frame
 
           on_other : is_on a.entry.frame (entry_at table.entries j) ≡ true
-          on_other = ap (is_on a.entry.frame) b.here ∙ equal_frame b.entry.frame a.entry.frame (sym same)
+          on_other = ap (is_on a.entry.frame) b.here ∙ grind (arith, nat_tests)
 
           two : IsAlone table a.entry.frame → ⊥
           two lone =

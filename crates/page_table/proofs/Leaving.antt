@@ -1,6 +1,5 @@
 -- A page table stays sound where a page leaves a frame on which others lie.
 use Rattle.std.proofs.Common.{◌≡◌, ◌≢◌, ◌∙◌, ℕ, ◌+◌, ◌-◌, ◌<◌, ◌≤◌, ◌==◌, true, false, if◌then◌else◌, List, [], ◌∷◌, length, map, slice_index_or, slice_set, Option, Some, option_map, refl, sym, ap, subst, arith}
-use Rattle.std.proofs.lemmas.Bool.{lt-ltb}
 use Rattle.std.proofs.lemmas.List.{get_or-set_same, get_or-set_other, set-get_or, length-set, map-set}
 use Rattle.std.proofs.lemmas.Bool.Decides.{nat_tests}
 use Rattle.page_table.specs.declared.pass.Pass.{Pass}
@@ -21,12 +20,14 @@ pub groups-left : (old new : List (Option Entry)) (i : ℕ) (groups : List ℕ)
     → map (λ g. places_on 0 g new) groups ≡ left_by i (map (λ g. places_on 0 g old) groups)
 groups-left old new i [] same some = refl
 groups-left old new i (g ∷ gs) same some =
-    let first = same g (times-head g gs) in
-    let long = length-places 0 g new in
-    let pages = some g (times-head g gs) in
-    let stays = lt-ltb 0 (length (places_on 0 g new)) (omega (arith, long, pages)) in
-    let rest = groups-left old new i gs (λ f le. let more = times-tail f g gs in same f (omega arith)) (λ f le. let more = times-tail f g gs in some f (omega arith)) in
-    rw (first, stays) (ap (λ l. places_on 0 g new ∷ l) rest)
+    grind (
+      arith,
+      nat_tests,
+      same g (times-head g gs),
+      some g (times-head g gs),
+      length-places 0 g new,
+      groups-left old new i gs (λ f le. let more = times-tail f g gs in same f (omega arith)) (λ f le. let more = times-tail f g gs in some f (omega arith)),
+    )
 
 -- a page that is shared is broken, where its state and the groups tell so
 pub sharing-broken : (old new : TableState) (i : ℕ) (entry : Entry) → entry_at old.entries i ≡ Some entry → is_shared entry.status ≡ true

@@ -66,46 +66,24 @@ seconds-none before = refl
 
 -- the second one of a content, and those of all others
 seconds-split : (c : List ℕ) (before xs : List (List ℕ)) → seconds_behind before xs + many_in (times_among c before) ≡ many_in (times_among c before + times_among c xs) + seconds_behind (out c before) (out c xs)
-seconds-split c before [] =
-    let none = times-none c in
-    let left = seconds-none before in
-    let right = seconds-none (out c before) in
-    let same : times_among c before + times_among c [] ≡ times_among c before = omega (arith, none) in
-    omega (arith, left, right, ap many_in same)
-seconds-split c before (x ∷ xs) = by_test (bytes_eq x c) refl (seconds-split c (before ++ x ∷ []) xs)
-  where
-    last : out c (before ++ x ∷ []) ≡ out c before ++ out c (x ∷ [])
-    last = filter-append (λ (other : List ℕ). not (bytes_eq other c)) before (x ∷ [])
-
-    by_test : (t : Bool) → bytes_eq x c ≡ t
-        → seconds_behind (before ++ x ∷ []) xs + many_in (times_among c (before ++ x ∷ [])) ≡ many_in (times_among c (before ++ x ∷ []) + times_among c xs) + seconds_behind (out c (before ++ x ∷ [])) (out c xs)
-        → seconds_behind before (x ∷ xs) + many_in (times_among c before) ≡ many_in (times_among c before + times_among c (x ∷ xs)) + seconds_behind (out c before) (if not t then x ∷ out c xs else out c xs)
-    by_test true e rest =
-        let is : x ≡ c = (bytes_eq-Decides x c).0 e in
-        let one = ap one_when e in
-        let grown = times-last c before x in
-        let split = times-cons c x xs in
-        let long : times_among c (before ++ x ∷ []) ≡ times_among c before + 1 = omega (arith, one, grown) in
-        let whole : times_among c (before ++ x ∷ []) + times_among c xs ≡ times_among c before + times_among c (x ∷ xs) = omega (arith, one, grown, split) in
-        let many = ap many_in long in
-        let most = ap many_in whole in
-        let same : out c (before ++ x ∷ []) ≡ out c before = last ∙ ap (λ (b : Bool). out c before ++ (if not b then x ∷ [] else [])) e ∙ append-nil (out c before) in
-        let behind = ap (λ l. seconds_behind l (out c xs)) same in
-        let first = ap (λ (y : List ℕ). one_when (times_among y before == 1)) is in
-        omega (arith, rest, many, most, behind, first, seconds-cons before x xs, many-more (times_among c before))
-    by_test false e rest =
-        let apart : x ≢ c = λ is. let yes = (bytes_eq-Decides x c).1 is in cc in
-        let none = ap one_when e in
-        let grown = times-last c before x in
-        let split = times-cons c x xs in
-        let long : times_among c (before ++ x ∷ []) ≡ times_among c before = omega (arith, none, grown) in
-        let whole : times_among c (before ++ x ∷ []) + times_among c xs ≡ times_among c before + times_among c (x ∷ xs) = omega (arith, none, grown, split) in
-        let many = ap many_in long in
-        let most = ap many_in whole in
-        let same : out c (before ++ x ∷ []) ≡ out c before ++ x ∷ [] = last ∙ ap (λ (b : Bool). out c before ++ (if not b then x ∷ [] else [])) e in
-        let behind = ap (λ l. seconds_behind l (out c xs)) same in
-        let first = ap (λ (n : ℕ). one_when (n == 1)) (times-other x c before apart) in
-        omega (arith, rest, many, most, behind, first, seconds-cons before x xs, seconds-cons (out c before) x (out c xs))
+seconds-split c before [] = grind (arith, times-none c, seconds-none before, seconds-none (out c before))
+seconds-split c before (x ∷ xs) =
+    let last : out c (before ++ x ∷ []) ≡ out c before ++ out c (x ∷ []) = filter-append (λ (other : List ℕ). not (bytes_eq other c)) before (x ∷ []) in
+    grind (
+      arith,
+      nat_tests,
+      last,
+      append-nil (out c before),
+      (bytes_eq-Decides x c).0,
+      (bytes_eq-Decides x c).1,
+      times-last c before x,
+      times-cons c x xs,
+      times-other x c before,
+      seconds-cons before x xs,
+      seconds-cons (out c before) x (out c xs),
+      many-more (times_among c before),
+      seconds-split c (before ++ x ∷ []) xs,
+    )
 
 -- as many, where a content occurs more than once
 abbrev share : ℕ → ℕ → ℕ

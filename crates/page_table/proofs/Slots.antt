@@ -1,5 +1,5 @@
 -- The slots of the groups in order of creation.
-use Rattle.std.proofs.Common.{◌≡◌, ◌≢◌, ◌∙◌, ◌⊎◌, ⊎_elim, ℕ, zero, suc, ◌+◌, ◌<◌, ◌≤◌, ◌==◌, not, Bool, true, false, if◌then◌else◌, List, [], ◌∷◌, ◌++◌, length, take, drop, slice_index_or, slice_set, All, AllPairs, refl, sym, ap, subst, arith, length-append}
+use Rattle.std.proofs.Common.{◌≡◌, ◌≢◌, ◌∙◌, ◌⊎◌, ⊎_elim, ℕ, zero, suc, ◌+◌, ◌<◌, ◌≤◌, ◌==◌, not, Bool, true, false, if◌then◌else◌, List, [], ◌∷◌, ◌++◌, length, take, drop, slice_index_or, slice_set, All, AllPairs, refl, sym, ap, subst, arith, length-append, inl, inr}
 use Rattle.std.proofs.lemmas.List.{get_or-set_same, get_or-set_other, length-set, get_or_append_left, get_or-append-add, get_or_default, take_at}
 use Rattle.std.proofs.lemmas.List.Elements.{All-filter, filter-append, filter_passes}
 use Rattle.std.proofs.lemmas.List.Kept.{AllPairs-filter}
@@ -9,6 +9,7 @@ use Rattle.stable_tree.proofs.Removing.{filter-absent}
 use Rattle.page_table.specs.Table.{ArePlaced, groups_in, times}
 use Rattle.page_table.proofs.Ending.{but}
 use Rattle.page_table.proofs.Entries.{one_when, times-head, times-tail}
+use Rattle.page_table.proofs.Sides.{is_same}
 
 full : (x : ℕ) → 0 < x → (x == 0) ≡ false
 full x h = grind (arith, nat_tests)
@@ -84,42 +85,25 @@ module _ (slots slot_of : List ℕ) (are : ArePlaced slots slot_of) where
   pub placed-pushed : (f : ℕ) → 0 < f → f < length slot_of → times f (groups_in slots) ≡ 0 → ArePlaced (slots ++ f ∷ []) (slice_set slot_of f (length slots))
   placed-pushed f above there none =
       record {
-        below = λ j less. ⊎_elim (λ front. before_below j front) (λ last. last_below j last) (split j (more j less));
-        placed = λ j less full. ⊎_elim (λ front. before_placed j front full) (λ last. last_placed j last) (split j (more j less));
+        below = λ j less. let inside = more j less in grind (arith, nat_tests, inside, pushed j inside, length-set slot_of f (length slots), are.below j, there);
+        placed = λ j less full. placed j (more j less) full (is_same j (length slots));
       }
     where
       more : (j : ℕ) → j < length (slots ++ f ∷ []) → j < length slots + 1
       more j less = let long = length-append slots (f ∷ []) in omega (arith, long, less)
 
-      split : (j : ℕ) → j < length slots + 1 → (j < length slots) ⊎ (j ≡ length slots + 0)
-      split j less = grind arith
+      pushed : (j : ℕ) → j < length slots + 1 → slice_index_or (slots ++ f ∷ []) j 0 ≡ (if j == length slots then f else slice_index_or slots j 0)
+      pushed j less =
+          ⊎_elim (λ last. ap (λ (n : ℕ). slice_index_or (slots ++ f ∷ []) n 0) (omega (arith, last)) ∙ get_or-append-add slots (f ∷ []) 0 0 ∙ grind (arith, nat_tests))
+          (λ front. get_or_append_left slots (f ∷ []) 0 j (omega (arith, less, front)) ∙ grind (arith, nat_tests)) (is_same j (length slots))
 
-      last_is : (j : ℕ) → j ≡ length slots + 0 → slice_index_or (slots ++ f ∷ []) j 0 ≡ f
-      last_is j e = ap (λ (n : ℕ). slice_index_or (slots ++ f ∷ []) n 0) e ∙ get_or-append-add slots (f ∷ []) 0 0
-
-      last_below : (j : ℕ) → j ≡ length slots + 0 → slice_index_or (slots ++ f ∷ []) j 0 < length (slice_set slot_of f (length slots))
-      last_below j e = let is = last_is j e in let long = length-set slot_of f (length slots) in omega (arith, is, long, there)
-
-      last_placed : (j : ℕ) → j ≡ length slots + 0 → slice_index_or (slice_set slot_of f (length slots)) (slice_index_or (slots ++ f ∷ []) j 0) 0 ≡ j
-      last_placed j e =
-          ap (λ (n : ℕ). slice_index_or (slice_set slot_of f (length slots)) n 0) (last_is j e)
-          ∙ get_or-set_same slot_of f (length slots) 0 there ∙ (omega (arith, e))
-
-      front_is : (j : ℕ) → j < length slots → slice_index_or (slots ++ f ∷ []) j 0 ≡ slice_index_or slots j 0
-      front_is j less = get_or_append_left slots (f ∷ []) 0 j less
-
-      before_below : (j : ℕ) → j < length slots → slice_index_or (slots ++ f ∷ []) j 0 < length (slice_set slot_of f (length slots))
-      before_below j less = let is = front_is j less in let long = length-set slot_of f (length slots) in let old = are.below j less in omega (arith, is, long, old)
-
-      before_placed : (j : ℕ) → j < length slots → 0 < slice_index_or (slots ++ f ∷ []) j 0 → slice_index_or (slice_set slot_of f (length slots)) (slice_index_or (slots ++ f ∷ []) j 0) 0 ≡ j
-      before_placed j less full =
-          let is = front_is j less in
-          let above : 0 < slice_index_or slots j 0 = omega (arith, is, full) in
-          let listed = in-groups slots j less above in
-          let apart : slice_index_or slots j 0 ≢ f = λ same. let also = ap (λ (n : ℕ). times n (groups_in slots)) same in omega (arith, also, none, listed) in
-          ap (λ (n : ℕ). slice_index_or (slice_set slot_of f (length slots)) n 0) is
-          ∙ get_or-set_other slot_of f (slice_index_or slots j 0) (length slots) 0 apart
-          ∙ are.placed j less above
+      placed : (j : ℕ) → j < length slots + 1 → 0 < slice_index_or (slots ++ f ∷ []) j 0 → (j ≡ length slots) ⊎ (j ≢ length slots)
+          → slice_index_or (slice_set slot_of f (length slots)) (slice_index_or (slots ++ f ∷ []) j 0) 0 ≡ j
+      placed j less full (inl last) = grind (arith, nat_tests, pushed j less, get_or-set_same slot_of f (length slots) 0)
+      placed j less full (inr front) =
+          let listed = in-groups slots j (omega (arith, less, front)) in
+          let apart : 0 < slice_index_or slots j 0 → slice_index_or slots j 0 ≢ f = λ some same. let also = ap (λ (n : ℕ). times n (groups_in slots)) same in omega (arith, also, none, listed some) in
+          grind (arith, nat_tests, pushed j less, apart, get_or-set_other slot_of f (slice_index_or slots j 0) (length slots) 0, are.placed j)
 
   -- the groups alone
   pub groups-below : All (λ f. f < length slot_of) (groups_in slots)

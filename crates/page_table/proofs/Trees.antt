@@ -1,17 +1,17 @@
 -- The tree of groups has the groups of each content in order of creation, whatever happens to the table.
-use Rattle.std.proofs.Common.{◌≡◌, ◌≢◌, ◌∙◌, ⊎_elim, ℕ, zero, suc, ◌+◌, ◌<◌, ◌≤◌, ◌==◌, nat_lt, not, bytes_eq, Bool, true, false, if◌then◌else◌, List, [], ◌∷◌, ◌++◌, length, filter, find, slice_index_or, slice_set, All, refl, sym, ap, arith}
+use Rattle.std.proofs.Common.{◌≡◌, ◌≢◌, ◌∙◌, ℕ, zero, suc, ◌<◌, ◌≤◌, ◌==◌, nat_lt, not, bytes_eq, Bool, true, if◌then◌else◌, List, [], ◌∷◌, ◌++◌, length, filter, find, slice_index_or, slice_set, All, refl, sym, ap, arith}
 use Rattle.std.specs.List.{concat}
 use Rattle.std.proofs.lemmas.List.{get_or-set_other, length-set}
 use Rattle.std.proofs.lemmas.List.Elements.{All-nil, All-cons, filter-append}
 use Rattle.std.proofs.lemmas.List.Sums.{sum_by-cons, sum_by-append}
-use Rattle.std.proofs.lemmas.Bool.Decides.{eqb_tells}
+use Rattle.std.proofs.lemmas.Bool.Decides.{nat_tests}
 use Rattle.frame_arena.specs.Pages.{page_at}
 use Rattle.stable_tree.specs.Groups.{Groups, IsSorted, IsChain, has, content}
 use Rattle.stable_tree.proofs.Removing.{has-itself}
 use Rattle.page_table.specs.Table.{TableState, CountsState, IsSound, IsGroup, IsTreeOf, times, pages_on, is_open_frame}
 use Rattle.page_table.proofs.Ending.{but}
 use Rattle.host_types.proofs.Without.{without-length, times-gone, times-kept}
-use Rattle.page_table.proofs.Entries.{one_when, times-head, times-tail, not_equal, one_if_zero-above, group_of}
+use Rattle.page_table.proofs.Entries.{one_when, times-head, times-tail, one_if_zero-above, group_of, times-cons}
 use Rattle.page_table.proofs.Joining.{group-inside}
 
 -- a number that stands nowhere
@@ -25,34 +25,21 @@ nowhere f (x ∷ xs) none =
 -- a number passes a test as often as it stands there
 times-filter : (f : ℕ) (test : ℕ → Bool) (xs : List ℕ) → test f ≡ true → times f (filter test xs) ≡ times f xs
 times-filter f test [] passes = refl
-times-filter f test (x ∷ xs) passes =
-    let split = sum_by-cons (λ (y : ℕ). one_when (y == f)) x xs in
-    by_test (test x) refl (times-filter f test xs passes) split
-  where
-    by_test : (b : Bool) → test x ≡ b → times f (filter test xs) ≡ times f xs → times f (x ∷ xs) ≡ one_when (x == f) + times f xs
-        → times f (if b then x ∷ filter test xs else filter test xs) ≡ times f (x ∷ xs)
-    by_test true e rest split = omega (arith, rest, split, sum_by-cons (λ (y : ℕ). one_when (y == f)) x (filter test xs))
-    by_test false e rest split =
-        let apart : x ≢ f = λ same. let passed : test x ≡ true = ap test same ∙ passes in cc in
-        omega (arith, rest, split, ap one_when (not_equal f x apart))
+times-filter f test (x ∷ xs) passes = grind (arith, nat_tests, times-cons f x xs, times-cons f x (filter test xs), times-filter f test xs)
 
 -- lists with the same numbers are as long
 same-length : (n : ℕ) (xs ys : List ℕ) → length xs ≤ n → ((f : ℕ) → times f xs ≡ times f ys) → length xs ≡ length ys
 same-length n [] [] few same = refl
-same-length n [] (y ∷ ys) few same = let here = times-head y ys in let none = same y in absurd (omega (arith, here, none))
+same-length n [] (y ∷ ys) few same = grind (arith, times-head y ys, same y)
 same-length zero (x ∷ xs) ys few same = absurd (omega (arith, few))
 same-length (suc n) (x ∷ xs) ys few same =
-    let here = times-head x xs in
     let left = without-length x (x ∷ xs) in
-    let right = without-length x ys in
-    omega (arith, same-length n (but x (x ∷ xs)) (but x ys) (omega (arith, left, here, few)) less, left, right, same x)
+    let here = times-head x xs in
+    let rest = same-length n (but x (x ∷ xs)) (but x ys) (omega (arith, left, here, few)) less in
+    omega (arith, rest, left, without-length x ys, same x)
   where
     less : (f : ℕ) → times f (but x (x ∷ xs)) ≡ times f (but x ys)
-    less f =
-        ⊎_elim
-        (λ is. ap (λ n. times n (but x (x ∷ xs))) is.1 ∙ times-gone x (x ∷ xs) ∙ sym (ap (λ n. times n (but x ys)) is.1 ∙ times-gone x ys))
-        (λ other. times-kept x f (x ∷ xs) other.1 ∙ same f ∙ sym (times-kept x f ys other.1))
-        (eqb_tells f x)
+    less f = grind (arith, times-gone x (x ∷ xs), times-gone x ys, times-kept x f (x ∷ xs), times-kept x f ys, same f)
 
 module _ (arena : List (List ℕ)) (groups : List ℕ) (tree : Groups) (is : IsTreeOf arena groups tree) where
   pub tree-times : (f : ℕ) → times f (concat tree.chains) ≡ times f groups
