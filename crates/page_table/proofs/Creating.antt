@@ -5,7 +5,7 @@ use Rattle.std.proofs.lemmas.List.{get_or-set_same, get_or-set_other, get_or_pas
 use Rattle.page_table.specs.declared.pass.Pass.{Pass}
 use Rattle.host_types.specs.declared.shape.Shape.{Shape}
 use Rattle.host_types.specs.Bytes.{part_of, with_part}
-use Rattle.host_types.specs.Memory.{FlatMaps, map_at}
+use Rattle.host_types.specs.Memory.{map_at}
 use Rattle.host_types.specs.Pages.{map_place, zero_page}
 use Rattle.host_types.specs.Shapes.{IsShape, byte_len_of}
 use Rattle.host_types.specs.Sharing.{new_page}
@@ -19,9 +19,9 @@ use Rattle.page_table.specs.State.{MemoryState, part, free_of, have_of}
 use Rattle.page_table.specs.Changes.{zero_map, part_created, IsKeptBut, AreMapsKeptBut, KeepsSettings, with_new_pages}
 use Rattle.page_table.specs.View.{view_of, IsMemory}
 use Rattle.page_table.proofs.Sides.{order}
-use Rattle.page_table.proofs.Maps.{maps_of-changed, AreMaps-changed, length-maps_of, map_at-maps_of, part_of-set_other}
+use Rattle.page_table.proofs.Maps.{map_at-maps_of, part_of-set_other}
 use Rattle.page_table.proofs.Reading.{content_in, few_pages, map_at-part}
-use Rattle.page_table.proofs.Writing.{part-set_same, part-set_other, maps-set_other}
+use Rattle.page_table.proofs.Writing.{OneMap, memory_changed, one_map}
 use Rattle.page_table.proofs.Free.{free_is}
 use Rattle.page_table.specs.Table.{TableState, groups_of, used_by, state_of, states_of, maps_of, flat_of, ArePages, ArePagesOf, contents_of, entry_content}
 use Rattle.std.proofs.lemmas.Bool.Decides.{nat_tests}
@@ -236,29 +236,16 @@ module _ (table new : TableState) (shapes : List (Option Shape)) (tenants : List
   shape_there : slice_index_or shapes_new k None ≡ Some shape
   shape_there = get_or-set_same shapes k (Some shape) None place_inside
 
-  maps_new : maps_of shapes_new (contents_of new) ≡ slice_set (maps_of shapes (contents_of table)) k (Some (zero_map shape))
-  maps_new =
-      maps_of-changed shapes shapes_new (contents_of table) (contents_of new) k (Some (zero_map shape)) (length-set shapes k (Some shape)) place_inside
-      (λ j ne. get_or-set_other shapes k j (Some shape) None ne) others_new
-      (ap (option_map (flat_of pages_new)) shape_there ∙ ap (λ f. Some f) (flat_created shape pages_new shaped new_there new_none))
+  wide : length (contents_of new) ≡ length (contents_of table)
+  wide =
+      let fits : k * 256 + length (replicate (page_count shape) zero_page) ≤ length (contents_of table) = omega (arith, length-replicate (page_count shape) zero_page, all, few) in
+      ap length contents ∙ length-with_part (contents_of table) (k * 256) (replicate (page_count shape) zero_page) fits
 
   pub memory_created : IsMemory new shapes_new tenants reserved
   memory_created =
-      let long = length-replicate (page_count shape) zero_page in
-      let h = all in
-      let f = few in
-      record {
-        maps = AreMaps-changed shapes shapes_new (contents_of table) (contents_of new) k (length-set shapes k (Some shape))
-            (ap length contents ∙ length-with_part (contents_of table) (k * 256) (replicate (page_count shape) zero_page) (omega (arith, long, h, f)))
-            (λ j ne. get_or-set_other shapes k j (Some shape) None ne) others_new
-            (subst (λ s. ArePages s pages_new) (sym shape_there) (pages_created shape pages_new shaped new_there new_none))
-            is.maps;
-        numbers = length-set shapes k (Some shape) ∙ is.numbers;
-        few = is.few;
-        frames = omega (arith, arena, is.frames);
-        sum = is.sum;
-        room = omega (arith, arena, used, room);
-      }
+      memory_changed table new shapes shapes_new tenants reserved tenant m is small place_inside (length-set shapes k (Some shape)) wide
+      (λ j ne. get_or-set_other shapes k j (Some shape) None ne) others_new arena (omega (arith, used, room))
+      (subst (λ s. ArePages s pages_new) (sym shape_there) (pages_created shape pages_new shaped new_there new_none))
 
   abbrev before : MemoryState
   before = view_of table shapes tenants pass
@@ -266,54 +253,32 @@ module _ (table new : TableState) (shapes : List (Option Shape)) (tenants : List
   abbrev after : MemoryState
   after = view_of new shapes_new tenants pass
 
-  maps_after : after.maps ≡ slice_set before.maps k (Some (zero_map shape))
-  unfolding view_of
-  maps_after = maps_new
-
-  tenants_after : after.tenants ≡ before.tenants
-  unfolding view_of
-  tenants_after = refl
-
-  map_after : map_at (part after tenant).maps m ≡ Some (zero_map shape)
-  unfolding view_of part
-  map_after =
-      let long = length-maps_of shapes (contents_of table) in
-      let h = place_inside in
-      map_at-part (maps_of shapes_new (contents_of new)) tenant m small
-      ∙ ap (λ (maps : FlatMaps). map_at maps k) maps_new
-      ∙ get_or-set_same (maps_of shapes (contents_of table)) k (Some (zero_map shape)) None (omega (arith, long, h))
+  one : OneMap before after tenant m (Some (zero_map shape)) (part_of pass.pins (tenant * 2048) 2048)
+  one =
+      one_map table new shapes shapes_new tenants reserved tenant m is small place_inside (length-set shapes k (Some shape)) wide
+      (λ j ne. get_or-set_other shapes k j (Some shape) None ne) others_new arena pass pass (Some (zero_map shape)) (part_of pass.pins (tenant * 2048) 2048)
+      (ap (option_map (flat_of pages_new)) shape_there ∙ ap (λ f. Some f) (flat_created shape pages_new shaped new_there new_none)) refl (λ u ne. refl)
 
   created_after : part after tenant ≡ part_created (part before tenant) m shape
   unfolding view_of part
-  created_after = part-set_same before after tenant m (Some (zero_map shape)) (part_of pass.pins (tenant * 2048) 2048) small tenants_after maps_after refl
-
-  others_after : IsKeptBut tenant before after
-  unfolding view_of
-  others_after = part-set_other before after tenant m (Some (zero_map shape)) small tenants_after maps_after (λ u ne. refl)
+  created_after = one.part_new
 
   sharing_after : after.sharing ≡ with_new_pages before.sharing (k * 256) (page_count shape) mergeable
   unfolding view_of with_new_pages
   sharing_after = rw (states, groups) refl
 
-  free_after : free_of after + page_count shape ≡ free_of before
-  free_after =
-      let old = free_is table shapes tenants pass (omega (arith, room)) in
-      omega (arith, old, free_is new shapes_new tenants pass (omega (arith, room, used, arena)), used, arena)
-
-  settings_after : KeepsSettings before after
-  unfolding view_of
-  settings_after = record { tenants = refl; frames = arena }
-
   pub creates : Creates before after tenant m shape mergeable
   creates =
+      let old = free_is table shapes tenants pass (omega (arith, room)) in
+      let newer = free_is new shapes_new tenants pass (omega (arith, room, used, arena)) in
       record {
         created = created_after;
-        there = map_after;
-        other_maps = maps-set_other before after tenant m (Some (zero_map shape)) small tenants_after maps_after;
-        others = others_after;
+        there = one.there;
+        other_maps = one.other_maps;
+        others = one.others;
         sharing = sharing_after;
-        free = free_after;
-        settings = settings_after;
+        free = omega (arith, old, newer, used, arena);
+        settings = one.settings;
       }
 
 -- the conditions of a new map, over what callers see

@@ -19,18 +19,17 @@ use Rattle.page_table.specs.declared.tenant.Tenant.{Tenant}
 use Rattle.page_table.specs.Limits.{page_count}
 use Rattle.page_table.specs.State.{MemoryState, part, free_of, have_of}
 use Rattle.page_table.specs.Changes.{IsKeptBut, AreMapsKeptBut, KeepsSettings}
-use Rattle.page_table.specs.Table.{TableState, IsTable, AreOwnKeptOutside, ArePagesOf, ArePages, IsPageAt, entry_at, state_of, states_of, contents_of, sharing_of, waiting_of, used_by, maps_of, flat_of}
+use Rattle.page_table.specs.Table.{TableState, IsTable, AreOwnKeptOutside, ArePagesOf, ArePages, IsPageAt, entry_at, state_of, states_of, contents_of, sharing_of, waiting_of, used_by, flat_of}
 use Rattle.page_table.specs.View.{view_of, is_listed, AreWaiters, IsMemory, IsPass}
 use Rattle.page_table.proofs.Sides.{order}
 use Rattle.page_table.proofs.Creating.{behind_filled, filled_more, with_part-none, length-contents, others-filled, part_of-short, filled_at}
 use Rattle.page_table.proofs.Costs.{state-at}
 use Rattle.page_table.proofs.Fitting.{pins-kept}
 use Rattle.page_table.proofs.Free.{free_is}
-use Rattle.page_table.proofs.Maps.{maps_of-changed, AreMaps-changed}
 use Rattle.page_table.proofs.Reading.{content_in, few_pages}
 use Rattle.page_table.proofs.Shapes.{map_past, shape_told}
 use Rattle.page_table.proofs.Waiters.{waiter-kept}
-use Rattle.page_table.proofs.Writing.{part-set_same, part-set_other, maps-set_other}
+use Rattle.page_table.proofs.Writing.{OneMap, memory_changed, one_map}
 use Rattle.page_table.proofs.Scanning.{is_page_at_entry}
 use Rattle.page_table.proofs.Unpinning.{fit-fewer, outside-pinned, others-unpinned, tenant-unpinned, pins-inside}
 use Rattle.page_table.proofs.Vacating.{gone_from-last}
@@ -247,39 +246,21 @@ module _ (table : TableState) (shapes : List (Option Shape)) (tenants : List Ten
     shape_gone : slice_index_or shapes_new k None ≡ None
     shape_gone = get_or-set_same shapes k None None index_inside
 
-    maps_new : maps_of shapes_new (contents_of new) ≡ slice_set (maps_of shapes (contents_of table)) k None
-    maps_new =
-        maps_of-changed shapes shapes_new (contents_of table) (contents_of new) k None (length-set shapes k None) index_inside
-        (λ j ne. get_or-set_other shapes k j None None ne) others_new
-        (ap (option_map (flat_of pages_new)) shape_gone)
+    wide : length (contents_of new) ≡ length (contents_of table)
+    wide =
+        let fits : k * 256 + length (replicate {A = List ℕ} (page_count shape) []) ≤ length (contents_of table) = omega (arith, length-replicate {A = List ℕ} (page_count shape) [], all, few) in
+        ap length contents ∙ length-with_part (contents_of table) (k * 256) (replicate (page_count shape) []) fits
 
     pub memory_dropped : IsMemory new shapes_new tenants reserved
     memory_dropped =
-        let long = length-replicate {A = List ℕ} (page_count shape) [] in
-        let h = all in
-        let f = few in
-        record {
-          maps = AreMaps-changed shapes shapes_new (contents_of table) (contents_of new) k (length-set shapes k None)
-              (ap length contents ∙ length-with_part (contents_of table) (k * 256) (replicate (page_count shape) []) (omega (arith, long, h, f)))
-              (λ j ne. get_or-set_other shapes k j None None ne) others_new
-              (subst (λ s. ArePages s pages_new) (sym shape_gone) none_new)
-              is.maps;
-          numbers = length-set shapes k None ∙ is.numbers;
-          few = is.few;
-          frames = omega (arith, arena, is.frames);
-          sum = is.sum;
-          room = omega (arith, arena, used, is.room);
-        }
+        memory_changed table new shapes shapes_new tenants reserved tenant m is small index_inside (length-set shapes k None) wide
+        (λ j ne. get_or-set_other shapes k j None None ne) others_new arena (omega (arith, used, is.room)) (subst (λ s. ArePages s pages_new) (sym shape_gone) none_new)
 
     pub shapes_few : length shapes_new ≤ 128
     shapes_few = let long = length-set shapes k None in omega (arith, long, is.numbers, is.few)
 
     pub long_new : length new.entries ≡ length table.entries
-    long_new =
-        let filled = length-replicate {A = List ℕ} (page_count shape) [] in
-        let h = all in
-        let f = few in
-        sym (length-contents new) ∙ ap length contents ∙ length-with_part (contents_of table) (k * 256) (replicate (page_count shape) []) (omega (arith, filled, h, f)) ∙ length-contents table
+    long_new = sym (length-contents new) ∙ wide ∙ length-contents table
 
     module _ (fits : IsTable table) (fit : PinsFit (states_of table.entries) pass.pins) (done : Pass) (ended : sharing_of new done ≡ ended_at (sharing_of new (left_outside (k * 256) (k * 256 + page_count shape) pass)) pass.cursor)
         (told : sharing_of new pass ≡ record (gone_from (sharing_of table pass) (k * 256) (page_count shape)) { pins = pass.pins }) where
@@ -288,14 +269,6 @@ module _ (table : TableState) (shapes : List (Option Shape)) (tenants : List Ten
 
       abbrev after : MemoryState
       after = view_of new shapes_new tenants done
-
-      maps_after : after.maps ≡ slice_set before.maps k None
-      unfolding view_of
-      maps_after = maps_new
-
-      tenants_after : after.tenants ≡ before.tenants
-      unfolding view_of
-      tenants_after = refl
 
       sharing_after : after.sharing ≡ dropped before.sharing (k * 256) (page_count shape)
       unfolding view_of dropped
@@ -310,42 +283,29 @@ module _ (table : TableState) (shapes : List (Option Shape)) (tenants : List Ten
       tenant_pins : tenant * 2048 + 2048 ≤ length pass.pins
       tenant_pins = let t = tenant_inside in pins-inside table shapes tenants pass reserved is fit tenant t
 
+      one : OneMap before after tenant m None (with_part (part_of pass.pins (tenant * 2048) 2048) (m * 256) (replicate 256 false))
+      one =
+          let within : m * 256 + 256 ≤ 2048 = omega (arith, small) in
+          one_map table new shapes shapes_new tenants reserved tenant m is small index_inside (length-set shapes k None) wide (λ j ne. get_or-set_other shapes k j None None ne) others_new arena
+          pass done None (with_part (part_of pass.pins (tenant * 2048) 2048) (m * 256) (replicate 256 false)) (ap (option_map (flat_of pages_new)) shape_gone)
+          (ap (λ (pins : List Bool). part_of pins (tenant * 2048) 2048) pins_after ∙ tenant-unpinned pass.pins tenant (m * 256) 256 within tenant_pins)
+          (λ u ne. ap (λ (pins : List Bool). part_of pins (u * 2048) 2048) pins_after ∙ others-unpinned pass.pins tenant (m * 256) 256 u within tenant_pins ne)
+
       taken_after : part after tenant ≡ part_dropped (part before tenant) m
       unfolding view_of part
-      taken_after =
-          part-set_same before after tenant m None (with_part (part_of pass.pins (tenant * 2048) 2048) (m * 256) (replicate 256 false)) small tenants_after maps_after
-          (ap (λ (pins : List Bool). part_of pins (tenant * 2048) 2048) pins_after ∙ tenant-unpinned pass.pins tenant (m * 256) 256 (let h = small in omega (arith, h)) tenant_pins)
-
-      others_after : IsKeptBut tenant before after
-      unfolding view_of
-      others_after =
-          part-set_other before after tenant m None small tenants_after maps_after
-          (λ u ne. ap (λ (pins : List Bool). part_of pins (u * 2048) 2048) pins_after ∙ others-unpinned pass.pins tenant (m * 256) 256 u (let h = small in omega (arith, h)) tenant_pins ne)
-
-      old_free : free_of before + used_by table ≡ length table.arena
-      old_free = free_is table shapes tenants pass (omega (arith, is.room))
-
-      new_free : free_of after + used_by new ≡ length table.arena
-      new_free = let told = free_is new shapes_new tenants done (omega (arith, used, arena, is.room)) in omega (arith, told, arena)
-
-      have_after : have_of after + free_of before ≡ have_of before + free_of after
-      unfolding view_of
-      have_after = let old = old_free in let newer = new_free in omega (arith, old, newer, is.room, is.sum, used)
-
-      settings_after : KeepsSettings before after
-      unfolding view_of
-      settings_after = record { tenants = refl; frames = arena }
+      taken_after = one.part_new
 
       pub drops : Drops before after tenant m shape
+      unfolding view_of
       drops =
-          let old = old_free in
-          let newer = new_free in
+          let old = free_is table shapes tenants pass (omega (arith, is.room)) in
+          let newer = free_is new shapes_new tenants done (omega (arith, used, arena, is.room)) in
           record {
             taken = taken_after;
-            other_maps = maps-set_other before after tenant m None small tenants_after maps_after;
-            others = others_after;
+            other_maps = one.other_maps;
+            others = one.others;
             sharing = sharing_after;
-            freed = omega (arith, old, newer, used);
-            have = have_after;
-            settings = settings_after;
+            freed = omega (arith, old, newer, used, arena);
+            have = omega (arith, old, newer, is.room, is.sum, used, arena);
+            settings = one.settings;
           }

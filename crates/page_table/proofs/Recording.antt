@@ -110,47 +110,38 @@ module _ (table : TableState) (shapes : List (Option Shape)) (tenants : List Ten
         let told = free_is table shapes tenants pass (omega (arith, is.room)) in
         omega (arith, sum, small, told, free_is table shapes recorded pass (omega (arith, is.room)), is.room, is.sum, room)
 
--- what another record of one tenant leaves, over what callers see
-pub record Records (old new : MemoryState) (t : ℕ) (kept : Tenant) : Type 0 where
+-- what another record of one tenant needs and leaves, over what callers see
+pub record Records (old new : MemoryState) (table : TableState) (shapes : List (Option Shape)) (tenants : List Tenant) (reserved t before : ℕ) (kept : Tenant) : Type 0 where
+  pub there : t < length tenants
+  pub least : before ≤ reserved
+  pub small : reserved - before + kept.reserve ≤ 4096
+  pub memory : IsMemory table shapes (slice_set tenants t kept) (reserved - before + kept.reserve)
   pub recorded_part : part new t ≡ record (part old t) { reserve = kept.reserve; running = kept.running }
   pub others : IsKeptBut t old new
   pub have : have_of new + kept.reserve ≡ have_of old + (part old t).reserve
   pub all : new ≡ record old { tenants = slice_set old.tenants t kept }
 
-module _ (table : TableState) (shapes : List (Option Shape)) (tenants : List Tenant) (pass : Pass) (reserved : ℕ) (is : IsMemory table shapes tenants reserved)
-    (now : MemoryState) (same : view_of table shapes tenants pass ≡ now) (t before : ℕ) (kept : Tenant)
-    (eight : length (part now t).maps ≡ 8) (room : kept.reserve ≤ have_of now + (part now t).reserve) (told : before ≡ (part now t).reserve) where
-  abbrev renewed : List Tenant
-  renewed = slice_set tenants t kept
+reserve_told : (table : TableState) (shapes : List (Option Shape)) (tenants : List Tenant) (pass : Pass) (t : ℕ)
+    → (part (view_of table shapes tenants pass) t).reserve ≡ (slice_index_or tenants t unreserved_tenant).reserve
+unfolding view_of part
+reserve_told table shapes tenants pass t = refl
 
-  eight_here : length (part (view_of table shapes tenants pass) t).maps ≡ 8
-  eight_here = rw (← same) at eight
-
-  room_here : kept.reserve ≤ have_of (view_of table shapes tenants pass) + (part (view_of table shapes tenants pass) t).reserve
-  room_here = rw (← same) at room
-
-  pub before_is : before ≡ (slice_index_or tenants t unreserved_tenant).reserve
-  unfolding view_of part
-  before_is = rw (← same) at told
-
-  pub record_there : t < length tenants
-  record_there = tenant_there table shapes tenants pass reserved is t eight_here
-
-  pub record_before : before ≤ reserved
-  record_before = omega (arith, before_small table shapes tenants pass reserved is t kept eight_here room_here, before_is)
-
-  pub record_fits : reserved - before + kept.reserve ≤ 4096
-  record_fits = omega (arith, fits table shapes tenants pass reserved is t kept eight_here room_here, before_is, is.frames)
-
-  pub record_memory : IsMemory table shapes renewed (reserved - before + kept.reserve)
-  record_memory = rw before_is (memory_recorded table shapes tenants pass reserved is t kept eight_here room_here)
-
-  pub records : Records now (view_of table shapes renewed pass) t kept
-  records =
-      rw (← same)
-      record {
-        recorded_part = part_recorded table shapes tenants pass reserved is t kept eight_here room_here;
-        others = others_recorded table shapes tenants pass reserved is t kept eight_here room_here;
-        have = have_recorded table shapes tenants pass reserved is t kept eight_here room_here;
-        all = all_recorded table shapes tenants pass reserved is t kept eight_here room_here;
-      }
+pub records : (table : TableState) (shapes : List (Option Shape)) (tenants : List Tenant) (pass : Pass) (reserved : ℕ) → IsMemory table shapes tenants reserved
+    → (now : MemoryState) → view_of table shapes tenants pass ≡ now → (t before : ℕ) (kept : Tenant)
+    → length (part now t).maps ≡ 8 → kept.reserve ≤ have_of now + (part now t).reserve → before ≡ (part now t).reserve
+    → Records now (view_of table shapes (slice_set tenants t kept) pass) table shapes tenants reserved t before kept
+records table shapes tenants pass reserved is now same t before kept eight room told =
+    let eight_here : length (part (view_of table shapes tenants pass) t).maps ≡ 8 = rw (← same) at eight in
+    let room_here : kept.reserve ≤ have_of (view_of table shapes tenants pass) + (part (view_of table shapes tenants pass) t).reserve = rw (← same) at room in
+    let before_is : before ≡ (slice_index_or tenants t unreserved_tenant).reserve = (rw (← same) at told) ∙ reserve_told table shapes tenants pass t in
+    rw (← same)
+    record {
+      there = tenant_there table shapes tenants pass reserved is t eight_here;
+      least = omega (arith, before_small table shapes tenants pass reserved is t kept eight_here room_here, before_is);
+      small = omega (arith, fits table shapes tenants pass reserved is t kept eight_here room_here, before_is, is.frames);
+      memory = rw before_is (memory_recorded table shapes tenants pass reserved is t kept eight_here room_here);
+      recorded_part = part_recorded table shapes tenants pass reserved is t kept eight_here room_here;
+      others = others_recorded table shapes tenants pass reserved is t kept eight_here room_here;
+      have = have_recorded table shapes tenants pass reserved is t kept eight_here room_here;
+      all = all_recorded table shapes tenants pass reserved is t kept eight_here room_here;
+    }
