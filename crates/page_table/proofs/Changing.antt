@@ -8,7 +8,7 @@ use Rattle.host_types.specs.Sharing.{is_shared}
 use Rattle.host_types.specs.Pages.{zero_page}
 use Rattle.frame_arena.specs.Pages.{page_at}
 use Rattle.page_table.specs.declared.entry.Entry.{Entry}
-use Rattle.page_table.specs.Table.{TableState, CountsState, IsTable, IsEntry, IsAlone, IsGroup, AreCountsOf, LiesRight, times, entry_at, is_on, pages_on, used_by}
+use Rattle.page_table.specs.Table.{TableState, CountsState, IsTable, IsEntry, IsAlone, IsGroup, AreCountsOf, LiesRight, times, entry_at, is_on, pages_on, used_by, IsOwnAt}
 use Rattle.page_table.proofs.Entries.{equal, inside, alone, at_set}
 
 -- a page that isn't shared is alone on its frame
@@ -33,6 +33,20 @@ lies_alone table f Zero e a = absurd (cc)
 -- the entry at a place fits
 pub entry_fits : (table : TableState) (i : ℕ) (entry : Entry) → IsTable table → entry_at table.entries i ≡ Some entry → IsEntry table entry
 entry_fits table i entry is e = subst (λ (x : Option Entry). IfSome x (IsEntry table)) e (is.entries i)
+
+-- a page with a frame of its own
+pub record IsOwnEntry (table : TableState) (i : ℕ) (entry : Entry) : Type 0 where
+  pub here : entry_at table.entries i ≡ Some entry
+  pub own : is_shared entry.status ≡ false
+
+-- told of the table as callers see it
+pub own_seen : (table now : TableState) → table ≡ now → (i : ℕ) (entry : Entry) → entry_at now.entries i ≡ Some entry → IsOwnAt now i → IsOwnEntry table i entry
+own_seen table now same i entry there own =
+    rw same record { here = there; own = subst (λ (x : Option Entry). IfSome x (λ (entry : Entry). is_shared entry.status ≡ false)) there own }
+
+-- it is alone there
+pub own_alone : (table : TableState) (i : ℕ) (entry : Entry) → IsTable table → IsOwnEntry table i entry → IsAlone table entry.frame
+own_alone table i entry is own = is_alone table entry (entry_fits table i entry is own.here) own.own
 
 -- an entry fits another table too, where a page that is alone stays alone
 pub fits-after : (old new : TableState) (entry : Entry) → length new.arena ≡ length old.arena

@@ -15,22 +15,7 @@ use Rattle.page_table.specs.Table.{TableState, ArePages, entry_content, contents
 use Rattle.page_table.specs.View.{view_of, IsMemory, IsPass}
 use Rattle.page_table.proofs.Sides.{order}
 use Rattle.page_table.proofs.Adding.{own_one}
-use Rattle.page_table.proofs.Putting.{empty_table}
-
-nothing : (n i : ℕ) → slice_index_or (replicate {A = List ℕ} n []) i [] ≡ []
-nothing zero i = refl
-nothing (suc n) zero = refl
-nothing (suc n) (suc i) = nothing n i
-
-no_shape : (n k : ℕ) → slice_index_or (replicate {A = Option Shape} n None) k None ≡ None
-no_shape zero k = refl
-no_shape (suc n) zero = refl
-no_shape (suc n) (suc k) = no_shape n k
-
-no_pin : (n i : ℕ) → slice_index_or (replicate n false) i false ≡ false
-no_pin zero i = refl
-no_pin (suc n) zero = refl
-no_pin (suc n) (suc i) = no_pin n i
+use Rattle.page_table.proofs.Putting.{empty_table, all_same}
 
 no_maps : (n : ℕ) (contents : List (List ℕ)) → maps_of (replicate n None) contents ≡ replicate n None
 unfolding maps_of
@@ -66,7 +51,7 @@ module _ (frames tenants : ℕ) (options : Options) (limits : AreLimits frames t
       record {
         maps = record {
           places = omega (arith, places, long);
-          each = λ k less. pages k (slice_index_or (replicate (tenants * 8) None) k None) (no_shape (tenants * 8) k);
+          each = λ k less. pages k (slice_index_or (replicate (tenants * 8) None) k None) (all_same {X = Option Shape} None (tenants * 8) k);
         };
         numbers = omega (arith, long, count);
         few = omega (arith, count, limits.few_tenants);
@@ -76,7 +61,7 @@ module _ (frames tenants : ℕ) (options : Options) (limits : AreLimits frames t
       }
     where
       pages : (k : ℕ) (shape : Option Shape) → shape ≡ None → ArePages shape (part_of (contents_of table) (k * 256) 256)
-      pages k shape e = rw e (λ n. part_nothing (contents_of table) (k * 256) 256 n (λ i. ap (λ l. slice_index_or l i []) no_contents ∙ nothing (tenants * 2048) i))
+      pages k shape e = rw e (λ n. part_nothing (contents_of table) (k * 256) 256 n (λ i. ap (λ l. slice_index_or l i []) no_contents ∙ all_same {X = List ℕ} [] (tenants * 2048) i))
 
   pub view_new : view_of table (replicate (tenants * 8) None) (replicate tenants unreserved_tenant) (new_pass frames (tenants * 2048) options) ≡ new_memory frames tenants options
   unfolding view_of groups_of new_memory
@@ -91,6 +76,6 @@ module _ (frames tenants : ℕ) (options : Options) (limits : AreLimits frames t
         cursor = tt;
         pins = record {
           as_many = length-replicate (tenants * 2048) false ∙ sym (length-map (replicate (tenants * 2048) None) (option_map state_of) ∙ length-replicate {A = Option Entry} (tenants * 2048) None);
-          volatile = λ i is. absurd (let none = no_pin (tenants * 2048) i in cc);
+          volatile = λ i is. absurd (let none = all_same false (tenants * 2048) i in cc);
         };
       }

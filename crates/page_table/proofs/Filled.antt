@@ -65,6 +65,17 @@ pins-new maps =
         ∙ ap pinned_among (take-replicate 256 (maps * 256 - k * 256) false (omega (arith, less)))
         ∙ none-pinned 256
 
+-- the pins of one map changed, and its number with them
+pins-changed : (pins now : List Bool) (numbers : List ℕ) (k n : ℕ) → ArePinsOf pins numbers → k < length numbers → length now ≡ length pins
+    → ((j : ℕ) → j ≢ k → part_of now (j * 256) 256 ≡ part_of pins (j * 256) 256) → n ≡ pinned_among (part_of now (k * 256) 256) → ArePinsOf now (slice_set numbers k n)
+pins-changed pins now numbers k n are inside long others here = record {
+  maps = omega (arith, long, are.maps, length-set numbers k n);
+  each = λ j less. ⊎_elim
+      (λ same. ap (λ (i : ℕ). slice_index_or (slice_set numbers k n) i 0) same ∙ get_or-set_same numbers k n 0 inside ∙ here ∙ ap (λ (i : ℕ). pinned_among (part_of now (i * 256) 256)) (sym same))
+      (λ other. get_or-set_other numbers k j n 0 other ∙ are.each j (omega (arith, less, length-set numbers k n)) ∙ sym (ap pinned_among (others j other)))
+      (is_same j k);
+}
+
 module _ (pins : List Bool) (numbers : List ℕ) (are : ArePinsOf pins numbers) where
   -- a map's number is no more than that of its pages
   pub number-small : (k : ℕ) → k < length numbers → slice_index_or numbers k 0 ≤ 256
@@ -99,24 +110,10 @@ module _ (pins : List Bool) (numbers : List ℕ) (are : ArePinsOf pins numbers) 
         omega (arith, sum_by-set one_if part n true false (omega (arith, l, small)), ap one_if was)
 
     pub pins-more : ArePinsOf (slice_set pins (k * 256 + n) true) (slice_set numbers k (slice_index_or numbers k 0 + 1))
-    pins-more = record {
-      maps = let a = length-set pins (k * 256 + n) true in let b = length-set numbers k (slice_index_or numbers k 0 + 1) in omega (arith, a, b, are.maps);
-      each = λ j less. ⊎_elim (λ same. at_same j same) (λ other. at_other j other (let b = length-set numbers k (slice_index_or numbers k 0 + 1) in omega (arith, less, b))) (is_same j k);
-    }
-      where
-        at_k : slice_index_or (slice_set numbers k (slice_index_or numbers k 0 + 1)) k 0 ≡ pinned_among (part_of (slice_set pins (k * 256 + n) true) (k * 256) 256)
-        at_k =
-            get_or-set_same numbers k (slice_index_or numbers k 0 + 1) 0 here
-            ∙ ap (λ (m : ℕ). m + 1) (are.each k here) ∙ sym more
-            ∙ sym (ap pinned_among (part_of-set_same pins (k * 256) n 256 true small))
-
-        at_same : (j : ℕ) → j ≡ k → slice_index_or (slice_set numbers k (slice_index_or numbers k 0 + 1)) j 0 ≡ pinned_among (part_of (slice_set pins (k * 256 + n) true) (j * 256) 256)
-        at_same j same = subst (λ (j : ℕ). slice_index_or (slice_set numbers k (slice_index_or numbers k 0 + 1)) j 0 ≡ pinned_among (part_of (slice_set pins (k * 256 + n) true) (j * 256) 256)) (sym same) at_k
-
-        at_other : (j : ℕ) → j ≢ k → j < length numbers → slice_index_or (slice_set numbers k (slice_index_or numbers k 0 + 1)) j 0 ≡ pinned_among (part_of (slice_set pins (k * 256 + n) true) (j * 256) 256)
-        at_other j ne less =
-            get_or-set_other numbers k j (slice_index_or numbers k 0 + 1) 0 ne ∙ are.each j less
-            ∙ sym (ap pinned_among (part_of-set_other pins k n j 256 true small ne))
+    pins-more =
+        pins-changed pins (slice_set pins (k * 256 + n) true) numbers k (slice_index_or numbers k 0 + 1) are here (length-set pins (k * 256 + n) true)
+        (λ j ne. part_of-set_other pins k n j 256 true small ne)
+        (ap (λ (m : ℕ). m + 1) (are.each k here) ∙ sym more ∙ sym (ap pinned_among (part_of-set_same pins (k * 256) n 256 true small)))
 
   -- the same by the page's place
   pub pins-more-at : (place now : ℕ) → place < length pins → slice_index_or pins place false ≡ false → now ≡ slice_index_or numbers (place / 256) 0 → ArePinsOf (slice_set pins place true) (slice_set numbers (place / 256) (now + 1))
@@ -139,23 +136,10 @@ module _ (pins : List Bool) (numbers : List ℕ) (are : ArePinsOf pins numbers) 
         ap (with_part pins (k * 256)) (sym same) ∙ with_part-same pins (k * 256) 256 whole
 
     pub pins-cleared : ArePinsOf (with_part pins (k * 256) (replicate 256 false)) (slice_set numbers k 0)
-    pins-cleared = record {
-      maps = let a = length-with_part pins (k * 256) (replicate 256 false) whole in let b = length-set numbers k 0 in omega (arith, a, b, are.maps);
-      each = λ j less. ⊎_elim (λ same. at_same j same) (λ other. at_other j other (let b = length-set numbers k 0 in omega (arith, less, b))) (is_same j k);
-    }
-      where
-        at_k : slice_index_or (slice_set numbers k 0) k 0 ≡ pinned_among (part_of (with_part pins (k * 256) (replicate 256 false)) (k * 256) 256)
-        at_k =
-            get_or-set_same numbers k 0 0 inside ∙ sym (none-pinned 256)
-            ∙ sym (ap pinned_among (part-with_part_same pins (k * 256) (replicate 256 false) 256 refl whole))
-
-        at_same : (j : ℕ) → j ≡ k → slice_index_or (slice_set numbers k 0) j 0 ≡ pinned_among (part_of (with_part pins (k * 256) (replicate 256 false)) (j * 256) 256)
-        at_same j same = subst (λ (j : ℕ). slice_index_or (slice_set numbers k 0) j 0 ≡ pinned_among (part_of (with_part pins (k * 256) (replicate 256 false)) (j * 256) 256)) (sym same) at_k
-
-        at_other : (j : ℕ) → j ≢ k → j < length numbers → slice_index_or (slice_set numbers k 0) j 0 ≡ pinned_among (part_of (with_part pins (k * 256) (replicate 256 false)) (j * 256) 256)
-        at_other j ne less =
-            get_or-set_other numbers k j 0 0 ne ∙ are.each j less
-            ∙ sym (ap pinned_among (others-filled pins (k * 256) k 0 256 j 256 false (omega arith) (omega arith) whole ne))
+    pins-cleared =
+        pins-changed pins (with_part pins (k * 256) (replicate 256 false)) numbers k 0 are inside (length-with_part pins (k * 256) (replicate 256 false) whole)
+        (λ j ne. others-filled pins (k * 256) k 0 256 j 256 false (omega arith) (omega arith) whole ne)
+        (sym (none-pinned 256) ∙ sym (ap pinned_among (part-with_part_same pins (k * 256) (replicate 256 false) 256 refl whole)))
 
 -- another map more has no pinned pages
 pub filled-more : (pins : List Bool) (first n : ℕ) → first * 256 + n * 256 + 256 ≤ length pins

@@ -1,12 +1,12 @@
 -- A page that keeps its own frame gets another status and fingerprint.
-use Rattle.std.proofs.Common.{◌≡◌, ◌∙◌, ℕ, ◌<◌, Bool, false, if◌then◌else◌, length, slice_set, Option, Some, IfSome, refl, sym, ap, subst, arith}
+use Rattle.std.proofs.Common.{◌≡◌, ◌∙◌, ℕ, ◌<◌, Bool, false, if◌then◌else◌, length, slice_set, Some, refl, sym, ap, arith}
 use Rattle.host_types.specs.declared.status.Status.{Status}
 use Rattle.host_types.specs.Sharing.{is_shared}
 use Rattle.host_types.specs.Visits.{with_page}
 use Rattle.page_table.specs.declared.entry.Entry.{Entry}
 use Rattle.page_table.specs.declared.pass.Pass.{Pass}
 use Rattle.page_table.specs.Table.{TableState, CountsState, IsOwnAt, IsTable, IsSound, AreCountsOf, entry_at, contents_of, groups_of, sharing_of, is_on, pages_on, used_by, marked}
-use Rattle.page_table.proofs.Changing.{is_alone, entry_fits, table-changed, counted-changed, lies_alone}
+use Rattle.page_table.proofs.Changing.{is_alone, entry_fits, table-changed, counted-changed, lies_alone, own_seen}
 use Rattle.page_table.proofs.Entries.{one_when, on_one, pages_on-set, inside, places_on-set, groups-kept, states-set}
 use Rattle.page_table.proofs.Adding.{own_one, own_pages-set}
 use Rattle.page_table.proofs.Moving.{with_entry, contents-entry}
@@ -25,12 +25,8 @@ pub record IsMarking (table : TableState) (i : ℕ) (entry : Entry) (status : St
 -- a page that callers see as such may be marked
 pub marking-from : (table now : TableState) (i : ℕ) (entry : Entry) (status : Status) → table ≡ now → IsTable table → entry_at now.entries i ≡ Some entry → IsOwnAt now i → is_shared status ≡ false → IsMarking table i entry status
 marking-from table now i entry status e is there own own_new =
-    record {
-      is = is;
-      here = ap (λ (t : TableState). entry_at t.entries i) e ∙ there;
-      own = subst (λ (y : Option Entry). IfSome y (λ (e : Entry). is_shared e.status ≡ false)) there own;
-      own_new = own_new;
-    }
+    let seen = own_seen table now e i entry there own in
+    record { is = is; here = seen.here; own = seen.own; own_new = own_new }
 
 module _ (table : TableState) (i : ℕ) (entry : Entry) (status : Status) (last : ℕ) (marking : IsMarking table i entry status) where
   open marking use {is, here, own, own_new}

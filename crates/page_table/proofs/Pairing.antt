@@ -1,5 +1,5 @@
 -- Two pages of the same bytes become a new last group: the first one founds the group, and the second one moves to its frame.
-use Rattle.std.proofs.Common.{◌≡◌, ◌≢◌, ◌∙◌, ◌⊎◌, inl, inr, ⊎_elim, ℕ, zero, suc, ◌+◌, ◌-◌, ◌<◌, ◌≤◌, ◌==◌, Bool, true, false, if◌then◌else◌, List, [], ◌∷◌, ◌++◌, length, slice_index_or, slice_set, Option, Some, None, IfSome, option_map, refl, sym, ap, subst, arith}
+use Rattle.std.proofs.Common.{◌≡◌, ◌≢◌, ◌∙◌, ◌⊎◌, inl, inr, ⊎_elim, ℕ, zero, suc, ◌+◌, ◌-◌, ◌<◌, ◌≤◌, ◌==◌, Bool, true, false, if◌then◌else◌, List, [], ◌∷◌, ◌++◌, length, slice_index_or, slice_set, Option, Some, None, option_map, refl, sym, ap, subst, arith}
 use Rattle.std.proofs.lemmas.List.{get_or-set_other, length-append, map-append}
 use Rattle.std.proofs.lemmas.Bool.Decides.{nat_tests, eqb_tells}
 use Rattle.page_table.specs.declared.pass.Pass.{Pass}
@@ -9,7 +9,7 @@ use Rattle.host_types.specs.Sharing.{PageState, is_shared, with_status, state_at
 use Rattle.frame_arena.specs.Pages.{page_at}
 use Rattle.page_table.specs.declared.entry.Entry.{Entry}
 use Rattle.page_table.specs.Table.{TableState, CountsState, IsOwnAt, IsTable, IsAlone, IsGroup, IsSound, AreCountsOf, LiesRight, times, one_if_zero, entry_at, contents_of, groups_of, state_of, states_of, sharing_of, forgets, is_on, places_on, pages_on, used_by}
-use Rattle.page_table.proofs.Changing.{is_alone, entry_fits, table-set, counted-changed, apart_alone}
+use Rattle.page_table.proofs.Changing.{is_alone, entry_fits, table-set, counted-changed, apart_alone, own_seen, own_alone}
 use Rattle.page_table.proofs.Entries.{one_when, on_one, not_equal, equal, pages_on-set, inside, alone, places_on-set, groups-kept, pages_on-cons, none_on, states-set, told_here}
 use Rattle.page_table.proofs.Adding.{own_one, own_pages-set}
 use Rattle.page_table.proofs.Putting.{content_at}
@@ -158,26 +158,22 @@ pub pairing-from : (table now : TableState) (i j : ℕ) (one other x y : Entry) 
     → slice_index_or (contents_of now) i [] ≡ slice_index_or (contents_of now) j []
     → IsGroupEntry one x one.frame → IsGroupEntry other y one.frame → IsPairing table i j one other x y
 pairing-from table now i j one other x y e is apart there_first there_second own_first own_second bytes to_first to_second =
+    let first = own_seen table now e i one there_first own_first in
+    let second = own_seen table now e j other there_second own_second in
     record {
       is = is;
       apart = apart;
-      first = first;
-      second = second;
-      own_first = subst (λ (z : Option Entry). IfSome z (λ (e : Entry). is_shared e.status ≡ false)) there_first own_first;
-      own_second = subst (λ (z : Option Entry). IfSome z (λ (e : Entry). is_shared e.status ≡ false)) there_second own_second;
+      first = first.here;
+      second = second.here;
+      own_first = first.own;
+      own_second = second.own;
       to_first = to_first;
       to_second = to_second;
       same =
-          sym (content_at table i one first)
+          sym (content_at table i one first.here)
           ∙ ap (λ t. slice_index_or (contents_of t) i []) e ∙ bytes ∙ ap (λ t. slice_index_or (contents_of t) j []) (sym e)
-          ∙ content_at table j other second;
+          ∙ content_at table j other second.here;
     }
-  where
-    first : entry_at table.entries i ≡ Some one
-    first = ap (λ (t : TableState). entry_at t.entries i) e ∙ there_first
-
-    second : entry_at table.entries j ≡ Some other
-    second = ap (λ (t : TableState). entry_at t.entries j) e ∙ there_second
 
 module _ (table : TableState) (i j : ℕ) (one other x y : Entry) (pairing : IsPairing table i j one other x y) where
   open pairing use {is, apart, first, second, own_first, own_second, to_first, to_second, same}
@@ -223,10 +219,10 @@ module _ (table : TableState) (i j : ℕ) (one other x y : Entry) (pairing : IsP
   not_of f g none some = not_equal g f (λ e. let also : times g table.groups ≡ 0 = ap (λ n. times n table.groups) (sym e) ∙ none in omega (arith, also, some))
 
   lone_first : IsAlone table one.frame
-  lone_first = is_alone table one (entry_fits table i one is first) own_first
+  lone_first = own_alone table i one is (record { here = first; own = own_first })
 
   lone_second : IsAlone table other.frame
-  lone_second = is_alone table other (entry_fits table j other is second) own_second
+  lone_second = own_alone table j other is (record { here = second; own = own_second })
 
   -- another group keeps its places
   places-kept : (g : ℕ) → 1 ≤ times g table.groups → places_on 0 g (with_pair table i j x y).entries ≡ places_on 0 g table.entries

@@ -33,6 +33,13 @@ page_there table i h e =
     let zero : length (slice_index_or (map (entry_content table.arena) table.entries) i []) ≡ 0 = ap length none in
     omega (arith, zero, h)
 
+-- the same of a table as callers see it, and of what was read there
+pub place_of_page : (table now : TableState) → table ≡ now → (i : ℕ) → IsPageAt now i → i < length table.entries
+place_of_page table now same i there = page_inside table i (rw (← same) at there)
+
+pub entry_of_page : (table now : TableState) → table ≡ now → (i : ℕ) → IsPageAt now i → (read : Option Entry) → read ≡ entry_at table.entries i → read ≡ None → ⊥
+entry_of_page table now same i there read told none = page_there table i (rw (← same) at there) (sym told ∙ none)
+
 -- the content of a page that is there
 pub content_at : (table : TableState) (i : ℕ) (entry : Entry) → entry_at table.entries i ≡ Some entry → slice_index_or (contents_of table) i [] ≡ page_at table.arena entry.frame
 unfolding contents_of
@@ -83,10 +90,10 @@ module _ (table : TableState) (i : ℕ) (entry : Entry) (page : List ℕ) (is : 
 abbrev pub empty_table : ℕ → ℕ → TableState
 empty_table frames places = record { arena = replicate frames zero_page; entries = replicate places None; groups = [] }
 
-no_entry : (places i : ℕ) → entry_at (replicate places None) i ≡ None
-no_entry zero i = refl
-no_entry (suc n) zero = refl
-no_entry (suc n) (suc i) = no_entry n i
+pub all_same : {X : Type 0} (x : X) (n i : ℕ) → slice_index_or (replicate n x) i x ≡ x
+all_same x zero i = refl
+all_same x (suc n) zero = refl
+all_same x (suc n) (suc i) = all_same x n i
 
 no_pages : (f places : ℕ) → pages_on f (replicate places None) ≡ 0
 unfolding pages_on
@@ -112,7 +119,7 @@ sound-new frames places counts some small few are fewer =
         small = omega (arith, long, small);
         pages = λ f h. ap length (get_or-replicate frames f zero_page [] (omega (arith, h, long))) ∙ length-zero_page;
         zero = get_or-replicate frames 0 zero_page [] (omega arith);
-        entries = λ i. subst (λ (x : Option Entry). IfSome x (IsEntry (empty_table frames places))) (sym (no_entry places i)) tt;
+        entries = λ i. subst (λ (x : Option Entry). IfSome x (IsEntry (empty_table frames places))) (sym (all_same {X = Option Entry} None places i)) tt;
         groups = λ f. inl refl;
         few = let e = length-replicate {A = Option Entry} places None in omega (arith, e, few);
       };

@@ -1,5 +1,5 @@
 -- A page of zeros moves to the zero frame.
-use Rattle.std.proofs.Common.{◌≡◌, ◌∙◌, ⊎_elim, ℕ, ◌<◌, ◌≤◌, ◌==◌, true, false, [], slice_index_or, Option, Some, IfSome, sym, ap, subst, arith}
+use Rattle.std.proofs.Common.{◌≡◌, ◌∙◌, ⊎_elim, ℕ, ◌<◌, ◌≤◌, ◌==◌, true, false, [], slice_index_or, Some, sym, ap, subst, arith}
 use Rattle.page_table.specs.declared.pass.Pass.{Pass}
 use Rattle.host_types.specs.declared.status.Status.TheVariants.{Zero}
 use Rattle.host_types.specs.Sharing.{is_shared, with_status, zeroed}
@@ -11,6 +11,7 @@ use Rattle.page_table.proofs.Entries.{not_equal, places_on-set, groups-kept, sta
 use Rattle.page_table.proofs.Putting.{content_at}
 use Rattle.page_table.proofs.Waiters.{waiting-forgets}
 use Rattle.page_table.proofs.Moving.{IsMove, with_entry, lone}
+use Rattle.page_table.proofs.Changing.{own_seen}
 
 -- an entry of a page on the zero frame
 pub record IsZeroEntry (old new : Entry) : Type 0 where
@@ -23,21 +24,19 @@ pub record IsZeroEntry (old new : Entry) : Type 0 where
 pub move-zeroed : (table now : TableState) (i : ℕ) (entry x : Entry) → table ≡ now → IsTable table → entry_at now.entries i ≡ Some entry → IsOwnAt now i
     → slice_index_or (contents_of now) i [] ≡ zero_page → IsZeroEntry entry x → IsMove table i entry x
 move-zeroed table now i entry x e is there own zeros to =
+    let seen = own_seen table now e i entry there own in
     record {
       is = is;
-      here = here;
-      own = subst (λ (y : Option Entry). IfSome y (λ (e : Entry). is_shared e.status ≡ false)) there own;
+      here = seen.here;
+      own = seen.own;
       shared = ap is_shared to.status;
       fits = record {
-        frame = let some = is.some in let zero = to.frame in omega (arith, some, zero);
+        frame = omega (arith, is.some, to.frame);
         protected = to.protected ∙ ap is_shared (sym to.status);
         right = subst (LiesRight table x.frame) (sym to.status) to.frame;
       };
-      same = ap (page_at table.arena) to.frame ∙ is.zero ∙ sym zeros ∙ ap (λ t. slice_index_or (contents_of t) i []) (sym e) ∙ content_at table i entry here;
+      same = ap (page_at table.arena) to.frame ∙ is.zero ∙ sym zeros ∙ ap (λ t. slice_index_or (contents_of t) i []) (sym e) ∙ content_at table i entry seen.here;
     }
-  where
-    here : entry_at table.entries i ≡ Some entry
-    here = ap (λ (t : TableState). entry_at t.entries i) e ∙ there
 
 module _ (table : TableState) (i : ℕ) (entry x : Entry) (move : IsMove table i entry x) (to : IsZeroEntry entry x) where
   open move use {is, here}

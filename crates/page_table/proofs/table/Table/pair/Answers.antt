@@ -1,35 +1,25 @@
-use Rattle.std.proofs.Common.{◌≡◌, ◌∙◌, ◌∷◌, ◌++◌, [], false, ℕ, slice_set, Option, Some, None, IfSome, sym, ap, subst, ◌<◌, length, arith, rules}
-use Rattle.host_types.specs.Sharing.{is_shared}
+use Rattle.std.proofs.Common.{◌≡◌, ◌∙◌, ◌∷◌, ◌++◌, [], ℕ, slice_set, Some, None, sym, ap, arith, rules}
 use Rattle.frame_arena.specs.Counted.{CountedPages}
-use Rattle.page_table.specs.declared.entry.Entry.{Entry}
-use Rattle.page_table.specs.Table.{TableState, GroupsState, IsAlone, IsOwnAt, entry_at}
-use Rattle.page_table.proofs.Changing.{is_alone, entry_fits}
+use Rattle.page_table.specs.Table.{TableState, GroupsState, IsAlone}
+use Rattle.page_table.proofs.Changing.{entry_fits, own_seen, own_alone, IsOwnEntry}
 use Rattle.page_table.proofs.Pairing.{IsPairing, IsGroupEntry, pairing-from, contents-pair, used-pair, sound-pair, sharing-pair}
 use Rattle.std.proofs.lemmas.List.{get_or-set_other}
 use Rattle.page_table.proofs.Trees.{tree-absent, tree-room, tree-pushed}
 use Rattle.page_table.proofs.table.Table.pair.Goals as goal
 use Rattle.page_table.proofs.table.Table.pair.Goals.{After-release}
 
-fits_first : (c : After-release) → c.page-one.result.frame < length c.self.inside.arena
-fits_first c =
-    let before : TableState = record { arena = c.self.inside.arena; entries = c.self.inside.entries; groups = c.self.inside.groups.listed } in
-    let there : entry_at before.entries c.args.first ≡ Some c.page-one.result = rw (← c.self.view_is) at c.page-one.ensures in
-    (entry_fits before c.args.first c.page-one.result c.self.invariant.0.fits there).frame
+first : (c : After-release) → IsOwnEntry (record { arena = c.self.inside.arena; entries = c.self.inside.entries; groups = c.self.inside.groups.listed }) c.args.first c.page-one.result
+first c = own_seen _ c.args.self.now c.self.view_is c.args.first c.page-one.result c.page-one.ensures c.requires.own_first
 
 -- the first page is alone on its frame
 alone_first : (c : After-release) → IsAlone (record { arena = c.self.inside.arena; entries = c.self.inside.entries; groups = c.self.inside.groups.listed }) c.page-one.result.frame
-alone_first c =
-    let before : TableState = record { arena = c.self.inside.arena; entries = c.self.inside.entries; groups = c.self.inside.groups.listed } in
-    let there : entry_at before.entries c.args.first ≡ Some c.page-one.result = rw (← c.self.view_is) at c.page-one.ensures in
-    let own : IsOwnAt before c.args.first = rw (← c.self.view_is) at c.requires.own_first in
-    is_alone before c.page-one.result (entry_fits before c.args.first c.page-one.result c.self.invariant.0.fits there)
-    (subst (λ (x : Option Entry). IfSome x (λ (entry : Entry). is_shared entry.status ≡ false)) there own)
+alone_first c = own_alone _ c.args.first c.page-one.result c.self.invariant.0.fits (first c)
 
 pub push-requires : goal.push-requires
 push-requires c = record {
   above = (alone_first (goal.at.push-requires c).After-release).above;
-  there = let inside = fits_first (goal.at.push-requires c).After-release in
-      omega (arith, inside, c.self.invariant.1);
+  there = let fits = entry_fits _ c.args.first c.page-one.result c.self.invariant.0.fits (first (goal.at.push-requires c).After-release).here in
+      omega (arith, fits.frame, c.self.invariant.1);
   new = (alone_first (goal.at.push-requires c).After-release).no_group;
   room = omega (arith, c.self.invariant.0.counted.used, c.self.invariant.1);
 }

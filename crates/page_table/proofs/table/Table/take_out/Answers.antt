@@ -1,52 +1,39 @@
-use Rattle.std.proofs.Common.{◌≡◌, ◌∙◌, ◌+◌, ◌≤◌, ◌<◌, ℕ, not, slice_index_or, Bool, true, false, Some, refl, sym, arith}
+use Rattle.std.proofs.Common.{◌≡◌, ◌∙◌, ◌+◌, ◌≤◌, ◌<◌, ℕ, not, slice_index_or, true, false, Some, sym, arith}
 use Rattle.host_types.specs.Sharing.{is_shared}
-use Rattle.page_table.specs.Table.{TableState, IsEntry, IsPageAt, entry_at, pages_on, one_if_zero, break_frames}
+use Rattle.page_table.specs.Table.{TableState, IsEntry, entry_at, pages_on, one_if_zero, break_frames}
 use Rattle.page_table.proofs.Changing.{entry_fits}
 use Rattle.page_table.proofs.Costs.{cost-own, cost-one, cost-last, count-some}
 use Rattle.page_table.proofs.Ending.{sharing-unbroken}
-use Rattle.page_table.proofs.Putting.{page_inside, page_there}
+use Rattle.page_table.proofs.Putting.{place_of_page, entry_of_page}
 use Rattle.page_table.proofs.table.Table.take_out.Goals as goal
 use Rattle.page_table.proofs.table.Table.take_out.Goals.{In-Some}
 
 pub get-requires : goal.get-requires
 get-requires c =
-    let there : IsPageAt (record { arena = c.self.inside.arena; entries = c.self.inside.entries; groups = c.self.inside.groups.listed }) c.args.place = rw (← c.self.view_is) at c.requires.there in
-    let inside = page_inside _ c.args.place there in omega (arith, inside)
+    let inside = place_of_page _ c.args.self.now c.self.view_is c.args.place c.requires.there in
+    omega (arith, inside)
 
 pub unreachable-requires : goal.unreachable-requires
-unreachable-requires c =
-    let there : IsPageAt (record { arena = c.self.inside.arena; entries = c.self.inside.entries; groups = c.self.inside.groups.listed }) c.args.place = rw (← c.self.view_is) at c.requires.there in
-    page_there _ c.args.place there
-    (sym c.get.ensures ∙ c.in_default.is)
+unreachable-requires c = entry_of_page _ c.args.self.now c.self.view_is c.args.place c.requires.there c.get.result c.get.ensures c.in_default.is
 
 abbrev table : In-Some → TableState
 table c = record { arena = c.self.inside.arena; entries = c.self.inside.entries; groups = c.self.inside.groups.listed }
 
 here : (c : In-Some) → entry_at (table c).entries c.args.place ≡ Some c.in-Some.entry
-here c =
-    let there : IsPageAt (table c) c.args.place = rw (← c.self.view_is) at c.requires.there in
-    sym c.get.ensures ∙ c.in-Some.is
+here c = sym c.get.ensures ∙ c.in-Some.is
 
 fits : (c : In-Some) → IsEntry (table c) c.in-Some.entry
 fits c = entry_fits (table c) c.args.place c.in-Some.entry c.self.invariant.0.fits (here c)
 
-own : (protected : Bool) → not protected ≡ true → protected ≡ false
-own true h = absurd (cc)
-own false h = refl
-
-locked : (protected : Bool) → not protected ≡ false → protected ≡ true
-locked true h = refl
-locked false h = absurd (cc)
-
 pub returns-then-not-entry-clause-sharing : goal.returns-then-not-entry-clause-sharing
 returns-then-not-entry-clause-sharing c pass =
     let d = (goal.at.returns-then-not-entry-clause-sharing c).In-Some in
-    rw (← c.self.view_is) (sharing-unbroken (table d) pass c.args.place c.in-Some.entry c.self.invariant.0.fits (here d) (own c.in-Some.entry.protected c.if-not-entry.true))
+    rw (← c.self.view_is) (sharing-unbroken (table d) pass c.args.place c.in-Some.entry c.self.invariant.0.fits (here d) (grind (arith, c.if-not-entry.true)))
 
 pub returns-then-not-entry-clause-used : goal.returns-then-not-entry-clause-used
 returns-then-not-entry-clause-used c =
     let d = (goal.at.returns-then-not-entry-clause-used c).In-Some in
-    let none : break_frames c.args.self.now c.args.place ≡ 0 = rw (← c.self.view_is) (cost-own (table d) c.args.place c.in-Some.entry c.self.invariant.0.fits (here d) (own c.in-Some.entry.protected c.if-not-entry.true)) in
+    let none : break_frames c.args.self.now c.args.place ≡ 0 = rw (← c.self.view_is) (cost-own (table d) c.args.place c.in-Some.entry c.self.invariant.0.fits (here d) (grind (arith, c.if-not-entry.true))) in
     omega (arith, none)
 
 pub count-requires : goal.count-requires
@@ -55,7 +42,7 @@ count-requires c =
     omega (arith, (fits d).frame, c.self.invariant.0.counted.sized)
 
 shared : (c : In-Some) → not c.in-Some.entry.protected ≡ false → is_shared c.in-Some.entry.status ≡ true
-shared c h = sym (fits c).protected ∙ locked c.in-Some.entry.protected h
+shared c h = sym (fits c).protected ∙ grind (arith, h)
 
 -- how many hold the page's frame
 counted : (c : In-Some) (n : ℕ) → n ≡ slice_index_or c.self.inside.counts.counts c.in-Some.entry.frame 0
