@@ -19,17 +19,11 @@ state-at table pass i = told_at state_of table.entries i
 cost-entry : (table : TableState) (i : ℕ) (entry : Entry) → entry_at table.entries i ≡ Some entry
     → break_frames table i ≡ cost_of (nat_lt 1 (pages_on entry.frame table.entries)) entry.status
 unfolding break_frames
-cost-entry table i entry here = ap taken here
-  where
-    taken : Option Entry → ℕ
-    taken x = unwrap_or (option_map (λ (entry : Entry). cost_of (nat_lt 1 (pages_on entry.frame table.entries)) entry.status) x) 0
+cost-entry table i entry here = rw here refl
 
 cost-none : (table : TableState) (i : ℕ) → entry_at table.entries i ≡ None → break_frames table i ≡ 0
 unfolding break_frames
-cost-none table i none = ap taken none
-  where
-    taken : Option Entry → ℕ
-    taken x = unwrap_or (option_map (λ (entry : Entry). cost_of (nat_lt 1 (pages_on entry.frame table.entries)) entry.status) x) 0
+cost-none table i none = rw none refl
 
 -- a page of a group is in company where more than one page lies on its frame
 company : (table : TableState) (pass : Pass) (i : ℕ) (entry : Entry) → entry_at table.entries i ≡ Some entry → IsEntry table entry

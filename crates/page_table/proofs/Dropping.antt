@@ -30,9 +30,9 @@ use Rattle.page_table.proofs.Reading.{content_in, few_pages}
 use Rattle.page_table.proofs.Shapes.{map_past, shape_told}
 use Rattle.page_table.proofs.Waiters.{waiter-kept}
 use Rattle.page_table.proofs.Writing.{OneMap, memory_changed, one_map}
-use Rattle.page_table.proofs.Scanning.{is_page_at_entry}
 use Rattle.page_table.proofs.Unpinning.{fit-fewer, outside-pinned, others-unpinned, tenant-unpinned, pins-inside}
 use Rattle.page_table.proofs.Vacating.{gone_from-last}
+use Rattle.page_table.proofs.Putting.{page_of_entry}
 
 -- the waiting pages outside some places
 abbrev pub outside : ℕ → ℕ → List Waiter → List Waiter
@@ -212,7 +212,7 @@ module _ (table : TableState) (shapes : List (Option Shape)) (tenants : List Ten
 
       by_entry : (x : Option Entry) → entry_at table.entries i ≡ x → IsSomeAnd (state_at (sharing_of table pass) i) (λ state. state.status ≡ Volatile) → ⊥
       by_entry None e v = subst (λ (y : Option PageState). IsSomeAnd y (λ state. state.status ≡ Volatile)) (state-at table pass i ∙ ap (option_map state_of) e) v
-      by_entry (Some entry) e v = let there = is_page_at_entry table i entry fits e in let none = empty in omega (arith, there, none)
+      by_entry (Some entry) e v = let there = page_of_entry table i entry fits e in let none = empty in omega (arith, there, none)
 
       by_test : (b : Bool) → slice_index_or pass.pins i false ≡ b → slice_index_or pass.pins i false ≡ false
       by_test false e = e

@@ -72,6 +72,14 @@ pub told_here : {X : Type 0} (tell : Entry → X) (xs : List (Option Entry)) (i 
     → slice_index_or (map (option_map tell) xs) i None ≡ Some (tell entry)
 told_here tell xs i entry here = told_at tell xs i ∙ ap (option_map tell) here
 
+-- what is told is told of an entry
+pub entry_told : {X : Type 0} (tell : Entry → X) (xs : List (Option Entry)) (i : ℕ) (x : X) → slice_index_or (map (option_map tell) xs) i None ≡ Some x
+    → (entry : Entry) × (entry_at xs i ≡ Some entry) × (tell entry ≡ x)
+entry_told tell [] i x e = absurd (cc)
+entry_told tell (None ∷ xs) zero x e = absurd (cc)
+entry_told tell (Some entry ∷ xs) zero x e = let same : tell entry ≡ x = cc in (entry, refl, same)
+entry_told tell (y ∷ xs) (suc i) x e = entry_told tell xs i x e
+
 -- one page changes, as callers see it
 pub states-set : (change : PageState → PageState) (xs : List (Option Entry)) (i : ℕ) (entry x : Entry) → entry_at xs i ≡ Some entry → state_of x ≡ change (state_of entry)
     → states_of (slice_set xs i (Some x)) ≡ slice_set (states_of xs) i (option_map change (slice_index_or (states_of xs) i None))

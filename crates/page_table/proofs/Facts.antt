@@ -24,12 +24,12 @@ use Rattle.page_table.specs.Table.{TableState, CountsState, IsTable, IsEntry, Is
 use Rattle.page_table.specs.View.{view_of, IsMemory}
 use Rattle.page_table.specs.Reads.{ReadsAs, AreGroups, AreMerged, HasPage, status_at, has_both, is_frame, free_frames}
 use Rattle.page_table.proofs.Changing.{entry_fits}
-use Rattle.page_table.proofs.Entries.{one_when, alone, inside, equal, times-head, times-tail, one_if_zero-above, times-cons, told_at, group_of}
-use Rattle.page_table.proofs.Putting.{page_there as no_page}
+use Rattle.page_table.proofs.Entries.{one_when, alone, inside, equal, times-head, times-tail, one_if_zero-above, times-cons, told_at, group_of, entry_told}
+use Rattle.page_table.proofs.Putting.{page_there as no_page, page_of_entry}
 use Rattle.page_table.proofs.Maps.{length-maps_of}
 use Rattle.page_table.proofs.Reading.{map_at-part, bytes_in, is_page_at}
 use Rattle.page_table.proofs.Recording.{reserved_fits}
-use Rattle.page_table.proofs.Scanning.{is_page_at_entry, page_there, frame_told}
+use Rattle.page_table.proofs.Scanning.{page_there, frame_told}
 use Rattle.page_table.proofs.Creating.{length-contents}
 use Rattle.page_table.proofs.Free.{free_is}
 use Rattle.page_table.proofs.Groups.{among-places, length-places}
@@ -50,32 +50,14 @@ record Lies (table : TableState) (i x : ℕ) : Type 0 where
   pub fits : IsEntry table entry
 
 lies : (table : TableState) (i x : ℕ) → IsTable table → slice_index_or (frames_of table.entries) i None ≡ Some x → Lies table i x
-lies table i x is h = by_entry (entry_at table.entries i) refl
-  where
-    by_entry : (y : Option Entry) → entry_at table.entries i ≡ y → Lies table i x
-    by_entry None e =
-        let told : slice_index_or (frames_of table.entries) i None ≡ None = told_at (λ (entry : Entry). entry.frame) table.entries i ∙ ap (option_map (λ (entry : Entry). entry.frame)) e in
-        absurd (cc)
-    by_entry (Some entry) e =
-        let told : slice_index_or (frames_of table.entries) i None ≡ Some entry.frame = told_at (λ (entry : Entry). entry.frame) table.entries i ∙ ap (option_map (λ (entry : Entry). entry.frame)) e in
-        record { entry = entry; here = e; on = same entry.frame x (sym told ∙ h); fits = entry_fits table i entry is e }
-      where
-        same : (a b : ℕ) → Some a ≡ Some b → a ≡ b
-        same a b e = cc
+lies table i x is h =
+    let found = entry_told (λ (entry : Entry). entry.frame) table.entries i x h in
+    record { entry = found.0; here = found.1; on = found.2; fits = entry_fits table i found.0 is found.1 }
 
 told : (table : TableState) (pass : Pass) (i : ℕ) (status : Status) → IsTable table → status_at (sharing_of table pass) i ≡ Some status → (entry : Entry) × (entry_at table.entries i ≡ Some entry) × (entry.status ≡ status) × IsEntry table entry
-told table pass i status is h = by_entry (entry_at table.entries i) refl
-  where
-    by_entry : (y : Option Entry) → entry_at table.entries i ≡ y → (entry : Entry) × (entry_at table.entries i ≡ Some entry) × (entry.status ≡ status) × IsEntry table entry
-    by_entry None e =
-        let told : status_at (sharing_of table pass) i ≡ None = status_is table pass i ∙ ap (option_map (λ (entry : Entry). entry.status)) e in
-        absurd (cc)
-    by_entry (Some entry) e =
-        let told : status_at (sharing_of table pass) i ≡ Some entry.status = status_is table pass i ∙ ap (option_map (λ (entry : Entry). entry.status)) e in
-        (entry, e, same entry.status status (sym told ∙ h), entry_fits table i entry is e)
-      where
-        same : (a b : Status) → Some a ≡ Some b → a ≡ b
-        same a b e = cc
+told table pass i status is h =
+    let found = entry_told (λ (entry : Entry). entry.status) table.entries i status (told_at (λ (entry : Entry). entry.status) table.entries i ∙ sym (status_is table pass i) ∙ h) in
+    (found.0, found.1, found.2, entry_fits table i found.0 is found.1)
 
 status_there : (table : TableState) (pass : Pass) (i : ℕ) (entry : Entry) (status : Status) → entry_at table.entries i ≡ Some entry → entry.status ≡ status → status_at (sharing_of table pass) i ≡ Some status
 status_there table pass i entry status e same = status_is table pass i ∙ ap (option_map (λ (entry : Entry). entry.status)) e ∙ ap Some same
@@ -259,7 +241,7 @@ module _ (table : TableState) (shapes : List (Option Shape)) (tenants : List Ten
       has : (x : Option Entry) → entry_at table.entries i ≡ x → is_some (option_map state_of (entry_at table.entries i)) ≡ true → HasPage view i
       has None e h = absurd (let none = ap (λ (x : Option Entry). is_some (option_map state_of x)) e in cc)
       has (Some entry) e h =
-          let there = page_there table shapes tenants pass reserved is (named i) (omega arith) (omega arith) (subst (IsPageAt table) (sym place) (is_page_at_entry table i entry fits e)) in
+          let there = page_there table shapes tenants pass reserved is (named i) (omega arith) (omega arith) (subst (IsPageAt table) (sym place) (page_of_entry table i entry fits e)) in
           omega (arith, there, ap (λ bytes. length bytes) (map_named i))
 
       found : (x : Option Entry) → entry_at table.entries i ≡ x → HasPage view i → is_some (option_map state_of (entry_at table.entries i)) ≡ true
@@ -300,7 +282,7 @@ module _ (table : TableState) (shapes : List (Option Shape)) (tenants : List Ten
         one_frame = one_frame table pass sound.fits;
         zero_frame = λ i. (λ h. to_zero i (lies table i 0 sound.fits h), λ h. from_zero i (told table pass i Zero sound.fits h));
         zeros = sound.fits.zero;
-        placed = λ i. placed i (entry_at table.entries i) refl;
+        placed = λ i. (λ h. grind (arith, frame_of i, told_at state_of table.entries i), λ h. grind (arith, frame_of i, told_at state_of table.entries i));
         there = λ i. there i (entry_at table.entries i) refl;
         free = free_is_counted;
         reserved = reserved_fits table shapes tenants pass reserved is;
@@ -326,13 +308,6 @@ module _ (table : TableState) (shapes : List (Option Shape)) (tenants : List Ten
 
       from_zero : (i : ℕ) → ((entry : Entry) × (entry_at table.entries i ≡ Some entry) × (entry.status ≡ Zero) × IsEntry table entry) → slice_index_or (frames_of table.entries) i None ≡ Some 0
       from_zero i entry = frame_of i ∙ ap (option_map (λ (entry : Entry). entry.frame)) entry.1 ∙ ap Some (subst (LiesRight table entry.0.frame) entry.2 entry.3.right)
-
-      placed : (i : ℕ) (x : Option Entry) → entry_at table.entries i ≡ x → (IsSome (slice_index_or (frames_of table.entries) i None) ↔ IsSome (slice_index_or (states_of table.entries) i None))
-      placed i x e = rw (frame_of i, told_at state_of table.entries i, e) (of_entry x)
-        where
-          of_entry : (x : Option Entry) → (IsSome (option_map (λ (entry : Entry). entry.frame) x) ↔ IsSome (option_map state_of x))
-          of_entry None = (λ h. h, λ h. h)
-          of_entry (Some entry) = (λ h. refl, λ h. refl)
 
       there : (i : ℕ) (x : Option Entry) → entry_at table.entries i ≡ x → IfSome (slice_index_or (frames_of table.entries) i None) (λ frame. frame < length table.arena)
       there i x e = rw (frame_of i, e) (of_entry x (subst (λ (y : Option Entry). IfSome y (IsEntry table)) e (sound.fits.entries i)))

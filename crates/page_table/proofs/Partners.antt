@@ -176,7 +176,7 @@ pub entry-may : (table : TableState) (pass : Pass) (i : ℕ) → is_mergeable (s
 entry-may table pass i may = by_entry (entry_at table.entries i) refl
   where
     by_entry : (x : Option Entry) → entry_at table.entries i ≡ x → (entry : Entry) × (entry_at table.entries i ≡ Some entry)
-    by_entry None e = absurd (let none : false ≡ true = sym (ap is_mergeable (state-at table pass i ∙ ap (option_map state_of) e)) ∙ may in cc)
+    by_entry None e = absurd (grind (arith, state-at table pass i))
     by_entry (Some entry) e = (entry, e)
 
 -- a page that had the fingerprint and waits with it only has another status

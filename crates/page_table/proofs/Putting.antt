@@ -46,6 +46,10 @@ unfolding contents_of
 content_at table i entry e =
     get_or-map (entry_content table.arena) table.entries i None [] (inside table.entries i entry e) ∙ ap (entry_content table.arena) e
 
+-- a page with an entry is there
+pub page_of_entry : (table : TableState) (i : ℕ) (entry : Entry) → IsTable table → entry_at table.entries i ≡ Some entry → IsPageAt table i
+page_of_entry table i entry is e = ap length (content_at table i entry e) ∙ is.pages entry.frame (entry_fits table i entry is e).frame
+
 -- where no bytes are, there is no page
 pub no_entry_of_content : (table : TableState) (i : ℕ) → IsTable table → slice_index_or (contents_of table) i [] ≡ [] → entry_at table.entries i ≡ None
 no_entry_of_content table i is none = by_entry (entry_at table.entries i) refl

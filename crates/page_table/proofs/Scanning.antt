@@ -24,18 +24,13 @@ use Rattle.page_table.specs.Changes.{IsPageOf, frame_of_group, open_frame}
 use Rattle.page_table.specs.Table.{TableState, IsTable, IsPageAt, ArePages, ArePagesOf, maps_of, flat_of, contents_of, entry_at, groups_of, sharing_of, states_of, frames_of, times, is_on, places_on, pages_on, is_open_frame, joined_on}
 use Rattle.page_table.specs.View.{view_of, IsMemory}
 use Rattle.page_table.proofs.Sides.{order}
-use Rattle.page_table.proofs.Changing.{entry_fits}
 use Rattle.page_table.proofs.Maps.{map_at-maps_of, length-concat}
 use Rattle.page_table.proofs.Reading.{map_at-part, bytes_in, content_in, content_is}
 use Rattle.page_table.proofs.Creating.{length-contents}
 use Rattle.page_table.proofs.Entries.{on_one, times-head, times-tail, times-cons, told_at, group_of}
 use Rattle.page_table.proofs.Groups.{length-places}
-use Rattle.page_table.proofs.Putting.{page_inside, content_at}
+use Rattle.page_table.proofs.Putting.{page_inside, content_at, page_of_entry}
 use Rattle.page_table.proofs.Merging.{map_small, number_small}
-
--- a page with an entry is there
-pub is_page_at_entry : (table : TableState) (i : ℕ) (entry : Entry) → IsTable table → entry_at table.entries i ≡ Some entry → IsPageAt table i
-is_page_at_entry table i entry is e = ap length (content_at table i entry e) ∙ is.pages entry.frame (entry_fits table i entry is e).frame
 
 module _ (table : TableState) (shapes : List (Option Shape)) (tenants : List Tenant) (pass : Pass) (reserved : ℕ) (is : IsMemory table shapes tenants reserved) where
   abbrev view : MemoryState
@@ -87,7 +82,7 @@ module _ (table : TableState) (shapes : List (Option Shape)) (tenants : List Ten
   pub frame_told : (i : ℕ) (entry : Entry) → IsTable table → entry_at table.entries i ≡ Some entry → contents_in view.maps i ≡ page_at table.arena entry.frame
   frame_told i entry fits e =
       let place : page_place (named i) ≡ i = omega arith in
-      let there = page_there (named i) (omega arith) (omega arith) (subst (IsPageAt table) (sym place) (is_page_at_entry table i entry fits e)) in
+      let there = page_there (named i) (omega arith) (omega arith) (subst (IsPageAt table) (sym place) (page_of_entry table i entry fits e)) in
       ap (contents_in view.maps) (sym place) ∙ contents_told (named i) (omega arith) (omega arith)
       ∙ sym (content_is table shapes tenants pass reserved (named i) is there)
       ∙ ap (λ j. slice_index_or (contents_of table) j []) place ∙ content_at table i entry e

@@ -23,7 +23,7 @@ use Rattle.page_table.proofs.Costs.{state-at}
 use Rattle.page_table.proofs.Entries.{one_when, on_one, not_equal, equal, times-head, times-tail, times-cons, group_of}
 use Rattle.page_table.proofs.Groups.{length-places}
 use Rattle.page_table.proofs.Moving.{pages_on-le}
-use Rattle.page_table.proofs.Putting.{content_at}
+use Rattle.page_table.proofs.Putting.{page_of_entry}
 use Rattle.std.proofs.lemmas.List.{length-map}
 use Rattle.std.proofs.lemmas.Bool.Decides.{nat_tests}
 
@@ -201,13 +201,9 @@ module _ (table : TableState) (is : IsTable table) where
   unfolding zero_pages
   zeros-told pass = let zero = zeros-frames table.entries zeros in omega (arith, zero)
 
-  -- a page is there where an entry is
-  pub page_of_entry : (i : ℕ) (entry : Entry) → entry_at table.entries i ≡ Some entry → IsPageAt table i
-  page_of_entry i entry e = ap length (content_at table i entry e) ∙ is.pages entry.frame (IsEntry.frame (entry_fits table i entry is e))
-
   pub page_of_some : (i : ℕ) (x : Option Entry) → x ≡ entry_at table.entries i → is_some x ≡ true → IsPageAt table i
   page_of_some i None e some = absurd (cc)
-  page_of_some i (Some entry) e some = page_of_entry i entry (sym e)
+  page_of_some i (Some entry) e some = page_of_entry table i entry is (sym e)
 
 module _ (table : TableState) (counts : CountsState) (is : IsSound table counts) where
   -- the zero frame has one holder more than its pages

@@ -1,3 +1,4 @@
+use Rattle.page_table.proofs.Putting.{page_of_entry}
 use Rattle.std.proofs.Common.{◌≡◌, ◌∙◌, ◌<◌, drop, Some, sym, ap, subst, option_map, arith}
 use Rattle.std.proofs.lemmas.List.{length-map}
 use Rattle.host_types.specs.Sharing.{state_at}
@@ -6,7 +7,7 @@ use Rattle.page_table.specs.Table.{IsPageAt, state_of, states_of, sharing_of}
 use Rattle.page_table.specs.View.{view_of}
 use Rattle.page_table.proofs.Next.{IsNext, next-is}
 use Rattle.page_table.proofs.Partners.{entry-may}
-use Rattle.page_table.proofs.Scanning.{page_there, is_page_at_entry}
+use Rattle.page_table.proofs.Scanning.{page_there}
 use Rattle.page_table.proofs.memory.Memory.next_page.Goals as goal
 use Rattle.page_table.proofs.memory.Memory.next_page.Goals.{In-Some}
 
@@ -26,7 +27,7 @@ page_at-requires c = small (goal.at.page_at-requires c).In-Some
 there : (c : In-Some) → IsPageAt c.self.inside.table c.in-Some.place
 there c =
     let entry = entry-may c.self.inside.table c.self.inside.pass c.in-Some.place (next c).mergeable in
-    is_page_at_entry c.self.inside.table c.in-Some.place entry.0 (c.facts.ensures.1).fits entry.1
+    page_of_entry c.self.inside.table c.in-Some.place entry.0 (c.facts.ensures.1).fits entry.1
 
 pub returns-in-Some : goal.returns-in-Some
 unfolding view_of

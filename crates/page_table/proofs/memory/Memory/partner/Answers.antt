@@ -1,3 +1,4 @@
+use Rattle.page_table.proofs.Putting.{page_of_entry}
 use Rattle.std.proofs.Common.{◌≡◌, ◌∙◌, ◌<◌, List, ℕ, true, false, find, Some, option_map, sym, ap, subst, arith}
 use Rattle.host_types.specs.declared.shape.Page.{Page}
 use Rattle.host_types.specs.Pages.{page_place, page_bytes}
@@ -9,7 +10,7 @@ use Rattle.page_table.specs.Changes.{IsPageOf, IsNotWaiting, contents_now, partn
 use Rattle.page_table.specs.Table.{IsPageAt}
 use Rattle.page_table.specs.View.{view_of, is_listed}
 use Rattle.page_table.proofs.Entries.{inside}
-use Rattle.page_table.proofs.Scanning.{bytes_here, frame_told, page_there, is_page_at_entry}
+use Rattle.page_table.proofs.Scanning.{bytes_here, frame_told, page_there}
 use Rattle.page_table.proofs.Partners.{IsFound, found-waiter, partners-told, waiters-frames, not-waiting, may-told, match-bytes}
 use Rattle.page_table.proofs.Waiters.{waiter_own}
 use Rattle.page_table.proofs.Fitting.{waiting-free}
@@ -61,7 +62,7 @@ page_is_there : (c : In-Some) → (page : Page) → page_place page ≡ c.in-Som
 page_is_there c page place small few =
     let waiter = (found c).waiter in
     page_there c.self.inside.table c.self.inside.shapes.items c.self.inside.tenants.items c.self.inside.pass c.self.inside.reserved c.self.invariant.0 page small few
-    (subst (IsPageAt c.self.inside.table) (sym place) (is_page_at_entry c.self.inside.table c.in-Some.waiter.place waiter.entry (c.facts.ensures.1).fits waiter.here))
+    (subst (IsPageAt c.self.inside.table) (sym place) (page_of_entry c.self.inside.table c.in-Some.waiter.place waiter.entry (c.facts.ensures.1).fits waiter.here))
 
 pub returns-in-Some : goal.returns-in-Some
 returns-in-Some c = record {
