@@ -1,5 +1,5 @@
 -- A list that has each frame of count 0 once is as long as there are such frames.
-use Rattle.std.proofs.Common.{◌≡◌, ◌∙◌, ℕ, zero, suc, ◌+◌, ◌-◌, ◌<◌, ◌≤◌, ◌==◌, Bool, not, List, [], ◌∷◌, length, sum_by, filter, slice_index_or, Option, Some, None, refl, sym, arith}
+use Rattle.std.proofs.Common.{◌≡◌, ◌∙◌, ℕ, zero, suc, ◌+◌, ◌-◌, ◌<◌, ◌≤◌, Bool, not, List, [], ◌∷◌, length, sum_by, filter, slice_index_or, Option, Some, None, refl, sym, arith}
 use Rattle.std.specs.List.{list_any, range_with_len}
 use Rattle.std.proofs.lemmas.List.Sums.{sum_by-cons, length-filter}
 use Rattle.std.proofs.lemmas.Bool.Decides.{nat_tests}
@@ -8,9 +8,6 @@ use Rattle.page_table.specs.Table.{AreCounts, times, one_if_zero, frames_of, pag
 use Rattle.page_table.specs.Reads.{is_frame}
 use Rattle.page_table.proofs.Entries.{one_when, times-head, times-tail, one_if_zero-above, times-cons, pages_on-cons}
 use Rattle.page_table.proofs.Unused.{unused_default}
-
-pub same_either_way : (f g : ℕ) → (f == g) ≡ (g == f)
-same_either_way f g = grind (arith, nat_tests)
 
 -- a number isn't among those above it
 range-below : (f a n : ℕ) → f < a → times f (range_with_len a n) ≡ 0
@@ -35,8 +32,7 @@ occurrences-cons : (fs : List ℕ) (x : ℕ) (xs : List ℕ) → occurrences fs 
 occurrences-cons [] x xs = refl
 occurrences-cons (f ∷ fs) x xs =
     let whole = sum_by-cons (λ f. times f (x ∷ xs)) f fs in
-    let part = sum_by-cons (λ f. times f xs) f fs in
-    grind (arith, nat_tests, whole, part, times-cons f x xs, times-cons x f fs, occurrences-cons fs x xs)
+    grind (arith, nat_tests, whole, sum_by-cons (λ f. times f xs) f fs, times-cons f x xs, times-cons x f fs, occurrences-cons fs x xs)
 
 -- where each number of a list is in the range, the list is as long as the range's numbers occur in it
 occurrences-all : (a n : ℕ) (xs : List ℕ) → ((x : ℕ) → 1 ≤ times x xs → (a ≤ x) × (x < a + n)) → occurrences (range_with_len a n) xs ≡ length xs
@@ -57,8 +53,7 @@ occurrences-passed p a n xs h = counted a n h ∙ sym (length-filter p (range_wi
     counted a (suc n) h =
         let whole = sum_by-cons (λ f. times f xs) a (range_with_len (a + 1) n) in
         let passed = sum_by-cons (λ f. one_when (p f)) a (range_with_len (a + 1) n) in
-        let first = h a (omega arith) (omega arith) in
-        omega (arith, whole, passed, first, counted (a + 1) n (λ f low high. h f (omega arith) (omega arith)))
+        omega (arith, whole, passed, h a (omega arith) (omega arith), counted (a + 1) n (λ f low high. h f (omega arith) (omega arith)))
 
 -- as many frames are unused as pass a test which just those above the zero frame pass that nobody holds
 pub length-unused : (counts unused : List ℕ) (p : ℕ → Bool) → AreCounts (record { counts = counts; unused = unused })

@@ -26,9 +26,6 @@ not_equal f g ne = grind (arith, nat_tests)
 pub equal : (g : ℕ) → (g == g) ≡ true
 equal g = grind (arith, nat_tests)
 
-pub on_one-true : (f : ℕ) (x : Option Entry) → is_on f x ≡ true → on_one f x ≡ 1
-on_one-true f x h = ap one_when h
-
 -- a frame other than the zero frame has no holders but its pages
 pub one_if_zero-above : (f : ℕ) → 0 < f → one_if_zero f ≡ 0
 one_if_zero-above zero h = absurd (omega arith)

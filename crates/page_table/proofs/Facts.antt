@@ -297,8 +297,7 @@ module _ (table : TableState) (shapes : List (Option Shape)) (tenants : List Ten
     where
       pinned_places : PinsFit (states_of table.entries) pass.pins → length pass.pins ≡ length tenants * 2048
       pinned_places fit =
-          let states = length-map table.entries (option_map state_of) in
-          omega (arith, fit.as_many, states, length-contents table, is.maps.places, is.numbers)
+          omega (arith, fit.as_many, length-map table.entries (option_map state_of), length-contents table, is.maps.places, is.numbers)
 
       to_zero : (i : ℕ) → Lies table i 0 → status_at (sharing_of table pass) i ≡ Some Zero
       to_zero i a = status_there table pass i a.entry Zero a.here (zero_status table a.entry sound.fits a.fits a.on)

@@ -1,17 +1,15 @@
 -- A page moves to the frame of a group of its bytes.
-use Rattle.std.proofs.Common.{◌≡◌, ◌∙◌, ℕ, suc, ◌<◌, ◌≤◌, ◌==◌, Bool, true, false, List, [], ◌∷◌, length, map, slice_index_or, slice_set, Option, Some, None, IfSome, option_map, refl, sym, ap, subst, arith}
+use Rattle.std.proofs.Common.{◌≡◌, ◌∙◌, ℕ, suc, ◌<◌, ◌≤◌, ◌==◌, Bool, true, false, List, [], ◌∷◌, length, map, slice_index_or, slice_set, Option, Some, None, IfSome, option_map, refl, sym, ap, arith}
 use Rattle.std.proofs.lemmas.List.Sums.{sum_by-cons}
 use Rattle.std.proofs.lemmas.Bool.Decides.{nat_tests}
 use Rattle.host_types.specs.declared.status.Status.TheVariants.{Grouped}
-use Rattle.host_types.specs.Sharing.{is_shared, with_status}
+use Rattle.host_types.specs.Sharing.{with_status}
 use Rattle.frame_arena.specs.Pages.{page_at}
 use Rattle.page_table.specs.declared.entry.Entry.{Entry}
-use Rattle.page_table.specs.Table.{TableState, IsOwnAt, IsTable, IsEntry, LiesRight, times, entry_at, contents_of, groups_of, states_of, is_on, places_on, pages_on, joined_on}
+use Rattle.page_table.specs.Table.{TableState, IsOwnAt, IsTable, IsEntry, times, entry_at, contents_of, groups_of, states_of, is_on, places_on, pages_on, joined_on}
 use Rattle.page_table.proofs.Entries.{on_one, not_equal, inside, places_on-set, groups-each, group_of, states-set}
-use Rattle.page_table.proofs.Putting.{content_at}
 use Rattle.page_table.proofs.Pairing.{IsGroupEntry, places-joined}
-use Rattle.page_table.proofs.Moving.{IsMove, with_entry, lone}
-use Rattle.page_table.proofs.Changing.{own_seen}
+use Rattle.page_table.proofs.Moving.{IsMove, with_entry, lone, move-merged}
 
 -- a page on a frame
 pub page-on : (f : ℕ) (xs : List (Option Entry)) → 1 ≤ pages_on f xs → (i : ℕ) × (is_on f (entry_at xs i) ≡ true)
@@ -37,20 +35,8 @@ group-inside table f is some = by_entry (page-on f table.entries (group_of table
 pub move-joined : (table now : TableState) (i : ℕ) (entry x : Entry) (f : ℕ) → table ≡ now → IsTable table → entry_at now.entries i ≡ Some entry → IsOwnAt now i
     → 1 ≤ times f now.groups → slice_index_or (contents_of now) i [] ≡ page_at now.arena f → IsGroupEntry entry x f → IsMove table i entry x
 move-joined table now i entry x f e is there own some same to =
-    let seen = own_seen table now e i entry there own in
     let has : 1 ≤ times f table.groups = rw e some in
-    record {
-      is = is;
-      here = seen.here;
-      own = seen.own;
-      shared = ap is_shared to.status;
-      fits = record {
-        frame = omega (arith, group-inside table f is has, to.frame);
-        protected = to.protected ∙ ap is_shared (sym to.status);
-        right = subst (LiesRight table x.frame) (sym to.status) (ap (λ g. times g table.groups) to.frame ∙ (group_of table f is has).once);
-      };
-      same = ap (page_at table.arena) to.frame ∙ ap (λ (t : TableState). page_at t.arena f) e ∙ sym same ∙ ap (λ t. slice_index_or (contents_of t) i []) (sym e) ∙ content_at table i entry seen.here;
-    }
+    move-merged table now i entry x f Grouped e is there own (same ∙ ap (λ (t : TableState). page_at t.arena f) (sym e)) (group-inside table f is has) (group_of table f is has).once refl to
 
 module _ (table : TableState) (i : ℕ) (entry x : Entry) (f : ℕ) (move : IsMove table i entry x) (to : IsGroupEntry entry x f) where
   open move use {is, here}

@@ -65,10 +65,6 @@ module _ (table : TableState) (i : ℕ) (entry next : Entry) (is : IsTable table
       let before : on_one g (entry_at table.entries i) ≡ (if entry.frame == g then 1 else 0) = ap (on_one g) here in
       omega (arith, count, before)
 
-  -- a frame's pages but the one that leaves
-  pages_on-old : pages_on entry.frame (left table i entry next).entries + 1 ≡ pages_on entry.frame table.entries
-  pages_on-old = grind (arith, nat_tests, pages_on-left entry.frame, fresh i entry here)
-
   pages_on-new : pages_on next.frame (left table i entry next).entries ≡ 1
   pages_on-new = grind (arith, nat_tests, pages_on-left next.frame, fresh i entry here, free.empty)
 

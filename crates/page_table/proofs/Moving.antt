@@ -5,12 +5,12 @@ use Rattle.std.proofs.lemmas.List.Sums.{sum_by-cons}
 use Rattle.std.proofs.lemmas.Bool.Decides.{nat_tests}
 use Rattle.host_types.specs.declared.status.Status.{Status}
 use Rattle.host_types.specs.declared.status.Status.TheVariants.{New, Volatile, Waiting, Grouped, Zero}
-use Rattle.host_types.specs.Sharing.{is_shared}
+use Rattle.host_types.specs.Sharing.{is_shared, with_status}
 use Rattle.frame_arena.specs.Pages.{page_at}
 use Rattle.page_table.specs.declared.entry.Entry.{Entry}
-use Rattle.page_table.specs.Table.{TableState, CountsState, IsTable, IsEntry, IsAlone, IsSound, AreCountsOf, LiesRight, times, one_if_zero, entry_at, contents_of, is_on, pages_on, used_by}
-use Rattle.page_table.proofs.Changing.{is_alone, entry_fits, table-changed, counted-changed, apart_alone, fits-after}
-use Rattle.page_table.proofs.Entries.{one_when, on_one, equal, pages_on-set, inside, contents-set, one_if_zero-above, counts-set}
+use Rattle.page_table.specs.Table.{TableState, CountsState, IsTable, IsEntry, IsAlone, IsSound, AreCountsOf, LiesRight, times, one_if_zero, entry_at, contents_of, pages_on, used_by, IsOwnAt, state_of}
+use Rattle.page_table.proofs.Changing.{is_alone, entry_fits, table-changed, counted-changed, apart_alone, fits-after, own_seen}
+use Rattle.page_table.proofs.Entries.{one_when, on_one, pages_on-set, inside, contents-set, one_if_zero-above, counts-set}
 use Rattle.page_table.proofs.Adding.{own_one, own_pages-set}
 use Rattle.page_table.proofs.Putting.{content_at}
 
@@ -46,6 +46,32 @@ pub record IsMove (table : TableState) (i : ℕ) (entry x : Entry) : Type 0 wher
   pub fits : IsEntry table x
   pub same : page_at table.arena x.frame ≡ page_at table.arena entry.frame
 
+-- an entry of a page that was merged onto the frame f
+pub record IsMerged (old new : Entry) (f : ℕ) (status : Status) : Type 0 where
+  pub state : state_of new ≡ with_status status (state_of old)
+  pub frame : new.frame ≡ f
+  pub status_is : new.status ≡ status
+  pub protected : new.protected ≡ true
+
+-- a page may move to a frame of the same bytes on which one of that status lies right
+pub move-merged : (table now : TableState) (i : ℕ) (entry x : Entry) (f : ℕ) (status : Status) → table ≡ now → IsTable table → entry_at now.entries i ≡ Some entry → IsOwnAt now i
+    → slice_index_or (contents_of now) i [] ≡ page_at table.arena f → f < length table.arena → LiesRight table f status → is_shared status ≡ true → IsMerged entry x f status → IsMove table i entry x
+move-merged table now i entry x f status e is there own same inside right shared to =
+    let seen = own_seen table now e i entry there own in
+    let is_it : is_shared x.status ≡ true = ap is_shared to.status_is ∙ shared in
+    record {
+      is = is;
+      here = seen.here;
+      own = seen.own;
+      shared = is_it;
+      fits = record {
+        frame = omega (arith, inside, to.frame);
+        protected = to.protected ∙ sym is_it;
+        right = subst (LiesRight table x.frame) (sym to.status_is) (subst (λ (g : ℕ). LiesRight table g status) (sym to.frame) right);
+      };
+      same = ap (page_at table.arena) to.frame ∙ sym same ∙ ap (λ t. slice_index_or (contents_of t) i []) (sym e) ∙ content_at table i entry seen.here;
+    }
+
 module _ (table : TableState) (i : ℕ) (entry x : Entry) (move : IsMove table i entry x) where
   open move use {is, here, own, shared, fits, same}
 
@@ -54,9 +80,6 @@ module _ (table : TableState) (i : ℕ) (entry x : Entry) (move : IsMove table i
 
   pub lone : IsAlone table entry.frame
   lone = is_alone table entry (entry_fits table i entry is here) own
-
-  lies : is_on entry.frame (entry_at table.entries i) ≡ true
-  lies = ap (is_on entry.frame) here ∙ equal entry.frame
 
   -- the new frame is no page's own
   not_alone : IsAlone table x.frame → ⊥
@@ -117,8 +140,7 @@ module _ (table : TableState) (i : ℕ) (entry x : Entry) (move : IsMove table i
   few counts counted =
       let bound = pages_on-le x.frame (with_entry table i x).entries in
       let long = length-set table.entries i (Some x) in
-      let moved = pages_on-moved x.frame in
-      grind (arith, nat_tests, counted.counted x.frame fits.frame, one_holder x.frame, moved, apart, bound, long, is.few)
+      grind (arith, nat_tests, counted.counted x.frame fits.frame, one_holder x.frame, pages_on-moved x.frame, apart, bound, long, is.few)
 
   -- one holds it after another frame is shared, too
   pub still_single : (old mid : CountsState) → AreCountsOf table old → mid.counts ≡ slice_set old.counts x.frame (slice_index_or old.counts x.frame 0 + 1)

@@ -42,8 +42,7 @@ times-none b = refl
 times-last : (b : List ℕ) (xs : List (List ℕ)) (x : List ℕ) → times_among b (xs ++ x ∷ []) ≡ times_among b xs + one_when (bytes_eq x b)
 unfolding times_among
 times-last b xs x =
-    let split = sum_by-append (λ (other : List ℕ). if bytes_eq other b then 1 else 0) xs (x ∷ []) in
-    omega (arith, split, times-cons b x [], times-none b)
+    omega (arith, sum_by-append (λ (other : List ℕ). if bytes_eq other b then 1 else 0) xs (x ∷ []), times-cons b x [], times-none b)
 
 times-gone : (c : List ℕ) (xs : List (List ℕ)) → times_among c (out c xs) ≡ 0
 times-gone c [] = times-none c
@@ -88,12 +87,6 @@ seconds-split c before (x ∷ xs) =
 -- as many, where a content occurs more than once
 abbrev share : ℕ → ℕ → ℕ
 share n m = if nat_lt 1 n then m else 0
-
-share-none : (n : ℕ) → share n 0 ≡ 0
-share-none n = grind arith
-
-share-more : (n m : ℕ) → share n (1 + m) ≡ many_in n + share n m
-share-more n m = grind arith
 
 repeated-cons : (all : List (List ℕ)) (x : List ℕ) (xs : List (List ℕ)) → repeated_among all (x ∷ xs) ≡ many_in (times_among x all) + repeated_among all xs
 unfolding repeated_among

@@ -15,7 +15,7 @@ use Rattle.page_table.proofs.Adding.{own_one, own_pages-set}
 use Rattle.page_table.proofs.Putting.{content_at}
 use Rattle.page_table.proofs.Unused.{times-push}
 use Rattle.page_table.proofs.Waiters.{others_of, waiting-forgets}
-use Rattle.page_table.proofs.Moving.{IsMove, with_entry, contents-entry, contents-moved, used-moved, sound-moved}
+use Rattle.page_table.proofs.Moving.{IsMove, with_entry, contents-entry, contents-moved, used-moved, sound-moved, IsMerged}
 
 -- no places are on a frame without pages
 places-none : (n f : ℕ) (xs : List (Option Entry)) → pages_on f xs ≡ 0 → places_on n f xs ≡ []
@@ -50,11 +50,8 @@ unfolding joined_by
 joined-two i j ne = grind (arith, nat_tests)
 
 -- an entry of a page in a group
-pub record IsGroupEntry (old new : Entry) (f : ℕ) : Type 0 where
-  pub state : state_of new ≡ with_status Grouped (state_of old)
-  pub frame : new.frame ≡ f
-  pub status : new.status ≡ Grouped
-  pub protected : new.protected ≡ true
+abbrev pub IsGroupEntry : Entry → Entry → ℕ → Type 0
+IsGroupEntry old new f = IsMerged old new f Grouped
 
 -- the table with a new last group, of the page at a place alone
 abbrev pub founded : TableState → ℕ → Entry → TableState
@@ -105,7 +102,7 @@ module _ (table : TableState) (i : ℕ) (entry x : Entry) (founding : IsFounding
   used-founded =
       let count = own_pages-set table.entries i (Some x) there in
       let old : own_one (entry_at table.entries i) ≡ 1 = ap own_one here ∙ ap (λ (b : Bool). if b then 0 else 1) own in
-      let new : own_one (Some x) ≡ 0 = ap (λ (s : Status). if is_shared s then 0 else 1) to.status in
+      let new : own_one (Some x) ≡ 0 = ap (λ (s : Status). if is_shared s then 0 else 1) to.status_is in
       omega (arith, count, old, new, length-append table.groups (x.frame ∷ []))
 
   pub IsTable-founded : IsTable (founded table i x)
@@ -113,8 +110,8 @@ module _ (table : TableState) (i : ℕ) (entry x : Entry) (founding : IsFounding
       table-set table (founded table i x) i (Some x) is refl refl is.pages is.zero
       (record {
         frame = let fits = (entry_fits table i entry is here).frame in let same = to.frame in omega (arith, fits, same);
-        protected = to.protected ∙ ap is_shared (sym to.status);
-        right = subst (LiesRight (founded table i x) x.frame) (sym to.status) (ap (λ (f : ℕ). times f (founded table i x).groups) to.frame ∙ once-founded);
+        protected = to.protected ∙ ap is_shared (sym to.status_is);
+        right = subst (LiesRight (founded table i x) x.frame) (sym to.status_is) (ap (λ (f : ℕ). times f (founded table i x).groups) to.frame ∙ once-founded);
       })
       (λ j y ne e.
       let apart = apart_alone table j i y entry e here (λ q. ne (sym q)) lone.one in
@@ -189,11 +186,11 @@ module _ (table : TableState) (i j : ℕ) (one other x y : Entry) (pairing : IsP
     is = IsTable-founded table i one x founding;
     here = here-founded;
     own = own_second;
-    shared = ap is_shared to_second.status;
+    shared = ap is_shared to_second.status_is;
     fits = record {
       frame = let fits = (entry_fits table i one is first).frame in let same = to_second.frame in omega (arith, fits, same);
-      protected = to_second.protected ∙ ap is_shared (sym to_second.status);
-      right = subst (LiesRight (founded table i x) y.frame) (sym to_second.status)
+      protected = to_second.protected ∙ ap is_shared (sym to_second.status_is);
+      right = subst (LiesRight (founded table i x) y.frame) (sym to_second.status_is)
           (ap (λ (f : ℕ). times f (founded table i x).groups) to_second.frame ∙ once-founded table i one x founding);
     };
     same = ap (page_at table.arena) to_second.frame ∙ same;

@@ -1,5 +1,5 @@
 -- Waiting pages as callers see them.
-use Rattle.std.proofs.Common.{◌≡◌, ◌∙◌, ℕ, ◌+◌, ◌<◌, ◌≤◌, ◌==◌, ◌&&◌, nat_le, bytes_eq, Bool, true, false, if◌then◌else◌, All, is_some, drop, slice_index_or, slice_set, List, [], ◌∷◌, ◌++◌, length, map, find, Option, Some, None, IfSome, option_map, refl, sym, ap, subst, arith}
+use Rattle.std.proofs.Common.{◌≡◌, ◌∙◌, ℕ, ◌+◌, ◌<◌, ◌≤◌, ◌==◌, ◌&&◌, bytes_eq, Bool, true, false, if◌then◌else◌, All, is_some, drop, slice_index_or, slice_set, List, [], ◌∷◌, ◌++◌, length, map, find, Option, Some, None, IfSome, option_map, refl, sym, ap, subst, arith}
 use Rattle.std.proofs.lemmas.List.{map-append}
 use Rattle.std.proofs.lemmas.List.Elements.{All-nil, All-cons}
 use Rattle.std.proofs.lemmas.Slice.Eq.{bytes_eq-Decides}
@@ -68,24 +68,18 @@ module _ (table : TableState) (shapes : List (Option Shape)) (tenants : List Ten
 
 -- there is room for one more
 pub room-left : (table : TableState) (shapes : List (Option Shape)) (tenants : List Tenant) (reserved : ℕ) (c : Option ℕ) (ws : List Waiter) (room : ℕ) → IsMemory table shapes tenants reserved → AreWaiters table.entries c ws → length table.arena ≤ room → length ws < room
-room-left table shapes tenants reserved c ws room is are fitting =
-    omega (arith, waiters-few table.entries c ws are, fitting, is.room)
+room-left table shapes tenants reserved c ws room is are fitting = omega (arith, waiters-few table.entries c ws are, fitting, is.room)
+
+-- a waiting page, where the cursor went on
+waiter-at : (entries : List (Option Entry)) (c d : Option ℕ) (w : Waiter) → IsWaiter entries c w → is_behind d w.place ≡ true → IsWaiter entries d w
+waiter-at entries c d w is behind = record { entry = is.entry; here = is.here; frame = is.frame; status = is.status; mergeable = is.mergeable; behind = behind }
 
 -- the page that becomes the one visited last stands behind those that wait
 pub waiters-behind : (entries : List (Option Entry)) (c i : ℕ) (ws : List Waiter) → c < i → AreWaiters entries (Some c) ws → AreWaiters entries (Some i) ws
-waiters-behind entries c i ws h are =
-    waiters-kept entries entries (Some c) (Some i) ws
-    (λ w waiter. record { entry = waiter.entry; here = waiter.here; frame = waiter.frame; status = waiter.status; mergeable = waiter.mergeable; behind = later w waiter.behind })
-    are
-  where
-    later : (w : Waiter) → nat_le w.place c ≡ true → nat_le w.place i ≡ true
-    later w le = grind (arith, nat_tests)
+waiters-behind entries c i ws h are = waiters-kept entries entries (Some c) (Some i) ws (λ w waiter. waiter-at entries (Some c) (Some i) w waiter (grind (arith, nat_tests, waiter.behind))) are
 
 pub waiters-started : (entries : List (Option Entry)) (c : Option ℕ) (ws : List Waiter) → AreWaiters entries c ws → AreWaiters entries None ws
-waiters-started entries c ws are =
-    waiters-kept entries entries c None ws
-    (λ w waiter. record { entry = waiter.entry; here = waiter.here; frame = waiter.frame; status = waiter.status; mergeable = waiter.mergeable; behind = refl })
-    are
+waiters-started entries c ws are = waiters-kept entries entries c None ws (λ w waiter. waiter-at entries c None w waiter refl) are
 
 -- a visit goes past all that wait, and a pass begins without them
 pub advanced : (entries : List (Option Entry)) (pages : List (Option PageState)) (c : Option ℕ) (ws : List Waiter) (i : ℕ) → AreWaiters entries c ws

@@ -35,8 +35,7 @@ same-length zero (x ∷ xs) ys few same = absurd (omega (arith, few))
 same-length (suc n) (x ∷ xs) ys few same =
     let left = without-length x (x ∷ xs) in
     let here = times-head x xs in
-    let rest = same-length n (but x (x ∷ xs)) (but x ys) (omega (arith, left, here, few)) less in
-    omega (arith, rest, left, without-length x ys, same x)
+    omega (arith, same-length n (but x (x ∷ xs)) (but x ys) (omega (arith, left, here, few)) less, left, without-length x ys, same x)
   where
     less : (f : ℕ) → times f (but x (x ∷ xs)) ≡ times f (but x ys)
     less f = grind (arith, times-gone x (x ∷ xs), times-gone x ys, times-kept x f (x ∷ xs), times-kept x f ys, same f)

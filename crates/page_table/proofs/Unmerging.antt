@@ -99,8 +99,7 @@ held-frames (x ∷ xs) groups = grind (arith, sum_by-cons (λ (y : Option Entry)
     one_more [] = let none = held-none x in omega (arith, none)
     one_more (g ∷ gs) =
         let whole = sum_by-cons (λ (g : ℕ). sum_by (on_one g) (x ∷ xs)) g gs in
-        let part = sum_by-cons (λ (g : ℕ). sum_by (on_one g) xs) g gs in
-        omega (arith, whole, part, sum_by-cons (on_one g) x xs, one_more gs, held-cons x g gs)
+        omega (arith, whole, sum_by-cons (λ (g : ℕ). sum_by (on_one g) xs) g gs, sum_by-cons (on_one g) x xs, one_more gs, held-cons x g gs)
 
 zeros-frames : (xs : List (Option Entry)) → ((i : ℕ) → zeros_at (option_map state_of (entry_at xs i)) ≡ on_one 0 (entry_at xs i)) → sum_by zeros_at (states_of xs) ≡ pages_on 0 xs
 unfolding pages_on
@@ -116,9 +115,8 @@ shared-frames : (xs : List (Option Entry)) (groups : List ℕ)
 shared-frames [] groups h = refl
 shared-frames (x ∷ xs) groups h =
     let shared = sum_by-cons shared_at (option_map state_of x) (states_of xs) in
-    let grouped = sum_by-cons (λ (y : Option Entry). held y groups) x xs in
     let zeros = sum_by-cons zeros_at (option_map state_of x) (states_of xs) in
-    omega (arith, shared, grouped, zeros, h 0, shared-frames xs groups (λ i. h (suc i)))
+    omega (arith, shared, sum_by-cons (λ (y : Option Entry). held y groups) x xs, zeros, h 0, shared-frames xs groups (λ i. h (suc i)))
 
 length-map_groups : (xs : List (Option Entry)) (groups : List ℕ) → length (map (λ g. places_on 0 g xs) groups) ≡ length groups
 length-map_groups xs groups = length-map groups (λ g. places_on 0 g xs)
@@ -265,8 +263,7 @@ module _ (table : TableState) (is : IsTable table) (pass : Pass) where
       let last = cost_next (sharing_of table pass) n in
       let here = ap (λ (s : Sharing). break_cost s n) broken in
       let m : ℕ = length table.entries - (n + 1) in
-      let less = cost_from-less (sharing_of table pass) (n + 1) m in
-      omega (arith, last, here, less, all_cost (n + 1 + m) (omega (arith, there)), taken, room)
+      omega (arith, last, here, cost_from-less (sharing_of table pass) (n + 1) m, all_cost (n + 1 + m) (omega (arith, there)), taken, room)
 
 -- the need hangs on the table alone
 need_of_table : (table : TableState) (pass now : Pass) → unmerge_need (sharing_of table now) ≡ unmerge_need (sharing_of table pass)

@@ -75,8 +75,7 @@ module _ (table : TableState) (shapes : List (Option Shape)) (tenants : List Ten
     (t : ℕ) (inside : t < length tenants) where
   pub pins-inside : t * 2048 + 2048 ≤ length pass.pins
   pins-inside =
-      let long = length-map table.entries (option_map state_of) in
-      omega (arith, long, length-contents table, fit.as_many, is.maps.places, is.numbers, inside)
+      omega (arith, length-map table.entries (option_map state_of), length-contents table, fit.as_many, is.maps.places, is.numbers, inside)
 
   abbrev unpinned : List Bool
   unpinned = with_part pass.pins (t * 2048) (replicate 2048 false)

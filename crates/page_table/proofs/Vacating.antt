@@ -10,7 +10,7 @@ use Rattle.page_table.specs.Table.{TableState, CountsState, IsTable, IsEntry, Is
 use Rattle.page_table.proofs.Changing.{is_alone, entry_fits, table-changed, counted-changed, apart_alone}
 use Rattle.page_table.proofs.Adding.{own_one, own_pages-set}
 use Rattle.page_table.proofs.Costs.{state-at, count-some}
-use Rattle.page_table.proofs.Entries.{one_when, on_one, not_equal, equal, pages_on-set, places_on-set, groups-kept, inside, one_if_zero-above, group_of, counts-set}
+use Rattle.page_table.proofs.Entries.{one_when, on_one, not_equal, pages_on-set, places_on-set, groups-kept, inside, one_if_zero-above, group_of, counts-set}
 use Rattle.page_table.proofs.Groups.{without-places}
 use Rattle.page_table.proofs.Leaving.{groups-left}
 
@@ -25,9 +25,6 @@ module _ (table : TableState) (i : ℕ) (entry : Entry) (is : IsTable table) (he
 
   pub fits : IsEntry table entry
   fits = entry_fits table i entry is here
-
-  lies : is_on entry.frame (entry_at table.entries i) ≡ true
-  lies = ap (is_on entry.frame) here ∙ equal entry.frame
 
   pages_on-vacated : (g : ℕ) → pages_on g (vacated table i).entries + one_when (entry.frame == g) ≡ pages_on g table.entries
   pages_on-vacated g =

@@ -1,44 +1,21 @@
 -- A page of zeros moves to the zero frame.
-use Rattle.std.proofs.Common.{◌≡◌, ◌∙◌, ⊎_elim, ℕ, ◌<◌, ◌≤◌, ◌==◌, true, false, [], slice_index_or, Some, sym, ap, subst, arith}
+use Rattle.std.proofs.Common.{◌≡◌, ◌∙◌, ⊎_elim, ℕ, ◌<◌, ◌≤◌, ◌==◌, false, [], slice_index_or, Some, sym, ap, arith, refl}
 use Rattle.page_table.specs.declared.pass.Pass.{Pass}
 use Rattle.host_types.specs.declared.status.Status.TheVariants.{Zero}
-use Rattle.host_types.specs.Sharing.{is_shared, with_status, zeroed}
+use Rattle.host_types.specs.Sharing.{with_status, zeroed}
 use Rattle.host_types.specs.Pages.{zero_page}
-use Rattle.frame_arena.specs.Pages.{page_at}
 use Rattle.page_table.specs.declared.entry.Entry.{Entry}
-use Rattle.page_table.specs.Table.{TableState, IsOwnAt, IsTable, IsGroup, LiesRight, times, entry_at, contents_of, groups_of, state_of, sharing_of, forgets, is_on}
+use Rattle.page_table.specs.Table.{TableState, IsOwnAt, IsTable, IsGroup, times, entry_at, contents_of, groups_of, sharing_of, forgets, is_on}
 use Rattle.page_table.proofs.Entries.{not_equal, places_on-set, groups-kept, states-set}
-use Rattle.page_table.proofs.Putting.{content_at}
 use Rattle.page_table.proofs.Waiters.{waiting-forgets}
-use Rattle.page_table.proofs.Moving.{IsMove, with_entry, lone}
-use Rattle.page_table.proofs.Changing.{own_seen}
-
--- an entry of a page on the zero frame
-pub record IsZeroEntry (old new : Entry) : Type 0 where
-  pub state : state_of new ≡ with_status Zero (state_of old)
-  pub frame : new.frame ≡ 0
-  pub status : new.status ≡ Zero
-  pub protected : new.protected ≡ true
+use Rattle.page_table.proofs.Moving.{IsMove, with_entry, lone, IsMerged, move-merged}
 
 -- a page of zeros may move to the zero frame
 pub move-zeroed : (table now : TableState) (i : ℕ) (entry x : Entry) → table ≡ now → IsTable table → entry_at now.entries i ≡ Some entry → IsOwnAt now i
-    → slice_index_or (contents_of now) i [] ≡ zero_page → IsZeroEntry entry x → IsMove table i entry x
-move-zeroed table now i entry x e is there own zeros to =
-    let seen = own_seen table now e i entry there own in
-    record {
-      is = is;
-      here = seen.here;
-      own = seen.own;
-      shared = ap is_shared to.status;
-      fits = record {
-        frame = omega (arith, is.some, to.frame);
-        protected = to.protected ∙ ap is_shared (sym to.status);
-        right = subst (LiesRight table x.frame) (sym to.status) to.frame;
-      };
-      same = ap (page_at table.arena) to.frame ∙ is.zero ∙ sym zeros ∙ ap (λ t. slice_index_or (contents_of t) i []) (sym e) ∙ content_at table i entry seen.here;
-    }
+    → slice_index_or (contents_of now) i [] ≡ zero_page → IsMerged entry x 0 Zero → IsMove table i entry x
+move-zeroed table now i entry x e is there own zeros to = move-merged table now i entry x 0 Zero e is there own (zeros ∙ sym is.zero) is.some refl refl to
 
-module _ (table : TableState) (i : ℕ) (entry x : Entry) (move : IsMove table i entry x) (to : IsZeroEntry entry x) where
+module _ (table : TableState) (i : ℕ) (entry x : Entry) (move : IsMove table i entry x) (to : IsMerged entry x 0 Zero) where
   open move use {is, here}
 
   no_group : times entry.frame table.groups ≡ 0

@@ -18,8 +18,7 @@ next : (c : In-Some) → IsNext (states_of c.self.inside.table.entries) (look_fr
 next c = next-is (states_of c.self.inside.table.entries) (look_from c.self.inside.pass.cursor) c.in-Some.place (told c)
 
 small : (c : In-Some) → c.in-Some.place < 32768
-small c =
-    omega (arith, length-map c.self.inside.table.entries (option_map state_of), (next c).inside, (c.facts.ensures.1).fits.few)
+small c = omega (arith, length-map c.self.inside.table.entries (option_map state_of), (next c).inside, (c.facts.ensures.1).fits.few)
 
 pub page_at-requires : goal.page_at-requires
 page_at-requires c = small (goal.at.page_at-requires c).In-Some

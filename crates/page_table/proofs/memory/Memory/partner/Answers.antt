@@ -49,8 +49,7 @@ found c =
 pub page_at-requires : goal.page_at-requires
 page_at-requires c =
     let waiter = (found (goal.at.page_at-requires c).In-Some).waiter in
-    let there = inside c.self.inside.table.entries c.in-Some.waiter.place waiter.entry waiter.here in
-    omega (arith, there, (c.facts.ensures.1).fits.few)
+    omega (arith, inside c.self.inside.table.entries c.in-Some.waiter.place waiter.entry waiter.here, (c.facts.ensures.1).fits.few)
 
 partners : (c : After-find) → partner_place (view_of c.self.inside.table c.self.inside.shapes.items c.self.inside.tenants.items c.self.inside.pass) (page_place c.args.page) c.args.fingerprint ≡ option_map (λ (w : Waiter). w.place) c.find.result
 unfolding view_of

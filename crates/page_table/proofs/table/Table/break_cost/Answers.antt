@@ -7,9 +7,7 @@ use Rattle.page_table.proofs.table.Table.break_cost.Goals as goal
 use Rattle.page_table.proofs.table.Table.break_cost.Goals.{then-entry, else-entry}
 
 pub get-requires : goal.get-requires
-get-requires c =
-    let inside = place_of_page _ c.args.self.now c.self.view_is c.args.place c.requires in
-    omega (arith, inside)
+get-requires c = omega (arith, place_of_page _ c.args.self.now c.self.view_is c.args.place c.requires)
 
 pub unreachable-requires : goal.unreachable-requires
 unreachable-requires c = entry_of_page _ c.args.self.now c.self.view_is c.args.place c.requires c.get.result c.get.ensures c.in_default.is

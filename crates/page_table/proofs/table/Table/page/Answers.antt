@@ -3,9 +3,7 @@ use Rattle.page_table.proofs.Putting.{place_of_page, entry_of_page}
 use Rattle.page_table.proofs.table.Table.page.Goals as goal
 
 pub get-requires : goal.get-requires
-get-requires c =
-    let inside = place_of_page _ c.args.self.now c.self.view_is c.args.place c.requires in
-    omega (arith, inside)
+get-requires c = omega (arith, place_of_page _ c.args.self.now c.self.view_is c.args.place c.requires)
 
 pub unreachable-requires : goal.unreachable-requires
 unreachable-requires c = entry_of_page _ c.args.self.now c.self.view_is c.args.place c.requires c.get.result c.get.ensures c.in_default.is

@@ -37,9 +37,9 @@ table c = record { arena = c.self.inside.arena; entries = c.self.inside.entries;
 pairs : (c : goal.After-insert) → IsPairing (table c) c.args.first c.args.second c.page-one.result c.page-other.result c.merged.result c.merged-2.result
 pairs c =
     let first : IsGroupEntry c.page-one.result c.merged.result c.page-one.result.frame =
-    record { state = c.merged.ensures.state; frame = c.merged.ensures.frame; status = c.merged.ensures.status; protected = c.merged.ensures.protected } in
+    record { state = c.merged.ensures.state; frame = c.merged.ensures.frame; status_is = c.merged.ensures.status; protected = c.merged.ensures.protected } in
     let second : IsGroupEntry c.page-other.result c.merged-2.result c.page-one.result.frame =
-    record { state = c.merged-2.ensures.state; frame = c.merged-2.ensures.frame; status = c.merged-2.ensures.status; protected = c.merged-2.ensures.protected } in
+    record { state = c.merged-2.ensures.state; frame = c.merged-2.ensures.frame; status_is = c.merged-2.ensures.status; protected = c.merged-2.ensures.protected } in
     pairing-from (table c) c.args.self.now c.args.first c.args.second c.page-one.result c.page-other.result c.merged.result c.merged-2.result
     c.self.view_is c.self.invariant.0.fits c.requires.apart c.page-one.ensures c.page-other.ensures c.requires.own_first c.requires.own_second c.requires.same first second
 

@@ -9,9 +9,7 @@ use Rattle.page_table.proofs.Trees.{tree-set}
 use Rattle.page_table.proofs.table.Table.put.Goals as goal
 
 pub get-requires : goal.get-requires
-get-requires c =
-    let inside = place_of_page _ c.args.self.now c.self.view_is c.args.place c.requires.there in
-    omega (arith, inside)
+get-requires c = omega (arith, place_of_page _ c.args.self.now c.self.view_is c.args.place c.requires.there)
 
 pub unreachable-requires : goal.unreachable-requires
 unreachable-requires c = entry_of_page _ c.args.self.now c.self.view_is c.args.place c.requires.there c.get.result c.get.ensures c.in_default.is

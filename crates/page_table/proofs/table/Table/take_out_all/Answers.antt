@@ -30,9 +30,8 @@ loop-place-preserved c =
           ∙ sym (broken_next (sharing_of c.args.self.now pass) c.loop-place.place);
       kept = λ i entry e own. c.take_out_at.ensures.kept i entry (c.loop-place.invariant.kept i entry e own) own;
       used = λ pass. let now = c.take_out_at.ensures.used pass in
-          let before = c.loop-place.invariant.used pass in
           let here = ap (λ (s : Sharing). break_cost s c.loop-place.place) (c.loop-place.invariant.sharing pass) in
-          omega (arith, now, before, here, cost_next (sharing_of c.args.self.now pass) c.loop-place.place);
+          omega (arith, now, c.loop-place.invariant.used pass, here, cost_next (sharing_of c.args.self.now pass) c.loop-place.place);
       arena = c.take_out_at.ensures.arena ∙ c.loop-place.invariant.arena;
     }
 
