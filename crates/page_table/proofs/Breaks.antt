@@ -14,7 +14,7 @@ use Rattle.page_table.specs.declared.entry.Entry.{Entry}
 use Rattle.page_table.specs.Table.{TableState, CountsState, IsTable, IsSound, LiesRight, times, one_if_zero, entry_at, state_of, groups_of, sharing_of, is_on, places_on, pages_on}
 use Rattle.page_table.proofs.Changing.{is_alone, entry_fits}
 use Rattle.page_table.proofs.Entries.{one_when, on_one, not_equal, equal, pages_on-set, some_on, places_on-set, groups-kept}
-use Rattle.page_table.proofs.Groups.{without-places, company-places}
+use Rattle.page_table.proofs.Groups.{company-places, without-here}
 use Rattle.page_table.proofs.Costs.{state-at, group-frame}
 
 -- the break of one page more
@@ -100,11 +100,7 @@ company-filled i groups = any-filter_same (has_company i) filled true (λ group 
 -- the places without one, group by group
 without-groups : (i : ℕ) (xs : List (Option Entry)) (groups : List ℕ) → map (without i) (map (λ g. places_on 0 g xs) groups) ≡ map (λ g. places_on 0 g (slice_set xs i None)) groups
 without-groups i xs [] = refl
-without-groups i xs (g ∷ gs) =
-    let here : i ≡ 0 + i = omega arith in
-    let first : without i (places_on 0 g xs) ≡ places_on 0 g (slice_set xs i None) = ap (λ (j : ℕ). without j (places_on 0 g xs)) here ∙ without-places 0 g xs i None refl in
-    let rest = without-groups i xs gs in
-    cc
+without-groups i xs (g ∷ gs) = let first = without-here g xs i None refl in let rest = without-groups i xs gs in cc
 
 -- the state of sharing after n breaks from the place i on: the groups are those of the entries that are left, and behind i + n nothing changed
 record AreBroken (table : TableState) (s : Sharing) (i n : ℕ) : Type 0 where

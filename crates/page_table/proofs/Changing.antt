@@ -1,15 +1,35 @@
 -- What makes a table sound again after the entry at one place changed, and perhaps the page of a frame or the groups.
-use Rattle.std.proofs.Common.{◌≡◌, ◌≢◌, ◌∙◌, ◌⊎◌, inl, inr, ⊎_elim, ℕ, ◌+◌, ◌<◌, ◌≤◌, false, length, slice_index_or, slice_set, Option, Some, None, IfSome, sym, ap, subst, arith, refl, List}
+use Rattle.std.proofs.Common.{◌≡◌, ◌≢◌, ◌∙◌, ◌⊎◌, inl, inr, ⊎_elim, ℕ, ◌+◌, ◌<◌, ◌≤◌, false, length, slice_index_or, slice_set, Option, Some, None, IfSome, sym, ap, subst, arith, refl, List, ◌==◌, if◌then◌else◌, option_map}
 use Rattle.std.proofs.lemmas.List.{length-set}
+use Rattle.std.proofs.lemmas.List.Sums.{sum_by-set}
 use Rattle.std.proofs.lemmas.Bool.Decides.{nat_tests}
 use Rattle.host_types.specs.declared.status.Status.{Status}
 use Rattle.host_types.specs.declared.status.Status.TheVariants.{New, Volatile, Waiting, Grouped, Zero}
-use Rattle.host_types.specs.Sharing.{is_shared}
+use Rattle.host_types.specs.Sharing.{is_shared, own_frame}
 use Rattle.host_types.specs.Pages.{zero_page}
 use Rattle.frame_arena.specs.Pages.{page_at}
 use Rattle.page_table.specs.declared.entry.Entry.{Entry}
-use Rattle.page_table.specs.Table.{TableState, CountsState, IsTable, IsEntry, IsAlone, IsGroup, AreCountsOf, LiesRight, times, entry_at, is_on, pages_on, used_by, IsOwnAt}
-use Rattle.page_table.proofs.Entries.{equal, inside, alone, at_set}
+use Rattle.page_table.specs.Table.{TableState, CountsState, IsTable, IsEntry, IsAlone, IsGroup, AreCountsOf, LiesRight, times, entry_at, is_on, pages_on, used_by, IsOwnAt, own_pages, state_of}
+use Rattle.page_table.proofs.Entries.{equal, inside, alone, at_set, one_when, on_one, pages_on-set}
+
+-- one where the page has a frame of its own
+abbrev pub own_one : Option Entry → ℕ
+own_one x = own_frame (option_map state_of x)
+
+pub own_pages-set : (xs : List (Option Entry)) (i : ℕ) (x : Option Entry) → i < length xs
+    → own_pages (slice_set xs i x) + own_one (entry_at xs i) ≡ own_pages xs + own_one x
+unfolding own_pages
+own_pages-set xs i x h = sum_by-set own_one xs i x None h
+
+-- the pages on a frame, where the entry at one place changed
+pub pages_on-changed : (xs : List (Option Entry)) (i : ℕ) (entry : Entry) (x : Option Entry) → entry_at xs i ≡ Some entry
+    → (g : ℕ) → pages_on g (slice_set xs i x) + one_when (entry.frame == g) ≡ pages_on g xs + on_one g x
+pages_on-changed xs i entry x here g = let was = ap (on_one g) here in omega (arith, pages_on-set g xs i x (inside xs i entry here), was)
+
+-- and those with frames of their own
+pub own_pages-changed : (xs : List (Option Entry)) (i : ℕ) (entry : Entry) (x : Option Entry) → entry_at xs i ≡ Some entry
+    → own_pages (slice_set xs i x) + (if is_shared entry.status then 0 else 1) ≡ own_pages xs + own_one x
+own_pages-changed xs i entry x here = let was = ap own_one here in omega (arith, own_pages-set xs i x (inside xs i entry here), was)
 
 -- a page that isn't shared is alone on its frame
 pub is_alone : (table : TableState) (entry : Entry) → IsEntry table entry → is_shared entry.status ≡ false → IsAlone table entry.frame

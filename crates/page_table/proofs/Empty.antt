@@ -13,8 +13,8 @@ use Rattle.page_table.specs.Limits.{AreLimits}
 use Rattle.page_table.specs.State.{new_memory, unreserved_tenant}
 use Rattle.page_table.specs.Table.{TableState, ArePages, entry_content, contents_of, groups_of, own_pages, state_of, maps_of, used_by, new_pass}
 use Rattle.page_table.specs.View.{view_of, IsMemory, IsPass}
+use Rattle.page_table.proofs.Changing.{own_one}
 use Rattle.page_table.proofs.Sides.{order}
-use Rattle.page_table.proofs.Adding.{own_one}
 use Rattle.page_table.proofs.Putting.{empty_table, all_same}
 
 no_maps : (n : ℕ) (contents : List (List ℕ)) → maps_of (replicate n None) contents ≡ replicate n None

@@ -1,5 +1,5 @@
 -- A page table stays sound where the last page leaves its group and keeps the frame.
-use Rattle.std.proofs.Common.{◌≡◌, ◌≢◌, ◌∙◌, inl, inr, ◌⊎◌, ⊎_elim, ℕ, ◌+◌, ◌<◌, ◌≤◌, ◌==◌, not, Bool, true, false, if◌then◌else◌, List, [], ◌∷◌, length, map, filter, slice_index_or, slice_set, Option, Some, None, option_map, refl, sym, ap, subst, arith}
+use Rattle.std.proofs.Common.{◌≡◌, ◌≢◌, ◌∙◌, inl, inr, ◌⊎◌, ⊎_elim, ℕ, ◌+◌, ◌<◌, ◌≤◌, ◌==◌, not, true, false, List, [], ◌∷◌, length, map, filter, slice_index_or, slice_set, Option, Some, None, option_map, refl, sym, ap, subst, arith}
 use Rattle.std.proofs.lemmas.List.{map-set, set-get_or, nil_from_length}
 use Rattle.std.proofs.lemmas.Bool.Decides.{eqb_tells, nat_tests}
 use Rattle.page_table.specs.declared.pass.Pass.{Pass}
@@ -10,11 +10,10 @@ use Rattle.host_types.proofs.Without.{without-length, times-gone, times-kept, so
 use Rattle.frame_arena.specs.Pages.{page_at}
 use Rattle.page_table.specs.declared.entry.Entry.{Entry}
 use Rattle.page_table.specs.Table.{TableState, CountsState, IsTable, IsEntry, IsAlone, IsGroup, IsSound, AreCountsOf, LiesRight, times, one_if_zero, entry_at, state_of, states_of, contents_of, groups_of, sharing_of, is_on, places_on, pages_on, used_by}
-use Rattle.page_table.proofs.Changing.{entry_fits, table-set, counted-changed, lies_alone, apart_alone}
-use Rattle.page_table.proofs.Adding.{own_one, own_pages-set}
+use Rattle.page_table.proofs.Changing.{entry_fits, table-set, counted-changed, lies_alone, apart_alone, pages_on-changed, own_pages-changed}
 use Rattle.page_table.proofs.Costs.{state-at, group-frame}
 use Rattle.page_table.proofs.Entries.{times-head, times-tail, one_when, on_one, not_equal, equal, pages_on-set, some_on, inside, contents-set, group_of}
-use Rattle.page_table.proofs.Groups.{length-places, without-places}
+use Rattle.page_table.proofs.Groups.{length-places, without-here}
 use Rattle.page_table.proofs.Putting.{content_at}
 use Rattle.page_table.proofs.Leaving.{sharing-broken}
 
@@ -75,10 +74,7 @@ module _ (table : TableState) (i : ℕ) (entry new : Entry) (is : IsTable table)
   alone_there = let none = group-frame table entry.frame is one_group in omega (arith, none, last)
 
   pages_on-ended : (g : ℕ) → pages_on g (ended table i new entry.frame).entries ≡ pages_on g table.entries
-  pages_on-ended g =
-      let count = pages_on-set g table.entries i (Some new) there in
-      let same : on_one g (Some new) ≡ on_one g (entry_at table.entries i) = ap (λ (f : ℕ). one_when (f == g)) frame ∙ sym (ap (on_one g) here) in
-      omega (arith, count, same)
+  pages_on-ended g = grind (arith, pages_on-changed table.entries i entry (Some new) here g, frame)
 
   pub contents-ended : contents_of (ended table i new entry.frame) ≡ contents_of table
   unfolding contents_of
@@ -91,26 +87,19 @@ module _ (table : TableState) (i : ℕ) (entry new : Entry) (is : IsTable table)
   unfolding groups_of
   groups-ended = sym (left-groups table.entries (slice_set table.entries i (Some new)) entry.frame i table.groups gone stay)
     where
-      start : i ≡ 0 + i
-      start = omega arith
-
       gone : without i (places_on 0 entry.frame table.entries) ≡ []
       gone =
-          let left : without i (places_on 0 entry.frame table.entries) ≡ places_on 0 entry.frame (slice_set table.entries i None) =
-          ap (λ (n : ℕ). without n (places_on 0 entry.frame table.entries)) start ∙ without-places 0 entry.frame table.entries i None refl in
           let count = pages_on-set entry.frame table.entries i None there in
           let one : on_one entry.frame (entry_at table.entries i) ≡ 1 = ap (on_one entry.frame) here ∙ ap one_when (equal entry.frame) in
           let long = length-places 0 entry.frame (slice_set table.entries i None) in
-          left ∙ nil_from_length (places_on 0 entry.frame (slice_set table.entries i None)) (omega (arith, long, count, one, alone_there))
+          without-here entry.frame table.entries i None refl
+          ∙ nil_from_length (places_on 0 entry.frame (slice_set table.entries i None)) (omega (arith, long, count, one, alone_there))
 
       stay : (g : ℕ) → 1 ≤ times g table.groups → g ≢ entry.frame
           → (without i (places_on 0 g table.entries) ≡ places_on 0 g (slice_set table.entries i (Some new))) × (0 < length (places_on 0 g (slice_set table.entries i (Some new))))
       stay g le ne = (
-        ap (λ (n : ℕ). without n (places_on 0 g table.entries)) start
-            ∙ without-places 0 g table.entries i (Some new) (not_equal g new.frame (λ e. ne (sym (sym frame ∙ e)))),
-        let long = length-places 0 g (slice_set table.entries i (Some new)) in
-            let pages = pages_on-ended g in
-            ⊎_elim (λ none. absurd (omega (arith, none, le))) (λ group. omega (arith, IsGroup.some group, long, pages)) (is.groups g),
+        without-here g table.entries i (Some new) (not_equal g new.frame (λ e. ne (sym (sym frame ∙ e)))),
+        omega (arith, length-places 0 g (slice_set table.entries i (Some new)), pages_on-ended g, (group_of table g is le).some),
       )
 
   pub sharing-ended : (pass : Pass) → sharing_of (ended table i new entry.frame) pass ≡ broken (sharing_of table pass) i
@@ -123,10 +112,8 @@ module _ (table : TableState) (i : ℕ) (entry new : Entry) (is : IsTable table)
 
   pub used-ended : used_by (ended table i new entry.frame) ≡ used_by table
   used-ended =
-      let count = own_pages-set table.entries i (Some new) there in
-      let none : own_one (entry_at table.entries i) ≡ 0 = ap own_one here ∙ ap (λ (b : Bool). if b then 0 else 1) shared in
-      let one : own_one (Some new) ≡ 1 = ap (λ (s : Status). if is_shared s then 0 else 1) status-ended in
-      omega (arith, count, none, one, without-length entry.frame table.groups, one_group)
+      let own : is_shared new.status ≡ false = ap is_shared status-ended in
+      grind (arith, own_pages-changed table.entries i entry (Some new) here, shared, own, without-length entry.frame table.groups, one_group)
 
   IsTable-ended : new.protected ≡ false → IsTable (ended table i new entry.frame)
   IsTable-ended unlocked =

@@ -10,7 +10,7 @@ use Rattle.page_table.specs.declared.tenant.Tenant.{Tenant}
 use Rattle.page_table.specs.State.{free_of}
 use Rattle.page_table.specs.Table.{TableState, states_of, state_of, groups_of, own_pages, places_on, used_by}
 use Rattle.page_table.specs.View.{view_of}
-use Rattle.page_table.proofs.Adding.{own_one}
+use Rattle.page_table.proofs.Changing.{own_one}
 
 own_of_states : (entries : List (Option Entry)) → sum_by own_frame (states_of entries) ≡ sum_by own_one entries
 own_of_states [] = refl

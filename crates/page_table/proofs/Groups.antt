@@ -39,6 +39,10 @@ without-places n f [] i x h = refl
 without-places n f (y ∷ ys) zero x h = grind (arith, nat_tests, without-none n (places_on (n + 1) f ys), before-places (n + 1) f ys n)
 without-places n f (y ∷ ys) (suc i) x h = grind (arith, nat_tests, without-places (n + 1) f ys i x)
 
+-- the places from the first one on
+pub without-here : (f : ℕ) (xs : List (Option Entry)) (i : ℕ) (x : Option Entry) → is_on f x ≡ false → without i (places_on 0 f xs) ≡ places_on 0 f (slice_set xs i x)
+without-here f xs i x off = let start : i ≡ 0 + i = omega arith in ap (λ (n : ℕ). without n (places_on 0 f xs)) start ∙ without-places 0 f xs i x off
+
 -- a group has the page, and another one
 abbrev pub has_company : ℕ → List ℕ → Bool
 has_company i group = is_among i group && nat_lt 1 (length group)

@@ -8,7 +8,7 @@ use Rattle.frame_arena.specs.Pages.{page_at}
 use Rattle.page_table.specs.declared.entry.Entry.{Entry}
 use Rattle.page_table.specs.Table.{TableState, IsOwnAt, IsTable, IsEntry, times, entry_at, contents_of, groups_of, states_of, is_on, places_on, pages_on, joined_on}
 use Rattle.page_table.proofs.Entries.{on_one, not_equal, inside, places_on-set, groups-each, group_of, states-set}
-use Rattle.page_table.proofs.Pairing.{IsGroupEntry, places-joined}
+use Rattle.page_table.proofs.Pairing.{IsGroupEntry, joined-here}
 use Rattle.page_table.proofs.Moving.{IsMove, with_entry, lone, move-merged}
 
 -- a page on a frame
@@ -53,7 +53,7 @@ module _ (table : TableState) (i : ℕ) (entry x : Entry) (f : ℕ) (move : IsMo
       each : (g : ℕ) → 1 ≤ times g table.groups → places_on 0 g (slice_set table.entries i (Some x)) ≡ joined_on table i f g
       each g some =
           let off : is_on g (entry_at table.entries i) ≡ false = ap (is_on g) here ∙ not_own g some in
-          grind (arith, nat_tests, off, to.frame, places-joined 0 g table.entries i (Some x) (inside table.entries i entry here), places_on-set 0 g table.entries i (Some x))
+          grind (arith, nat_tests, off, to.frame, joined-here g table.entries i (Some x) (inside table.entries i entry here), places_on-set 0 g table.entries i (Some x))
 
   pub states-joined : states_of (with_entry table i x).entries ≡ slice_set (states_of table.entries) i (option_map (with_status Grouped) (slice_index_or (states_of table.entries) i None))
   states-joined = states-set (with_status Grouped) table.entries i entry x here to.state

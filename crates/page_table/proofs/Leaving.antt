@@ -7,11 +7,11 @@ use Rattle.host_types.specs.Sharing.{broken, broken_page, is_shared, left_by, wi
 use Rattle.frame_arena.specs.Pages.{page_at}
 use Rattle.page_table.specs.declared.entry.Entry.{Entry}
 use Rattle.page_table.specs.Table.{TableState, CountsState, IsTable, IsEntry, IsGroup, IsSound, AreCountsOf, times, one_if_zero, entry_at, state_of, states_of, contents_of, groups_of, sharing_of, is_on, places_on, pages_on, used_by}
-use Rattle.page_table.proofs.Changing.{entry_fits, table-changed, counted-changed, lies_alone, apart_alone}
-use Rattle.page_table.proofs.Entries.{on_one, not_equal, equal, pages_on-set, none_on, inside, entry_content-kept, contents-set, pages-set, times-head, times-tail, one_if_zero-above, group_of, told_here, counts-set}
-use Rattle.page_table.proofs.Adding.{own_one, own_pages-set, IsUnused, unused_apart}
+use Rattle.page_table.proofs.Changing.{entry_fits, table-changed, counted-changed, lies_alone, apart_alone, pages_on-changed, own_pages-changed}
+use Rattle.page_table.proofs.Entries.{not_equal, equal, none_on, inside, entry_content-kept, contents-set, pages-set, times-head, times-tail, one_if_zero-above, group_of, told_here, counts-set}
+use Rattle.page_table.proofs.Adding.{IsUnused, unused_apart}
 use Rattle.page_table.proofs.Putting.{content_at}
-use Rattle.page_table.proofs.Groups.{length-places, without-places}
+use Rattle.page_table.proofs.Groups.{length-places, without-here}
 
 -- the groups after a page left, where each still has pages
 pub groups-left : (old new : List (Option Entry)) (i : ℕ) (groups : List ℕ)
@@ -60,10 +60,7 @@ module _ (table : TableState) (i : ℕ) (entry next : Entry) (is : IsTable table
   fresh = unused_apart table next.frame free
 
   pages_on-left : (g : ℕ) → pages_on g (left table i entry next).entries + (if entry.frame == g then 1 else 0) ≡ pages_on g table.entries + (if next.frame == g then 1 else 0)
-  pages_on-left g =
-      let count = pages_on-set g table.entries i (Some next) there in
-      let before : on_one g (entry_at table.entries i) ≡ (if entry.frame == g then 1 else 0) = ap (on_one g) here in
-      omega (arith, count, before)
+  pages_on-left = pages_on-changed table.entries i entry (Some next) here
 
   pages_on-new : pages_on next.frame (left table i entry next).entries ≡ 1
   pages_on-new = grind (arith, nat_tests, pages_on-left next.frame, fresh i entry here, free.empty)
@@ -93,20 +90,15 @@ module _ (table : TableState) (i : ℕ) (entry next : Entry) (is : IsTable table
   groups_of-left : groups_of (left table i entry next) ≡ left_by i (groups_of table)
   unfolding groups_of
   groups_of-left =
-      let start : i ≡ 0 + i = omega arith in
       groups-left table.entries (left table i entry next).entries i table.groups
-      (λ g le. ap (λ (n : ℕ). without n (places_on 0 g table.entries)) start ∙ without-places 0 g table.entries i (Some next) (not_equal g next.frame (no_new_group g le)))
+      (λ g le. without-here g table.entries i (Some next) (not_equal g next.frame (no_new_group g le)))
       (λ g le. still g (group_of table g is le) (no_new_group g le))
 
   pub sharing-left : (pass : Pass) → sharing_of (left table i entry next) pass ≡ broken (sharing_of table pass) i
   sharing-left = sharing-broken table (left table i entry next) i entry here shared states-left groups_of-left
 
   pub used-left : used_by (left table i entry next) ≡ used_by table + 1
-  used-left =
-      let count = own_pages-set table.entries i (Some next) there in
-      let before : own_one (entry_at table.entries i) ≡ 0 = rw (here, shared) refl in
-      let after : own_one (Some next) ≡ 1 = rw own refl in
-      omega (arith, count, before, after)
+  used-left = grind (arith, own_pages-changed table.entries i entry (Some next) here, shared, own)
 
   IsTable-left : next.protected ≡ false → IsTable (left table i entry next)
   IsTable-left protected =

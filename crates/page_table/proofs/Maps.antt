@@ -3,7 +3,7 @@ use Rattle.std.proofs.Common.{◌≡◌, ◌≢◌, ◌∙◌, ⊎_elim, ℕ, ze
 use Rattle.std.specs.List.{concat}
 use Rattle.std.proofs.lemmas.List.{get_or-set_same, get_or-set_other, length-set, ext_get_or, length-take-le, drop_at, take_at, append-nil, drop-append-le, take-append-le, drop-drop, take-append-drop, take-replicate, drop-set-lt, drop-set-add, take-set-le}
 use Rattle.std.proofs.Math.Seq.{take-set-lt, take-append-add}
-use Rattle.std.proofs.lemmas.Bool.Decides.{eqb_tells}
+use Rattle.std.proofs.lemmas.Bool.Decides.{eqb_tells, nat_tests}
 use Rattle.host_types.specs.declared.shape.Shape.{Shape}
 use Rattle.host_types.specs.Bytes.{part_of, with_part}
 use Rattle.host_types.specs.Memory.{FlatMap}
@@ -73,21 +73,19 @@ pub maps_of-changed : (old new : List (Option Shape)) (before after : List (List
 maps_of-changed old new before after k flat long inside shapes pages here =
     let same : length (maps_of new after) ≡ length (slice_set (maps_of old before) k flat) =
     length-maps_of new after ∙ long ∙ sym (length-set (maps_of old before) k flat ∙ length-maps_of old before) in
-    ext_get_or None (maps_of new after) (slice_set (maps_of old before) k flat) same (λ i less. ⊎_elim (λ e. at_place i e.1) (λ ne. else_where i ne.1) (eqb_tells i k))
-  where
-    at_place : (i : ℕ) → i ≡ k → slice_index_or (maps_of new after) i None ≡ slice_index_or (slice_set (maps_of old before) k flat) i None
-    at_place i e =
-        let wide = length-maps_of old before in
-        let known : slice_index_or (maps_of new after) k None ≡ slice_index_or (slice_set (maps_of old before) k flat) k None =
-        map_at-maps_of new after k ∙ here ∙ sym (get_or-set_same (maps_of old before) k flat None (omega (arith, wide, inside))) in
-        subst (λ (n : ℕ). slice_index_or (maps_of new after) n None ≡ slice_index_or (slice_set (maps_of old before) k flat) n None) (sym e) known
-
-    else_where : (i : ℕ) → i ≢ k → slice_index_or (maps_of new after) i None ≡ slice_index_or (slice_set (maps_of old before) k flat) i None
-    else_where i ne =
-        map_at-maps_of new after i
-        ∙ ap (λ shape. option_map (flat_of (part_of after (i * 256) 256)) shape) (shapes i ne)
-        ∙ ap (λ p. option_map (flat_of p) (slice_index_or old i None)) (pages i ne)
-        ∙ sym (get_or-set_other (maps_of old before) k i flat None ne ∙ map_at-maps_of old before i)
+    ext_get_or None (maps_of new after) (slice_set (maps_of old before) k flat) same
+    (λ i less. grind (
+      arith,
+      nat_tests,
+      map_at-maps_of new after i,
+      map_at-maps_of old before i,
+      length-maps_of old before,
+      get_or-set_same (maps_of old before) k flat None,
+      get_or-set_other (maps_of old before) k i flat None,
+      shapes i,
+      pages i,
+      here,
+    ))
 
 -- the maps stay right where one of them changes
 pub AreMaps-changed : (old new : List (Option Shape)) (before after : List (List ℕ)) (k : ℕ) → length new ≡ length old → length after ≡ length before
@@ -98,16 +96,11 @@ pub AreMaps-changed : (old new : List (Option Shape)) (before after : List (List
 AreMaps-changed old new before after k long wide shapes pages here are =
     record {
       places = wide ∙ are.places ∙ ap (λ (n : ℕ). n * 256) (sym long);
-      each = λ i less. ⊎_elim (λ e. at_place i e.1) (λ ne. else_where i (omega (arith, less, long)) ne.1) (eqb_tells i k);
+      each = λ i less. ⊎_elim
+          (λ e. subst (λ (n : ℕ). ArePages (slice_index_or new n None) (part_of after (n * 256) 256)) (sym e.1) here)
+          (λ ne. rw (shapes i ne.1, pages i ne.1) (are.each i (omega (arith, less, long))))
+          (eqb_tells i k);
     }
-  where
-    at_place : (i : ℕ) → i ≡ k → ArePages (slice_index_or new i None) (part_of after (i * 256) 256)
-    at_place i e = subst (λ (n : ℕ). ArePages (slice_index_or new n None) (part_of after (n * 256) 256)) (sym e) here
-
-    else_where : (i : ℕ) → i < length old → i ≢ k → ArePages (slice_index_or new i None) (part_of after (i * 256) 256)
-    else_where i less ne =
-        subst (λ shape. ArePages shape (part_of after (i * 256) 256)) (sym (shapes i ne))
-        (subst (λ p. ArePages (slice_index_or old i None) p) (sym (pages i ne)) (are.each i less))
 
 -- the bytes of pages one after another
 

@@ -1,14 +1,13 @@
 -- A page that keeps its own frame gets another status and fingerprint.
-use Rattle.std.proofs.Common.{◌≡◌, ◌∙◌, ℕ, ◌<◌, Bool, false, if◌then◌else◌, length, slice_set, Some, refl, sym, ap, arith}
+use Rattle.std.proofs.Common.{◌≡◌, ◌∙◌, ℕ, ◌<◌, false, length, slice_set, Some, refl, sym, ap, arith}
 use Rattle.host_types.specs.declared.status.Status.{Status}
 use Rattle.host_types.specs.Sharing.{is_shared}
 use Rattle.host_types.specs.Visits.{with_page}
 use Rattle.page_table.specs.declared.entry.Entry.{Entry}
 use Rattle.page_table.specs.declared.pass.Pass.{Pass}
 use Rattle.page_table.specs.Table.{TableState, CountsState, IsOwnAt, IsTable, IsSound, AreCountsOf, entry_at, contents_of, groups_of, sharing_of, is_on, pages_on, used_by, marked}
-use Rattle.page_table.proofs.Changing.{is_alone, entry_fits, table-changed, counted-changed, lies_alone, own_seen}
-use Rattle.page_table.proofs.Entries.{one_when, on_one, pages_on-set, inside, places_on-set, groups-kept, states-set}
-use Rattle.page_table.proofs.Adding.{own_one, own_pages-set}
+use Rattle.page_table.proofs.Changing.{is_alone, entry_fits, table-changed, counted-changed, lies_alone, own_seen, pages_on-changed, own_pages-changed}
+use Rattle.page_table.proofs.Entries.{inside, places_on-set, groups-kept, states-set}
 use Rattle.page_table.proofs.Moving.{with_entry, contents-entry}
 
 -- an entry with another status and fingerprint
@@ -42,20 +41,13 @@ module _ (table : TableState) (i : ℕ) (entry : Entry) (status : Status) (last 
   on-marked g = sym (ap (is_on g) here)
 
   pages_on-marked : (g : ℕ) → pages_on g (slice_set table.entries i (Some x)) ≡ pages_on g table.entries
-  pages_on-marked g =
-      let count = pages_on-set g table.entries i (Some x) there in
-      let same : on_one g (Some x) ≡ on_one g (entry_at table.entries i) = ap one_when (on-marked g) in
-      omega (arith, count, same)
+  pages_on-marked g = let count = pages_on-changed table.entries i entry (Some x) here g in omega (arith, count)
 
   pub contents-marked : contents_of (with_entry table i x) ≡ contents_of table
   contents-marked = contents-entry table i entry x table.groups here refl
 
   pub used-marked : used_by (with_entry table i x) ≡ used_by table
-  used-marked =
-      let count = own_pages-set table.entries i (Some x) there in
-      let old : own_one (entry_at table.entries i) ≡ 1 = ap own_one here ∙ ap (λ (b : Bool). if b then 0 else 1) own in
-      let new : own_one (Some x) ≡ 1 = ap (λ (b : Bool). if b then 0 else 1) own_new in
-      omega (arith, count, old, new)
+  used-marked = grind (arith, own_pages-changed table.entries i entry (Some x) here, own, own_new)
 
   groups-marked : groups_of (with_entry table i x) ≡ groups_of table
   unfolding groups_of

@@ -1,5 +1,5 @@
 -- A page with a frame of its own moves to a shared frame of the same bytes, and its old frame is unused then.
-use Rattle.std.proofs.Common.{◌≡◌, ◌≢◌, ◌∙◌, ℕ, zero, suc, ◌+◌, ◌-◌, ◌<◌, ◌≤◌, ◌==◌, Bool, true, false, if◌then◌else◌, List, [], ◌∷◌, length, slice_index_or, slice_set, Option, Some, refl, sym, ap, subst, arith}
+use Rattle.std.proofs.Common.{◌≡◌, ◌≢◌, ◌∙◌, ℕ, zero, suc, ◌+◌, ◌-◌, ◌<◌, ◌≤◌, ◌==◌, true, false, List, [], ◌∷◌, length, slice_index_or, slice_set, Option, Some, refl, sym, ap, subst, arith}
 use Rattle.std.proofs.lemmas.List.{get_or-set_other, length-set, set-get_or}
 use Rattle.std.proofs.lemmas.List.Sums.{sum_by-cons}
 use Rattle.std.proofs.lemmas.Bool.Decides.{nat_tests}
@@ -9,9 +9,8 @@ use Rattle.host_types.specs.Sharing.{is_shared, with_status}
 use Rattle.frame_arena.specs.Pages.{page_at}
 use Rattle.page_table.specs.declared.entry.Entry.{Entry}
 use Rattle.page_table.specs.Table.{TableState, CountsState, IsTable, IsEntry, IsAlone, IsSound, AreCountsOf, LiesRight, times, one_if_zero, entry_at, contents_of, pages_on, used_by, IsOwnAt, state_of}
-use Rattle.page_table.proofs.Changing.{is_alone, entry_fits, table-changed, counted-changed, apart_alone, fits-after, own_seen}
-use Rattle.page_table.proofs.Entries.{one_when, on_one, pages_on-set, inside, contents-set, one_if_zero-above, counts-set}
-use Rattle.page_table.proofs.Adding.{own_one, own_pages-set}
+use Rattle.page_table.proofs.Changing.{is_alone, entry_fits, table-changed, counted-changed, apart_alone, fits-after, own_seen, pages_on-changed, own_pages-changed}
+use Rattle.page_table.proofs.Entries.{one_when, on_one, inside, contents-set, one_if_zero-above, counts-set}
 use Rattle.page_table.proofs.Putting.{content_at}
 
 -- the table with another entry at a place
@@ -96,20 +95,13 @@ module _ (table : TableState) (i : ℕ) (entry x : Entry) (move : IsMove table i
   apart e = not_alone (subst (IsAlone table) (sym e) lone)
 
   pub pages_on-moved : (g : ℕ) → pages_on g (with_entry table i x).entries + one_when (entry.frame == g) ≡ pages_on g table.entries + one_when (x.frame == g)
-  pages_on-moved g =
-      let count = pages_on-set g table.entries i (Some x) there in
-      let old : on_one g (entry_at table.entries i) ≡ one_when (entry.frame == g) = ap (on_one g) here in
-      omega (arith, count, old)
+  pages_on-moved = pages_on-changed table.entries i entry (Some x) here
 
   pub contents-moved : contents_of (with_entry table i x) ≡ contents_of table
   contents-moved = contents-entry table i entry x table.groups here same
 
   pub used-moved : used_by (with_entry table i x) + 1 ≡ used_by table
-  used-moved =
-      let count = own_pages-set table.entries i (Some x) there in
-      let old : own_one (entry_at table.entries i) ≡ 1 = ap own_one here ∙ ap (λ (b : Bool). if b then 0 else 1) own in
-      let new : own_one (Some x) ≡ 0 = ap (λ (b : Bool). if b then 0 else 1) shared in
-      omega (arith, count, old, new)
+  used-moved = grind (arith, own_pages-changed table.entries i entry (Some x) here, own, shared)
 
   -- another frame has at least the pages that it had
   pages_on-kept : (g : ℕ) → g ≢ entry.frame → pages_on g table.entries ≤ pages_on g (with_entry table i x).entries

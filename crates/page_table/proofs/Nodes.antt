@@ -126,19 +126,12 @@ module _ (arena : List (List ℕ)) where
       let none = same x in
       absurd (omega (arith, split, one, none))
   nodes-told (chain ∷ chains) all are ascending same =
-      let seconds : seconds_behind [] all + many_in (times_among (content arena chain) []) ≡ many_in (times_among (content arena chain) [] + times_among (content arena chain) all) + seconds_behind [] (out (content arena chain) all) = seconds-split (content arena chain) [] all in
-      let repeated = repeated-split (content arena chain) all all in
-      let none = times-none (content arena chain) in
-      let start : many_in (times_among (content arena chain) []) ≡ 0 = ap many_in none in
-      let sum : times_among (content arena chain) [] + times_among (content arena chain) all ≡ length chain = omega (arith, none, whole) in
-      let many = ap many_in sum in
-      let dups = ap dups_in whole in
       let rest = nodes-told chains (out (content arena chain) all) (All-tail (IsChain arena) chain chains are) (λ i j d less there. ascending (suc i) (suc j) d (omega arith) (omega arith)) less in
-      let first = rest.0 in
-      let second = rest.1 in
       let more = sum_by-cons (λ (one : List ℕ). many_in (length one)) chain chains in
-      let most = sum_by-cons (λ (one : List ℕ). dups_in (length one)) chain chains in
-      (omega (arith, seconds, start, many, first, more), omega (arith, repeated, dups, second, most))
+      let most = sum_by-cons (λ (one : List ℕ). dups_in (length one)) chain chains in (
+        grind (arith, nat_tests, seconds-split (content arena chain) [] all, times-none (content arena chain), whole, rest.0, more),
+        grind (arith, nat_tests, repeated-split (content arena chain) all all, whole, rest.1, most),
+      )
     where
       is : IsChain arena chain
       is = are 0 [] (omega arith)

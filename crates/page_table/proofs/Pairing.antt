@@ -1,17 +1,15 @@
 -- Two pages of the same bytes become a new last group: the first one founds the group, and the second one moves to its frame.
-use Rattle.std.proofs.Common.{◌≡◌, ◌≢◌, ◌∙◌, ◌⊎◌, inl, inr, ⊎_elim, ℕ, zero, suc, ◌+◌, ◌-◌, ◌<◌, ◌≤◌, ◌==◌, Bool, true, false, if◌then◌else◌, List, [], ◌∷◌, ◌++◌, length, slice_index_or, slice_set, Option, Some, None, option_map, refl, sym, ap, subst, arith}
+use Rattle.std.proofs.Common.{◌≡◌, ◌≢◌, ◌∙◌, ◌⊎◌, inl, inr, ⊎_elim, ℕ, zero, suc, ◌+◌, ◌-◌, ◌<◌, ◌≤◌, ◌==◌, true, false, List, [], ◌∷◌, ◌++◌, length, slice_index_or, slice_set, Option, Some, None, option_map, refl, sym, ap, subst, arith}
 use Rattle.std.proofs.lemmas.List.{get_or-set_other, length-append, map-append}
 use Rattle.std.proofs.lemmas.Bool.Decides.{nat_tests, eqb_tells}
 use Rattle.page_table.specs.declared.pass.Pass.{Pass}
-use Rattle.host_types.specs.declared.status.Status.{Status}
 use Rattle.host_types.specs.declared.status.Status.TheVariants.{Grouped}
 use Rattle.host_types.specs.Sharing.{PageState, is_shared, with_status, state_at, joined_by, paired, waiting_without}
 use Rattle.frame_arena.specs.Pages.{page_at}
 use Rattle.page_table.specs.declared.entry.Entry.{Entry}
 use Rattle.page_table.specs.Table.{TableState, CountsState, IsOwnAt, IsTable, IsAlone, IsGroup, IsSound, AreCountsOf, LiesRight, times, one_if_zero, entry_at, contents_of, groups_of, state_of, states_of, sharing_of, forgets, is_on, places_on, pages_on, used_by}
-use Rattle.page_table.proofs.Changing.{is_alone, entry_fits, table-set, counted-changed, apart_alone, own_seen, own_alone}
-use Rattle.page_table.proofs.Entries.{one_when, on_one, not_equal, equal, pages_on-set, inside, alone, places_on-set, groups-kept, pages_on-cons, none_on, states-set, told_here}
-use Rattle.page_table.proofs.Adding.{own_one, own_pages-set}
+use Rattle.page_table.proofs.Changing.{is_alone, entry_fits, table-set, counted-changed, apart_alone, own_seen, own_alone, pages_on-changed, own_pages-changed}
+use Rattle.page_table.proofs.Entries.{one_when, not_equal, equal, inside, alone, places_on-set, groups-kept, pages_on-cons, none_on, states-set, told_here}
 use Rattle.page_table.proofs.Putting.{content_at}
 use Rattle.page_table.proofs.Unused.{times-push}
 use Rattle.page_table.proofs.Waiters.{others_of, waiting-forgets}
@@ -43,6 +41,11 @@ unfolding places_on joined_by
 places-joined n f [] j y h on off = absurd (omega arith)
 places-joined n f (x ∷ xs) zero y h on off = grind (arith, nat_tests, joined-first n (n + 1) f xs)
 places-joined n f (x ∷ xs) (suc j) y h on off = grind (arith, nat_tests, places-joined (n + 1) f xs j y)
+
+-- the places from the first one on
+pub joined-here : (f : ℕ) (xs : List (Option Entry)) (j : ℕ) (y : Option Entry) → j < length xs → is_on f y ≡ true → is_on f (entry_at xs j) ≡ false
+    → places_on 0 f (slice_set xs j y) ≡ joined_by j (places_on 0 f xs)
+joined-here f xs j y h on off = let start : 0 + j ≡ j = omega arith in places-joined 0 f xs j y h on off ∙ ap (λ n. joined_by n (places_on 0 f xs)) start
 
 -- two places in their order
 joined-two : (i j : ℕ) → i ≢ j → joined_by j (i ∷ []) ≡ joined_by i (j ∷ [])
@@ -81,10 +84,7 @@ module _ (table : TableState) (i : ℕ) (entry x : Entry) (founding : IsFounding
   on-founded g = ap (λ (f : ℕ). f == g) to.frame ∙ sym (ap (is_on g) here)
 
   pages_on-founded : (g : ℕ) → pages_on g (founded table i x).entries ≡ pages_on g table.entries
-  pages_on-founded g =
-      let count = pages_on-set g table.entries i (Some x) there in
-      let same : on_one g (Some x) ≡ on_one g (entry_at table.entries i) = ap one_when (on-founded g) in
-      omega (arith, count, same)
+  pages_on-founded g = grind (arith, pages_on-changed table.entries i entry (Some x) here g, to.frame)
 
   times-founded : (g : ℕ) → times g (founded table i x).groups ≡ times g table.groups + one_when (entry.frame == g)
   times-founded g = times-push g x.frame table.groups ∙ ap (λ (f : ℕ). times g table.groups + one_when (f == g)) to.frame
@@ -100,10 +100,8 @@ module _ (table : TableState) (i : ℕ) (entry x : Entry) (founding : IsFounding
 
   pub used-founded : used_by (founded table i x) ≡ used_by table
   used-founded =
-      let count = own_pages-set table.entries i (Some x) there in
-      let old : own_one (entry_at table.entries i) ≡ 1 = ap own_one here ∙ ap (λ (b : Bool). if b then 0 else 1) own in
-      let new : own_one (Some x) ≡ 0 = ap (λ (s : Status). if is_shared s then 0 else 1) to.status_is in
-      omega (arith, count, old, new, length-append table.groups (x.frame ∷ []))
+      let shared : is_shared x.status ≡ true = ap is_shared to.status_is in
+      grind (arith, own_pages-changed table.entries i entry (Some x) here, own, shared, length-append table.groups (x.frame ∷ []))
 
   pub IsTable-founded : IsTable (founded table i x)
   IsTable-founded =
@@ -232,22 +230,17 @@ module _ (table : TableState) (i j : ℕ) (one other x y : Entry) (pairing : IsP
   -- the new group's places
   places-pair : places_on 0 x.frame (with_pair table i j x y).entries ≡ joined_by i (j ∷ [])
   places-pair =
-      let there : j < length (founded table i x).entries = inside (founded table i x).entries j other here-founded in
+      let there = inside (founded table i x).entries j other here-founded in
       let on : is_on one.frame (Some y) ≡ true = ap (λ (f : ℕ). f == one.frame) to_second.frame ∙ equal one.frame in
       let lies : is_on one.frame (entry_at table.entries i) ≡ true = ap (is_on one.frame) first ∙ equal one.frame in
       let off : is_on one.frame (entry_at (founded table i x).entries j) ≡ false =
       ap (is_on one.frame) (get_or-set_other table.entries i j (Some x) None (λ e. apart (sym e)))
       ∙ alone one.frame table.entries i j (inside table.entries i one first) lone_first.one lies (λ e. apart (sym e)) in
-      let single : places_on 0 one.frame (founded table i x).entries ≡ (0 + i) ∷ [] =
-      places_on-set 0 one.frame table.entries i (Some x) (on-founded table i one x founding one.frame) ∙ places-one 0 one.frame table.entries i lone_first.one lies in
       let i_is : 0 + i ≡ i = omega arith in
-      let j_is : 0 + j ≡ j = omega arith in
+      let single : places_on 0 one.frame (founded table i x).entries ≡ i ∷ [] =
+      places_on-set 0 one.frame table.entries i (Some x) (on-founded table i one x founding one.frame) ∙ places-one 0 one.frame table.entries i lone_first.one lies ∙ ap (λ n. n ∷ []) i_is in
       ap (λ (f : ℕ). places_on 0 f (with_pair table i j x y).entries) to_first.frame
-      ∙ places-joined 0 one.frame (founded table i x).entries j (Some y) there on off
-      ∙ ap (joined_by (0 + j)) single
-      ∙ ap (λ (n : ℕ). joined_by n ((0 + i) ∷ [])) j_is
-      ∙ ap (λ (n : ℕ). joined_by j (n ∷ [])) i_is
-      ∙ joined-two i j apart
+      ∙ joined-here one.frame (founded table i x).entries j (Some y) there on off ∙ ap (joined_by j) single ∙ joined-two i j apart
 
   groups-pair : groups_of (with_pair table i j x y) ≡ groups_of table ++ joined_by i (j ∷ []) ∷ []
   unfolding groups_of

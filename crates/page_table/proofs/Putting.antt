@@ -7,9 +7,8 @@ use Rattle.frame_arena.specs.Pages.{page_at}
 use Rattle.frame_arena.proofs.Pages.{length-zero_page}
 use Rattle.page_table.specs.declared.entry.Entry.{Entry}
 use Rattle.page_table.specs.Table.{TableState, CountsState, IsPageAt, IsTable, IsEntry, IsAlone, IsSound, AreCountsOf, one_if_zero, entry_at, entry_content, contents_of, is_on, pages_on, own_pages}
-use Rattle.page_table.proofs.Changing.{table-changed, counted-changed, fits-after, entry_fits}
+use Rattle.page_table.proofs.Changing.{table-changed, counted-changed, fits-after, entry_fits, own_one}
 use Rattle.page_table.proofs.Entries.{on_one, equal, alone, entry_content-kept, contents-set, inside, pages-set}
-use Rattle.page_table.proofs.Adding.{own_one}
 
 -- a table with another page in a frame
 abbrev pub with_page : TableState → ℕ → List ℕ → TableState

@@ -3,15 +3,14 @@ use Rattle.std.proofs.Common.{◌≡◌, ◌≢◌, ◌∙◌, ℕ, zero, suc, �
 use Rattle.std.proofs.lemmas.List.{length-set, map-set, set-set}
 use Rattle.std.proofs.lemmas.Bool.Decides.{nat_tests}
 use Rattle.page_table.specs.declared.pass.Pass.{Pass}
-use Rattle.host_types.specs.Sharing.{Sharing, state_at, is_shared, is_shared_page, broken, gone, gone_from, left_by, without}
+use Rattle.host_types.specs.Sharing.{Sharing, state_at, is_shared, is_shared_page, broken, gone, gone_from, left_by}
 use Rattle.host_types.proofs.Unmerging.{broken-own}
 use Rattle.page_table.specs.declared.entry.Entry.{Entry}
-use Rattle.page_table.specs.Table.{TableState, CountsState, IsTable, IsEntry, IsGroup, IsOwnAt, IsSound, AreCountsOf, times, one_if_zero, entry_at, entry_content, state_of, states_of, contents_of, groups_of, sharing_of, is_on, places_on, pages_on, used_by}
-use Rattle.page_table.proofs.Changing.{is_alone, entry_fits, table-changed, counted-changed, apart_alone}
-use Rattle.page_table.proofs.Adding.{own_one, own_pages-set}
+use Rattle.page_table.specs.Table.{TableState, CountsState, IsTable, IsEntry, IsGroup, IsOwnAt, IsSound, AreCountsOf, times, one_if_zero, entry_at, entry_content, state_of, states_of, contents_of, groups_of, sharing_of, is_on, pages_on, used_by}
+use Rattle.page_table.proofs.Changing.{is_alone, entry_fits, table-changed, counted-changed, apart_alone, pages_on-changed, own_pages-changed}
 use Rattle.page_table.proofs.Costs.{state-at, count-some}
-use Rattle.page_table.proofs.Entries.{one_when, on_one, not_equal, pages_on-set, places_on-set, groups-kept, inside, one_if_zero-above, group_of, counts-set}
-use Rattle.page_table.proofs.Groups.{without-places}
+use Rattle.page_table.proofs.Entries.{one_when, not_equal, places_on-set, groups-kept, inside, one_if_zero-above, group_of, counts-set}
+use Rattle.page_table.proofs.Groups.{without-here}
 use Rattle.page_table.proofs.Leaving.{groups-left}
 
 -- the table without the page at a place
@@ -27,10 +26,7 @@ module _ (table : TableState) (i : ℕ) (entry : Entry) (is : IsTable table) (he
   fits = entry_fits table i entry is here
 
   pages_on-vacated : (g : ℕ) → pages_on g (vacated table i).entries + one_when (entry.frame == g) ≡ pages_on g table.entries
-  pages_on-vacated g =
-      let count = pages_on-set g table.entries i None there in
-      let before : on_one g (entry_at table.entries i) ≡ one_when (entry.frame == g) = ap (on_one g) here in
-      omega (arith, count, before)
+  pages_on-vacated g = let count = pages_on-changed table.entries i entry None here g in omega (arith, count)
 
   pages_on-other : (g : ℕ) → g ≢ entry.frame → pages_on g (vacated table i).entries ≡ pages_on g table.entries
   pages_on-other g ne = grind (arith, nat_tests, pages_on-vacated g)
@@ -59,9 +55,8 @@ module _ (table : TableState) (i : ℕ) (entry : Entry) (is : IsTable table) (he
   groups-shared : groups_of (vacated table i) ≡ left_by i (groups_of table)
   unfolding groups_of
   groups-shared =
-      let start : i ≡ 0 + i = omega arith in
       groups-left table.entries (vacated table i).entries i table.groups
-      (λ g le. ap (λ (n : ℕ). without n (places_on 0 g table.entries)) start ∙ without-places 0 g table.entries i None refl)
+      (λ g le. without-here g table.entries i None refl)
       (λ g le. still g (group_of table g is le))
 
   groups-own : is_shared entry.status ≡ false → groups_of (vacated table i) ≡ groups_of table
@@ -87,10 +82,7 @@ module _ (table : TableState) (i : ℕ) (entry : Entry) (is : IsTable table) (he
       by_test false e = rw (at, e, states-vacated, groups-own e) refl
 
   pub used-vacated : used_by (vacated table i) + (if is_shared entry.status then 0 else 1) ≡ used_by table
-  used-vacated =
-      let count = own_pages-set table.entries i None there in
-      let before : own_one (entry_at table.entries i) ≡ (if is_shared entry.status then 0 else 1) = ap own_one here in
-      omega (arith, count, before)
+  used-vacated = let count = own_pages-changed table.entries i entry None here in omega (arith, count)
 
   IsTable-vacated : IsTable (vacated table i)
   IsTable-vacated =

@@ -9,8 +9,8 @@ use Rattle.page_table.specs.declared.entry.Entry.{Entry}
 use Rattle.page_table.specs.declared.pass.Pass.{Pass}
 use Rattle.page_table.specs.Table.{TableState, AreOwnKept, AreOthersKept, entry_at, own_pages, waiting_of, forgets}
 use Rattle.page_table.specs.View.{is_listed, IsWaiter, AreWaiters, IsPass}
+use Rattle.page_table.proofs.Changing.{own_one, own_pages-set}
 use Rattle.page_table.proofs.Entries.{inside}
-use Rattle.page_table.proofs.Adding.{own_one, own_pages-set}
 use Rattle.page_table.proofs.Fitting.{pins-kept, apart-pinned}
 
 -- a waiting page has a frame of its own
