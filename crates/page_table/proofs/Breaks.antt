@@ -6,16 +6,14 @@ use Rattle.std.proofs.lemmas.List.Sums.{sum_by_more}
 use Rattle.std.proofs.lemmas.Bool.Decides.{nat_tests}
 use Rattle.std.proofs.lemmas.Map.Views.{any-filter_same}
 use Rattle.page_table.specs.declared.pass.Pass.{Pass}
-use Rattle.host_types.specs.declared.status.Status.{Status}
-use Rattle.host_types.specs.declared.status.Status.TheVariants.{New, Volatile, Waiting, Grouped, Zero}
 use Rattle.host_types.specs.Bytes.{part_of}
 use Rattle.host_types.specs.Sharing.{Sharing, PageState, state_at, is_shared, is_shared_page, is_in_company, is_among, without, broken, broken_page, break_cost, broken_from, cost_from, cost_of}
 use Rattle.page_table.specs.declared.entry.Entry.{Entry}
-use Rattle.page_table.specs.Table.{TableState, CountsState, IsTable, IsSound, LiesRight, times, one_if_zero, entry_at, state_of, groups_of, sharing_of, is_on, places_on, pages_on}
+use Rattle.page_table.specs.Table.{TableState, CountsState, IsTable, IsSound, times, one_if_zero, entry_at, state_of, groups_of, sharing_of, is_on, places_on, pages_on}
 use Rattle.page_table.proofs.Changing.{is_alone, entry_fits}
 use Rattle.page_table.proofs.Entries.{one_when, on_one, not_equal, equal, pages_on-set, some_on, places_on-set, groups-kept}
 use Rattle.page_table.proofs.Groups.{company-places, without-here}
-use Rattle.page_table.proofs.Costs.{state-at, group-frame}
+use Rattle.page_table.proofs.Costs.{state-at, shared-cost}
 
 -- the break of one page more
 pub broken_from-last : (s : Sharing) (i n : ℕ) → broken_from s i (suc n) ≡ broken (broken_from s i n) (i + n)
@@ -165,22 +163,9 @@ module _ (table : TableState) (is : IsTable table) (i n : ℕ) where
       → break_cost s (i + n) ≡ one_when (is_shared entry.status && nat_lt 1 (one_if_zero entry.frame + pages_on entry.frame left))
   unfolding break_cost
   cost-one s entry are e =
-      let fits = entry_fits table (i + n) entry is e in
       ap (λ (x : Option PageState). unwrap_or (option_map (λ (state : PageState). cost_of (is_in_company s (i + n)) state.status) x) 0) (are.states (i + n) (omega arith) ∙ ap (option_map state_of) e)
-      ∙ by_status entry.status fits.right
-    where
-      by_status : (status : Status) → LiesRight table entry.frame status → cost_of (is_in_company s (i + n)) status ≡ one_when (is_shared status && nat_lt 1 (one_if_zero entry.frame + pages_on entry.frame left))
-      by_status New right = refl
-      by_status Volatile right = refl
-      by_status Waiting right = refl
-      by_status Grouped right = ap one_when (company-after s entry are e right
-          ∙ ap (λ (m : ℕ). nat_lt 1 m) (omega (arith, group-frame table entry.frame is right)))
-      by_status Zero right =
-          let lies : is_on entry.frame (entry_at left (i + n)) ≡ true = ap (is_on entry.frame) (here ∙ e) ∙ equal entry.frame in
-          let some = some_on entry.frame left (i + n) lies in
-          let one : one_if_zero entry.frame ≡ 1 = ap one_if_zero right in
-          let more : nat_lt 1 (one_if_zero entry.frame + pages_on entry.frame left) ≡ true = grind (arith, nat_tests) in
-          sym (ap one_when more)
+      ∙ shared-cost table entry.frame left (is_in_company s (i + n)) is (some_on entry.frame left (i + n) (ap (is_on entry.frame) (here ∙ e) ∙ equal entry.frame))
+      (company-after s entry are e) entry.status (entry_fits table (i + n) entry is e).right
 
 are_broken : (table : TableState) (pass : Pass) (is : IsTable table) (i n : ℕ) → AreBroken table (broken_from (sharing_of table pass) i n) i n
 unfolding broken_from gone groups_of

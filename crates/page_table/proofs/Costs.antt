@@ -1,12 +1,12 @@
 -- What the break of a page costs, told by its group and by its frame.
-use Rattle.std.proofs.Common.{◌≡◌, ◌∙◌, ◌⊎◌, inl, inr, ⊎_elim, ℕ, ◌+◌, ◌<◌, ◌≤◌, nat_lt, Bool, true, false, slice_index_or, Option, Some, None, option_map, unwrap_or, refl, sym, ap, arith, ◌&&◌}
+use Rattle.std.proofs.Common.{◌≡◌, ◌∙◌, ◌⊎◌, inl, inr, ⊎_elim, ℕ, ◌+◌, ◌<◌, ◌≤◌, nat_lt, Bool, true, false, slice_index_or, Option, Some, None, option_map, unwrap_or, refl, sym, ap, arith, ◌&&◌, List}
 use Rattle.std.proofs.lemmas.Bool.Decides.{nat_tests, leb_tells}
 use Rattle.page_table.specs.declared.pass.Pass.{Pass}
 use Rattle.host_types.specs.declared.status.Status.{Status}
 use Rattle.host_types.specs.declared.status.Status.TheVariants.{New, Volatile, Waiting, Grouped, Zero}
 use Rattle.host_types.specs.Sharing.{PageState, state_at, is_in_company, cost_of, break_cost, is_shared}
 use Rattle.page_table.specs.declared.entry.Entry.{Entry}
-use Rattle.page_table.specs.Table.{TableState, CountsState, IsTable, IsSound, IsEntry, IsGroup, LiesRight, times, one_if_zero, entry_at, is_on, state_of, groups_of, sharing_of, pages_on, break_frames}
+use Rattle.page_table.specs.Table.{TableState, CountsState, IsTable, IsSound, IsGroup, LiesRight, times, one_if_zero, entry_at, is_on, state_of, groups_of, sharing_of, pages_on, break_frames}
 use Rattle.page_table.proofs.Changing.{entry_fits}
 use Rattle.page_table.proofs.Entries.{one_when, equal, some_on, one_if_zero-above, told_at}
 use Rattle.page_table.proofs.Groups.{company-places}
@@ -25,23 +25,34 @@ cost-none : (table : TableState) (i : ℕ) → entry_at table.entries i ≡ None
 unfolding break_frames
 cost-none table i none = rw none refl
 
--- a page of a group is in company where more than one page lies on its frame
-company : (table : TableState) (pass : Pass) (i : ℕ) (entry : Entry) → entry_at table.entries i ≡ Some entry → IsEntry table entry
-    → cost_of (is_in_company (sharing_of table pass) i) entry.status ≡ cost_of (nat_lt 1 (pages_on entry.frame table.entries)) entry.status
-unfolding groups_of
-company table pass i entry here is = by_status entry.status is.right
-  where
-    by_status : (status : Status) → LiesRight table entry.frame status
-        → cost_of (is_in_company (sharing_of table pass) i) status ≡ cost_of (nat_lt 1 (pages_on entry.frame table.entries)) status
-    by_status New a = refl
-    by_status Volatile a = refl
-    by_status Waiting a = refl
-    by_status Grouped a = ap (λ (b : Bool). cost_of b Grouped) (company-places table.entries table.groups i entry here a)
-    by_status Zero a = refl
+-- where a group has the frame, the frame isn't the zero frame
+pub group-frame : (table : TableState) (f : ℕ) → IsTable table → times f table.groups ≡ 1 → one_if_zero f ≡ 0
+group-frame table f is one =
+    one_if_zero-above f (⊎_elim (λ none. absurd (omega (arith, one, none))) (λ group. IsGroup.above group) (is.groups f))
+
+-- the break of a page on the frame f takes a frame where it shares its own, and others hold that too: among all pages, or those that are left
+pub shared-cost : (table : TableState) (f : ℕ) (xs : List (Option Entry)) (in_company : Bool) → IsTable table → 1 ≤ pages_on f xs → (times f table.groups ≡ 1 → in_company ≡ nat_lt 1 (pages_on f xs))
+    → (status : Status) → LiesRight table f status → cost_of in_company status ≡ one_when (is_shared status && nat_lt 1 (one_if_zero f + pages_on f xs))
+shared-cost table f xs in_company is some told New right = refl
+shared-cost table f xs in_company is some told Volatile right = refl
+shared-cost table f xs in_company is some told Waiting right = refl
+shared-cost table f xs in_company is some told Grouped right = ap one_when (told right ∙ ap (λ (m : ℕ). nat_lt 1 m) (omega (arith, group-frame table f is right)))
+shared-cost table f xs in_company is some told Zero right = let one : one_if_zero f ≡ 1 = ap one_if_zero right in grind (arith, nat_tests, one, some)
+
+-- the page of an entry lies on its frame
+lies-there : (table : TableState) (i : ℕ) (entry : Entry) → entry_at table.entries i ≡ Some entry → 1 ≤ pages_on entry.frame table.entries
+lies-there table i entry here = some_on entry.frame table.entries i (ap (is_on entry.frame) here ∙ equal entry.frame)
+
+-- the break of a page takes a frame where it shares its own, and others hold that too
+cost-told : (table : TableState) (i : ℕ) (entry : Entry) → IsTable table → entry_at table.entries i ≡ Some entry
+    → break_frames table i ≡ one_when (is_shared entry.status && nat_lt 1 (one_if_zero entry.frame + pages_on entry.frame table.entries))
+cost-told table i entry is here =
+    cost-entry table i entry here
+    ∙ shared-cost table entry.frame table.entries (nat_lt 1 (pages_on entry.frame table.entries)) is (lies-there table i entry here) (λ once. refl) entry.status (entry_fits table i entry is here).right
 
 -- what the break of a page takes
 pub cost-is : (table : TableState) (pass : Pass) (i : ℕ) → IsTable table → break_cost (sharing_of table pass) i ≡ break_frames table i
-unfolding break_cost
+unfolding break_cost groups_of
 cost-is table pass i is = by_entry (entry_at table.entries i) refl
   where
     taken : Option PageState → ℕ
@@ -51,29 +62,9 @@ cost-is table pass i is = by_entry (entry_at table.entries i) refl
     by_entry None e = ap taken (state-at table pass i ∙ ap (option_map state_of) e) ∙ sym (cost-none table i e)
     by_entry (Some entry) e =
         ap taken (state-at table pass i ∙ ap (option_map state_of) e)
-        ∙ company table pass i entry e (entry_fits table i entry is e)
-        ∙ sym (cost-entry table i entry e)
-
--- where a group has the frame, the frame isn't the zero frame
-pub group-frame : (table : TableState) (f : ℕ) → IsTable table → times f table.groups ≡ 1 → one_if_zero f ≡ 0
-group-frame table f is one =
-    one_if_zero-above f (⊎_elim (λ none. absurd (omega (arith, one, none))) (λ group. IsGroup.above group) (is.groups f))
-
--- the break of a page takes a frame where it shares its own, and others hold that too
-cost-told : (table : TableState) (i : ℕ) (entry : Entry) → IsTable table → entry_at table.entries i ≡ Some entry
-    → break_frames table i ≡ one_when (is_shared entry.status && nat_lt 1 (one_if_zero entry.frame + pages_on entry.frame table.entries))
-cost-told table i entry is here = cost-entry table i entry here ∙ by_status entry.status (entry_fits table i entry is here).right
-  where
-    by_status : (status : Status) → LiesRight table entry.frame status
-        → cost_of (nat_lt 1 (pages_on entry.frame table.entries)) status ≡ one_when (is_shared status && nat_lt 1 (one_if_zero entry.frame + pages_on entry.frame table.entries))
-    by_status New right = refl
-    by_status Volatile right = refl
-    by_status Waiting right = refl
-    by_status Grouped right = ap (λ (m : ℕ). one_when (nat_lt 1 m)) (omega (arith, group-frame table entry.frame is right))
-    by_status Zero right =
-        let lies = some_on entry.frame table.entries i (ap (is_on entry.frame) here ∙ equal entry.frame) in
-        let one : one_if_zero entry.frame ≡ 1 = ap one_if_zero right in
-        grind (arith, nat_tests, lies, one)
+        ∙ shared-cost table entry.frame table.entries (is_in_company (sharing_of table pass) i) is (lies-there table i entry e)
+        (company-places table.entries table.groups i entry e) entry.status (entry_fits table i entry is e).right
+        ∙ sym (cost-told table i entry is e)
 
 -- a page with a frame of its own costs nothing
 pub cost-own : (table : TableState) (i : ℕ) (entry : Entry) → IsTable table → entry_at table.entries i ≡ Some entry → entry.protected ≡ false → break_frames table i ≡ 0

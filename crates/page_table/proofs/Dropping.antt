@@ -1,6 +1,6 @@
 -- What a memory tells of a map that was taken away.
 use Rattle.std.proofs.Common.{◌≡◌, ◌≢◌, ◌∙◌, ◌⊎◌, inl, inr, ⊎_elim, ℕ, zero, suc, ◌+◌, ◌-◌, ◌*◌, ◌<◌, ◌≤◌, ◌&&◌, nat_le, nat_lt, not, Bool, true, false, if◌then◌else◌, List, [], ◌∷◌, length, map, filter, replicate, slice_index_or, slice_set, Option, Some, None, IsSomeAnd, option_map, refl, sym, ap, subst, arith}
-use Rattle.std.proofs.lemmas.List.{get_or-set_same, get_or-set_other, get_or_past, length-map, length-replicate, length-set}
+use Rattle.std.proofs.lemmas.List.{get_or-set_same, get_or-set_other, get_or_past, length-map, length-replicate, length-set, ext_get_or}
 use Rattle.std.proofs.lemmas.Bool.Decides.{nat_tests}
 use Rattle.page_table.specs.declared.pass.Pass.{Pass}
 use Rattle.host_types.specs.declared.shape.Shape.{Shape}
@@ -22,7 +22,7 @@ use Rattle.page_table.specs.Changes.{IsKeptBut, AreMapsKeptBut, KeepsSettings}
 use Rattle.page_table.specs.Table.{TableState, IsTable, AreOwnKeptOutside, ArePagesOf, ArePages, IsPageAt, entry_at, state_of, states_of, contents_of, sharing_of, waiting_of, used_by, flat_of}
 use Rattle.page_table.specs.View.{view_of, is_listed, AreWaiters, IsMemory, IsPass}
 use Rattle.page_table.proofs.Sides.{order}
-use Rattle.page_table.proofs.Creating.{behind_filled, filled_more, with_part-none, length-contents, others-filled, part_of-short, filled_at}
+use Rattle.page_table.proofs.Creating.{filled_more, with_part-none, length-contents, others-filled, part_of-short, filled_at}
 use Rattle.page_table.proofs.Costs.{state-at}
 use Rattle.page_table.proofs.Fitting.{pins-kept}
 use Rattle.page_table.proofs.Free.{free_is}
@@ -95,22 +95,15 @@ gone_from-pins s i (suc n) inside =
     ∙ filled_more s.pins i n false (omega (arith, inside))
     ∙ ap (λ (m : ℕ). with_part s.pins i (replicate m false)) (sym one)
 
-set-same : (pins : List Bool) (i : ℕ) → slice_index_or pins i false ≡ false → slice_set pins i false ≡ pins
-set-same [] i e = refl
-set-same (b ∷ pins) zero e = ap (λ (x : Bool). x ∷ pins) (sym e)
-set-same (b ∷ pins) (suc i) e = ap (λ (l : List Bool). b ∷ l) (set-same pins i e)
-
 -- behind a map's pages nothing is pinned
 filled-same : (pins : List Bool) (at n d : ℕ) → at + n + d ≤ length pins → ((i : ℕ) → at + n ≤ i → i < at + n + d → slice_index_or pins i false ≡ false)
     → with_part pins at (replicate (n + d) false) ≡ with_part pins at (replicate n false)
-filled-same pins at n zero inside none = let same : n + 0 ≡ n = omega arith in ap (λ (m : ℕ). with_part pins at (replicate m false)) same
-filled-same pins at n (suc d) inside none =
-    let one : n + suc d ≡ n + d + 1 = omega arith in
-    ap (λ (m : ℕ). with_part pins at (replicate m false)) one
-    ∙ sym (filled_more pins at (n + d) false (omega (arith, inside)))
-    ∙ ap (λ (l : List Bool). slice_set l (at + (n + d)) false) (filled-same pins at n d (omega (arith, inside)) (λ i from less. none i from (omega (arith, less))))
-    ∙ set-same (with_part pins at (replicate n false)) (at + (n + d))
-    (behind_filled pins at n (at + (n + d)) false false (omega (arith, inside)) (omega arith) ∙ none (at + (n + d)) (omega arith) (omega arith))
+filled-same pins at n d inside none =
+    let some = length-replicate n false in
+    let all = length-replicate (n + d) false in
+    let long = length-with_part pins at (replicate (n + d) false) (omega (arith, all, inside)) in
+    let short = length-with_part pins at (replicate n false) (omega (arith, some, inside)) in
+    ext_get_or false _ _ (omega (arith, long, short)) (λ i less. grind (arith, nat_tests, filled_at pins at (n + d) i false false, filled_at pins at n i false false, none i))
 
 -- the end of a pass leaves the pins
 ended-pins : (s : Sharing) (c : Option ℕ) → (ended_at s c).pins ≡ s.pins

@@ -1,6 +1,6 @@
 -- How many pages are pinned, where one is pinned more, and where those of a map aren't any more.
-use Rattle.std.proofs.Common.{◌≡◌, ◌≢◌, ◌∙◌, ⊎_elim, ℕ, zero, suc, ◌+◌, ◌-◌, ◌*◌, ◌/◌, ◌%◌, ◌<◌, ◌≤◌, Bool, true, false, if◌then◌else◌, List, [], ◌∷◌, ◌++◌, length, take, drop, replicate, slice_index_or, slice_set, refl, sym, ap, subst, arith}
-use Rattle.std.proofs.lemmas.List.{get_or-set_same, get_or-set_other, length-set, length-replicate, take-replicate, drop-replicate, get_or-replicate, get_or-take, get_or-drop}
+use Rattle.std.proofs.Common.{◌≡◌, ◌≢◌, ◌∙◌, ⊎_elim, ℕ, ◌+◌, ◌-◌, ◌*◌, ◌/◌, ◌%◌, ◌<◌, ◌≤◌, Bool, true, false, if◌then◌else◌, List, [], ◌∷◌, ◌++◌, length, take, drop, replicate, slice_index_or, slice_set, refl, sym, ap, subst, arith}
+use Rattle.std.proofs.lemmas.List.{get_or-set_same, get_or-set_other, length-set, length-replicate, take-replicate, drop-replicate, get_or-replicate, get_or-take, get_or-drop, ext_get_or}
 use Rattle.std.proofs.Math.Seq.{take-append_seam}
 use Rattle.std.proofs.lemmas.List.Sums.{sum_by-cons, sum_by-set}
 use Rattle.std.proofs.lemmas.List.Folds.{sum_by-replicate}
@@ -9,8 +9,9 @@ use Rattle.host_types.proofs.Lists.{length-part_of, length-with_part, part-with_
 use Rattle.frame_arena.proofs.Parts.{with_part-same}
 use Rattle.page_table.specs.Pins.{pinned_among, ArePinsOf}
 use Rattle.page_table.proofs.Sides.{is_same}
-use Rattle.page_table.proofs.Creating.{filled_more, with_part-none, others-filled}
+use Rattle.page_table.proofs.Creating.{others-filled, filled_at}
 use Rattle.page_table.proofs.Maps.{part_of-set_same, part_of-set_other}
+use Rattle.std.proofs.lemmas.Bool.Decides.{nat_tests}
 
 abbrev one_if : Bool → ℕ
 one_if b = if b then 1 else 0
@@ -31,21 +32,15 @@ all-false (false ∷ pins) none = let split = sum_by-cons one_if false pins in a
 
 -- what is filled behind a filled part is a longer part
 filled-behind : (pins : List Bool) (at n m : ℕ) → at + n + m ≤ length pins → with_part (with_part pins at (replicate n false)) (at + n) (replicate m false) ≡ with_part pins at (replicate (n + m) false)
-filled-behind pins at n zero inside =
-    let same : n ≡ n + 0 = omega arith in
-    sym (with_part-none (with_part pins at (replicate n false)) (at + n)) ∙ ap (λ (k : ℕ). with_part pins at (replicate k false)) same
-filled-behind pins at n (suc m) inside =
-    let one : m + 1 ≡ suc m = omega arith in
-    let sum : n + m + 1 ≡ n + suc m = omega arith in
-    let place : at + n + m ≡ at + (n + m) = omega arith in
-    let filled = length-replicate n false in
-    let long = length-with_part pins at (replicate n false) (omega (arith, filled, inside)) in
-    ap (λ (k : ℕ). with_part (with_part pins at (replicate n false)) (at + n) (replicate k false)) (sym one)
-    ∙ sym (filled_more (with_part pins at (replicate n false)) (at + n) m false (omega (arith, long, inside)))
-    ∙ ap (λ (l : List Bool). slice_set l (at + n + m) false) (filled-behind pins at n m (omega (arith, inside)))
-    ∙ ap (λ (i : ℕ). slice_set (with_part pins at (replicate (n + m) false)) i false) place
-    ∙ filled_more pins at (n + m) false (omega (arith, inside))
-    ∙ ap (λ (k : ℕ). with_part pins at (replicate k false)) sum
+filled-behind pins at n m inside =
+    let one = length-replicate n false in
+    let more = length-replicate m false in
+    let both = length-replicate (n + m) false in
+    let short = length-with_part pins at (replicate n false) (omega (arith, one, inside)) in
+    let twice = length-with_part (with_part pins at (replicate n false)) (at + n) (replicate m false) (omega (arith, more, short, inside)) in
+    let once = length-with_part pins at (replicate (n + m) false) (omega (arith, both, inside)) in
+    ext_get_or false _ _ (omega (arith, short, twice, once))
+    (λ i less. grind (arith, nat_tests, filled_at (with_part pins at (replicate n false)) (at + n) m i false false, filled_at pins at n i false false, filled_at pins at (n + m) i false false, short))
 
 -- the memory without a map
 pub pins-new : (maps : ℕ) → ArePinsOf (replicate (maps * 256) false) (replicate maps 0)
