@@ -112,6 +112,17 @@ pub part_of-short : {X : Type 0} (xs : List X) (at size : ℕ) → length (part_
 unfolding part_of
 part_of-short xs at size = let h = length-take size (drop at xs) in omega arith
 
+-- what is read of a map's pages where the first ones were filled
+pub filled_part : (contents : List (List ℕ)) (k count n : ℕ) (page : List ℕ) → count ≤ 256 → k * 256 + 256 ≤ length contents
+    → slice_index_or (part_of (with_part contents (k * 256) (replicate count page)) (k * 256) 256) n [] ≡ (if nat_lt n count then page else slice_index_or (part_of contents (k * 256) 256) n [])
+filled_part contents k count n page few all =
+    ⊎_elim
+    (λ less. sym (content_in (with_part contents (k * 256) (replicate count page)) k n less)
+    ∙ grind (arith, nat_tests, filled_at contents (k * 256) count (k * 256 + n) page [], content_in contents k n less))
+    (λ more. get_or_past (part_of (with_part contents (k * 256) (replicate count page)) (k * 256) 256) n [] (omega (arith, part_of-short (with_part contents (k * 256) (replicate count page)) (k * 256) 256, more))
+    ∙ grind (arith, nat_tests, get_or_past (part_of contents (k * 256) 256) n [], part_of-short contents (k * 256) 256))
+    (order n 256)
+
 -- what is filled in one of several parts leaves the others
 pub others-filled : {X : Type 0} (xs : List X) (at k m n j width : ℕ) (x : X) → at ≡ k * width + m → m + n ≤ width → at + n ≤ length xs → j ≢ k
     → part_of (with_part xs at (replicate n x)) (j * width) width ≡ part_of xs (j * width) width
@@ -211,24 +222,11 @@ module _ (table new : TableState) (shapes : List (Option Shape)) (tenants : List
 
   new_there : (n : ℕ) → n < page_count shape → slice_index_or pages_new n [] ≡ zero_page
   new_there n less =
-      let f = few in
-      let h = all in
-      sym (content_in (contents_of new) k n (omega arith)) ∙ ap (λ l. slice_index_or l (k * 256 + n) []) contents
-      ∙ in_filled (contents_of table) (k * 256) (page_count shape) n zero_page [] (omega arith) less
+      ap (λ l. slice_index_or (part_of l (k * 256) 256) n []) contents ∙ grind (arith, nat_tests, filled_part (contents_of table) k (page_count shape) n zero_page few all)
 
   new_none : (n : ℕ) → page_count shape ≤ n → slice_index_or pages_new n [] ≡ []
-  new_none n past = ⊎_elim (λ less. within less) (λ more. get_or_past pages_new n [] (past_part more)) (order n 256)
-    where
-      past_part : 256 ≤ n → length pages_new ≤ n
-      past_part more = let h = part_of-short (contents_of new) (k * 256) 256 in omega arith
-
-      within : n < 256 → slice_index_or pages_new n [] ≡ []
-      within less =
-          let f = few in
-          let h = all in
-          sym (content_in (contents_of new) k n less) ∙ ap (λ l. slice_index_or l (k * 256 + n) []) contents
-          ∙ behind_filled (contents_of table) (k * 256) (page_count shape) (k * 256 + n) zero_page [] (omega arith) (omega arith)
-          ∙ content_in (contents_of table) k n less ∙ old_none n
+  new_none n past =
+      ap (λ l. slice_index_or (part_of l (k * 256) 256) n []) contents ∙ grind (arith, nat_tests, filled_part (contents_of table) k (page_count shape) n zero_page few all, old_none n)
 
   abbrev shapes_new : List (Option Shape)
   shapes_new = slice_set shapes k (Some shape)

@@ -1,6 +1,6 @@
 -- What a memory tells of a map that was taken away.
 use Rattle.std.proofs.Common.{◌≡◌, ◌≢◌, ◌∙◌, ◌⊎◌, inl, inr, ⊎_elim, ℕ, zero, suc, ◌+◌, ◌-◌, ◌*◌, ◌<◌, ◌≤◌, ◌&&◌, nat_le, nat_lt, not, Bool, true, false, if◌then◌else◌, List, [], ◌∷◌, length, map, filter, replicate, slice_index_or, slice_set, Option, Some, None, IsSomeAnd, option_map, refl, sym, ap, subst, arith}
-use Rattle.std.proofs.lemmas.List.{get_or-set_same, get_or-set_other, get_or_past, length-map, length-replicate, length-set, ext_get_or}
+use Rattle.std.proofs.lemmas.List.{get_or-set_same, get_or-set_other, length-map, length-replicate, length-set, ext_get_or}
 use Rattle.std.proofs.lemmas.Bool.Decides.{nat_tests}
 use Rattle.page_table.specs.declared.pass.Pass.{Pass}
 use Rattle.host_types.specs.declared.shape.Shape.{Shape}
@@ -22,7 +22,7 @@ use Rattle.page_table.specs.Changes.{IsKeptBut, AreMapsKeptBut, KeepsSettings}
 use Rattle.page_table.specs.Table.{TableState, IsTable, AreOwnKeptOutside, ArePagesOf, ArePages, IsPageAt, entry_at, state_of, states_of, contents_of, sharing_of, waiting_of, used_by, flat_of}
 use Rattle.page_table.specs.View.{view_of, is_listed, AreWaiters, IsMemory, IsPass}
 use Rattle.page_table.proofs.Sides.{order}
-use Rattle.page_table.proofs.Creating.{filled_more, with_part-none, length-contents, others-filled, part_of-short, filled_at}
+use Rattle.page_table.proofs.Creating.{filled_more, with_part-none, length-contents, others-filled, filled_at, filled_part}
 use Rattle.page_table.proofs.Costs.{state-at}
 use Rattle.page_table.proofs.Fitting.{pins-kept}
 use Rattle.page_table.proofs.Free.{free_is}
@@ -220,18 +220,9 @@ module _ (table : TableState) (shapes : List (Option Shape)) (tenants : List Ten
     pages_new = part_of (contents_of new) (k * 256) 256
 
     none_new : (n : ℕ) → slice_index_or pages_new n [] ≡ []
-    none_new n = ⊎_elim (λ less. within less) (λ more. get_or_past pages_new n [] (past more)) (order n 256)
-      where
-        past : 256 ≤ n → length pages_new ≤ n
-        past more = let h = part_of-short (contents_of new) (k * 256) 256 in omega (arith, h, more)
-
-        within : n < 256 → slice_index_or pages_new n [] ≡ []
-        within less =
-            let f = few in
-            let h = all in
-            let read = filled_at (contents_of table) (k * 256) (page_count shape) (k * 256 + n) [] [] (omega (arith, f, h)) in
-            sym (content_in (contents_of new) k n less) ∙ ap (λ (l : List (List ℕ)). slice_index_or l (k * 256 + n) []) contents
-            ∙ grind (arith, nat_tests, read, content_in (contents_of table) k n less, old_pages.none n)
+    none_new n =
+        ap (λ (l : List (List ℕ)). slice_index_or (part_of l (k * 256) 256) n []) contents
+        ∙ grind (arith, nat_tests, filled_part (contents_of table) k (page_count shape) n [] few all, old_pages.none n)
 
     abbrev shapes_new : List (Option Shape)
     shapes_new = slice_set shapes k None

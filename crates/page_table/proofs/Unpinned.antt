@@ -57,18 +57,17 @@ fewer-pinned pins at zero d inside none =
     ap (λ (m : ℕ). pinned_among (part_of pins at m)) same ∙ none-pinned pins at d (omega (arith, inside)) (λ i from less. none i (omega (arith, from)) (omega (arith, less)))
 fewer-pinned pins at (suc n) d inside none =
     let next : suc n + d ≡ suc (n + d) = omega arith in
-    let less = pinned-cons pins at n (omega (arith, inside)) in
     let rest = fewer-pinned pins (at + 1) n d (omega (arith, inside)) (λ i from less. none i (omega (arith, from)) (omega (arith, less))) in
-    omega (arith, ap (λ (m : ℕ). pinned_among (part_of pins at m)) next, pinned-cons pins at (n + d) (omega (arith, inside)), less, rest)
+    ap (λ (m : ℕ). pinned_among (part_of pins at m)) next ∙ grind (arith, pinned-cons pins at (n + d), pinned-cons pins at n, rest)
 
 -- a part's pages, in the part
 unpinned-in_part : (pins : List Bool) (first at n : ℕ) → at + n ≤ 2048 → unpinned_from (part_of pins first 2048) at n ≡ unpinned_from pins (first + at) n
 unfolding unpinned_from part_of
 unpinned-in_part pins first at zero small = refl
 unpinned-in_part pins first at (suc n) small =
-    let here = ap one_unless (get_or-take 2048 (drop first pins) at true (omega (arith, small)) ∙ get_or-drop first pins at true) in
     let next : first + (at + 1) ≡ first + at + 1 = omega arith in
-    omega (arith, here, unpinned-in_part pins first (at + 1) n (omega (arith, small)) ∙ ap (λ (i : ℕ). unpinned_from pins i n) next)
+    let here = get_or-take 2048 (drop first pins) at true (omega (arith, small)) ∙ get_or-drop first pins at true in
+    grind (arith, here, unpinned-in_part pins first (at + 1) n, ap (λ (i : ℕ). unpinned_from pins i n) next)
 
 -- the pages of a map that is there, and of one that isn't
 pub pages-some : (owned : Option FlatMap) (shape : Shape) → option_map (λ (flat : FlatMap). flat.shape) owned ≡ Some shape → unwrap_or (option_map (λ (flat : FlatMap). page_count flat.shape) owned) 0 ≡ page_count shape

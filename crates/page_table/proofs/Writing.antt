@@ -1,5 +1,5 @@
 -- What a memory tells after bytes of a page were written.
-use Rattle.std.proofs.Common.{◌≡◌, ◌≢◌, ◌∙◌, ⊎_elim, Bool, ℕ, zero, suc, ◌+◌, ◌*◌, ◌<◌, ◌≤◌, List, [], ◌∷◌, length, take, drop, slice_index_or, slice_set, Option, Some, None, IfSome, false, option_map, refl, sym, ap, subst, arith, length-set}
+use Rattle.std.proofs.Common.{◌≡◌, ◌≢◌, ◌∙◌, Bool, ℕ, zero, suc, ◌+◌, ◌*◌, ◌<◌, ◌≤◌, List, [], ◌∷◌, length, take, drop, slice_index_or, slice_set, Option, Some, None, IfSome, false, option_map, refl, sym, ap, subst, arith, length-set}
 use Rattle.std.specs.List.{concat}
 use Rattle.std.proofs.lemmas.List.{get_or-set_same, get_or-set_other, get_or_past, length-take-le}
 use Rattle.page_table.specs.declared.pass.Pass.{Pass}
@@ -19,7 +19,6 @@ use Rattle.page_table.specs.State.{MemoryState, part, bytes_of_map}
 use Rattle.page_table.specs.Changes.{IsPageOf, IsOwn, map_written, part_written, IsKeptBut, AreMapsKeptBut, KeepsSettings}
 use Rattle.page_table.specs.Table.{TableState, entry_at, state_of, maps_of, flat_of, ArePages, ArePagesOf, contents_of, groups_of, states_of, frames_of, used_by}
 use Rattle.page_table.specs.View.{view_of, IsMemory}
-use Rattle.page_table.proofs.Sides.{order, is_same}
 use Rattle.page_table.proofs.Maps.{maps_of-changed, AreMaps-changed, length-maps_of, part_of-set_same, part_of-set_other, concat-written, length-concat}
 use Rattle.frame_arena.proofs.Parts.{take-with_part, drop-with_part_before}
 use Rattle.page_table.proofs.Reading.{IsLocated, page_located, page_number, few_pages, content_in, bytes_in, map_at-part}
@@ -121,20 +120,13 @@ module _ (shape : Shape) (pages : List (List ℕ)) (n at : ℕ) (bytes : List �
       }
     where
       inside_page : n < length pages
-      inside_page = by_length (are.there n there)
-        where
-          by_length : length (slice_index_or pages n []) ≡ 4096 → n < length pages
-          by_length e = ⊎_elim (λ less. less) (λ past. absurd (omega (arith, e, ap length (get_or_past pages n [] past)))) (order n (length pages))
+      inside_page = grind (arith, are.there n, get_or_past pages n [])
 
       at_page : (m : ℕ) → m < page_count shape → length (slice_index_or (slice_set pages n written) m []) ≡ 4096
-      at_page m less = ⊎_elim (λ e. here m e) (λ ne. ap length (get_or-set_other pages n m written [] ne) ∙ are.there m less) (is_same m n)
-        where
-          here : (m : ℕ) → m ≡ n → length (slice_index_or (slice_set pages n written) m []) ≡ 4096
-          here m e =
-              let long = are.there n there in
-              ap (λ (k : ℕ). length (slice_index_or (slice_set pages n written) k [])) e
-              ∙ ap length (get_or-set_same pages n written [] inside_page)
-              ∙ length-with_part (slice_index_or pages n []) at bytes (omega (arith, long, in_page)) ∙ long
+      at_page m less =
+          let long = are.there n there in
+          let sized = length-with_part (slice_index_or pages n []) at bytes (omega (arith, long, in_page)) in
+          grind (arith, are.there m, get_or-set_other pages n m written [], get_or-set_same pages n written [], inside_page, sized, long)
 
 module _ (table new : TableState) (shapes : List (Option Shape)) (tenants : List Tenant) (pass : Pass) (reserved : ℕ) (page : Page) (at : ℕ) (bytes : List ℕ) (is : IsMemory table shapes tenants reserved) (there : IsPageOf (view_of table shapes tenants pass) page) (in_page : at + length bytes ≤ 4096) (in_map : page.number * 4096 + at + length bytes ≤ length (bytes_of_map (view_of table shapes tenants pass) page))
     (contents : contents_of new ≡ slice_set (contents_of table) (page_place page) (with_part (slice_index_or (contents_of table) (page_place page) []) at bytes))

@@ -9,11 +9,12 @@ use Rattle.page_table.proofs.Seen.{sees}
 use Rattle.page_table.proofs.Waiters.{pass-kept}
 use Rattle.page_table.proofs.memory.Memory.put.Goals as goal
 
-pub put-requires-clause-there : goal.put-requires-clause-there
-put-requires-clause-there c = (sees c.self.inside.table c.self.inside.shapes.items c.self.inside.tenants.items c.self.inside.pass c.self.inside.reserved c.self.invariant.0 c.args.self.now c.self.view_is c.args.page _ c.place_of.ensures).there c.requires.there
-
-pub put-requires-clause-own : goal.put-requires-clause-own
-put-requires-clause-own c = (sees c.self.inside.table c.self.inside.shapes.items c.self.inside.tenants.items c.self.inside.pass c.self.inside.reserved c.self.invariant.0 c.args.self.now c.self.view_is c.args.page _ c.place_of.ensures).own c.requires.own
+pub put-requires : goal.put-requires
+put-requires c = record {
+  there = (sees c.self.inside.table c.self.inside.shapes.items c.self.inside.tenants.items c.self.inside.pass c.self.inside.reserved c.self.invariant.0 c.args.self.now c.self.view_is c.args.page _ c.place_of.ensures).there c.requires.there;
+  own = (sees c.self.inside.table c.self.inside.shapes.items c.self.inside.tenants.items c.self.inside.pass c.self.inside.reserved c.self.invariant.0 c.args.self.now c.self.view_is c.args.page _ c.place_of.ensures).own c.requires.own;
+  in_page = c.requires.in_page;
+}
 
 abbrev before : goal.After-put → MemoryState
 before c = view_of c.self.inside.table c.self.inside.shapes.items c.self.inside.tenants.items c.self.inside.pass

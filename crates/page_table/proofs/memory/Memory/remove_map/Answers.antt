@@ -17,15 +17,13 @@ remove_all-requires c =
       there = pages_there c.self.inside.table c.self.inside.shapes.items c.self.inside.tenants.items c.self.inside.pass c.self.inside.reserved c.args.tenant c.args.map c.args.shape c.args.self.now c.self.view_is c.self.invariant.0 c.requires.tenant c.requires.there;
     }
 
-pub release-requires-clause-map : goal.release-requires-clause-map
-release-requires-clause-map c =
-    let inside = map_pins c.self.inside.table c.self.inside.shapes.items c.self.inside.tenants.items c.self.inside.pass c.self.inside.reserved c.args.tenant c.args.map c.args.shape c.args.self.now c.self.view_is c.self.invariant.0 c.requires.tenant c.requires.there c.self.invariant.1.pins in
-    omega (arith, inside, c.map_index-index.ensures)
-
-pub release-requires-clause-few : goal.release-requires-clause-few
-release-requires-clause-few c =
-    let told = index_inside c.self.inside.table c.self.inside.shapes.items c.self.inside.tenants.items c.self.inside.pass c.self.inside.reserved c.args.tenant c.args.map c.args.shape c.args.self.now c.self.view_is c.self.invariant.0 c.requires.tenant c.requires.there in
-    omega (arith, told, c.map_index-index.ensures, c.self.invariant.0.numbers, c.self.invariant.0.few)
+pub release-requires : goal.release-requires
+release-requires c = record {
+  map = let inside = map_pins c.self.inside.table c.self.inside.shapes.items c.self.inside.tenants.items c.self.inside.pass c.self.inside.reserved c.args.tenant c.args.map c.args.shape c.args.self.now c.self.view_is c.self.invariant.0 c.requires.tenant c.requires.there c.self.invariant.1.pins in
+      omega (arith, inside, c.map_index-index.ensures);
+  few = let told = index_inside c.self.inside.table c.self.inside.shapes.items c.self.inside.tenants.items c.self.inside.pass c.self.inside.reserved c.args.tenant c.args.map c.args.shape c.args.self.now c.self.view_is c.self.invariant.0 c.requires.tenant c.requires.there in
+      omega (arith, told, c.map_index-index.ensures, c.self.invariant.0.numbers, c.self.invariant.0.few);
+}
 
 pub index_mut-requires : goal.index_mut-requires
 index_mut-requires c =
