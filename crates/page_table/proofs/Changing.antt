@@ -1,5 +1,5 @@
 -- What makes a table sound again after the entry at one place changed, and perhaps the page of a frame or the groups.
-use Rattle.std.proofs.Common.{◌≡◌, ◌≢◌, ◌∙◌, ◌⊎◌, inl, inr, ⊎_elim, ℕ, ◌+◌, ◌<◌, ◌≤◌, false, length, slice_index_or, slice_set, Option, Some, None, IfSome, sym, ap, subst, arith, refl, List, ◌==◌, if◌then◌else◌, option_map}
+use Rattle.std.proofs.Common.{◌≡◌, ◌≢◌, ◌∙◌, ◌⊎◌, inl, inr, ⊎_elim, ℕ, ◌+◌, ◌<◌, ◌≤◌, false, length, slice_index_or, slice_set, Option, Some, None, IfSome, sym, ap, subst, arith, refl, List, ◌==◌, if◌then◌else◌, option_map, true}
 use Rattle.std.proofs.lemmas.List.{length-set}
 use Rattle.std.proofs.lemmas.List.Sums.{sum_by-set}
 use Rattle.std.proofs.lemmas.Bool.Decides.{nat_tests}
@@ -49,6 +49,14 @@ lies_alone table f Volatile e a = a
 lies_alone table f Waiting e a = a
 lies_alone table f Grouped e a = absurd (cc)
 lies_alone table f Zero e a = absurd (cc)
+
+-- one that is shared lies on a group's frame or on the zero frame
+pub lies_shared : (table : TableState) (f : ℕ) (status : Status) → is_shared status ≡ true → LiesRight table f status → (times f table.groups ≡ 1) ⊎ (f ≡ 0)
+lies_shared table f New e a = absurd (cc)
+lies_shared table f Volatile e a = absurd (cc)
+lies_shared table f Waiting e a = absurd (cc)
+lies_shared table f Grouped e a = inl a
+lies_shared table f Zero e a = inr a
 
 -- the entry at a place fits
 pub entry_fits : (table : TableState) (i : ℕ) (entry : Entry) → IsTable table → entry_at table.entries i ≡ Some entry → IsEntry table entry

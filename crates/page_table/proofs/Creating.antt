@@ -78,9 +78,6 @@ filled_at xs at (suc n) i x d fits =
 pub behind_filled : {X : Type 0} (xs : List X) (at n i : ℕ) (x d : X) → at + n ≤ length xs → at + n ≤ i → slice_index_or (with_part xs at (replicate n x)) i d ≡ slice_index_or xs i d
 behind_filled xs at n i x d fits past = grind (arith, nat_tests, filled_at xs at n i x d)
 
-pub in_filled : {X : Type 0} (xs : List X) (at n i : ℕ) (x d : X) → at + n ≤ length xs → i < n → slice_index_or (with_part xs at (replicate n x)) (at + i) d ≡ x
-in_filled xs at n i x d fits inside = grind (arith, nat_tests, filled_at xs at n (at + i) x d)
-
 pub length-contents : (table : TableState) → length (contents_of table) ≡ length table.entries
 unfolding contents_of
 length-contents table = length-map table.entries (entry_content table.arena)

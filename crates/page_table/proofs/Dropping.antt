@@ -9,7 +9,7 @@ use Rattle.host_types.specs.Memory.{FlatMap, map_at}
 use Rattle.host_types.specs.Pages.{map_place}
 use Rattle.host_types.specs.declared.status.Status.TheVariants.{Volatile}
 use Rattle.host_types.specs.Pins.{PinsFit}
-use Rattle.host_types.specs.Sharing.{Sharing, PageState, state_at, is_shared, broken, gone, gone_from}
+use Rattle.host_types.specs.Sharing.{Sharing, is_shared, broken, gone, gone_from}
 use Rattle.host_types.specs.Tenant.{part_dropped}
 use Rattle.host_types.specs.Visits.{waiting_outside, ended_at, dropped, moved_on}
 use Rattle.host_types.proofs.Lists.{length-with_part}
@@ -192,24 +192,21 @@ module _ (table : TableState) (shapes : List (Option Shape)) (tenants : List Ten
   pub unpinned_behind : IsTable table → PinsFit (states_of table.entries) pass.pins → (i : ℕ) → k * 256 + page_count shape ≤ i → i < k * 256 + 256 → slice_index_or pass.pins i false ≡ false
   unpinned_behind fits fit i from less = by_test (slice_index_or pass.pins i false) refl
     where
-      n : ℕ
-      n = i - k * 256
-
-      place : i ≡ k * 256 + n
+      place : i ≡ k * 256 + (i - k * 256)
       place = omega (arith, from)
 
       empty : length (slice_index_or (contents_of table) i []) ≡ 0
       empty =
           ap (λ (j : ℕ). length (slice_index_or (contents_of table) j [])) place
-          ∙ ap length (content_in (contents_of table) k n (omega (arith, from, less)) ∙ old_pages.none n (omega (arith, from)))
+          ∙ ap length (content_in (contents_of table) k (i - k * 256) (omega (arith, from, less)) ∙ old_pages.none (i - k * 256) (omega (arith, from)))
 
-      by_entry : (x : Option Entry) → entry_at table.entries i ≡ x → IsSomeAnd (state_at (sharing_of table pass) i) (λ state. state.status ≡ Volatile) → ⊥
-      by_entry None e v = subst (λ (y : Option PageState). IsSomeAnd y (λ state. state.status ≡ Volatile)) (state-at table pass i ∙ ap (option_map state_of) e) v
-      by_entry (Some entry) e v = let there = page_of_entry table i entry fits e in let none = empty in omega (arith, there, none)
+      by_entry : (x : Option Entry) → entry_at table.entries i ≡ x → IsSomeAnd (option_map state_of x) (λ state. state.status ≡ Volatile) → ⊥
+      by_entry None e v = v
+      by_entry (Some entry) e v = omega (arith, page_of_entry table i entry fits e, empty)
 
       by_test : (b : Bool) → slice_index_or pass.pins i false ≡ b → slice_index_or pass.pins i false ≡ false
       by_test false e = e
-      by_test true e = absurd (by_entry (entry_at table.entries i) refl (fit.volatile i e))
+      by_test true e = absurd (by_entry (entry_at table.entries i) refl (rw (state-at table pass i) at (fit.volatile i e)))
 
   module _ (new : TableState) (contents : contents_of new ≡ with_part (contents_of table) (k * 256) (replicate (page_count shape) []))
       (used : used_by new ≤ used_by table) (arena : length new.arena ≡ length table.arena) where

@@ -3,14 +3,13 @@ use Rattle.std.proofs.Common.{◌≡◌, ◌≢◌, ◌∙◌, inl, inr, ◌⊎�
 use Rattle.std.proofs.lemmas.List.{map-set, set-get_or, nil_from_length}
 use Rattle.std.proofs.lemmas.Bool.Decides.{eqb_tells, nat_tests}
 use Rattle.page_table.specs.declared.pass.Pass.{Pass}
-use Rattle.host_types.specs.declared.status.Status.{Status}
-use Rattle.host_types.specs.declared.status.Status.TheVariants.{New, Volatile, Waiting, Grouped, Zero}
+use Rattle.host_types.specs.declared.status.Status.TheVariants.{Volatile}
 use Rattle.host_types.specs.Sharing.{PageState, state_at, is_shared, broken, broken_page, without, left_by}
 use Rattle.host_types.proofs.Without.{without-length, times-gone, times-kept, some_kept}
 use Rattle.frame_arena.specs.Pages.{page_at}
 use Rattle.page_table.specs.declared.entry.Entry.{Entry}
-use Rattle.page_table.specs.Table.{TableState, CountsState, IsTable, IsEntry, IsAlone, IsGroup, IsSound, AreCountsOf, LiesRight, times, one_if_zero, entry_at, state_of, states_of, contents_of, groups_of, sharing_of, is_on, places_on, pages_on, used_by}
-use Rattle.page_table.proofs.Changing.{entry_fits, table-set, counted-changed, lies_alone, apart_alone, pages_on-changed, own_pages-changed}
+use Rattle.page_table.specs.Table.{TableState, CountsState, IsTable, IsEntry, IsAlone, IsGroup, IsSound, AreCountsOf, times, one_if_zero, entry_at, state_of, states_of, contents_of, groups_of, sharing_of, is_on, places_on, pages_on, used_by}
+use Rattle.page_table.proofs.Changing.{entry_fits, table-set, counted-changed, lies_alone, apart_alone, pages_on-changed, own_pages-changed, lies_shared}
 use Rattle.page_table.proofs.Costs.{state-at, group-frame}
 use Rattle.page_table.proofs.Entries.{times-head, times-tail, one_when, on_one, not_equal, equal, pages_on-set, some_on, inside, contents-set, group_of}
 use Rattle.page_table.proofs.Groups.{length-places, without-here}
@@ -56,19 +55,10 @@ module _ (table : TableState) (i : ℕ) (entry new : Entry) (is : IsTable table)
 
   -- the page is of a group
   pub one_group : times entry.frame table.groups ≡ 1
-  one_group = by_status entry.status shared (IsEntry.right (entry_fits table i entry is here))
+  one_group = ⊎_elim (λ once. once) (λ zero. absurd (omega (arith, last, lies, ap one_if_zero zero))) (lies_shared table entry.frame entry.status shared (entry_fits table i entry is here).right)
     where
-      on_zero : (f : ℕ) → f ≡ 0 → one_if_zero f ≡ 1
-      on_zero f e = ap one_if_zero e
-
-      by_status : (status : Status) → is_shared status ≡ true → LiesRight table entry.frame status → times entry.frame table.groups ≡ 1
-      by_status New e a = absurd (cc)
-      by_status Volatile e a = absurd (cc)
-      by_status Waiting e a = absurd (cc)
-      by_status Grouped e a = a
-      by_status Zero e a =
-          let lies = some_on entry.frame table.entries i (ap (is_on entry.frame) here ∙ equal entry.frame) in
-          absurd (omega (arith, last, lies, on_zero entry.frame a))
+      lies : 1 ≤ pages_on entry.frame table.entries
+      lies = some_on entry.frame table.entries i (ap (is_on entry.frame) here ∙ equal entry.frame)
 
   alone_there : pages_on entry.frame table.entries ≡ 1
   alone_there = let none = group-frame table entry.frame is one_group in omega (arith, none, last)

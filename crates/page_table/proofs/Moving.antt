@@ -1,15 +1,14 @@
 -- A page with a frame of its own moves to a shared frame of the same bytes, and its old frame is unused then.
-use Rattle.std.proofs.Common.{◌≡◌, ◌≢◌, ◌∙◌, ℕ, zero, suc, ◌+◌, ◌-◌, ◌<◌, ◌≤◌, ◌==◌, true, false, List, [], ◌∷◌, length, slice_index_or, slice_set, Option, Some, refl, sym, ap, subst, arith}
+use Rattle.std.proofs.Common.{◌≡◌, ◌≢◌, ◌∙◌, ℕ, zero, suc, ◌+◌, ◌-◌, ◌<◌, ◌≤◌, ◌==◌, true, false, List, [], ◌∷◌, length, slice_index_or, slice_set, Option, Some, refl, sym, ap, subst, arith, ⊎_elim}
 use Rattle.std.proofs.lemmas.List.{get_or-set_other, length-set, set-get_or}
 use Rattle.std.proofs.lemmas.List.Sums.{sum_by-cons}
 use Rattle.std.proofs.lemmas.Bool.Decides.{nat_tests}
 use Rattle.host_types.specs.declared.status.Status.{Status}
-use Rattle.host_types.specs.declared.status.Status.TheVariants.{New, Volatile, Waiting, Grouped, Zero}
 use Rattle.host_types.specs.Sharing.{is_shared, with_status}
 use Rattle.frame_arena.specs.Pages.{page_at}
 use Rattle.page_table.specs.declared.entry.Entry.{Entry}
 use Rattle.page_table.specs.Table.{TableState, CountsState, IsTable, IsEntry, IsAlone, IsSound, AreCountsOf, LiesRight, times, one_if_zero, entry_at, contents_of, pages_on, used_by, IsOwnAt, state_of}
-use Rattle.page_table.proofs.Changing.{is_alone, entry_fits, table-changed, counted-changed, apart_alone, fits-after, own_seen, pages_on-changed, own_pages-changed}
+use Rattle.page_table.proofs.Changing.{is_alone, entry_fits, table-changed, counted-changed, apart_alone, fits-after, own_seen, pages_on-changed, own_pages-changed, lies_shared}
 use Rattle.page_table.proofs.Entries.{one_when, on_one, inside, contents-set, one_if_zero-above, counts-set}
 use Rattle.page_table.proofs.Putting.{content_at}
 
@@ -82,14 +81,8 @@ module _ (table : TableState) (i : ℕ) (entry x : Entry) (move : IsMove table i
 
   -- the new frame is no page's own
   not_alone : IsAlone table x.frame → ⊥
-  not_alone a = by_status x.status shared fits.right
-    where
-      by_status : (status : Status) → is_shared status ≡ true → LiesRight table x.frame status → ⊥
-      by_status New s r = cc
-      by_status Volatile s r = cc
-      by_status Waiting s r = cc
-      by_status Grouped s r = let none = a.no_group in omega (arith, none, r)
-      by_status Zero s r = let above = a.above in omega (arith, above, r)
+  not_alone a =
+      ⊎_elim (λ once. let none = a.no_group in omega (arith, none, once)) (λ zero. let above = a.above in omega (arith, above, zero)) (lies_shared table x.frame x.status shared fits.right)
 
   pub apart : x.frame ≢ entry.frame
   apart e = not_alone (subst (IsAlone table) (sym e) lone)

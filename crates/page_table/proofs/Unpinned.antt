@@ -22,9 +22,6 @@ use Rattle.page_table.proofs.Shapes.{shape_told}
 abbrev one_if : Bool → ℕ
 one_if b = if b then 1 else 0
 
-abbrev one_unless : Bool → ℕ
-one_unless b = if b then 0 else 1
-
 part-cons : (pins : List Bool) (at n : ℕ) → at < length pins → part_of pins at (suc n) ≡ slice_index_or pins at false ∷ part_of pins (at + 1) n
 unfolding part_of
 part-cons [] at n inside = absurd (omega (arith, inside))

@@ -9,7 +9,7 @@ use Rattle.page_table.specs.declared.entry.Entry.{Entry}
 use Rattle.page_table.specs.Table.{TableState, CountsState, IsTable, IsEntry, IsGroup, IsOwnAt, IsSound, AreCountsOf, times, one_if_zero, entry_at, entry_content, state_of, states_of, contents_of, groups_of, sharing_of, is_on, pages_on, used_by}
 use Rattle.page_table.proofs.Changing.{is_alone, entry_fits, table-changed, counted-changed, apart_alone, pages_on-changed, own_pages-changed}
 use Rattle.page_table.proofs.Costs.{state-at, count-some}
-use Rattle.page_table.proofs.Entries.{one_when, not_equal, places_on-set, groups-kept, inside, one_if_zero-above, group_of, counts-set}
+use Rattle.page_table.proofs.Entries.{one_when, not_equal, places_on-set, groups-kept, one_if_zero-above, group_of, counts-set}
 use Rattle.page_table.proofs.Groups.{without-here}
 use Rattle.page_table.proofs.Leaving.{groups-left}
 
@@ -19,9 +19,6 @@ vacated table i = record table { entries = slice_set table.entries i None }
 
 module _ (table : TableState) (i : ℕ) (entry : Entry) (is : IsTable table) (here : entry_at table.entries i ≡ Some entry)
     (company : is_shared entry.status ≡ true → 1 < one_if_zero entry.frame + pages_on entry.frame table.entries) where
-  there : i < length table.entries
-  there = inside table.entries i entry here
-
   pub fits : IsEntry table entry
   fits = entry_fits table i entry is here
 
