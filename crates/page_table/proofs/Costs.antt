@@ -1,5 +1,5 @@
 -- What the break of a page costs, told by its group and by its frame.
-use Rattle.std.proofs.Common.{◌≡◌, ◌∙◌, ◌⊎◌, inl, inr, ⊎_elim, ℕ, ◌+◌, ◌<◌, ◌≤◌, nat_lt, Bool, true, false, slice_index_or, Option, Some, None, option_map, unwrap_or, refl, sym, ap, arith, ◌&&◌, List}
+use Rattle.std.proofs.Common.{◌≡◌, ◌∙◌, ◌⊎◌, inl, inr, ⊎_elim, ℕ, ◌+◌, ◌≤◌, nat_lt, Bool, true, false, slice_index_or, Option, Some, None, option_map, unwrap_or, refl, sym, ap, arith, ◌&&◌, List}
 use Rattle.std.proofs.lemmas.Bool.Decides.{nat_tests, leb_tells}
 use Rattle.page_table.specs.declared.pass.Pass.{Pass}
 use Rattle.host_types.specs.declared.status.Status.{Status}
@@ -70,26 +70,19 @@ cost-is table pass i is = by_entry (entry_at table.entries i) refl
 pub cost-own : (table : TableState) (i : ℕ) (entry : Entry) → IsTable table → entry_at table.entries i ≡ Some entry → entry.protected ≡ false → break_frames table i ≡ 0
 cost-own table i entry is here own = grind (arith, cost-told table i entry is here, (entry_fits table i entry is here).protected)
 
--- a page on a frame that more hold takes a frame
-pub cost-one : (table : TableState) (i : ℕ) (entry : Entry) → IsTable table → entry_at table.entries i ≡ Some entry → is_shared entry.status ≡ true
-    → 1 < one_if_zero entry.frame + pages_on entry.frame table.entries → break_frames table i ≡ 1
-cost-one table i entry is here shared more = grind (arith, nat_tests, cost-told table i entry is here)
-
--- the last page of a group takes none
-pub cost-last : (table : TableState) (i : ℕ) (entry : Entry) → IsTable table → entry_at table.entries i ≡ Some entry → is_shared entry.status ≡ true
-    → one_if_zero entry.frame + pages_on entry.frame table.entries ≤ 1 → break_frames table i ≡ 0
-cost-last table i entry is here shared last = grind (arith, nat_tests, cost-told table i entry is here)
+-- told by the count of the page's frame
+pub cost-by_count : (table : TableState) (counts : CountsState) (i : ℕ) (entry : Entry) → IsSound table counts → entry_at table.entries i ≡ Some entry → entry.protected ≡ true
+    → break_frames table i ≡ one_when (nat_lt 1 (slice_index_or counts.counts entry.frame 0))
+cost-by_count table counts i entry sound here protected =
+    let fits = entry_fits table i entry sound.fits here in
+    grind (arith, nat_tests, cost-told table i entry sound.fits here, fits.protected, sound.counted.counted entry.frame fits.frame)
 
 -- the same, told by the count of the page's frame
 pub cost-counted : (table : TableState) (counts : CountsState) (i : ℕ) (entry : Entry) → IsSound table counts → entry_at table.entries i ≡ Some entry → entry.protected ≡ true
     → ((nat_lt 1 (slice_index_or counts.counts entry.frame 0) ≡ true) × (break_frames table i ≡ 1)) ⊎ ((nat_lt 1 (slice_index_or counts.counts entry.frame 0) ≡ false) × (break_frames table i ≡ 0))
 cost-counted table counts i entry sound here protected =
-    let fits = entry_fits table i entry sound.fits here in
-    let counted = sound.counted.counted entry.frame fits.frame in
-    ⊎_elim
-    (λ more. inl (more.0, cost-one table i entry sound.fits here (sym fits.protected ∙ protected) (omega (arith, counted, more.1))))
-    (λ last. inr (last.0, cost-last table i entry sound.fits here (sym fits.protected ∙ protected) (omega (arith, counted, last.1))))
-    (leb_tells 2 (slice_index_or counts.counts entry.frame 0))
+    let told = cost-by_count table counts i entry sound here protected in
+    ⊎_elim (λ more. inl (more.0, grind (arith, nat_tests, told, more.0))) (λ last. inr (last.0, grind (arith, nat_tests, told, last.0))) (leb_tells 2 (slice_index_or counts.counts entry.frame 0))
 
 -- the count of a page's frame is not 0
 pub count-some : (table : TableState) (counts : CountsState) (i : ℕ) (entry : Entry) → IsSound table counts → entry_at table.entries i ≡ Some entry
