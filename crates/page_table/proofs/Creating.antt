@@ -2,6 +2,7 @@
 use Rattle.std.proofs.Common.{◌≡◌, ◌≢◌, ◌∙◌, ⊎_elim, ℕ, zero, suc, ◌+◌, ◌-◌, ◌*◌, ◌<◌, ◌≤◌, List, [], ◌∷◌, ◌++◌, length, take, drop, replicate, slice_index_or, slice_set, Option, Some, None, Bool, option_map, refl, sym, ap, subst, arith, length-set, append_assoc, nat_le, nat_lt, ◌&&◌, if◌then◌else◌}
 use Rattle.std.specs.List.{concat}
 use Rattle.std.proofs.lemmas.List.{get_or-set_same, get_or-set_other, get_or_past, length-take-le, length-take, length-append, length-replicate, set-append_right, append-nil, take-append-drop, replicate-append-replicate, take-replicate, drop-replicate, length-map}
+use Rattle.std.proofs.lemmas.Bool.Decides.{nat_tests}
 use Rattle.page_table.specs.declared.pass.Pass.{Pass}
 use Rattle.host_types.specs.declared.shape.Shape.{Shape}
 use Rattle.host_types.specs.Bytes.{part_of, with_part}
@@ -18,13 +19,12 @@ use Rattle.page_table.specs.Limits.{page_count}
 use Rattle.page_table.specs.State.{MemoryState, part, free_of, have_of}
 use Rattle.page_table.specs.Changes.{zero_map, part_created, IsKeptBut, AreMapsKeptBut, KeepsSettings, with_new_pages}
 use Rattle.page_table.specs.View.{view_of, IsMemory}
+use Rattle.page_table.specs.Table.{TableState, groups_of, used_by, state_of, states_of, maps_of, flat_of, ArePages, ArePagesOf, contents_of, entry_content}
 use Rattle.page_table.proofs.Sides.{order}
 use Rattle.page_table.proofs.Maps.{map_at-maps_of, part_of-set_other}
 use Rattle.page_table.proofs.Reading.{content_in, few_pages, map_at-part}
 use Rattle.page_table.proofs.Writing.{OneMap, memory_changed, one_map}
 use Rattle.page_table.proofs.Free.{free_is}
-use Rattle.page_table.specs.Table.{TableState, groups_of, used_by, state_of, states_of, maps_of, flat_of, ArePages, ArePagesOf, contents_of, entry_content}
-use Rattle.std.proofs.lemmas.Bool.Decides.{nat_tests}
 
 -- a part longer by one element is that element set behind it
 pub with_part-more : {X : Type 0} (xs ys : List X) (at : ℕ) (x : X) → at + length ys < length xs → slice_set (with_part xs at ys) (at + length ys) x ≡ with_part xs at (ys ++ x ∷ [])

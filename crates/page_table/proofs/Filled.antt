@@ -4,6 +4,7 @@ use Rattle.std.proofs.lemmas.List.{get_or-set_same, get_or-set_other, length-set
 use Rattle.std.proofs.Math.Seq.{take-append_seam}
 use Rattle.std.proofs.lemmas.List.Sums.{sum_by-cons, sum_by-set}
 use Rattle.std.proofs.lemmas.List.Folds.{sum_by-replicate}
+use Rattle.std.proofs.lemmas.Bool.Decides.{nat_tests}
 use Rattle.host_types.specs.Bytes.{part_of, with_part}
 use Rattle.host_types.proofs.Lists.{length-part_of, length-with_part, part-with_part_same}
 use Rattle.frame_arena.proofs.Parts.{with_part-same}
@@ -11,7 +12,6 @@ use Rattle.page_table.specs.Pins.{pinned_among, ArePinsOf}
 use Rattle.page_table.proofs.Sides.{is_same}
 use Rattle.page_table.proofs.Creating.{others-filled, filled_at}
 use Rattle.page_table.proofs.Maps.{part_of-set_same, part_of-set_other}
-use Rattle.std.proofs.lemmas.Bool.Decides.{nat_tests}
 
 abbrev one_if : Bool → ℕ
 one_if b = if b then 1 else 0

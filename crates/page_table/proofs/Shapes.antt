@@ -2,14 +2,14 @@
 use Rattle.std.proofs.Common.{◌≡◌, ◌∙◌, ⊎_elim, ℕ, zero, suc, ◌+◌, ◌*◌, ◌<◌, ◌≤◌, List, [], ◌∷◌, length, map, take, drop, slice_index_or, Option, Some, None, IfSome, option_map, is_none, position, refl, sym, ap, subst, arith, All, min, ◌-◌}
 use Rattle.std.specs.List.{position_or_len}
 use Rattle.std.proofs.lemmas.List.{get_or_past, get_or-take, get_or-drop, length-take, length-drop}
+use Rattle.std.specs.List.{concat}
+use Rattle.std.proofs.lemmas.List.{length-take-le}
+use Rattle.std.proofs.lemmas.List.Elements.{All-nil, All-cons, All-head, All-tail, All-append, All-take, All-drop}
 use Rattle.page_table.specs.declared.pass.Pass.{Pass}
 use Rattle.host_types.specs.declared.shape.Shape.{Shape}
 use Rattle.host_types.specs.Bytes.{part_of}
 use Rattle.host_types.specs.Memory.{FlatMap, FlatMaps, map_at}
 use Rattle.host_types.specs.Pages.{map_place}
-use Rattle.std.specs.List.{concat}
-use Rattle.std.proofs.lemmas.List.{length-take-le}
-use Rattle.std.proofs.lemmas.List.Elements.{All-nil, All-cons, All-head, All-tail, All-append, All-take, All-drop}
 use Rattle.host_types.specs.Shapes.{byte_len_of}
 use Rattle.host_types.specs.Tenant.{IsFlatMap}
 use Rattle.frame_arena.specs.Pages.{IsPage, page_at}

@@ -1,5 +1,5 @@
 -- The tree of groups has the groups of each content in order of creation, whatever happens to the table.
-use Rattle.std.proofs.Common.{◌≡◌, ◌≢◌, ◌∙◌, ℕ, zero, suc, ◌<◌, ◌≤◌, ◌==◌, nat_lt, not, bytes_eq, Bool, true, if◌then◌else◌, List, [], ◌∷◌, ◌++◌, length, filter, find, slice_index_or, slice_set, All, refl, sym, ap, arith}
+use Rattle.std.proofs.Common.{◌≡◌, ◌≢◌, ◌∙◌, ℕ, zero, suc, ◌<◌, ◌≤◌, ◌==◌, nat_lt, not, Bool, true, List, [], ◌∷◌, ◌++◌, length, filter, find, slice_index_or, slice_set, All, refl, sym, ap, arith}
 use Rattle.std.specs.List.{concat}
 use Rattle.std.proofs.lemmas.List.{get_or-set_other, length-set}
 use Rattle.std.proofs.lemmas.List.Elements.{All-nil, All-cons, filter-append}
@@ -9,8 +9,8 @@ use Rattle.frame_arena.specs.Pages.{page_at}
 use Rattle.stable_tree.specs.Groups.{Groups, IsSorted, IsChain, has, content}
 use Rattle.stable_tree.proofs.Removing.{has-itself}
 use Rattle.page_table.specs.Table.{TableState, CountsState, IsSound, IsGroup, IsTreeOf, times, pages_on, is_open_frame}
-use Rattle.page_table.proofs.Ending.{but}
 use Rattle.host_types.proofs.Without.{without-length, times-gone, times-kept}
+use Rattle.page_table.proofs.Ending.{but}
 use Rattle.page_table.proofs.Entries.{one_when, times-head, times-tail, one_if_zero-above, group_of, times-cons}
 use Rattle.page_table.proofs.Joining.{group-inside}
 
@@ -70,10 +70,8 @@ in-chain (c ∷ cs) (suc k) d f h some =
 filter-kept : (old new : List (List ℕ)) (bytes xs : List ℕ) → ((f : ℕ) → 1 ≤ times f xs → page_at new f ≡ page_at old f) → filter (has new bytes) xs ≡ filter (has old bytes) xs
 filter-kept old new bytes [] same = refl
 filter-kept old new bytes (x ∷ xs) same =
-    let here = same x (times-head x xs) in
     let rest = filter-kept old new bytes xs (λ f some. let more = times-tail f x xs in same f (omega (arith, some, more))) in
-    ap (λ (page : List ℕ). if bytes_eq page bytes then x ∷ filter (has new bytes) xs else filter (has new bytes) xs) here
-    ∙ ap (λ (l : List ℕ). if bytes_eq (page_at old x) bytes then x ∷ l else l) rest
+    grind (arith, same x (times-head x xs), rest)
 
 module _ (old new : List (List ℕ)) (size : length new ≡ length old) where
   entry_content-kept : (chain : List ℕ) → 0 < length chain → ((f : ℕ) → 1 ≤ times f chain → page_at new f ≡ page_at old f) → content new chain ≡ content old chain

@@ -1,6 +1,8 @@
 -- What unmerging takes, told by the pages on the groups' frames.
 use Rattle.std.proofs.Common.{◌≡◌, ◌∙◌, ⊎_elim, ℕ, zero, suc, ◌+◌, ◌-◌, ◌<◌, ◌≤◌, ◌==◌, Bool, true, false, List, [], ◌∷◌, length, map, sum_by, slice_index_or, Option, Some, None, option_map, is_some, refl, sym, ap, subst, arith}
 use Rattle.std.proofs.lemmas.List.Sums.{sum_by-cons}
+use Rattle.std.proofs.lemmas.List.{length-map}
+use Rattle.std.proofs.lemmas.Bool.Decides.{nat_tests}
 use Rattle.host_types.specs.declared.status.Status.{Status}
 use Rattle.host_types.specs.declared.status.Status.TheVariants.{New, Volatile, Waiting, Grouped, Zero}
 use Rattle.host_types.specs.Sharing.{Sharing, PageState, state_at, is_shared_page, broken, break_cost, broken_from, cost_from}
@@ -13,10 +15,10 @@ use Rattle.page_table.specs.declared.tenant.Tenant.{Tenant}
 use Rattle.page_table.specs.State.{have_of}
 use Rattle.page_table.specs.View.{view_of, IsMemory, IsPass}
 use Rattle.host_types.specs.declared.shape.Shape.{Shape}
-use Rattle.page_table.proofs.Changing.{entry_fits}
-use Rattle.page_table.proofs.Free.{free_is}
 use Rattle.page_table.specs.Table.{TableState, CountsState, IsTable, IsSound, IsEntry, IsGroup, IsPageAt, LiesRight, times, entry_at, state_of, states_of, groups_of, sharing_of, used_by, new_pass, pages_on, places_on}
 use Rattle.page_table.specs.Tallies.{shared_at}
+use Rattle.page_table.proofs.Changing.{entry_fits}
+use Rattle.page_table.proofs.Free.{free_is}
 use Rattle.page_table.proofs.Breaks.{cost_from-last, broken_from-last}
 use Rattle.page_table.proofs.Creating.{length-states}
 use Rattle.page_table.proofs.Costs.{state-at}
@@ -24,8 +26,6 @@ use Rattle.page_table.proofs.Entries.{one_when, on_one, not_equal, equal, times-
 use Rattle.page_table.proofs.Groups.{length-places}
 use Rattle.page_table.proofs.Moving.{pages_on-le}
 use Rattle.page_table.proofs.Putting.{page_of_entry}
-use Rattle.std.proofs.lemmas.List.{length-map}
-use Rattle.std.proofs.lemmas.Bool.Decides.{nat_tests}
 
 times-step : (i n : ℕ) (places : List ℕ) → without.times i (n ∷ places) ≡ one_when (n == i) + without.times i places
 times-step i n places = sum_by-cons (λ (j : ℕ). without.one_when (j == i)) n places

@@ -1,6 +1,7 @@
 -- What a memory tells where the pins of one tenant changed.
 use Rattle.std.proofs.Common.{◌≡◌, ◌≢◌, ◌∙◌, ◌⊎◌, inl, inr, ⊎_elim, ℕ, zero, suc, ◌+◌, ◌*◌, ◌<◌, ◌≤◌, Bool, true, false, List, [], ◌∷◌, ◌++◌, length, take, drop, replicate, slice_index_or, slice_set, Option, option_map, refl, sym, ap, arith}
 use Rattle.std.proofs.lemmas.List.{length-drop, length-replicate, length-map, get_or_past}
+use Rattle.std.proofs.lemmas.Bool.Decides.{nat_tests}
 use Rattle.host_types.specs.declared.shape.Shape.{Shape}
 use Rattle.host_types.specs.Bytes.{part_of, with_part}
 use Rattle.host_types.specs.Pages.{map_place}
@@ -18,7 +19,6 @@ use Rattle.page_table.proofs.Sides.{order}
 use Rattle.page_table.proofs.Creating.{length-contents, filled_at, others-filled}
 use Rattle.page_table.proofs.Fitting.{pinned_if}
 use Rattle.page_table.proofs.Maps.{part_of-set_other}
-use Rattle.std.proofs.lemmas.Bool.Decides.{nat_tests}
 
 -- a page that is pinned is one of its tenant
 pub pinned-others : (pins : List Bool) (is_pinned : Bool) (t m n u : ℕ) → m < 8 → n < 256 → u ≢ t

@@ -66,12 +66,7 @@ waiters-fewer entries c i (w ∷ ws) are = by_head (not (w.place == i)) (waiters
 -- the waiting list without a page, as callers see it
 pub waiting-forgets : (i : ℕ) (ws : List Waiter) → map waiting_of (others_of i ws) ≡ waiting_without i (map waiting_of ws)
 waiting-forgets i [] = refl
-waiting-forgets i (w ∷ ws) = by_head (not (w.place == i)) (waiting-forgets i ws)
-  where
-    by_head : (b : Bool) → map waiting_of (others_of i ws) ≡ waiting_without i (map waiting_of ws)
-        → map waiting_of (if b then w ∷ others_of i ws else others_of i ws) ≡ (if b then waiting_of w ∷ waiting_without i (map waiting_of ws) else waiting_without i (map waiting_of ws))
-    by_head true rest = ap (λ l. waiting_of w ∷ l) rest
-    by_head false rest = rest
+waiting-forgets i (w ∷ ws) = grind (arith, waiting-forgets i ws)
 
 -- one more page waits
 pub waiters-more : (entries : List (Option Entry)) (c : Option ℕ) (ws : List Waiter) (w : Waiter) → AreWaiters entries c ws → IsWaiter entries c w → is_listed w.place ws ≡ false → AreWaiters entries c (ws ++ w ∷ [])

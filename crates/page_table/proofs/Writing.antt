@@ -19,8 +19,8 @@ use Rattle.page_table.specs.State.{MemoryState, part, bytes_of_map}
 use Rattle.page_table.specs.Changes.{IsPageOf, IsOwn, map_written, part_written, IsKeptBut, AreMapsKeptBut, KeepsSettings}
 use Rattle.page_table.specs.Table.{TableState, entry_at, state_of, maps_of, flat_of, ArePages, ArePagesOf, contents_of, groups_of, states_of, frames_of, used_by}
 use Rattle.page_table.specs.View.{view_of, IsMemory}
-use Rattle.page_table.proofs.Maps.{maps_of-changed, AreMaps-changed, length-maps_of, part_of-set_same, part_of-set_other, concat-written, length-concat}
 use Rattle.frame_arena.proofs.Parts.{take-with_part, drop-with_part_before}
+use Rattle.page_table.proofs.Maps.{maps_of-changed, AreMaps-changed, length-maps_of, part_of-set_same, part_of-set_other, concat-written, length-concat}
 use Rattle.page_table.proofs.Reading.{IsLocated, page_located, page_number, few_pages, content_in, bytes_in, map_at-part}
 
 -- a memory with one map of a tenant replaced

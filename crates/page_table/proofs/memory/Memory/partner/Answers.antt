@@ -1,4 +1,3 @@
-use Rattle.page_table.proofs.Putting.{page_of_entry}
 use Rattle.std.proofs.Common.{◌≡◌, ◌∙◌, ◌<◌, List, ℕ, true, false, find, Some, option_map, sym, ap, subst, arith}
 use Rattle.host_types.specs.declared.shape.Page.{Page}
 use Rattle.host_types.specs.Pages.{page_place, page_bytes}
@@ -9,6 +8,7 @@ use Rattle.page_table.specs.State.{bytes_of_map}
 use Rattle.page_table.specs.Changes.{IsPageOf, IsNotWaiting, contents_now, partner_place}
 use Rattle.page_table.specs.Table.{IsPageAt}
 use Rattle.page_table.specs.View.{view_of, is_listed}
+use Rattle.page_table.proofs.Putting.{page_of_entry}
 use Rattle.page_table.proofs.Entries.{inside}
 use Rattle.page_table.proofs.Scanning.{bytes_here, frame_told, page_there}
 use Rattle.page_table.proofs.Partners.{IsFound, found-waiter, partners-told, waiters-frames, not-waiting, may-told, match-bytes}

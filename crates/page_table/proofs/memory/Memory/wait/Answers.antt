@@ -6,13 +6,13 @@ use Rattle.unstable_tree.specs.WaitingList.{WaitingList}
 use Rattle.page_table.specs.Changes.{MayMerge, HadFingerprint}
 use Rattle.page_table.specs.Table.{sharing_of}
 use Rattle.page_table.specs.View.{view_of}
+use Rattle.host_types.specs.Sharing.{Sharing}
 use Rattle.page_table.proofs.Merging.{memory_kept, moves}
 use Rattle.page_table.proofs.Marking.{marked_entry}
 use Rattle.page_table.proofs.Partners.{room-left, pass-waits, is-behind, may-entry, sharing-waits}
 use Rattle.page_table.proofs.Ahead.{ahead-told, stay-marked}
 use Rattle.page_table.proofs.Fitting.{entries-long}
 use Rattle.page_table.proofs.Seen.{sees}
-use Rattle.host_types.specs.Sharing.{Sharing}
 use Rattle.page_table.proofs.memory.Memory.wait.Goals as goal
 
 pub page-frame-requires : goal.page-frame-requires

@@ -1,8 +1,8 @@
-use Rattle.page_table.specs.Table.{TableState}
 use Rattle.std.proofs.lemmas.Grind.{common_steps}
+use Rattle.std.proofs.Common.{rules, arith}
+use Rattle.page_table.specs.Table.{TableState}
 use Rattle.page_table.proofs.Marking.{IsMarking, marking-from, contents-marked, sharing-marked, used-marked, sound-marked}
 use Rattle.page_table.proofs.table.Table.mark.Goals as goal
-use Rattle.std.proofs.Common.{rules, arith}
 
 abbrev table : goal.After-set → TableState
 table c = record { arena = c.self.inside.arena; entries = c.self.inside.entries; groups = c.self.inside.groups.listed }

@@ -1,9 +1,9 @@
 use Rattle.std.proofs.Common.{◌≡◌, ◌∙◌, ◌∷◌, ◌++◌, [], ℕ, slice_set, Some, None, sym, ap, arith, rules}
+use Rattle.std.proofs.lemmas.List.{get_or-set_other}
 use Rattle.frame_arena.specs.Counted.{CountedPages}
 use Rattle.page_table.specs.Table.{TableState, GroupsState, IsAlone}
 use Rattle.page_table.proofs.Changing.{entry_fits, own_seen, own_alone, IsOwnEntry}
 use Rattle.page_table.proofs.Pairing.{IsPairing, IsGroupEntry, pairing-from, contents-pair, used-pair, sound-pair, sharing-pair}
-use Rattle.std.proofs.lemmas.List.{get_or-set_other}
 use Rattle.page_table.proofs.Trees.{tree-absent, tree-room, tree-pushed}
 use Rattle.page_table.proofs.table.Table.pair.Goals as goal
 use Rattle.page_table.proofs.table.Table.pair.Goals.{After-release}
