@@ -1,43 +1,15 @@
 -- A page table stays sound where a page is added.
-use Rattle.std.proofs.Common.{◌≡◌, ◌≢◌, ◌∙◌, inl, inr, ⊎_elim, ℕ, zero, suc, ◌+◌, ◌<◌, ◌≤◌, ◌==◌, Bool, false, if◌then◌else◌, List, [], ◌∷◌, length, slice_index_or, slice_set, Option, Some, None, IfSome, option_map, refl, sym, ap, subst, arith}
+use Rattle.std.proofs.Common.{◌≡◌, ◌≢◌, ◌∙◌, ⊎_elim, ℕ, zero, suc, ◌+◌, ◌<◌, ◌≤◌, ◌==◌, Bool, false, if◌then◌else◌, List, [], ◌∷◌, length, slice_index_or, slice_set, Some, None, option_map, refl, sym, ap, subst, arith}
 use Rattle.std.proofs.lemmas.List.{get_or-set_same, get_or-set_other, length-set, get_or_default, map-set}
-use Rattle.std.proofs.lemmas.List.Sums.{sum_by-set}
-use Rattle.std.proofs.lemmas.Bool.Decides.{eqb_tells}
-use Rattle.host_types.specs.Sharing.{new_page, own_frame}
-use Rattle.host_types.specs.declared.status.Status.{Status}
-use Rattle.host_types.specs.declared.status.Status.TheVariants.{New, Volatile, Waiting, Grouped, Zero}
+use Rattle.std.proofs.lemmas.Bool.Decides.{nat_tests}
+use Rattle.host_types.specs.Sharing.{new_page}
+use Rattle.host_types.specs.declared.status.Status.TheVariants.{New}
 use Rattle.host_types.specs.Pages.{zero_page}
 use Rattle.frame_arena.proofs.Pages.{length-zero_page}
 use Rattle.page_table.specs.declared.entry.Entry.{Entry}
-use Rattle.page_table.specs.Table.{TableState, CountsState, IsTable, IsEntry, IsAlone, IsGroup, IsSound, AreCountsOf, LiesRight, times, one_if_zero, entry_at, state_of, states_of, contents_of, groups_of, is_on, pages_on, own_pages, used_by}
-use Rattle.page_table.proofs.Entries.{one_when, on_one, elsewhere, not_equal, equal, pages_on-set, none_on, at_set, entry_content-kept, contents-set, places_on-set, groups-kept, pages-set, one_if_zero-above}
-
--- one where the page has a frame of its own
-abbrev pub own_one : Option Entry → ℕ
-own_one x = own_frame (option_map state_of x)
-
-pub own_pages-set : (xs : List (Option Entry)) (i : ℕ) (x : Option Entry) → i < length xs
-    → own_pages (slice_set xs i x) + own_one (entry_at xs i) ≡ own_pages xs + own_one x
-unfolding own_pages
-own_pages-set xs i x h = sum_by-set own_one xs i x None h
-
--- an entry fits another table too, where a page that is alone stays alone
-pub IsEntry-kept : (old new : TableState) (entry : Entry) → length new.arena ≡ length old.arena
-    → (pages_on entry.frame old.entries ≡ 1 → times entry.frame old.groups ≡ 0 → pages_on entry.frame new.entries ≡ 1)
-    → times entry.frame new.groups ≡ times entry.frame old.groups
-    → IsEntry old entry → IsEntry new entry
-IsEntry-kept old new entry long lone same is =
-    record { frame = omega (arith, is.frame); protected = is.protected; right = lies entry.status is.right }
-  where
-    kept : IsAlone old entry.frame → IsAlone new entry.frame
-    kept a = record { above = a.above; one = lone a.one a.no_group; no_group = same ∙ a.no_group }
-
-    lies : (status : Status) → LiesRight old entry.frame status → LiesRight new entry.frame status
-    lies New a = kept a
-    lies Volatile a = kept a
-    lies Waiting a = kept a
-    lies Grouped e = same ∙ e
-    lies Zero e = e
+use Rattle.page_table.specs.Table.{TableState, CountsState, IsTable, IsGroup, IsSound, AreCountsOf, times, one_if_zero, entry_at, state_of, states_of, contents_of, groups_of, is_on, pages_on, used_by}
+use Rattle.page_table.proofs.Changing.{table-changed, counted-changed, own_one, own_pages-set}
+use Rattle.page_table.proofs.Entries.{on_one, elsewhere, not_equal, pages_on-set, none_on, entry_content-kept, contents-set, places_on-set, groups-kept, pages-set, one_if_zero-above, counts-set}
 
 -- a new page
 abbrev pub added_entry : ℕ → Bool → Entry
@@ -80,6 +52,10 @@ unused-frame table counts f sound h =
     above zero e = absurd (omega arith)
     above (suc f) e = omega arith
 
+-- no page that is there lies on it
+pub unused_apart : (table : TableState) (f : ℕ) → IsUnused table f → (j : ℕ) (y : Entry) → entry_at table.entries j ≡ Some y → y.frame ≢ f
+unused_apart table f free j y e = elsewhere f y.frame (sym (ap (is_on f) e) ∙ none_on f table.entries j free.empty)
+
 module _ (table : TableState) (i f : ℕ) (mergeable : Bool) (is : IsTable table) (free : IsUnused table f) (there : i < length table.entries) (empty : entry_at table.entries i ≡ None) where
   pages_on-added : (g : ℕ) → pages_on g (added table i f mergeable).entries ≡ pages_on g table.entries + (if f == g then 1 else 0)
   pages_on-added g =
@@ -112,70 +88,25 @@ module _ (table : TableState) (i f : ℕ) (mergeable : Bool) (is : IsTable table
 
   pub IsTable-added : IsTable (added table i f mergeable)
   IsTable-added =
-      let new : TableState = added table i f mergeable in
-      let long : length new.arena ≡ length table.arena = length-set table.arena f zero_page in
-      record {
-        some = omega (arith, long, is.some);
-        small = omega (arith, long, is.small);
-        pages = pages-set table.arena f zero_page is.pages length-zero_page;
-        zero = get_or-set_other table.arena f 0 zero_page [] (λ e. omega (arith, free.above)) ∙ is.zero;
-        entries = λ j. at_set (λ x. IfSome x (IsEntry new)) table.entries i j (Some (added_entry f mergeable)) tt
-            (record {
-              frame = omega (arith, long, free.there);
-              protected = refl;
-              right = record {
-                above = free.above;
-                one = pages_on-added f ∙ omega (arith, free.empty, ap one_when (equal f));
-                no_group = free.no_group;
-              };
-            })
-            (λ ne. other j (entry_at table.entries j) refl (is.entries j));
-        groups = λ g. ⊎_elim (λ e. inl e) (λ group. inr (record { above = IsGroup.above group; once = IsGroup.once group; some = let more = pages_on-added g in omega (arith, more, IsGroup.some group) })) (is.groups g);
-        few = rw (length-set table.entries i (Some (added_entry f mergeable))) is.few;
-      }
-    where
-      apart : (j : ℕ) (entry : Entry) → entry_at table.entries j ≡ Some entry → f ≢ entry.frame
-      apart j entry e same =
-          elsewhere f entry.frame (sym (ap (is_on f) e) ∙ none_on f table.entries j free.empty) (sym same)
-
-      other : (j : ℕ) (x : Option Entry) → entry_at table.entries j ≡ x → IfSome x (IsEntry table) → IfSome x (IsEntry (added table i f mergeable))
-      other j None e h = tt
-      other j (Some entry) e h =
-          IsEntry-kept table (added table i f mergeable) entry (length-set table.arena f zero_page)
-          (λ one lone. pages_on-added entry.frame
-          ∙ omega (arith, one, ap one_when (not_equal entry.frame f (apart j entry e))))
-          refl h
+      let long = length-set table.arena f zero_page in
+      table-changed table (added table i f mergeable) i (Some (added_entry f mergeable)) is refl refl long (pages-set table.arena f zero_page is.pages length-zero_page)
+      (get_or-set_other table.arena f 0 zero_page [] (λ e. omega (arith, free.above)) ∙ is.zero)
+      (record {
+        frame = omega (arith, long, free.there);
+        protected = refl;
+        right = record { above = free.above; one = grind (arith, nat_tests, pages_on-added f, free.empty); no_group = free.no_group };
+      })
+      (λ j y ne e a. grind (arith, nat_tests, pages_on-added y.frame, unused_apart table f free j y e, a.one))
+      (λ g group. let more = pages_on-added g in omega (arith, more, group.some))
 
   pub sound-added : (old new : CountsState) → AreCountsOf table old → new.counts ≡ slice_set old.counts f 1 → length new.unused + 1 ≡ length old.unused
       → IsSound (added table i f mergeable) new
   sound-added old new counted counts fewer =
       record {
         fits = IsTable-added;
-        counted = record {
-          sized = ap length counts ∙ length-set old.counts f 1 ∙ counted.sized ∙ sym (length-set table.arena f zero_page);
-          counted = count;
-          used = let more = used-added in omega (arith, fewer, counted.used, more, length-set table.arena f zero_page);
-        };
+        counted = counted-changed table (added table i f mergeable) old new counted (length-set table.arena f zero_page) (ap length counts ∙ length-set old.counts f 1)
+            (let more = used-added in omega (arith, fewer, more))
+            (λ g h.
+            let read = ap (λ (l : List ℕ). slice_index_or l g 0) counts ∙ counts-set old.counts f 1 g (omega (arith, counted.sized, free.there)) in
+            grind (arith, nat_tests, read, pages_on-added g, counted.counted f free.there, one_if_zero-above f free.above, free.empty));
       }
-    where
-      here : (g : ℕ) → g ≡ f → slice_index_or new.counts g 0 ≡ one_if_zero g + pages_on g (added table i f mergeable).entries
-      here g same =
-          let inside : f < length old.counts = omega (arith, counted.sized, free.there) in
-          let read : slice_index_or new.counts f 0 ≡ 1 = ap (λ (l : List ℕ). slice_index_or l f 0) counts ∙ get_or-set_same old.counts f 1 0 inside in
-          let none = one_if_zero-above f free.above in
-          let more : pages_on f (added table i f mergeable).entries ≡ 1 = pages_on-added f ∙ omega (arith, free.empty, ap one_when (equal f)) in
-          let known : slice_index_or new.counts f 0 ≡ one_if_zero f + pages_on f (added table i f mergeable).entries = omega (arith, read, none, more) in
-          subst (λ (n : ℕ). slice_index_or new.counts n 0 ≡ one_if_zero n + pages_on n (added table i f mergeable).entries) (sym same) known
-
-      elsewhere : (g : ℕ) → g < length (slice_set table.arena f zero_page) → ((g == f) ≡ false) × (g ≢ f)
-          → slice_index_or new.counts g 0 ≡ one_if_zero g + pages_on g (added table i f mergeable).entries
-      elsewhere g h other =
-          let long = length-set table.arena f zero_page in
-          let none : (if f == g then 1 else 0) ≡ 0 = ap one_when (not_equal g f (λ e. other.1 (sym e))) in
-          let read : slice_index_or new.counts g 0 ≡ slice_index_or old.counts g 0 = ap (λ (l : List ℕ). slice_index_or l g 0) counts ∙ get_or-set_other old.counts f g 1 0 other.1 in
-          let known = counted.counted g (omega (arith, h, long)) in
-          let more = pages_on-added g in
-          omega (arith, read, known, more, none)
-
-      count : (g : ℕ) → g < length (slice_set table.arena f zero_page) → slice_index_or new.counts g 0 ≡ one_if_zero g + pages_on g (added table i f mergeable).entries
-      count g h = ⊎_elim (λ same. here g same.1) (λ other. elsewhere g h other) (eqb_tells g f)

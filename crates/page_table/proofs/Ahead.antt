@@ -9,9 +9,9 @@ use Rattle.page_table.specs.declared.entry.Entry.{Entry}
 use Rattle.page_table.specs.declared.pass.Pass.{Pass}
 use Rattle.page_table.specs.Table.{TableState, entry_at, state_of, states_of, sharing_of, marked}
 use Rattle.page_table.specs.View.{IsAhead}
-use Rattle.page_table.proofs.Facts.{told_at}
 use Rattle.page_table.proofs.Next.{next-is}
 use Rattle.page_table.proofs.Partners.{entry-may}
+use Rattle.page_table.proofs.Entries.{told_at}
 
 -- what may be merged stays so
 abbrev pub StayMergeable : List (Option PageState) → List (Option PageState) → Type 0
@@ -102,13 +102,8 @@ ahead-next pages i more = by_next (first_mergeable (i + 1) (drop (i + 1) pages))
 pub none-mergeable : (n : ℕ) (ys : List (Option PageState)) (k : ℕ) → first_mergeable n ys ≡ None → is_mergeable (slice_index_or ys k None) ≡ false
 unfolding first_mergeable
 none-mergeable n [] k e = refl
-none-mergeable n (y ∷ ys) k e = by_head (is_mergeable y) refl k (λ j. none-mergeable (n + 1) ys j) e
-  where
-    by_head : (b : Bool) → is_mergeable y ≡ b → (k : ℕ) → ((j : ℕ) → first_mergeable (n + 1) ys ≡ None → is_mergeable (slice_index_or ys j None) ≡ false)
-        → (if b then Some n else first_mergeable (n + 1) ys) ≡ None → is_mergeable (slice_index_or (y ∷ ys) k None) ≡ false
-    by_head true h k rest e = absurd (cc)
-    by_head false h zero rest e = h
-    by_head false h (suc k) rest e = rest k e
+none-mergeable n (y ∷ ys) zero e = grind arith
+none-mergeable n (y ∷ ys) (suc k) e = grind (arith, none-mergeable (n + 1) ys k)
 
 -- a page that may be merged is found
 pub ahead-found : (pages : List (Option PageState)) (c : Option ℕ) → IsAhead pages c → IfSome c (λ n. IsSome (first_mergeable (n + 1) (drop (n + 1) pages)))

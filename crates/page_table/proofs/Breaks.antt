@@ -6,16 +6,14 @@ use Rattle.std.proofs.lemmas.List.Sums.{sum_by_more}
 use Rattle.std.proofs.lemmas.Bool.Decides.{nat_tests}
 use Rattle.std.proofs.lemmas.Map.Views.{any-filter_same}
 use Rattle.page_table.specs.declared.pass.Pass.{Pass}
-use Rattle.host_types.specs.declared.status.Status.{Status}
-use Rattle.host_types.specs.declared.status.Status.TheVariants.{New, Volatile, Waiting, Grouped, Zero}
 use Rattle.host_types.specs.Bytes.{part_of}
 use Rattle.host_types.specs.Sharing.{Sharing, PageState, state_at, is_shared, is_shared_page, is_in_company, is_among, without, broken, broken_page, break_cost, broken_from, cost_from, cost_of}
 use Rattle.page_table.specs.declared.entry.Entry.{Entry}
-use Rattle.page_table.specs.Table.{TableState, CountsState, IsTable, IsSound, LiesRight, times, one_if_zero, entry_at, state_of, groups_of, sharing_of, is_on, places_on, pages_on}
+use Rattle.page_table.specs.Table.{TableState, CountsState, IsTable, IsSound, times, one_if_zero, entry_at, state_of, groups_of, sharing_of, is_on, places_on, pages_on}
+use Rattle.page_table.proofs.Changing.{is_alone, entry_fits}
 use Rattle.page_table.proofs.Entries.{one_when, on_one, not_equal, equal, pages_on-set, some_on, places_on-set, groups-kept}
-use Rattle.page_table.proofs.Groups.{without-places, company-places}
-use Rattle.page_table.proofs.Putting.{is_alone, entry_fits}
-use Rattle.page_table.proofs.Costs.{state-at, group-frame}
+use Rattle.page_table.proofs.Groups.{company-places, without-here}
+use Rattle.page_table.proofs.Costs.{state-at, shared-cost}
 
 -- the break of one page more
 pub broken_from-last : (s : Sharing) (i n : ℕ) → broken_from s i (suc n) ≡ broken (broken_from s i n) (i + n)
@@ -29,13 +27,10 @@ pub cost_from-last : (s : Sharing) (i n : ℕ) → cost_from s i (suc n) ≡ cos
 unfolding broken_from cost_from
 cost_from-last s i zero =
     let here : i ≡ i + 0 = omega arith in
-    let same = ap (break_cost s) here in
-    omega (arith, same)
+    omega (arith, ap (break_cost s) here)
 cost_from-last s i (suc n) =
     let next : i + 1 + n ≡ i + suc n = omega arith in
-    let rest = cost_from-last (broken s i) (i + 1) n in
-    let last = ap (break_cost (broken_from (broken s i) (i + 1) n)) next in
-    omega (arith, rest, last)
+    omega (arith, cost_from-last (broken s i) (i + 1) n, ap (break_cost (broken_from (broken s i) (i + 1) n)) next)
 
 -- the entries without those at n places from i on
 pub gone : List (Option Entry) → ℕ → ℕ → List (Option Entry)
@@ -72,21 +67,12 @@ pages_on-gone f xs i (suc n) h =
 
 filter-twice : {X : Type 0} (p : X → Bool) (xs : List X) → filter p (filter p xs) ≡ filter p xs
 filter-twice p [] = refl
-filter-twice p (x ∷ xs) = by_head (filter-twice p xs) (p x) refl
-  where
-    by_head : filter p (filter p xs) ≡ filter p xs → (b : Bool) → p x ≡ b → filter p (if b then x ∷ filter p xs else filter p xs) ≡ (if b then x ∷ filter p xs else filter p xs)
-    by_head rest true e = rw e (ap (λ l. x ∷ l) rest)
-    by_head rest false e = rest
+filter-twice p (x ∷ xs) = grind (arith, filter-twice p xs)
 
 -- what doesn't pass a test needn't be there where no change lets it pass
 filter-map : {X : Type 0} (p : X → Bool) (f : X → X) (xs : List X) → ((x : X) → p x ≡ false → p (f x) ≡ false) → filter p (map f (filter p xs)) ≡ filter p (map f xs)
 filter-map p f [] h = refl
-filter-map p f (x ∷ xs) h = by_head (filter-map p f xs h) (p x) refl
-  where
-    by_head : filter p (map f (filter p xs)) ≡ filter p (map f xs) → (b : Bool) → p x ≡ b
-        → filter p (map f (if b then x ∷ filter p xs else filter p xs)) ≡ (if p (f x) then f x ∷ filter p (map f xs) else filter p (map f xs))
-    by_head rest true e = ap (λ l. if p (f x) then f x ∷ l else l) rest
-    by_head rest false e = rw (h x e) rest
+filter-map p f (x ∷ xs) h = grind (arith, h x, filter-map p f xs h)
 
 -- a group with pages
 abbrev filled : List ℕ → Bool
@@ -112,11 +98,7 @@ company-filled i groups = any-filter_same (has_company i) filled true (λ group 
 -- the places without one, group by group
 without-groups : (i : ℕ) (xs : List (Option Entry)) (groups : List ℕ) → map (without i) (map (λ g. places_on 0 g xs) groups) ≡ map (λ g. places_on 0 g (slice_set xs i None)) groups
 without-groups i xs [] = refl
-without-groups i xs (g ∷ gs) =
-    let here : i ≡ 0 + i = omega arith in
-    let first : without i (places_on 0 g xs) ≡ places_on 0 g (slice_set xs i None) = ap (λ (j : ℕ). without j (places_on 0 g xs)) here ∙ without-places 0 g xs i None refl in
-    let rest = without-groups i xs gs in
-    cc
+without-groups i xs (g ∷ gs) = let first = without-here g xs i None refl in let rest = without-groups i xs gs in cc
 
 -- the state of sharing after n breaks from the place i on: the groups are those of the entries that are left, and behind i + n nothing changed
 record AreBroken (table : TableState) (s : Sharing) (i n : ℕ) : Type 0 where
@@ -181,22 +163,9 @@ module _ (table : TableState) (is : IsTable table) (i n : ℕ) where
       → break_cost s (i + n) ≡ one_when (is_shared entry.status && nat_lt 1 (one_if_zero entry.frame + pages_on entry.frame left))
   unfolding break_cost
   cost-one s entry are e =
-      let fits = entry_fits table (i + n) entry is e in
       ap (λ (x : Option PageState). unwrap_or (option_map (λ (state : PageState). cost_of (is_in_company s (i + n)) state.status) x) 0) (are.states (i + n) (omega arith) ∙ ap (option_map state_of) e)
-      ∙ by_status entry.status fits.right
-    where
-      by_status : (status : Status) → LiesRight table entry.frame status → cost_of (is_in_company s (i + n)) status ≡ one_when (is_shared status && nat_lt 1 (one_if_zero entry.frame + pages_on entry.frame left))
-      by_status New right = refl
-      by_status Volatile right = refl
-      by_status Waiting right = refl
-      by_status Grouped right = ap one_when (company-after s entry are e right
-          ∙ ap (λ (m : ℕ). nat_lt 1 m) (omega (arith, group-frame table entry.frame is right)))
-      by_status Zero right =
-          let lies : is_on entry.frame (entry_at left (i + n)) ≡ true = ap (is_on entry.frame) (here ∙ e) ∙ equal entry.frame in
-          let some = some_on entry.frame left (i + n) lies in
-          let one : one_if_zero entry.frame ≡ 1 = ap one_if_zero right in
-          let more : nat_lt 1 (one_if_zero entry.frame + pages_on entry.frame left) ≡ true = grind (arith, nat_tests) in
-          sym (ap one_when more)
+      ∙ shared-cost table entry.frame left (is_in_company s (i + n)) is (some_on entry.frame left (i + n) (ap (is_on entry.frame) (here ∙ e) ∙ equal entry.frame))
+      (company-after s entry are e) entry.status (entry_fits table (i + n) entry is e).right
 
 are_broken : (table : TableState) (pass : Pass) (is : IsTable table) (i n : ℕ) → AreBroken table (broken_from (sharing_of table pass) i n) i n
 unfolding broken_from gone groups_of
@@ -245,9 +214,7 @@ pub count-part : (table : TableState) (counts : CountsState) (i n : ℕ) (entry 
     → entry_at table.entries (i + n) ≡ Some entry → pages_on entry.frame (part_of table.entries i n) ≤ slice_index_or counts.counts entry.frame 0
 count-part table counts i n entry sound h e =
     let fits = entry_fits table (i + n) entry sound.fits e in
-    let counted = sound.counted.counted entry.frame fits.frame in
-    let split = pages_on-gone entry.frame table.entries i n (omega arith) in
-    omega (arith, counted, split)
+    omega (arith, sound.counted.counted entry.frame fits.frame, pages_on-gone entry.frame table.entries i n (omega arith))
 
 -- the page behind n others from the place i on, in a list that was split there
 pub entry-behind : (xs slice run from : List (Option Entry)) (i n : ℕ) → slice ≡ xs → run ≡ drop i slice → from ≡ drop n run → entry_at from 0 ≡ entry_at xs (i + n)

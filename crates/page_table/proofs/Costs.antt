@@ -1,64 +1,58 @@
 -- What the break of a page costs, told by its group and by its frame.
-use Rattle.std.proofs.Common.{◌≡◌, ◌∙◌, ◌⊎◌, inl, inr, ⊎_elim, ℕ, zero, suc, ◌+◌, ◌<◌, ◌≤◌, nat_lt, Bool, true, false, List, [], ◌∷◌, slice_index_or, Option, Some, None, option_map, unwrap_or, refl, sym, ap, arith}
+use Rattle.std.proofs.Common.{◌≡◌, ◌∙◌, ◌⊎◌, inl, inr, ⊎_elim, ℕ, ◌+◌, ◌≤◌, nat_lt, Bool, true, false, slice_index_or, Option, Some, None, option_map, unwrap_or, refl, sym, ap, arith, ◌&&◌, List}
 use Rattle.std.proofs.lemmas.Bool.Decides.{nat_tests, leb_tells}
 use Rattle.page_table.specs.declared.pass.Pass.{Pass}
 use Rattle.host_types.specs.declared.status.Status.{Status}
 use Rattle.host_types.specs.declared.status.Status.TheVariants.{New, Volatile, Waiting, Grouped, Zero}
 use Rattle.host_types.specs.Sharing.{PageState, state_at, is_in_company, cost_of, break_cost, is_shared}
 use Rattle.page_table.specs.declared.entry.Entry.{Entry}
-use Rattle.page_table.specs.Table.{TableState, CountsState, IsTable, IsSound, IsEntry, IsGroup, LiesRight, times, one_if_zero, entry_at, is_on, state_of, states_of, groups_of, sharing_of, pages_on, break_frames}
-use Rattle.page_table.proofs.Entries.{one_when, equal, some_on, one_if_zero-above}
+use Rattle.page_table.specs.Table.{TableState, CountsState, IsTable, IsSound, IsGroup, LiesRight, times, one_if_zero, entry_at, is_on, state_of, groups_of, sharing_of, pages_on, break_frames}
+use Rattle.page_table.proofs.Changing.{entry_fits}
+use Rattle.page_table.proofs.Entries.{one_when, equal, some_on, one_if_zero-above, told_at}
 use Rattle.page_table.proofs.Groups.{company-places}
-use Rattle.page_table.proofs.Putting.{entry_fits}
 
 -- the state of a page is that of its entry
 pub state-at : (table : TableState) (pass : Pass) (i : ℕ) → state_at (sharing_of table pass) i ≡ option_map state_of (entry_at table.entries i)
-state-at table pass i = by_list table.entries i
-  where
-    by_list : (xs : List (Option Entry)) (i : ℕ) → slice_index_or (states_of xs) i None ≡ option_map state_of (entry_at xs i)
-    by_list [] i = refl
-    by_list (x ∷ xs) zero = refl
-    by_list (x ∷ xs) (suc i) = by_list xs i
+state-at table pass i = told_at state_of table.entries i
 
 -- what the break of the page of an entry takes
 cost-entry : (table : TableState) (i : ℕ) (entry : Entry) → entry_at table.entries i ≡ Some entry
     → break_frames table i ≡ cost_of (nat_lt 1 (pages_on entry.frame table.entries)) entry.status
 unfolding break_frames
-cost-entry table i entry here = ap taken here
-  where
-    taken : Option Entry → ℕ
-    taken x = unwrap_or (option_map (λ (entry : Entry). cost_of (nat_lt 1 (pages_on entry.frame table.entries)) entry.status) x) 0
+cost-entry table i entry here = rw here refl
 
 cost-none : (table : TableState) (i : ℕ) → entry_at table.entries i ≡ None → break_frames table i ≡ 0
 unfolding break_frames
-cost-none table i none = ap taken none
-  where
-    taken : Option Entry → ℕ
-    taken x = unwrap_or (option_map (λ (entry : Entry). cost_of (nat_lt 1 (pages_on entry.frame table.entries)) entry.status) x) 0
+cost-none table i none = rw none refl
 
-more_than_one : (n : ℕ) → 1 < n → nat_lt 1 n ≡ true
-more_than_one n h = grind (arith, nat_tests)
+-- where a group has the frame, the frame isn't the zero frame
+pub group-frame : (table : TableState) (f : ℕ) → IsTable table → times f table.groups ≡ 1 → one_if_zero f ≡ 0
+group-frame table f is one =
+    one_if_zero-above f (⊎_elim (λ none. absurd (omega (arith, one, none))) (λ group. IsGroup.above group) (is.groups f))
 
-one_at_most : (n : ℕ) → n ≤ 1 → nat_lt 1 n ≡ false
-one_at_most n h = grind (arith, nat_tests)
+-- the break of a page on the frame f takes a frame where it shares its own, and others hold that too: among all pages, or those that are left
+pub shared-cost : (table : TableState) (f : ℕ) (xs : List (Option Entry)) (in_company : Bool) → IsTable table → 1 ≤ pages_on f xs → (times f table.groups ≡ 1 → in_company ≡ nat_lt 1 (pages_on f xs))
+    → (status : Status) → LiesRight table f status → cost_of in_company status ≡ one_when (is_shared status && nat_lt 1 (one_if_zero f + pages_on f xs))
+shared-cost table f xs in_company is some told New right = refl
+shared-cost table f xs in_company is some told Volatile right = refl
+shared-cost table f xs in_company is some told Waiting right = refl
+shared-cost table f xs in_company is some told Grouped right = ap one_when (told right ∙ ap (λ (m : ℕ). nat_lt 1 m) (omega (arith, group-frame table f is right)))
+shared-cost table f xs in_company is some told Zero right = let one : one_if_zero f ≡ 1 = ap one_if_zero right in grind (arith, nat_tests, one, some)
 
--- a page of a group is in company where more than one page lies on its frame
-company : (table : TableState) (pass : Pass) (i : ℕ) (entry : Entry) → entry_at table.entries i ≡ Some entry → IsEntry table entry
-    → cost_of (is_in_company (sharing_of table pass) i) entry.status ≡ cost_of (nat_lt 1 (pages_on entry.frame table.entries)) entry.status
-unfolding groups_of
-company table pass i entry here is = by_status entry.status is.right
-  where
-    by_status : (status : Status) → LiesRight table entry.frame status
-        → cost_of (is_in_company (sharing_of table pass) i) status ≡ cost_of (nat_lt 1 (pages_on entry.frame table.entries)) status
-    by_status New a = refl
-    by_status Volatile a = refl
-    by_status Waiting a = refl
-    by_status Grouped a = ap (λ (b : Bool). cost_of b Grouped) (company-places table.entries table.groups i entry here a)
-    by_status Zero a = refl
+-- the page of an entry lies on its frame
+lies-there : (table : TableState) (i : ℕ) (entry : Entry) → entry_at table.entries i ≡ Some entry → 1 ≤ pages_on entry.frame table.entries
+lies-there table i entry here = some_on entry.frame table.entries i (ap (is_on entry.frame) here ∙ equal entry.frame)
+
+-- the break of a page takes a frame where it shares its own, and others hold that too
+cost-told : (table : TableState) (i : ℕ) (entry : Entry) → IsTable table → entry_at table.entries i ≡ Some entry
+    → break_frames table i ≡ one_when (is_shared entry.status && nat_lt 1 (one_if_zero entry.frame + pages_on entry.frame table.entries))
+cost-told table i entry is here =
+    cost-entry table i entry here
+    ∙ shared-cost table entry.frame table.entries (nat_lt 1 (pages_on entry.frame table.entries)) is (lies-there table i entry here) (λ once. refl) entry.status (entry_fits table i entry is here).right
 
 -- what the break of a page takes
 pub cost-is : (table : TableState) (pass : Pass) (i : ℕ) → IsTable table → break_cost (sharing_of table pass) i ≡ break_frames table i
-unfolding break_cost
+unfolding break_cost groups_of
 cost-is table pass i is = by_entry (entry_at table.entries i) refl
   where
     taken : Option PageState → ℕ
@@ -68,70 +62,27 @@ cost-is table pass i is = by_entry (entry_at table.entries i) refl
     by_entry None e = ap taken (state-at table pass i ∙ ap (option_map state_of) e) ∙ sym (cost-none table i e)
     by_entry (Some entry) e =
         ap taken (state-at table pass i ∙ ap (option_map state_of) e)
-        ∙ company table pass i entry e (entry_fits table i entry is e)
-        ∙ sym (cost-entry table i entry e)
+        ∙ shared-cost table entry.frame table.entries (is_in_company (sharing_of table pass) i) is (lies-there table i entry e)
+        (company-places table.entries table.groups i entry e) entry.status (entry_fits table i entry is e).right
+        ∙ sym (cost-told table i entry is e)
 
 -- a page with a frame of its own costs nothing
 pub cost-own : (table : TableState) (i : ℕ) (entry : Entry) → IsTable table → entry_at table.entries i ≡ Some entry → entry.protected ≡ false → break_frames table i ≡ 0
-cost-own table i entry is here own =
-    let fits = entry_fits table i entry is here in
-    cost-entry table i entry here ∙ by_status entry.status (sym fits.protected ∙ own)
-  where
-    by_status : (status : Status) → is_shared status ≡ false → cost_of (nat_lt 1 (pages_on entry.frame table.entries)) status ≡ 0
-    by_status New e = refl
-    by_status Volatile e = refl
-    by_status Waiting e = refl
-    by_status Grouped e = absurd (cc)
-    by_status Zero e = absurd (cc)
+cost-own table i entry is here own = grind (arith, cost-told table i entry is here, (entry_fits table i entry is here).protected)
 
--- where a group has the frame, the frame isn't the zero frame
-pub group-frame : (table : TableState) (f : ℕ) → IsTable table → times f table.groups ≡ 1 → one_if_zero f ≡ 0
-group-frame table f is one =
-    one_if_zero-above f (⊎_elim (λ none. absurd (omega (arith, one, none))) (λ group. IsGroup.above group) (is.groups f))
-
--- a page on a frame that more hold takes a frame
-pub cost-one : (table : TableState) (i : ℕ) (entry : Entry) → IsTable table → entry_at table.entries i ≡ Some entry → is_shared entry.status ≡ true
-    → 1 < one_if_zero entry.frame + pages_on entry.frame table.entries → break_frames table i ≡ 1
-cost-one table i entry is here shared more =
-    let fits = entry_fits table i entry is here in
-    cost-entry table i entry here ∙ by_status entry.status shared fits.right
-  where
-    by_status : (status : Status) → is_shared status ≡ true → LiesRight table entry.frame status → cost_of (nat_lt 1 (pages_on entry.frame table.entries)) status ≡ 1
-    by_status New e a = absurd (cc)
-    by_status Volatile e a = absurd (cc)
-    by_status Waiting e a = absurd (cc)
-    by_status Grouped e a = let none = group-frame table entry.frame is a in ap one_when (more_than_one (pages_on entry.frame table.entries) (omega (arith, more, none)))
-    by_status Zero e a = refl
-
--- the last page of a group takes none
-pub cost-last : (table : TableState) (i : ℕ) (entry : Entry) → IsTable table → entry_at table.entries i ≡ Some entry → is_shared entry.status ≡ true
-    → one_if_zero entry.frame + pages_on entry.frame table.entries ≤ 1 → break_frames table i ≡ 0
-cost-last table i entry is here shared last =
-    let fits = entry_fits table i entry is here in
-    cost-entry table i entry here ∙ by_status entry.status shared fits.right
-  where
-    on_zero : (f : ℕ) → f ≡ 0 → one_if_zero f ≡ 1
-    on_zero f e = ap one_if_zero e
-
-    by_status : (status : Status) → is_shared status ≡ true → LiesRight table entry.frame status → cost_of (nat_lt 1 (pages_on entry.frame table.entries)) status ≡ 0
-    by_status New e a = absurd (cc)
-    by_status Volatile e a = absurd (cc)
-    by_status Waiting e a = absurd (cc)
-    by_status Grouped e a = ap one_when (one_at_most (pages_on entry.frame table.entries) (omega (arith, last)))
-    by_status Zero e a =
-        let lies = some_on entry.frame table.entries i (ap (is_on entry.frame) here ∙ equal entry.frame) in
-        absurd (omega (arith, last, lies, on_zero entry.frame a))
+-- told by the count of the page's frame
+pub cost-by_count : (table : TableState) (counts : CountsState) (i : ℕ) (entry : Entry) → IsSound table counts → entry_at table.entries i ≡ Some entry → entry.protected ≡ true
+    → break_frames table i ≡ one_when (nat_lt 1 (slice_index_or counts.counts entry.frame 0))
+cost-by_count table counts i entry sound here protected =
+    let fits = entry_fits table i entry sound.fits here in
+    grind (arith, nat_tests, cost-told table i entry sound.fits here, fits.protected, sound.counted.counted entry.frame fits.frame)
 
 -- the same, told by the count of the page's frame
 pub cost-counted : (table : TableState) (counts : CountsState) (i : ℕ) (entry : Entry) → IsSound table counts → entry_at table.entries i ≡ Some entry → entry.protected ≡ true
     → ((nat_lt 1 (slice_index_or counts.counts entry.frame 0) ≡ true) × (break_frames table i ≡ 1)) ⊎ ((nat_lt 1 (slice_index_or counts.counts entry.frame 0) ≡ false) × (break_frames table i ≡ 0))
 cost-counted table counts i entry sound here protected =
-    let fits = entry_fits table i entry sound.fits here in
-    let counted = sound.counted.counted entry.frame fits.frame in
-    ⊎_elim
-    (λ more. inl (more.0, cost-one table i entry sound.fits here (sym fits.protected ∙ protected) (omega (arith, counted, more.1))))
-    (λ last. inr (last.0, cost-last table i entry sound.fits here (sym fits.protected ∙ protected) (omega (arith, counted, last.1))))
-    (leb_tells 2 (slice_index_or counts.counts entry.frame 0))
+    let told = cost-by_count table counts i entry sound here protected in
+    ⊎_elim (λ more. inl (more.0, grind (arith, nat_tests, told, more.0))) (λ last. inr (last.0, grind (arith, nat_tests, told, last.0))) (leb_tells 2 (slice_index_or counts.counts entry.frame 0))
 
 -- the count of a page's frame is not 0
 pub count-some : (table : TableState) (counts : CountsState) (i : ℕ) (entry : Entry) → IsSound table counts → entry_at table.entries i ≡ Some entry

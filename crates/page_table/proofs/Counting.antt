@@ -1,46 +1,24 @@
 -- A list that has each frame of count 0 once is as long as there are such frames.
-use Rattle.std.proofs.Common.{◌≡◌, ◌≢◌, ◌∙◌, ⊎_elim, ℕ, zero, suc, ◌+◌, ◌-◌, ◌<◌, ◌≤◌, ◌==◌, Bool, true, false, ◌||◌, not, if◌then◌else◌, List, [], ◌∷◌, length, sum_by, filter, slice_index_or, Option, Some, None, refl, sym, ap, arith}
+use Rattle.std.proofs.Common.{◌≡◌, ◌∙◌, ℕ, zero, suc, ◌+◌, ◌-◌, ◌<◌, ◌≤◌, Bool, not, List, [], ◌∷◌, length, sum_by, filter, slice_index_or, Option, Some, None, refl, sym, arith}
 use Rattle.std.specs.List.{list_any, range_with_len}
 use Rattle.std.proofs.lemmas.List.Sums.{sum_by-cons, length-filter}
-use Rattle.std.proofs.lemmas.Bool.Decides.{nat_tests, eqb_tells}
+use Rattle.std.proofs.lemmas.Bool.Decides.{nat_tests}
 use Rattle.page_table.specs.declared.entry.Entry.{Entry}
 use Rattle.page_table.specs.Table.{AreCounts, times, one_if_zero, frames_of, pages_on}
 use Rattle.page_table.specs.Reads.{is_frame}
-use Rattle.page_table.proofs.Entries.{one_when, on_one, not_equal, times-head, times-tail, one_if_zero-above}
+use Rattle.page_table.proofs.Entries.{one_when, times-head, times-tail, one_if_zero-above, times-cons, pages_on-cons}
 use Rattle.page_table.proofs.Unused.{unused_default}
-
--- a number that stands first counts once more
-times-cons : (g f : ℕ) (xs : List ℕ) → times g (f ∷ xs) ≡ one_when (f == g) + times g xs
-times-cons g f xs = sum_by-cons (λ (x : ℕ). if x == g then 1 else 0) f xs
-
-pub same_either_way : (f g : ℕ) → (f == g) ≡ (g == f)
-same_either_way f g = grind (arith, nat_tests)
 
 -- a number isn't among those above it
 range-below : (f a n : ℕ) → f < a → times f (range_with_len a n) ≡ 0
 range-below f a zero h = refl
-range-below f a (suc n) h =
-    let split = times-cons f a (range_with_len (a + 1) n) in
-    let other = ap one_when (not_equal f a (λ e. omega (arith, e, h))) in
-    let rest = range-below f (a + 1) n (omega arith) in
-    omega (arith, split, other, rest)
+range-below f a (suc n) h = grind (arith, nat_tests, times-cons f a (range_with_len (a + 1) n), range-below f (a + 1) n)
 
 -- a number of a range is there once
 range-once : (f a n : ℕ) → a ≤ f → f < a + n → times f (range_with_len a n) ≡ 1
 range-once f a zero low high = absurd (omega arith)
 range-once f a (suc n) low high =
-    let split = times-cons f a (range_with_len (a + 1) n) in
-    ⊎_elim
-    (λ here. let first = ap one_when here.0 in
-    let rest = range-below f (a + 1) n (omega (arith, here.1)) in
-    omega (arith, split, first, rest))
-    (λ there. let first = ap one_when there.0 in
-    let rest = range-once f (a + 1) n (next a f low there.1) (omega arith) in
-    omega (arith, split, first, rest))
-    (eqb_tells a f)
-  where
-    next : (a f : ℕ) → a ≤ f → a ≢ f → a + 1 ≤ f
-    next a f low other = grind arith
+    grind (arith, nat_tests, times-cons f a (range_with_len (a + 1) n), range-below f (a + 1) n, range-once f (a + 1) n)
 
 -- how often the numbers of one list occur in another
 abbrev occurrences : List ℕ → List ℕ → ℕ
@@ -48,18 +26,13 @@ occurrences fs xs = sum_by (λ f. times f xs) fs
 
 occurrences-none : (fs : List ℕ) → occurrences fs [] ≡ 0
 occurrences-none [] = refl
-occurrences-none (f ∷ fs) = let split = sum_by-cons (λ f. times f []) f fs in let rest = occurrences-none fs in omega (arith, split, rest)
+occurrences-none (f ∷ fs) = grind (arith, sum_by-cons (λ f. times f []) f fs, occurrences-none fs)
 
 occurrences-cons : (fs : List ℕ) (x : ℕ) (xs : List ℕ) → occurrences fs (x ∷ xs) ≡ times x fs + occurrences fs xs
 occurrences-cons [] x xs = refl
 occurrences-cons (f ∷ fs) x xs =
     let whole = sum_by-cons (λ f. times f (x ∷ xs)) f fs in
-    let part = sum_by-cons (λ f. times f xs) f fs in
-    let first = times-cons f x xs in
-    let one = times-cons x f fs in
-    let same = ap one_when (same_either_way f x) in
-    let rest = occurrences-cons fs x xs in
-    omega (arith, whole, part, first, one, same, rest)
+    grind (arith, nat_tests, whole, sum_by-cons (λ f. times f xs) f fs, times-cons f x xs, times-cons x f fs, occurrences-cons fs x xs)
 
 -- where each number of a list is in the range, the list is as long as the range's numbers occur in it
 occurrences-all : (a n : ℕ) (xs : List ℕ) → ((x : ℕ) → 1 ≤ times x xs → (a ≤ x) × (x < a + n)) → occurrences (range_with_len a n) xs ≡ length xs
@@ -68,8 +41,7 @@ occurrences-all a n (x ∷ xs) h =
     let split = occurrences-cons (range_with_len a n) x xs in
     let within = h x (times-head x xs) in
     let first = range-once x a n within.0 within.1 in
-    let rest = occurrences-all a n xs (λ y some. h y (omega (arith, some, times-tail y x xs))) in
-    omega (arith, split, first, rest)
+    omega (arith, split, first, occurrences-all a n xs (λ y some. h y (omega (arith, some, times-tail y x xs))))
 
 -- where each number that passes a test occurs once and no other does, as many occur as pass
 occurrences-passed : (p : ℕ → Bool) (a n : ℕ) (xs : List ℕ) → ((f : ℕ) → a ≤ f → f < a + n → times f xs ≡ one_when (p f))
@@ -81,9 +53,7 @@ occurrences-passed p a n xs h = counted a n h ∙ sym (length-filter p (range_wi
     counted a (suc n) h =
         let whole = sum_by-cons (λ f. times f xs) a (range_with_len (a + 1) n) in
         let passed = sum_by-cons (λ f. one_when (p f)) a (range_with_len (a + 1) n) in
-        let first = h a (omega arith) (omega arith) in
-        let rest = counted (a + 1) n (λ f low high. h f (omega arith) (omega arith)) in
-        omega (arith, whole, passed, first, rest)
+        omega (arith, whole, passed, h a (omega arith) (omega arith), counted (a + 1) n (λ f low high. h f (omega arith) (omega arith)))
 
 -- as many frames are unused as pass a test which just those above the zero frame pass that nobody holds
 pub length-unused : (counts unused : List ℕ) (p : ℕ → Bool) → AreCounts (record { counts = counts; unused = unused })
@@ -108,16 +78,5 @@ length-unused counts unused p are held tells =
 pub empty-frame : (f : ℕ) (xs : List (Option Entry)) → one_if_zero (pages_on f xs) ≡ one_when (not (list_any (is_frame f) (frames_of xs)))
 unfolding pages_on
 empty-frame f [] = refl
-empty-frame f (None ∷ xs) =
-    let split = sum_by-cons (on_one f) None xs in
-    let same : pages_on f (None ∷ xs) ≡ pages_on f xs = omega (arith, split) in
-    ap one_if_zero same ∙ empty-frame f xs
-empty-frame f (Some entry ∷ xs) = by_test (entry.frame == f) (sum_by-cons (on_one f) (Some entry) xs) (empty-frame f xs)
-  where
-    by_test : (b : Bool) → pages_on f (Some entry ∷ xs) ≡ one_when b + pages_on f xs
-        → one_if_zero (pages_on f xs) ≡ one_when (not (list_any (is_frame f) (frames_of xs)))
-        → one_if_zero (pages_on f (Some entry ∷ xs)) ≡ one_when (not (b || list_any (is_frame f) (frames_of xs)))
-    by_test true split rest = one_if_zero-above (pages_on f (Some entry ∷ xs)) (omega (arith, split))
-    by_test false split rest =
-        let same : pages_on f (Some entry ∷ xs) ≡ pages_on f xs = omega (arith, split) in
-        ap one_if_zero same ∙ rest
+empty-frame f (None ∷ xs) = grind (arith, pages_on-cons f None xs, empty-frame f xs)
+empty-frame f (Some entry ∷ xs) = grind (arith, pages_on-cons f (Some entry) xs, empty-frame f xs, one_if_zero-above (pages_on f (Some entry ∷ xs)))

@@ -1,15 +1,16 @@
 -- New pages at places one after another, and what a memory tells of a new map.
-use Rattle.std.proofs.Common.{◌≡◌, ◌≢◌, ◌∙◌, ◌⊎◌, ⊎_elim, ℕ, zero, suc, ◌+◌, ◌-◌, ◌*◌, ◌<◌, ◌≤◌, List, [], ◌∷◌, ◌++◌, length, take, drop, replicate, slice_index_or, slice_set, Option, Some, None, Bool, option_map, refl, sym, ap, subst, arith, length-set, append_assoc}
+use Rattle.std.proofs.Common.{◌≡◌, ◌≢◌, ◌∙◌, ⊎_elim, ℕ, zero, suc, ◌+◌, ◌-◌, ◌*◌, ◌<◌, ◌≤◌, List, [], ◌∷◌, ◌++◌, length, take, drop, replicate, slice_index_or, slice_set, Option, Some, None, Bool, option_map, refl, sym, ap, subst, arith, length-set, append_assoc, nat_le, nat_lt, ◌&&◌, if◌then◌else◌}
 use Rattle.std.specs.List.{concat}
-use Rattle.std.proofs.lemmas.List.{get_or-set_same, get_or-set_other, get_or_past, length-take-le, length-take, length-append, length-replicate, set-append_right, append-nil, take-append-drop, replicate-append-replicate, get_or-drop, get_or-replicate, take-replicate, drop-replicate, get_or-append_right, length-map}
+use Rattle.std.proofs.lemmas.List.{get_or-set_same, get_or-set_other, get_or_past, length-take-le, length-take, length-append, length-replicate, set-append_right, append-nil, take-append-drop, replicate-append-replicate, take-replicate, drop-replicate, length-map}
+use Rattle.std.proofs.lemmas.Bool.Decides.{nat_tests}
 use Rattle.page_table.specs.declared.pass.Pass.{Pass}
 use Rattle.host_types.specs.declared.shape.Shape.{Shape}
 use Rattle.host_types.specs.Bytes.{part_of, with_part}
-use Rattle.host_types.specs.Memory.{FlatMaps, map_at}
+use Rattle.host_types.specs.Memory.{map_at}
 use Rattle.host_types.specs.Pages.{map_place, zero_page}
 use Rattle.host_types.specs.Shapes.{IsShape, byte_len_of}
 use Rattle.host_types.specs.Sharing.{new_page}
-use Rattle.host_types.proofs.Lists.{length-with_part, part-with_part_before, part-with_part_behind}
+use Rattle.host_types.proofs.Lists.{length-with_part}
 use Rattle.host_types.proofs.Pages.{replicate-zero_page}
 use Rattle.frame_arena.proofs.Pages.{length-zero_page}
 use Rattle.page_table.specs.declared.entry.Entry.{Entry}
@@ -18,11 +19,12 @@ use Rattle.page_table.specs.Limits.{page_count}
 use Rattle.page_table.specs.State.{MemoryState, part, free_of, have_of}
 use Rattle.page_table.specs.Changes.{zero_map, part_created, IsKeptBut, AreMapsKeptBut, KeepsSettings, with_new_pages}
 use Rattle.page_table.specs.View.{view_of, IsMemory}
-use Rattle.page_table.proofs.Maps.{maps_of-changed, AreMaps-changed, length-maps_of, map_at-maps_of}
-use Rattle.page_table.proofs.Reading.{content_in, few_pages, map_at-part}
-use Rattle.page_table.proofs.Writing.{part-set_same, part-set_other, maps-set_other}
-use Rattle.page_table.proofs.Free.{free_is}
 use Rattle.page_table.specs.Table.{TableState, groups_of, used_by, state_of, states_of, maps_of, flat_of, ArePages, ArePagesOf, contents_of, entry_content}
+use Rattle.page_table.proofs.Sides.{order}
+use Rattle.page_table.proofs.Maps.{map_at-maps_of, part_of-set_other}
+use Rattle.page_table.proofs.Reading.{content_in, few_pages, map_at-part}
+use Rattle.page_table.proofs.Writing.{OneMap, memory_changed, one_map}
+use Rattle.page_table.proofs.Free.{free_is}
 
 -- a part longer by one element is that element set behind it
 pub with_part-more : {X : Type 0} (xs ys : List X) (at : ℕ) (x : X) → at + length ys < length xs → slice_set (with_part xs at ys) (at + length ys) x ≡ with_part xs at (ys ++ x ∷ [])
@@ -54,50 +56,27 @@ filled_more xs at n x h =
     ∙ with_part-more xs (replicate n x) at x (omega (arith, h, long))
     ∙ ap (with_part xs at) (replicate-more n x)
 
--- behind the filled places is what was there
-pub behind_filled : {X : Type 0} (xs : List X) (at n i : ℕ) (x d : X) → at + n ≤ length xs → at + n ≤ i → slice_index_or (with_part xs at (replicate n x)) i d ≡ slice_index_or xs i d
-unfolding with_part
-behind_filled {X = X} xs at n i x d fits past =
-    let front = length-take-le at xs (omega arith) in
-    let filled = length-replicate n x in
-    let long : length (take at xs ++ replicate n x) ≡ at + n = length-append (take at xs) (replicate n x) ∙ omega (arith, front, filled) in
-    let rest : ℕ = i - (at + n) in
-    let place : i ≡ at + n + rest = omega (arith, past) in
-    let behind : at + length (replicate n x) ≡ at + n = omega (arith, filled) in
-    ap (λ (j : ℕ). slice_index_or ((take at xs ++ replicate n x) ++ drop (at + length (replicate n x)) xs) j d) place
-    ∙ ap (λ (m : ℕ). slice_index_or ((take at xs ++ replicate n x) ++ drop m xs) (at + n + rest) d) behind
-    ∙ ap (λ (m : ℕ). slice_index_or ((take at xs ++ replicate n x) ++ drop (at + n) xs) (m + rest) d) (sym long)
-    ∙ after (take at xs ++ replicate n x) (drop (at + n) xs) rest
-    ∙ get_or-drop (at + n) xs rest d
-    ∙ ap (λ (j : ℕ). slice_index_or xs j d) (sym place)
-  where
-    after : (ys zs : List X) (j : ℕ) → slice_index_or (ys ++ zs) (length ys + j) d ≡ slice_index_or zs j d
-    after ys zs j =
-        let left : length ys + j - length ys ≡ j = omega arith in
-        get_or-append_right ys zs (length ys) (length ys + j) d refl (omega arith) ∙ ap (λ (m : ℕ). slice_index_or zs m d) left
-
-in_front : {X : Type 0} (ys zs : List X) (j : ℕ) (d : X) → j < length ys → slice_index_or (ys ++ zs) j d ≡ slice_index_or ys j d
-in_front [] zs j d h = absurd (omega arith)
-in_front (y ∷ ys) zs zero d h = refl
-in_front (y ∷ ys) zs (suc j) d h = in_front ys zs j d (omega arith)
-
-pub in_filled : {X : Type 0} (xs : List X) (at n i : ℕ) (x d : X) → at + n ≤ length xs → i < n → slice_index_or (with_part xs at (replicate n x)) (at + i) d ≡ x
-unfolding with_part
-in_filled xs at n i x d fits inside =
-    let front = length-take-le at xs (omega arith) in
-    let filled = length-replicate n x in
-    let long : length (take at xs ++ replicate n x) ≡ at + n = length-append (take at xs) (replicate n x) ∙ omega (arith, front, filled) in
-    let left : at + i - at ≡ i = omega arith in
-    in_front (take at xs ++ replicate n x) (drop (at + length (replicate n x)) xs) (at + i) d (omega (arith, long, inside))
-    ∙ get_or-append_right (take at xs) (replicate n x) at (at + i) d front (omega arith)
-    ∙ ap (λ (m : ℕ). slice_index_or (replicate n x) m d) left
-    ∙ get_or-replicate n i x d inside
-
 pub with_part-none : {X : Type 0} (xs : List X) (at : ℕ) → xs ≡ with_part xs at []
 unfolding with_part
 with_part-none xs at =
     let place : at + 0 ≡ at = omega arith in
     sym (ap (λ l. l ++ drop (at + 0) xs) (append-nil (take at xs)) ∙ ap (λ (n : ℕ). take at xs ++ drop n xs) place ∙ take-append-drop at xs)
+
+-- what is read where equal elements were filled in
+pub filled_at : {X : Type 0} (xs : List X) (at n i : ℕ) (x d : X) → at + n ≤ length xs
+    → slice_index_or (with_part xs at (replicate n x)) i d ≡ (if nat_le at i && nat_lt i (at + n) then x else slice_index_or xs i d)
+filled_at xs at zero i x d fits = ap (λ l. slice_index_or l i d) (sym (with_part-none xs at)) ∙ grind (arith, nat_tests)
+filled_at xs at (suc n) i x d fits =
+    let one : suc n ≡ n + 1 = omega arith in
+    let filled = length-replicate n x in
+    let long = length-with_part xs at (replicate n x) (omega (arith, filled, fits)) in
+    ap (λ (m : ℕ). slice_index_or (with_part xs at (replicate m x)) i d) one
+    ∙ ap (λ l. slice_index_or l i d) (sym (filled_more xs at n x (omega (arith, fits))))
+    ∙ grind (arith, nat_tests, filled_at xs at n i x d, get_or-set_same (with_part xs at (replicate n x)) (at + n) x d, get_or-set_other (with_part xs at (replicate n x)) (at + n) i x d, long)
+
+-- behind the filled places is what was there
+pub behind_filled : {X : Type 0} (xs : List X) (at n i : ℕ) (x d : X) → at + n ≤ length xs → at + n ≤ i → slice_index_or (with_part xs at (replicate n x)) i d ≡ slice_index_or xs i d
+behind_filled xs at n i x d fits past = grind (arith, nat_tests, filled_at xs at n i x d)
 
 pub length-contents : (table : TableState) → length (contents_of table) ≡ length table.entries
 unfolding contents_of
@@ -130,29 +109,29 @@ pub part_of-short : {X : Type 0} (xs : List X) (at size : ℕ) → length (part_
 unfolding part_of
 part_of-short xs at size = let h = length-take size (drop at xs) in omega arith
 
--- what is put in place of a map's pages leaves those of other maps
-pub others-filled : {X : Type 0} (contents : List X) (k n j : ℕ) (page : X) → n ≤ 256 → k * 256 + 256 ≤ length contents → j ≢ k
-    → part_of (with_part contents (k * 256) (replicate n page)) (j * 256) 256 ≡ part_of contents (j * 256) 256
-others-filled contents k n j page few all ne = ⊎_elim (λ less. before less) (λ more. behind more) (order j k ne)
-  where
-    order : (a b : ℕ) → a ≢ b → (a < b) ⊎ (b < a)
-    order a b ne = grind arith
+-- what is read of a map's pages where the first ones were filled
+pub filled_part : (contents : List (List ℕ)) (k count n : ℕ) (page : List ℕ) → count ≤ 256 → k * 256 + 256 ≤ length contents
+    → slice_index_or (part_of (with_part contents (k * 256) (replicate count page)) (k * 256) 256) n [] ≡ (if nat_lt n count then page else slice_index_or (part_of contents (k * 256) 256) n [])
+filled_part contents k count n page few all =
+    ⊎_elim
+    (λ less. sym (content_in (with_part contents (k * 256) (replicate count page)) k n less)
+    ∙ grind (arith, nat_tests, filled_at contents (k * 256) count (k * 256 + n) page [], content_in contents k n less))
+    (λ more. get_or_past (part_of (with_part contents (k * 256) (replicate count page)) (k * 256) 256) n [] (omega (arith, part_of-short (with_part contents (k * 256) (replicate count page)) (k * 256) 256, more))
+    ∙ grind (arith, nat_tests, get_or_past (part_of contents (k * 256) 256) n [], part_of-short contents (k * 256) 256))
+    (order n 256)
 
-    before : j < k → part_of (with_part contents (k * 256) (replicate n page)) (j * 256) 256 ≡ part_of contents (j * 256) 256
-    before less =
-        let rest : ℕ = (k - j) * 256 in
-        let place : k * 256 ≡ j * 256 + rest = omega (arith, less) in
-        ap (λ (at : ℕ). part_of (with_part contents at (replicate n page)) (j * 256) 256) place
-        ∙ part-with_part_before contents (replicate n page) (j * 256) 256 rest (omega (arith, less)) (omega (arith, place, all))
-
-    behind : k < j → part_of (with_part contents (k * 256) (replicate n page)) (j * 256) 256 ≡ part_of contents (j * 256) 256
-    behind more =
-        let long = length-replicate n page in
-        let rest : ℕ = j * 256 - (k * 256 + n) in
-        let place : j * 256 ≡ k * 256 + length (replicate n page) + rest = omega (arith, more, long, few) in
-        ap (λ (at : ℕ). part_of (with_part contents (k * 256) (replicate n page)) at 256) place
-        ∙ part-with_part_behind contents (k * 256) (replicate n page) 256 rest (omega (arith, long, all, few))
-        ∙ ap (λ (at : ℕ). part_of contents at 256) (sym place)
+-- what is filled in one of several parts leaves the others
+pub others-filled : {X : Type 0} (xs : List X) (at k m n j width : ℕ) (x : X) → at ≡ k * width + m → m + n ≤ width → at + n ≤ length xs → j ≢ k
+    → part_of (with_part xs at (replicate n x)) (j * width) width ≡ part_of xs (j * width) width
+others-filled xs at k m zero j width x place few inside ne = ap (λ l. part_of l (j * width) width) (sym (with_part-none xs at))
+others-filled xs at k m (suc n) j width x place few inside ne =
+    let one : suc n ≡ n + 1 = omega arith in
+    let last : at + n ≡ k * width + (m + n) = omega (arith, place) in
+    ap (λ (c : ℕ). part_of (with_part xs at (replicate c x)) (j * width) width) one
+    ∙ ap (λ l. part_of l (j * width) width) (sym (filled_more xs at n x (omega (arith, inside))))
+    ∙ ap (λ (i : ℕ). part_of (slice_set (with_part xs at (replicate n x)) i x) (j * width) width) last
+    ∙ part_of-set_other (with_part xs at (replicate n x)) k (m + n) j width x (omega (arith, few)) ne
+    ∙ others-filled xs at k m n j width x place (omega (arith, few)) (omega (arith, inside)) ne
 
 -- a map whose pages are new
 module _ (shape : Shape) (pages : List (List ℕ)) (is : IsShape shape) (there : (n : ℕ) → n < page_count shape → slice_index_or pages n [] ≡ zero_page) (none : (n : ℕ) → page_count shape ≤ n → slice_index_or pages n [] ≡ []) where
@@ -178,11 +157,7 @@ module _ (table : TableState) (shapes : List (Option Shape)) (tenants : List Ten
   index_inside = omega (arith, is.numbers, inside, small)
 
   pub places_inside : map_place tenant m * 256 + page_count shape ≤ length table.entries
-  places_inside =
-      let few = few_pages shape shaped in
-      let h = index_inside in
-      let long = length-contents table in
-      omega (arith, is.maps.places, long, few, h)
+  places_inside = omega (arith, is.maps.places, length-contents table, few_pages shape shaped, index_inside)
 
   pub few_entries : length table.entries ≤ 32768
   few_entries = let long = length-contents table in omega (arith, is.maps.places, long, is.numbers, is.few)
@@ -237,34 +212,18 @@ module _ (table new : TableState) (shapes : List (Option Shape)) (tenants : List
   old_none = subst (λ s. ArePages s (part_of (contents_of table) (k * 256) 256)) empty (is.maps.each k place_inside)
 
   others_new : (j : ℕ) → j ≢ k → part_of (contents_of new) (j * 256) 256 ≡ part_of (contents_of table) (j * 256) 256
-  others_new j ne = ap (λ l. part_of l (j * 256) 256) contents ∙ others-filled (contents_of table) k (page_count shape) j zero_page few all ne
+  others_new j ne = ap (λ l. part_of l (j * 256) 256) contents ∙ others-filled (contents_of table) (k * 256) k 0 (page_count shape) j 256 zero_page (omega arith) (let f = few in omega (arith, f)) (let f = few in let h = all in omega (arith, f, h)) ne
 
   abbrev pages_new : List (List ℕ)
   pages_new = part_of (contents_of new) (k * 256) 256
 
   new_there : (n : ℕ) → n < page_count shape → slice_index_or pages_new n [] ≡ zero_page
   new_there n less =
-      let f = few in
-      let h = all in
-      sym (content_in (contents_of new) k n (omega arith)) ∙ ap (λ l. slice_index_or l (k * 256 + n) []) contents
-      ∙ in_filled (contents_of table) (k * 256) (page_count shape) n zero_page [] (omega arith) less
+      ap (λ l. slice_index_or (part_of l (k * 256) 256) n []) contents ∙ grind (arith, nat_tests, filled_part (contents_of table) k (page_count shape) n zero_page few all)
 
   new_none : (n : ℕ) → page_count shape ≤ n → slice_index_or pages_new n [] ≡ []
-  new_none n past = ⊎_elim (λ less. within less) (λ more. get_or_past pages_new n [] (past_part more)) (order n 256)
-    where
-      order : (a b : ℕ) → (a < b) ⊎ (b ≤ a)
-      order a b = grind arith
-
-      past_part : 256 ≤ n → length pages_new ≤ n
-      past_part more = let h = part_of-short (contents_of new) (k * 256) 256 in omega arith
-
-      within : n < 256 → slice_index_or pages_new n [] ≡ []
-      within less =
-          let f = few in
-          let h = all in
-          sym (content_in (contents_of new) k n less) ∙ ap (λ l. slice_index_or l (k * 256 + n) []) contents
-          ∙ behind_filled (contents_of table) (k * 256) (page_count shape) (k * 256 + n) zero_page [] (omega arith) (omega arith)
-          ∙ content_in (contents_of table) k n less ∙ old_none n
+  new_none n past =
+      ap (λ l. slice_index_or (part_of l (k * 256) 256) n []) contents ∙ grind (arith, nat_tests, filled_part (contents_of table) k (page_count shape) n zero_page few all, old_none n)
 
   abbrev shapes_new : List (Option Shape)
   shapes_new = slice_set shapes k (Some shape)
@@ -272,29 +231,16 @@ module _ (table new : TableState) (shapes : List (Option Shape)) (tenants : List
   shape_there : slice_index_or shapes_new k None ≡ Some shape
   shape_there = get_or-set_same shapes k (Some shape) None place_inside
 
-  maps_new : maps_of shapes_new (contents_of new) ≡ slice_set (maps_of shapes (contents_of table)) k (Some (zero_map shape))
-  maps_new =
-      maps_of-changed shapes shapes_new (contents_of table) (contents_of new) k (Some (zero_map shape)) (length-set shapes k (Some shape)) place_inside
-      (λ j ne. get_or-set_other shapes k j (Some shape) None ne) others_new
-      (ap (option_map (flat_of pages_new)) shape_there ∙ ap (λ f. Some f) (flat_created shape pages_new shaped new_there new_none))
+  wide : length (contents_of new) ≡ length (contents_of table)
+  wide =
+      let fits : k * 256 + length (replicate (page_count shape) zero_page) ≤ length (contents_of table) = omega (arith, length-replicate (page_count shape) zero_page, all, few) in
+      ap length contents ∙ length-with_part (contents_of table) (k * 256) (replicate (page_count shape) zero_page) fits
 
   pub memory_created : IsMemory new shapes_new tenants reserved
   memory_created =
-      let long = length-replicate (page_count shape) zero_page in
-      let h = all in
-      let f = few in
-      record {
-        maps = AreMaps-changed shapes shapes_new (contents_of table) (contents_of new) k (length-set shapes k (Some shape))
-            (ap length contents ∙ length-with_part (contents_of table) (k * 256) (replicate (page_count shape) zero_page) (omega (arith, long, h, f)))
-            (λ j ne. get_or-set_other shapes k j (Some shape) None ne) others_new
-            (subst (λ s. ArePages s pages_new) (sym shape_there) (pages_created shape pages_new shaped new_there new_none))
-            is.maps;
-        numbers = length-set shapes k (Some shape) ∙ is.numbers;
-        few = is.few;
-        frames = omega (arith, arena, is.frames);
-        sum = is.sum;
-        room = omega (arith, arena, used, room);
-      }
+      memory_changed table new shapes shapes_new tenants reserved tenant m is small place_inside (length-set shapes k (Some shape)) wide
+      (λ j ne. get_or-set_other shapes k j (Some shape) None ne) others_new arena (omega (arith, used, room))
+      (subst (λ s. ArePages s pages_new) (sym shape_there) (pages_created shape pages_new shaped new_there new_none))
 
   abbrev before : MemoryState
   before = view_of table shapes tenants pass
@@ -302,55 +248,32 @@ module _ (table new : TableState) (shapes : List (Option Shape)) (tenants : List
   abbrev after : MemoryState
   after = view_of new shapes_new tenants pass
 
-  maps_after : after.maps ≡ slice_set before.maps k (Some (zero_map shape))
-  unfolding view_of
-  maps_after = maps_new
-
-  tenants_after : after.tenants ≡ before.tenants
-  unfolding view_of
-  tenants_after = refl
-
-  map_after : map_at (part after tenant).maps m ≡ Some (zero_map shape)
-  unfolding view_of part
-  map_after =
-      let long = length-maps_of shapes (contents_of table) in
-      let h = place_inside in
-      map_at-part (maps_of shapes_new (contents_of new)) tenant m small
-      ∙ ap (λ (maps : FlatMaps). map_at maps k) maps_new
-      ∙ get_or-set_same (maps_of shapes (contents_of table)) k (Some (zero_map shape)) None (omega (arith, long, h))
+  one : OneMap before after tenant m (Some (zero_map shape)) (part_of pass.pins (tenant * 2048) 2048)
+  one =
+      one_map table new shapes shapes_new tenants reserved tenant m is small place_inside (length-set shapes k (Some shape)) wide
+      (λ j ne. get_or-set_other shapes k j (Some shape) None ne) others_new arena pass pass (Some (zero_map shape)) (part_of pass.pins (tenant * 2048) 2048)
+      (ap (option_map (flat_of pages_new)) shape_there ∙ ap (λ f. Some f) (flat_created shape pages_new shaped new_there new_none)) refl (λ u ne. refl)
 
   created_after : part after tenant ≡ part_created (part before tenant) m shape
   unfolding view_of part
-  created_after = part-set_same before after tenant m (Some (zero_map shape)) (part_of pass.pins (tenant * 2048) 2048) small tenants_after maps_after refl
-
-  others_after : IsKeptBut tenant before after
-  unfolding view_of
-  others_after = part-set_other before after tenant m (Some (zero_map shape)) small tenants_after maps_after (λ u ne. refl)
+  created_after = one.part_new
 
   sharing_after : after.sharing ≡ with_new_pages before.sharing (k * 256) (page_count shape) mergeable
   unfolding view_of with_new_pages
   sharing_after = rw (states, groups) refl
 
-  free_after : free_of after + page_count shape ≡ free_of before
-  free_after =
-      let old = free_is table shapes tenants pass (omega (arith, room)) in
-      let newer = free_is new shapes_new tenants pass (omega (arith, room, used, arena)) in
-      omega (arith, old, newer, used, arena)
-
-  settings_after : KeepsSettings before after
-  unfolding view_of
-  settings_after = record { tenants = refl; frames = arena }
-
   pub creates : Creates before after tenant m shape mergeable
   creates =
+      let old = free_is table shapes tenants pass (omega (arith, room)) in
+      let newer = free_is new shapes_new tenants pass (omega (arith, room, used, arena)) in
       record {
         created = created_after;
-        there = map_after;
-        other_maps = maps-set_other before after tenant m (Some (zero_map shape)) small tenants_after maps_after;
-        others = others_after;
+        there = one.there;
+        other_maps = one.other_maps;
+        others = one.others;
         sharing = sharing_after;
-        free = free_after;
-        settings = settings_after;
+        free = omega (arith, old, newer, used, arena);
+        settings = one.settings;
       }
 
 -- the conditions of a new map, over what callers see
@@ -366,6 +289,5 @@ module _ (table : TableState) (shapes : List (Option Shape)) (tenants : List Ten
   pub room_inside : (reserved count : ℕ) → IsMemory table shapes tenants reserved → count ≤ have_of now → reserved + used_by table + count ≤ length table.arena
   unfolding view_of
   room_inside reserved count is h =
-      let told = free_is table shapes tenants pass (omega (arith, is.room)) in
       let enough = rw (← same) at h in
-      omega (arith, told, enough, is.sum, is.room)
+      omega (arith, free_is table shapes tenants pass (omega (arith, is.room)), enough, is.sum, is.room)

@@ -1,6 +1,6 @@
 -- What a memory tells of a map that was taken away.
-use Rattle.std.proofs.Common.{◌≡◌, ◌≢◌, ◌∙◌, ◌⊎◌, inl, inr, ⊎_elim, ℕ, zero, suc, ◌+◌, ◌-◌, ◌*◌, ◌<◌, ◌≤◌, ◌==◌, ◌&&◌, nat_le, nat_lt, not, Bool, true, false, if◌then◌else◌, List, [], ◌∷◌, length, map, filter, replicate, slice_index_or, slice_set, Option, Some, None, IsSomeAnd, is_some, option_map, refl, sym, ap, subst, arith}
-use Rattle.std.proofs.lemmas.List.{get_or-set_same, get_or-set_other, get_or_past, length-map, length-replicate, length-set}
+use Rattle.std.proofs.Common.{◌≡◌, ◌≢◌, ◌∙◌, ◌⊎◌, inl, inr, ⊎_elim, ℕ, zero, suc, ◌+◌, ◌-◌, ◌*◌, ◌<◌, ◌≤◌, ◌&&◌, nat_le, nat_lt, not, Bool, true, false, if◌then◌else◌, List, [], ◌∷◌, length, map, filter, replicate, slice_index_or, slice_set, Option, Some, None, IsSomeAnd, option_map, refl, sym, ap, subst, arith}
+use Rattle.std.proofs.lemmas.List.{get_or-set_same, get_or-set_other, length-map, length-replicate, length-set, ext_get_or}
 use Rattle.std.proofs.lemmas.Bool.Decides.{nat_tests}
 use Rattle.page_table.specs.declared.pass.Pass.{Pass}
 use Rattle.host_types.specs.declared.shape.Shape.{Shape}
@@ -9,9 +9,9 @@ use Rattle.host_types.specs.Memory.{FlatMap, map_at}
 use Rattle.host_types.specs.Pages.{map_place}
 use Rattle.host_types.specs.declared.status.Status.TheVariants.{Volatile}
 use Rattle.host_types.specs.Pins.{PinsFit}
-use Rattle.host_types.specs.Sharing.{Sharing, PageState, state_at, is_shared, is_shared_page, broken, gone, gone_from}
+use Rattle.host_types.specs.Sharing.{Sharing, is_shared, broken, gone, gone_from}
 use Rattle.host_types.specs.Tenant.{part_dropped}
-use Rattle.host_types.specs.Visits.{waiting_outside, ended_at, dropped, moved_on, next_from, one_more}
+use Rattle.host_types.specs.Visits.{waiting_outside, ended_at, dropped, moved_on}
 use Rattle.host_types.proofs.Lists.{length-with_part}
 use Rattle.unstable_tree.specs.declared.tree.Waiter.{Waiter}
 use Rattle.page_table.specs.declared.entry.Entry.{Entry}
@@ -19,20 +19,20 @@ use Rattle.page_table.specs.declared.tenant.Tenant.{Tenant}
 use Rattle.page_table.specs.Limits.{page_count}
 use Rattle.page_table.specs.State.{MemoryState, part, free_of, have_of}
 use Rattle.page_table.specs.Changes.{IsKeptBut, AreMapsKeptBut, KeepsSettings}
-use Rattle.page_table.specs.Table.{TableState, IsTable, AreOwnKeptOutside, ArePagesOf, ArePages, IsPageAt, entry_at, state_of, states_of, contents_of, sharing_of, waiting_of, used_by, maps_of, flat_of}
+use Rattle.page_table.specs.Table.{TableState, IsTable, AreOwnKeptOutside, ArePagesOf, ArePages, IsPageAt, entry_at, state_of, states_of, contents_of, sharing_of, waiting_of, used_by, flat_of}
 use Rattle.page_table.specs.View.{view_of, is_listed, AreWaiters, IsMemory, IsPass}
-use Rattle.page_table.proofs.Creating.{behind_filled, filled_more, in_filled, with_part-none, length-contents, others-filled, part_of-short}
+use Rattle.page_table.proofs.Sides.{order}
+use Rattle.page_table.proofs.Creating.{filled_more, with_part-none, length-contents, others-filled, filled_at, filled_part}
 use Rattle.page_table.proofs.Costs.{state-at}
 use Rattle.page_table.proofs.Fitting.{pins-kept}
 use Rattle.page_table.proofs.Free.{free_is}
-use Rattle.page_table.proofs.Maps.{maps_of-changed, AreMaps-changed}
 use Rattle.page_table.proofs.Reading.{content_in, few_pages}
 use Rattle.page_table.proofs.Shapes.{map_past, shape_told}
-use Rattle.page_table.proofs.Waiters.{either, waiter-kept}
-use Rattle.page_table.proofs.Writing.{part-set_same, part-set_other, maps-set_other}
-use Rattle.page_table.proofs.Scanning.{is_page_at_entry}
+use Rattle.page_table.proofs.Waiters.{waiter-kept}
+use Rattle.page_table.proofs.Writing.{OneMap, memory_changed, one_map}
 use Rattle.page_table.proofs.Unpinning.{fit-fewer, outside-pinned, others-unpinned, tenant-unpinned, pins-inside}
 use Rattle.page_table.proofs.Vacating.{gone_from-last}
+use Rattle.page_table.proofs.Putting.{page_of_entry}
 
 -- the waiting pages outside some places
 abbrev pub outside : ℕ → ℕ → List Waiter → List Waiter
@@ -43,12 +43,7 @@ outside-place first end place h = grind (arith, nat_tests)
 
 listed-outside : (first end i : ℕ) (ws : List Waiter) → is_listed i ws ≡ false → is_listed i (outside first end ws) ≡ false
 listed-outside first end i [] none = refl
-listed-outside first end i (w ∷ ws) none =
-    by_head (not (nat_le first w.place && nat_lt w.place end)) (either (w.place == i) (is_listed i ws) none) (listed-outside first end i ws (either (w.place == i) (is_listed i ws) none).1)
-  where
-    by_head : (b : Bool) → ((w.place == i) ≡ false) × (is_listed i ws ≡ false) → is_listed i (outside first end ws) ≡ false → is_listed i (if b then w ∷ outside first end ws else outside first end ws) ≡ false
-    by_head true parts rest = rw parts.0 rest
-    by_head false parts rest = rest
+listed-outside first end i (w ∷ ws) none = grind (arith, listed-outside first end i ws)
 
 waiters-outside : (old new : TableState) (c : Option ℕ) (first n : ℕ) (ws : List Waiter) → AreOwnKeptOutside first n old new → AreWaiters old.entries c ws → AreWaiters new.entries c (outside first (first + n) ws)
 waiters-outside old new c first n [] kept are = tt
@@ -86,11 +81,7 @@ pass-outside old new pass first n is kept arena long few inside =
 -- a page that goes isn't pinned
 gone-pins : (s : Sharing) (i : ℕ) → (gone s i).pins ≡ slice_set s.pins i false
 unfolding gone broken
-gone-pins s i = by_test (is_shared_page (state_at s i)) refl
-  where
-    by_test : (b : Bool) → is_shared_page (state_at s i) ≡ b → (gone s i).pins ≡ slice_set s.pins i false
-    by_test true e = rw e refl
-    by_test false e = rw e refl
+gone-pins s i = grind arith
 
 gone_from-pins : (s : Sharing) (i n : ℕ) → i + n ≤ length s.pins → (gone_from s i n).pins ≡ with_part s.pins i (replicate n false)
 unfolding gone_from
@@ -104,42 +95,26 @@ gone_from-pins s i (suc n) inside =
     ∙ filled_more s.pins i n false (omega (arith, inside))
     ∙ ap (λ (m : ℕ). with_part s.pins i (replicate m false)) (sym one)
 
-set-same : (pins : List Bool) (i : ℕ) → slice_index_or pins i false ≡ false → slice_set pins i false ≡ pins
-set-same [] i e = refl
-set-same (b ∷ pins) zero e = ap (λ (x : Bool). x ∷ pins) (sym e)
-set-same (b ∷ pins) (suc i) e = ap (λ (l : List Bool). b ∷ l) (set-same pins i e)
-
 -- behind a map's pages nothing is pinned
 filled-same : (pins : List Bool) (at n d : ℕ) → at + n + d ≤ length pins → ((i : ℕ) → at + n ≤ i → i < at + n + d → slice_index_or pins i false ≡ false)
     → with_part pins at (replicate (n + d) false) ≡ with_part pins at (replicate n false)
-filled-same pins at n zero inside none = let same : n + 0 ≡ n = omega arith in ap (λ (m : ℕ). with_part pins at (replicate m false)) same
-filled-same pins at n (suc d) inside none =
-    let one : n + suc d ≡ n + d + 1 = omega arith in
-    ap (λ (m : ℕ). with_part pins at (replicate m false)) one
-    ∙ sym (filled_more pins at (n + d) false (omega (arith, inside)))
-    ∙ ap (λ (l : List Bool). slice_set l (at + (n + d)) false) (filled-same pins at n d (omega (arith, inside)) (λ i from less. none i from (omega (arith, less))))
-    ∙ set-same (with_part pins at (replicate n false)) (at + (n + d))
-    (behind_filled pins at n (at + (n + d)) false false (omega (arith, inside)) (omega arith) ∙ none (at + (n + d)) (omega arith) (omega arith))
+filled-same pins at n d inside none =
+    let some = length-replicate n false in
+    let all = length-replicate (n + d) false in
+    let long = length-with_part pins at (replicate (n + d) false) (omega (arith, all, inside)) in
+    let short = length-with_part pins at (replicate n false) (omega (arith, some, inside)) in
+    ext_get_or false _ _ (omega (arith, long, short)) (λ i less. grind (arith, nat_tests, filled_at pins at (n + d) i false false, filled_at pins at n i false false, none i))
 
 -- the end of a pass leaves the pins
 ended-pins : (s : Sharing) (c : Option ℕ) → (ended_at s c).pins ≡ s.pins
 unfolding moved_on
 ended-pins s None = refl
-ended-pins s (Some i) = by_test (is_some (next_from s (i + 1)))
-  where
-    by_test : (b : Bool) → (if b then record s { cursor = Some i } else record s { cursor = None; full_scans = one_more s.full_scans }).pins ≡ s.pins
-    by_test true = refl
-    by_test false = refl
+ended-pins s (Some i) = grind arith
 
 -- the waiting list without some pages, as callers see it
 waiting-outside : (first n : ℕ) (ws : List Waiter) → map waiting_of (outside first (first + n) ws) ≡ waiting_outside first n (map waiting_of ws)
 waiting-outside first n [] = refl
-waiting-outside first n (w ∷ ws) = by_head (not (nat_le first w.place && nat_lt w.place (first + n))) (waiting-outside first n ws)
-  where
-    by_head : (b : Bool) → map waiting_of (outside first (first + n) ws) ≡ waiting_outside first n (map waiting_of ws)
-        → map waiting_of (if b then w ∷ outside first (first + n) ws else outside first (first + n) ws) ≡ (if b then waiting_of w ∷ waiting_outside first n (map waiting_of ws) else waiting_outside first n (map waiting_of ws))
-    by_head true rest = ap (λ l. waiting_of w ∷ l) rest
-    by_head false rest = rest
+waiting-outside first n (w ∷ ws) = grind (arith, waiting-outside first n ws)
 
 -- which pages share frames after the pages went, before the pass is looked at
 pub sharing-outside : (old new : TableState) (pass : Pass) (first n : ℕ) → n ≤ 256 → first + 256 ≤ length pass.pins
@@ -164,9 +139,6 @@ sharing-outside old new pass first n few inside none told =
 pub number_small : (memory : MemoryState) (t m : ℕ) (shape : Shape) → option_map (λ (flat : FlatMap). flat.shape) (map_at (part memory t).maps m) ≡ Some shape → m < 8
 number_small memory t m shape e =
     ⊎_elim (λ less. less) (λ more. absurd (let none = ap (option_map (λ (flat : FlatMap). flat.shape)) (map_past memory t m more) in cc)) (order m 8)
-  where
-    order : (a b : ℕ) → (a < b) ⊎ (b ≤ a)
-    order a b = grind arith
 
 -- a map was taken away, and nothing else has changed
 pub record Drops (old new : MemoryState) (tenant m : ℕ) (shape : Shape) : Type 0 where
@@ -214,62 +186,40 @@ module _ (table : TableState) (shapes : List (Option Shape)) (tenants : List Ten
   pages_there i less = let f = few in ap length (content_in (contents_of table) k i (omega (arith, less, f))) ∙ old_pages.there i less
 
   pub map_pins : PinsFit (states_of table.entries) pass.pins → k * 256 + 256 ≤ length pass.pins
-  map_pins fit =
-      let long = length-contents table in
-      let states = length-map table.entries (option_map state_of) in
-      let h = all in
-      omega (arith, long, states, h, fit.as_many)
+  map_pins fit = omega (arith, length-contents table, length-map table.entries (option_map state_of), all, fit.as_many)
 
   -- no place behind the map's pages is pinned
   pub unpinned_behind : IsTable table → PinsFit (states_of table.entries) pass.pins → (i : ℕ) → k * 256 + page_count shape ≤ i → i < k * 256 + 256 → slice_index_or pass.pins i false ≡ false
   unpinned_behind fits fit i from less = by_test (slice_index_or pass.pins i false) refl
     where
-      n : ℕ
-      n = i - k * 256
-
-      place : i ≡ k * 256 + n
+      place : i ≡ k * 256 + (i - k * 256)
       place = omega (arith, from)
 
       empty : length (slice_index_or (contents_of table) i []) ≡ 0
       empty =
           ap (λ (j : ℕ). length (slice_index_or (contents_of table) j [])) place
-          ∙ ap length (content_in (contents_of table) k n (omega (arith, from, less)) ∙ old_pages.none n (omega (arith, from)))
+          ∙ ap length (content_in (contents_of table) k (i - k * 256) (omega (arith, from, less)) ∙ old_pages.none (i - k * 256) (omega (arith, from)))
 
-      by_entry : (x : Option Entry) → entry_at table.entries i ≡ x → IsSomeAnd (state_at (sharing_of table pass) i) (λ state. state.status ≡ Volatile) → ⊥
-      by_entry None e v = subst (λ (y : Option PageState). IsSomeAnd y (λ state. state.status ≡ Volatile)) (state-at table pass i ∙ ap (option_map state_of) e) v
-      by_entry (Some entry) e v = let there = is_page_at_entry table i entry fits e in let none = empty in omega (arith, there, none)
+      by_entry : (x : Option Entry) → entry_at table.entries i ≡ x → IsSomeAnd (option_map state_of x) (λ state. state.status ≡ Volatile) → ⊥
+      by_entry None e v = v
+      by_entry (Some entry) e v = omega (arith, page_of_entry table i entry fits e, empty)
 
       by_test : (b : Bool) → slice_index_or pass.pins i false ≡ b → slice_index_or pass.pins i false ≡ false
       by_test false e = e
-      by_test true e = absurd (by_entry (entry_at table.entries i) refl (fit.volatile i e))
+      by_test true e = absurd (by_entry (entry_at table.entries i) refl (rw (state-at table pass i) at (fit.volatile i e)))
 
   module _ (new : TableState) (contents : contents_of new ≡ with_part (contents_of table) (k * 256) (replicate (page_count shape) []))
       (used : used_by new ≤ used_by table) (arena : length new.arena ≡ length table.arena) where
     others_new : (j : ℕ) → j ≢ k → part_of (contents_of new) (j * 256) 256 ≡ part_of (contents_of table) (j * 256) 256
-    others_new j ne = ap (λ l. part_of l (j * 256) 256) contents ∙ others-filled (contents_of table) k (page_count shape) j [] few all ne
+    others_new j ne = ap (λ l. part_of l (j * 256) 256) contents ∙ others-filled (contents_of table) (k * 256) k 0 (page_count shape) j 256 [] (omega arith) (let f = few in omega (arith, f)) (let f = few in let h = all in omega (arith, f, h)) ne
 
     abbrev pages_new : List (List ℕ)
     pages_new = part_of (contents_of new) (k * 256) 256
 
-    order : (a b : ℕ) → (a < b) ⊎ (b ≤ a)
-    order a b = grind arith
-
     none_new : (n : ℕ) → slice_index_or pages_new n [] ≡ []
-    none_new n = ⊎_elim (λ less. within less) (λ more. get_or_past pages_new n [] (past more)) (order n 256)
-      where
-        past : 256 ≤ n → length pages_new ≤ n
-        past more = let h = part_of-short (contents_of new) (k * 256) 256 in omega (arith, h, more)
-
-        at : n < 256 → slice_index_or (with_part (contents_of table) (k * 256) (replicate (page_count shape) [])) (k * 256 + n) [] ≡ []
-        at less = let f = few in
-            let h = all in
-            ⊎_elim (λ one. in_filled (contents_of table) (k * 256) (page_count shape) n [] [] (omega (arith, f, h)) one)
-            (λ behind. behind_filled (contents_of table) (k * 256) (page_count shape) (k * 256 + n) [] [] (omega (arith, f, h)) (omega (arith, behind))
-            ∙ content_in (contents_of table) k n less ∙ old_pages.none n behind)
-            (order n (page_count shape))
-
-        within : n < 256 → slice_index_or pages_new n [] ≡ []
-        within less = sym (content_in (contents_of new) k n less) ∙ ap (λ (l : List (List ℕ)). slice_index_or l (k * 256 + n) []) contents ∙ at less
+    none_new n =
+        ap (λ (l : List (List ℕ)). slice_index_or (part_of l (k * 256) 256) n []) contents
+        ∙ grind (arith, nat_tests, filled_part (contents_of table) k (page_count shape) n [] few all, old_pages.none n)
 
     abbrev shapes_new : List (Option Shape)
     shapes_new = slice_set shapes k None
@@ -277,39 +227,21 @@ module _ (table : TableState) (shapes : List (Option Shape)) (tenants : List Ten
     shape_gone : slice_index_or shapes_new k None ≡ None
     shape_gone = get_or-set_same shapes k None None index_inside
 
-    maps_new : maps_of shapes_new (contents_of new) ≡ slice_set (maps_of shapes (contents_of table)) k None
-    maps_new =
-        maps_of-changed shapes shapes_new (contents_of table) (contents_of new) k None (length-set shapes k None) index_inside
-        (λ j ne. get_or-set_other shapes k j None None ne) others_new
-        (ap (option_map (flat_of pages_new)) shape_gone)
+    wide : length (contents_of new) ≡ length (contents_of table)
+    wide =
+        let fits : k * 256 + length (replicate {A = List ℕ} (page_count shape) []) ≤ length (contents_of table) = omega (arith, length-replicate {A = List ℕ} (page_count shape) [], all, few) in
+        ap length contents ∙ length-with_part (contents_of table) (k * 256) (replicate (page_count shape) []) fits
 
     pub memory_dropped : IsMemory new shapes_new tenants reserved
     memory_dropped =
-        let long = length-replicate {A = List ℕ} (page_count shape) [] in
-        let h = all in
-        let f = few in
-        record {
-          maps = AreMaps-changed shapes shapes_new (contents_of table) (contents_of new) k (length-set shapes k None)
-              (ap length contents ∙ length-with_part (contents_of table) (k * 256) (replicate (page_count shape) []) (omega (arith, long, h, f)))
-              (λ j ne. get_or-set_other shapes k j None None ne) others_new
-              (subst (λ s. ArePages s pages_new) (sym shape_gone) none_new)
-              is.maps;
-          numbers = length-set shapes k None ∙ is.numbers;
-          few = is.few;
-          frames = omega (arith, arena, is.frames);
-          sum = is.sum;
-          room = omega (arith, arena, used, is.room);
-        }
+        memory_changed table new shapes shapes_new tenants reserved tenant m is small index_inside (length-set shapes k None) wide
+        (λ j ne. get_or-set_other shapes k j None None ne) others_new arena (omega (arith, used, is.room)) (subst (λ s. ArePages s pages_new) (sym shape_gone) none_new)
 
     pub shapes_few : length shapes_new ≤ 128
     shapes_few = let long = length-set shapes k None in omega (arith, long, is.numbers, is.few)
 
     pub long_new : length new.entries ≡ length table.entries
-    long_new =
-        let filled = length-replicate {A = List ℕ} (page_count shape) [] in
-        let h = all in
-        let f = few in
-        sym (length-contents new) ∙ ap length contents ∙ length-with_part (contents_of table) (k * 256) (replicate (page_count shape) []) (omega (arith, filled, h, f)) ∙ length-contents table
+    long_new = sym (length-contents new) ∙ wide ∙ length-contents table
 
     module _ (fits : IsTable table) (fit : PinsFit (states_of table.entries) pass.pins) (done : Pass) (ended : sharing_of new done ≡ ended_at (sharing_of new (left_outside (k * 256) (k * 256 + page_count shape) pass)) pass.cursor)
         (told : sharing_of new pass ≡ record (gone_from (sharing_of table pass) (k * 256) (page_count shape)) { pins = pass.pins }) where
@@ -318,14 +250,6 @@ module _ (table : TableState) (shapes : List (Option Shape)) (tenants : List Ten
 
       abbrev after : MemoryState
       after = view_of new shapes_new tenants done
-
-      maps_after : after.maps ≡ slice_set before.maps k None
-      unfolding view_of
-      maps_after = maps_new
-
-      tenants_after : after.tenants ≡ before.tenants
-      unfolding view_of
-      tenants_after = refl
 
       sharing_after : after.sharing ≡ dropped before.sharing (k * 256) (page_count shape)
       unfolding view_of dropped
@@ -340,42 +264,29 @@ module _ (table : TableState) (shapes : List (Option Shape)) (tenants : List Ten
       tenant_pins : tenant * 2048 + 2048 ≤ length pass.pins
       tenant_pins = let t = tenant_inside in pins-inside table shapes tenants pass reserved is fit tenant t
 
+      one : OneMap before after tenant m None (with_part (part_of pass.pins (tenant * 2048) 2048) (m * 256) (replicate 256 false))
+      one =
+          let within : m * 256 + 256 ≤ 2048 = omega (arith, small) in
+          one_map table new shapes shapes_new tenants reserved tenant m is small index_inside (length-set shapes k None) wide (λ j ne. get_or-set_other shapes k j None None ne) others_new arena
+          pass done None (with_part (part_of pass.pins (tenant * 2048) 2048) (m * 256) (replicate 256 false)) (ap (option_map (flat_of pages_new)) shape_gone)
+          (ap (λ (pins : List Bool). part_of pins (tenant * 2048) 2048) pins_after ∙ tenant-unpinned pass.pins tenant (m * 256) 256 within tenant_pins)
+          (λ u ne. ap (λ (pins : List Bool). part_of pins (u * 2048) 2048) pins_after ∙ others-unpinned pass.pins tenant (m * 256) 256 u within tenant_pins ne)
+
       taken_after : part after tenant ≡ part_dropped (part before tenant) m
       unfolding view_of part
-      taken_after =
-          part-set_same before after tenant m None (with_part (part_of pass.pins (tenant * 2048) 2048) (m * 256) (replicate 256 false)) small tenants_after maps_after
-          (ap (λ (pins : List Bool). part_of pins (tenant * 2048) 2048) pins_after ∙ tenant-unpinned pass.pins tenant (m * 256) 256 (let h = small in omega (arith, h)) tenant_pins)
-
-      others_after : IsKeptBut tenant before after
-      unfolding view_of
-      others_after =
-          part-set_other before after tenant m None small tenants_after maps_after
-          (λ u ne. ap (λ (pins : List Bool). part_of pins (u * 2048) 2048) pins_after ∙ others-unpinned pass.pins tenant (m * 256) 256 u (let h = small in omega (arith, h)) tenant_pins ne)
-
-      old_free : free_of before + used_by table ≡ length table.arena
-      old_free = free_is table shapes tenants pass (omega (arith, is.room))
-
-      new_free : free_of after + used_by new ≡ length table.arena
-      new_free = let told = free_is new shapes_new tenants done (omega (arith, used, arena, is.room)) in omega (arith, told, arena)
-
-      have_after : have_of after + free_of before ≡ have_of before + free_of after
-      unfolding view_of
-      have_after = let old = old_free in let newer = new_free in omega (arith, old, newer, is.room, is.sum, used)
-
-      settings_after : KeepsSettings before after
-      unfolding view_of
-      settings_after = record { tenants = refl; frames = arena }
+      taken_after = one.part_new
 
       pub drops : Drops before after tenant m shape
+      unfolding view_of
       drops =
-          let old = old_free in
-          let newer = new_free in
+          let old = free_is table shapes tenants pass (omega (arith, is.room)) in
+          let newer = free_is new shapes_new tenants done (omega (arith, used, arena, is.room)) in
           record {
             taken = taken_after;
-            other_maps = maps-set_other before after tenant m None small tenants_after maps_after;
-            others = others_after;
+            other_maps = one.other_maps;
+            others = one.others;
             sharing = sharing_after;
-            freed = omega (arith, old, newer, used);
-            have = have_after;
-            settings = settings_after;
+            freed = omega (arith, old, newer, used, arena);
+            have = omega (arith, old, newer, is.room, is.sum, used, arena);
+            settings = one.settings;
           }

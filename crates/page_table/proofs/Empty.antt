@@ -1,5 +1,5 @@
 -- A memory without maps.
-use Rattle.std.proofs.Common.{◌≡◌, ◌∙◌, ℕ, zero, suc, ◌+◌, ◌*◌, ◌<◌, ◌≤◌, List, [], ◌∷◌, length, take, drop, replicate, slice_index_or, sum_by, false, Option, None, option_map, refl, sym, ap, arith, ⊎_elim, ◌⊎◌}
+use Rattle.std.proofs.Common.{◌≡◌, ◌∙◌, ℕ, zero, suc, ◌+◌, ◌*◌, List, [], ◌∷◌, length, take, drop, replicate, slice_index_or, sum_by, false, Option, None, option_map, refl, sym, ap, arith, ⊎_elim}
 use Rattle.std.proofs.lemmas.List.{length-map, length-replicate, length-take, get_or-take, get_or-drop, get_or_past}
 use Rattle.std.proofs.lemmas.List.Folds.{sum_by-replicate}
 use Rattle.host_types.specs.declared.options.Options.{Options}
@@ -13,23 +13,9 @@ use Rattle.page_table.specs.Limits.{AreLimits}
 use Rattle.page_table.specs.State.{new_memory, unreserved_tenant}
 use Rattle.page_table.specs.Table.{TableState, ArePages, entry_content, contents_of, groups_of, own_pages, state_of, maps_of, used_by, new_pass}
 use Rattle.page_table.specs.View.{view_of, IsMemory, IsPass}
-use Rattle.page_table.proofs.Adding.{own_one}
-use Rattle.page_table.proofs.Putting.{empty_table}
-
-nothing : (n i : ℕ) → slice_index_or (replicate {A = List ℕ} n []) i [] ≡ []
-nothing zero i = refl
-nothing (suc n) zero = refl
-nothing (suc n) (suc i) = nothing n i
-
-no_shape : (n k : ℕ) → slice_index_or (replicate {A = Option Shape} n None) k None ≡ None
-no_shape zero k = refl
-no_shape (suc n) zero = refl
-no_shape (suc n) (suc k) = no_shape n k
-
-no_pin : (n i : ℕ) → slice_index_or (replicate n false) i false ≡ false
-no_pin zero i = refl
-no_pin (suc n) zero = refl
-no_pin (suc n) (suc i) = no_pin n i
+use Rattle.page_table.proofs.Changing.{own_one}
+use Rattle.page_table.proofs.Sides.{order}
+use Rattle.page_table.proofs.Putting.{empty_table, all_same}
 
 no_maps : (n : ℕ) (contents : List (List ℕ)) → maps_of (replicate n None) contents ≡ replicate n None
 unfolding maps_of
@@ -39,9 +25,6 @@ no_maps (suc n) contents = ap (λ l. None ∷ l) (no_maps n (drop 256 contents))
 part_nothing : (xs : List (List ℕ)) (at w n : ℕ) → ((i : ℕ) → slice_index_or xs i [] ≡ []) → slice_index_or (part_of xs at w) n [] ≡ []
 unfolding part_of
 part_nothing xs at w n none = ⊎_elim (λ less. get_or-take w (drop at xs) n [] less ∙ get_or-drop at xs n [] ∙ none (at + n)) (λ more. get_or_past (take w (drop at xs)) n [] (let h = length-take w (drop at xs) in omega arith)) (order n w)
-  where
-    order : (a b : ℕ) → (a < b) ⊎ (b ≤ a)
-    order a b = grind arith
 
 module _ (frames tenants : ℕ) (options : Options) (limits : AreLimits frames tenants) where
   abbrev table : TableState
@@ -68,7 +51,7 @@ module _ (frames tenants : ℕ) (options : Options) (limits : AreLimits frames t
       record {
         maps = record {
           places = omega (arith, places, long);
-          each = λ k less. pages k (slice_index_or (replicate (tenants * 8) None) k None) (no_shape (tenants * 8) k);
+          each = λ k less. pages k (slice_index_or (replicate (tenants * 8) None) k None) (all_same {X = Option Shape} None (tenants * 8) k);
         };
         numbers = omega (arith, long, count);
         few = omega (arith, count, limits.few_tenants);
@@ -78,7 +61,7 @@ module _ (frames tenants : ℕ) (options : Options) (limits : AreLimits frames t
       }
     where
       pages : (k : ℕ) (shape : Option Shape) → shape ≡ None → ArePages shape (part_of (contents_of table) (k * 256) 256)
-      pages k shape e = rw e (λ n. part_nothing (contents_of table) (k * 256) 256 n (λ i. ap (λ l. slice_index_or l i []) no_contents ∙ nothing (tenants * 2048) i))
+      pages k shape e = rw e (λ n. part_nothing (contents_of table) (k * 256) 256 n (λ i. ap (λ l. slice_index_or l i []) no_contents ∙ all_same {X = List ℕ} [] (tenants * 2048) i))
 
   pub view_new : view_of table (replicate (tenants * 8) None) (replicate tenants unreserved_tenant) (new_pass frames (tenants * 2048) options) ≡ new_memory frames tenants options
   unfolding view_of groups_of new_memory
@@ -93,6 +76,6 @@ module _ (frames tenants : ℕ) (options : Options) (limits : AreLimits frames t
         cursor = tt;
         pins = record {
           as_many = length-replicate (tenants * 2048) false ∙ sym (length-map (replicate (tenants * 2048) None) (option_map state_of) ∙ length-replicate {A = Option Entry} (tenants * 2048) None);
-          volatile = λ i is. absurd (let none = no_pin (tenants * 2048) i in cc);
+          volatile = λ i is. absurd (let none = all_same false (tenants * 2048) i in cc);
         };
       }

@@ -1,20 +1,20 @@
 -- A page table stays sound where the last page leaves its group and keeps the frame.
-use Rattle.std.proofs.Common.{◌≡◌, ◌≢◌, ◌∙◌, inl, inr, ◌⊎◌, ⊎_elim, ℕ, ◌+◌, ◌<◌, ◌≤◌, ◌==◌, not, Bool, true, false, if◌then◌else◌, List, [], ◌∷◌, length, map, filter, slice_index_or, slice_set, Option, Some, None, IfSome, option_map, refl, sym, ap, subst, arith}
-use Rattle.std.proofs.lemmas.List.{length-set, map-set, set-get_or, nil_from_length, get_or-set_same}
-use Rattle.std.proofs.lemmas.Bool.Decides.{eqb_tells}
+use Rattle.std.proofs.Common.{◌≡◌, ◌≢◌, ◌∙◌, inl, inr, ◌⊎◌, ⊎_elim, ℕ, ◌+◌, ◌<◌, ◌≤◌, ◌==◌, not, true, false, List, [], ◌∷◌, length, map, filter, slice_index_or, slice_set, Option, Some, None, option_map, refl, sym, ap, subst, arith}
+use Rattle.std.proofs.lemmas.List.{map-set, set-get_or, nil_from_length}
+use Rattle.std.proofs.lemmas.Bool.Decides.{eqb_tells, nat_tests}
 use Rattle.page_table.specs.declared.pass.Pass.{Pass}
-use Rattle.host_types.specs.declared.status.Status.{Status}
-use Rattle.host_types.specs.declared.status.Status.TheVariants.{New, Volatile, Waiting, Grouped, Zero}
+use Rattle.host_types.specs.declared.status.Status.TheVariants.{Volatile}
 use Rattle.host_types.specs.Sharing.{PageState, state_at, is_shared, broken, broken_page, without, left_by}
-use Rattle.host_types.proofs.Without.{without-length, times-gone, times-kept, kept_group, some_kept}
+use Rattle.host_types.proofs.Without.{without-length, times-gone, times-kept, some_kept}
 use Rattle.frame_arena.specs.Pages.{page_at}
 use Rattle.page_table.specs.declared.entry.Entry.{Entry}
-use Rattle.page_table.specs.Table.{TableState, CountsState, IsTable, IsEntry, IsAlone, IsGroup, IsOwnAt, IsSound, AreCountsOf, LiesRight, times, one_if_zero, entry_at, state_of, states_of, contents_of, groups_of, sharing_of, is_on, places_on, pages_on, used_by}
-use Rattle.page_table.proofs.Adding.{own_one, own_pages-set, IsEntry-kept}
+use Rattle.page_table.specs.Table.{TableState, CountsState, IsTable, IsEntry, IsAlone, IsGroup, IsSound, AreCountsOf, times, one_if_zero, entry_at, state_of, states_of, contents_of, groups_of, sharing_of, is_on, places_on, pages_on, used_by}
+use Rattle.page_table.proofs.Changing.{entry_fits, table-set, counted-changed, lies_alone, apart_alone, pages_on-changed, own_pages-changed, lies_shared}
 use Rattle.page_table.proofs.Costs.{state-at, group-frame}
-use Rattle.page_table.proofs.Entries.{times-head, times-tail, one_when, on_one, elsewhere, not_equal, equal, pages_on-set, some_on, inside, alone, at_set, contents-set}
-use Rattle.page_table.proofs.Groups.{length-places, without-places}
-use Rattle.page_table.proofs.Putting.{entry_fits, content_at}
+use Rattle.page_table.proofs.Entries.{times-head, times-tail, one_when, on_one, not_equal, equal, pages_on-set, some_on, inside, contents-set, group_of}
+use Rattle.page_table.proofs.Groups.{length-places, without-here}
+use Rattle.page_table.proofs.Putting.{content_at}
+use Rattle.page_table.proofs.Leaving.{sharing-broken}
 
 -- a list of frames without one of them
 abbrev pub but : ℕ → List ℕ → List ℕ
@@ -26,34 +26,14 @@ left-groups : (old new : List (Option Entry)) (f i : ℕ) (groups : List ℕ) �
     → left_by i (map (λ g. places_on 0 g old) groups) ≡ map (λ g. places_on 0 g new) (but f groups)
 left-groups old new f i [] gone stay = refl
 left-groups old new f i (g ∷ gs) gone stay =
-    let rest : left_by i (map (λ g. places_on 0 g old) gs) ≡ map (λ g. places_on 0 g new) (but f gs) =
-    left-groups old new f i gs gone (λ h le ne. let more = times-tail h g gs in stay h (omega (arith, le, more)) ne) in
-    ⊎_elim (λ same. its_own same.0 same.1 rest) (λ other. another other.0 other.1 rest) (eqb_tells g f)
-  where
-    its_own : (g == f) ≡ true → g ≡ f → left_by i (map (λ g. places_on 0 g old) gs) ≡ map (λ g. places_on 0 g new) (but f gs)
-        → kept_group (without i (places_on 0 g old)) (left_by i (map (λ g. places_on 0 g old) gs)) ≡ map (λ g. places_on 0 g new) (but f (g ∷ gs))
-    its_own test same rest =
-        ap (λ (group : List ℕ). kept_group group (left_by i (map (λ g. places_on 0 g old) gs))) (ap (λ (n : ℕ). without i (places_on 0 n old)) same ∙ gone)
-        ∙ rest
-        ∙ sym (ap (λ (b : Bool). map (λ g. places_on 0 g new) (if not b then g ∷ but f gs else but f gs)) test)
-
-    another : (g == f) ≡ false → g ≢ f → left_by i (map (λ g. places_on 0 g old) gs) ≡ map (λ g. places_on 0 g new) (but f gs)
-        → kept_group (without i (places_on 0 g old)) (left_by i (map (λ g. places_on 0 g old) gs)) ≡ map (λ g. places_on 0 g new) (but f (g ∷ gs))
-    another test ne rest =
-        let told = stay g (times-head g gs) ne in
-        ap (λ (group : List ℕ). kept_group group (left_by i (map (λ g. places_on 0 g old) gs))) told.0
-        ∙ some_kept (places_on 0 g new) (left_by i (map (λ g. places_on 0 g old) gs)) told.1
-        ∙ ap (λ (groups : List (List ℕ)). places_on 0 g new ∷ groups) rest
-        ∙ sym (ap (λ (b : Bool). map (λ g. places_on 0 g new) (if not b then g ∷ but f gs else but f gs)) test)
-
--- a state after the break of a page that is shared
-pub sharing-broken : (old new : TableState) (pass : Pass) (i : ℕ) (entry : Entry) (state : PageState) → entry_at old.entries i ≡ Some entry → is_shared entry.status ≡ true
-    → state ≡ broken_page (state_of entry) → states_of new.entries ≡ slice_set (states_of old.entries) i (Some state) → groups_of new ≡ left_by i (groups_of old)
-    → sharing_of new pass ≡ broken (sharing_of old pass) i
-unfolding broken
-sharing-broken old new pass i entry state here shared made states groups =
-    let at : state_at (sharing_of old pass) i ≡ Some (state_of entry) = state-at old pass i ∙ ap (option_map state_of) here in
-    rw (at, shared, states, groups, made) refl
+    grind (
+      arith,
+      nat_tests,
+      gone,
+      stay g (times-head g gs),
+      some_kept (places_on 0 g new) (left_by i (map (λ g. places_on 0 g old) gs)),
+      left-groups old new f i gs gone (λ h le ne. let more = times-tail h g gs in stay h (omega (arith, le, more)) ne),
+    )
 
 -- a page with a frame of its own stays
 pub sharing-unbroken : (table : TableState) (pass : Pass) (i : ℕ) (entry : Entry) → IsTable table → entry_at table.entries i ≡ Some entry → entry.protected ≡ false
@@ -75,28 +55,16 @@ module _ (table : TableState) (i : ℕ) (entry new : Entry) (is : IsTable table)
 
   -- the page is of a group
   pub one_group : times entry.frame table.groups ≡ 1
-  one_group = by_status entry.status shared (IsEntry.right (entry_fits table i entry is here))
+  one_group = ⊎_elim (λ once. once) (λ zero. absurd (omega (arith, last, lies, ap one_if_zero zero))) (lies_shared table entry.frame entry.status shared (entry_fits table i entry is here).right)
     where
-      on_zero : (f : ℕ) → f ≡ 0 → one_if_zero f ≡ 1
-      on_zero f e = ap one_if_zero e
-
-      by_status : (status : Status) → is_shared status ≡ true → LiesRight table entry.frame status → times entry.frame table.groups ≡ 1
-      by_status New e a = absurd (cc)
-      by_status Volatile e a = absurd (cc)
-      by_status Waiting e a = absurd (cc)
-      by_status Grouped e a = a
-      by_status Zero e a =
-          let lies = some_on entry.frame table.entries i (ap (is_on entry.frame) here ∙ equal entry.frame) in
-          absurd (omega (arith, last, lies, on_zero entry.frame a))
+      lies : 1 ≤ pages_on entry.frame table.entries
+      lies = some_on entry.frame table.entries i (ap (is_on entry.frame) here ∙ equal entry.frame)
 
   alone_there : pages_on entry.frame table.entries ≡ 1
   alone_there = let none = group-frame table entry.frame is one_group in omega (arith, none, last)
 
   pages_on-ended : (g : ℕ) → pages_on g (ended table i new entry.frame).entries ≡ pages_on g table.entries
-  pages_on-ended g =
-      let count = pages_on-set g table.entries i (Some new) there in
-      let same : on_one g (Some new) ≡ on_one g (entry_at table.entries i) = ap (λ (f : ℕ). one_when (f == g)) frame ∙ sym (ap (on_one g) here) in
-      omega (arith, count, same)
+  pages_on-ended g = grind (arith, pages_on-changed table.entries i entry (Some new) here g, frame)
 
   pub contents-ended : contents_of (ended table i new entry.frame) ≡ contents_of table
   unfolding contents_of
@@ -109,82 +77,54 @@ module _ (table : TableState) (i : ℕ) (entry new : Entry) (is : IsTable table)
   unfolding groups_of
   groups-ended = sym (left-groups table.entries (slice_set table.entries i (Some new)) entry.frame i table.groups gone stay)
     where
-      start : i ≡ 0 + i
-      start = omega arith
-
       gone : without i (places_on 0 entry.frame table.entries) ≡ []
       gone =
-          let left : without i (places_on 0 entry.frame table.entries) ≡ places_on 0 entry.frame (slice_set table.entries i None) =
-          ap (λ (n : ℕ). without n (places_on 0 entry.frame table.entries)) start ∙ without-places 0 entry.frame table.entries i None refl in
           let count = pages_on-set entry.frame table.entries i None there in
           let one : on_one entry.frame (entry_at table.entries i) ≡ 1 = ap (on_one entry.frame) here ∙ ap one_when (equal entry.frame) in
           let long = length-places 0 entry.frame (slice_set table.entries i None) in
-          left ∙ nil_from_length (places_on 0 entry.frame (slice_set table.entries i None)) (omega (arith, long, count, one, alone_there))
+          without-here entry.frame table.entries i None refl
+          ∙ nil_from_length (places_on 0 entry.frame (slice_set table.entries i None)) (omega (arith, long, count, one, alone_there))
 
       stay : (g : ℕ) → 1 ≤ times g table.groups → g ≢ entry.frame
           → (without i (places_on 0 g table.entries) ≡ places_on 0 g (slice_set table.entries i (Some new))) × (0 < length (places_on 0 g (slice_set table.entries i (Some new))))
       stay g le ne = (
-        ap (λ (n : ℕ). without n (places_on 0 g table.entries)) start
-            ∙ without-places 0 g table.entries i (Some new) (not_equal g new.frame (λ e. ne (sym (sym frame ∙ e)))),
-        let long = length-places 0 g (slice_set table.entries i (Some new)) in
-            let pages = pages_on-ended g in
-            ⊎_elim (λ none. absurd (omega (arith, none, le))) (λ group. omega (arith, IsGroup.some group, long, pages)) (is.groups g),
+        without-here g table.entries i (Some new) (not_equal g new.frame (λ e. ne (sym (sym frame ∙ e)))),
+        omega (arith, length-places 0 g (slice_set table.entries i (Some new)), pages_on-ended g, (group_of table g is le).some),
       )
 
   pub sharing-ended : (pass : Pass) → sharing_of (ended table i new entry.frame) pass ≡ broken (sharing_of table pass) i
-  sharing-ended pass =
-      sharing-broken table (ended table i new entry.frame) pass i entry (state_of new) here shared state (map-set (option_map state_of) table.entries i (Some new)) groups-ended
+  sharing-ended =
+      sharing-broken table (ended table i new entry.frame) i entry here shared
+      (map-set (option_map state_of) table.entries i (Some new) ∙ ap (λ s. slice_set (states_of table.entries) i (Some s)) state) groups-ended
 
   status-ended : new.status ≡ Volatile
   status-ended = ap (λ (s : PageState). s.status) state
 
-  pub own-ended : IsOwnAt (ended table i new entry.frame) i
-  own-ended =
-      subst (λ (x : Option Entry). IfSome x (λ entry. is_shared entry.status ≡ false)) (sym (get_or-set_same table.entries i (Some new) None there)) (ap is_shared status-ended)
-
   pub used-ended : used_by (ended table i new entry.frame) ≡ used_by table
   used-ended =
-      let count = own_pages-set table.entries i (Some new) there in
-      let none : own_one (entry_at table.entries i) ≡ 0 = ap own_one here ∙ ap (λ (b : Bool). if b then 0 else 1) shared in
-      let one : own_one (Some new) ≡ 1 = ap (λ (s : Status). if is_shared s then 0 else 1) status-ended in
-      let long = without-length entry.frame table.groups in
-      omega (arith, count, none, one, long, one_group)
+      let own : is_shared new.status ≡ false = ap is_shared status-ended in
+      grind (arith, own_pages-changed table.entries i entry (Some new) here, shared, own, without-length entry.frame table.groups, one_group)
 
   IsTable-ended : new.protected ≡ false → IsTable (ended table i new entry.frame)
   IsTable-ended unlocked =
-      record {
-        some = is.some;
-        small = is.small;
-        pages = is.pages;
-        zero = is.zero;
-        entries = λ j. at_set (λ x. IfSome x (IsEntry after)) table.entries i j (Some new) tt made (λ ne. other j ne (entry_at table.entries j) refl (is.entries j));
-        groups = each;
-        few = rw (length-set table.entries i (Some new)) is.few;
-      }
+      let fits = entry_fits table i entry is here in
+      let group = group_of table entry.frame is (omega (arith, one_group)) in
+      let lone : IsAlone after entry.frame = record { above = group.above; one = pages_on-ended entry.frame ∙ alone_there; no_group = times-gone entry.frame table.groups } in
+      table-set table after i (Some new) is refl refl is.pages is.zero
+      (record {
+        frame = omega (arith, frame, fits.frame);
+        protected = unlocked ∙ sym (ap is_shared status-ended);
+        right = lies_alone after new.frame new.status (ap is_shared status-ended) (subst (IsAlone after) (sym frame) lone);
+      })
+      (λ j y ne e.
+      let same = times-kept entry.frame y.frame table.groups (λ q. apart_alone table j i y entry e here (λ p. ne (sym p)) alone_there (sym q)) in (
+        λ a. record { above = a.above; one = pages_on-ended y.frame ∙ a.one; no_group = same ∙ a.no_group },
+        λ once. same ∙ once,
+      ))
+      each
     where
       after : TableState
       after = ended table i new entry.frame
-
-      made : IsEntry after new
-      made =
-          let fits = entry_fits table i entry is here in
-          let above : 0 < entry.frame = ⊎_elim (λ none. absurd (omega (arith, none, one_group))) (λ group. IsGroup.above group) (is.groups entry.frame) in
-          let lone : IsAlone after entry.frame = record { above = above; one = pages_on-ended entry.frame ∙ alone_there; no_group = times-gone entry.frame table.groups } in
-          record {
-            frame = omega (arith, frame, fits.frame);
-            protected = unlocked ∙ sym (ap is_shared status-ended);
-            right = subst (LiesRight after new.frame) (sym status-ended) (subst (IsAlone after) (sym frame) lone);
-          }
-
-      apart : (j : ℕ) → j ≢ i → (page : Entry) → entry_at table.entries j ≡ Some page → page.frame ≢ entry.frame
-      apart j ne page e =
-          elsewhere entry.frame page.frame
-          (sym (ap (is_on entry.frame) e) ∙ alone entry.frame table.entries i j there alone_there (ap (is_on entry.frame) here ∙ equal entry.frame) ne)
-
-      other : (j : ℕ) → j ≢ i → (x : Option Entry) → entry_at table.entries j ≡ x → IfSome x (IsEntry table) → IfSome x (IsEntry after)
-      other j ne None e h = tt
-      other j ne (Some page) e h =
-          IsEntry-kept table after page refl (λ one lone. pages_on-ended page.frame ∙ one) (times-kept entry.frame page.frame table.groups (apart j ne page e)) h
 
       each : (g : ℕ) → (times g after.groups ≡ 0) ⊎ IsGroup after g
       each g =
@@ -201,9 +141,5 @@ module _ (table : TableState) (i : ℕ) (entry new : Entry) (is : IsTable table)
   sound-ended counts unlocked counted =
       record {
         fits = IsTable-ended unlocked;
-        counted = record {
-          sized = counted.sized;
-          counted = λ g h. let pages = pages_on-ended g in let known = counted.counted g h in omega (arith, pages, known);
-          used = let same = used-ended in omega (arith, same, counted.used);
-        };
+        counted = counted-changed table (ended table i new entry.frame) counts counts counted refl refl (let same = used-ended in omega (arith, same)) (λ g h. let pages = pages_on-ended g in omega (arith, pages));
       }

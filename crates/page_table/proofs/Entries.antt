@@ -1,12 +1,13 @@
 -- Entries by place: what a change of one of them changes.
-use Rattle.std.proofs.Common.{◌≡◌, ◌≢◌, ◌∙◌, ⊎_elim, ℕ, zero, suc, ◌+◌, ◌<◌, ◌≤◌, ◌==◌, Bool, true, false, if◌then◌else◌, List, [], ◌∷◌, length, map, option_map, sum_by, slice_set, Option, Some, None, refl, sym, ap, arith}
-use Rattle.std.proofs.lemmas.List.{get_or-set_same, get_or-set_other, length-set}
+use Rattle.std.proofs.Common.{◌≡◌, ◌≢◌, ◌∙◌, ⊎_elim, ℕ, zero, suc, ◌+◌, ◌<◌, ◌≤◌, ◌==◌, Bool, true, false, if◌then◌else◌, List, [], ◌∷◌, length, map, option_map, slice_set, Option, Some, None, refl, sym, ap, arith, slice_index_or}
+use Rattle.std.proofs.lemmas.List.{get_or-set_same, get_or-set_other, length-set, map-set}
 use Rattle.std.proofs.lemmas.List.Sums.{sum_by-set, sum_by-cons}
-use Rattle.std.proofs.lemmas.Bool.Decides.{nat_tests, eqb_tells}
-use Rattle.host_types.specs.Sharing.{is_shared}
+use Rattle.std.proofs.lemmas.Bool.Decides.{nat_tests}
+use Rattle.std.proofs.Math.Seq.{map-set_same}
+use Rattle.host_types.specs.Sharing.{is_shared, PageState}
 use Rattle.frame_arena.specs.Pages.{page_at}
 use Rattle.page_table.specs.declared.entry.Entry.{Entry}
-use Rattle.page_table.specs.Table.{times, entry_at, frames_of, entry_content, is_on, places_on, pages_on, one_if_zero}
+use Rattle.page_table.specs.Table.{times, entry_at, frames_of, entry_content, is_on, places_on, pages_on, one_if_zero, TableState, IsTable, IsGroup, state_of, states_of}
 
 abbrev pub one_when : Bool → ℕ
 one_when b = if b then 1 else 0
@@ -25,12 +26,6 @@ not_equal f g ne = grind (arith, nat_tests)
 pub equal : (g : ℕ) → (g == g) ≡ true
 equal g = grind (arith, nat_tests)
 
-pub on_one-true : (f : ℕ) (x : Option Entry) → is_on f x ≡ true → on_one f x ≡ 1
-on_one-true f x h = ap one_when h
-
-pub on_one-false : (f : ℕ) (x : Option Entry) → is_on f x ≡ false → on_one f x ≡ 0
-on_one-false f x h = ap one_when h
-
 -- a frame other than the zero frame has no holders but its pages
 pub one_if_zero-above : (f : ℕ) → 0 < f → one_if_zero f ≡ 0
 one_if_zero-above zero h = absurd (omega arith)
@@ -42,26 +37,20 @@ pub pages_on-set : (f : ℕ) (xs : List (Option Entry)) (i : ℕ) (x : Option En
 unfolding pages_on
 pages_on-set f xs i x h = sum_by-set (on_one f) xs i x None h
 
+-- the first entry and the others, counted apart
+pub pages_on-cons : (f : ℕ) (x : Option Entry) (xs : List (Option Entry)) → pages_on f (x ∷ xs) ≡ on_one f x + pages_on f xs
+unfolding pages_on
+pages_on-cons f x xs = sum_by-cons (on_one f) x xs
+
 -- no page lies on a frame
 pub none_on : (f : ℕ) (xs : List (Option Entry)) (i : ℕ) → pages_on f xs ≡ 0 → is_on f (entry_at xs i) ≡ false
-unfolding pages_on
 none_on f [] i h = refl
-none_on f (x ∷ xs) zero h = first (is_on f x) (sym (sum_by-cons (on_one f) x xs) ∙ h)
-  where
-    first : (b : Bool) → (if b then 1 else 0) + sum_by (on_one f) xs ≡ 0 → b ≡ false
-    first true e = absurd (omega arith)
-    first false e = refl
-none_on f (x ∷ xs) (suc i) h =
-    let split = sum_by-cons (on_one f) x xs in
-    none_on f xs i (omega arith)
+none_on f (x ∷ xs) zero h = grind (arith, pages_on-cons f x xs)
+none_on f (x ∷ xs) (suc i) h = grind (arith, pages_on-cons f x xs, none_on f xs i)
 
 -- a page on a frame is counted there
 pub some_on : (f : ℕ) (xs : List (Option Entry)) (i : ℕ) → is_on f (entry_at xs i) ≡ true → 1 ≤ pages_on f xs
-some_on f xs i h = by_count (pages_on f xs) refl
-  where
-    by_count : (n : ℕ) → pages_on f xs ≡ n → 1 ≤ pages_on f xs
-    by_count zero e = absurd (cc (none_on f xs i e))
-    by_count (suc n) e = omega arith
+some_on f xs i h = grind (arith, none_on f xs i)
 
 -- a page that is there has a place
 pub inside : (xs : List (Option Entry)) (i : ℕ) (entry : Entry) → entry_at xs i ≡ Some entry → i < length xs
@@ -69,14 +58,44 @@ inside [] i entry h = absurd (cc)
 inside (x ∷ xs) zero entry h = omega arith
 inside (x ∷ xs) (suc i) entry h = let rest = inside xs i entry h in omega arith
 
+-- what is told of the entry at a place
+pub told_at : {X : Type 0} (tell : Entry → X) (xs : List (Option Entry)) (i : ℕ) → slice_index_or (map (option_map tell) xs) i None ≡ option_map tell (entry_at xs i)
+told_at tell [] i = refl
+told_at tell (x ∷ xs) zero = refl
+told_at tell (x ∷ xs) (suc i) = told_at tell xs i
+
+-- of a page that is there
+pub told_here : {X : Type 0} (tell : Entry → X) (xs : List (Option Entry)) (i : ℕ) (entry : Entry) → entry_at xs i ≡ Some entry
+    → slice_index_or (map (option_map tell) xs) i None ≡ Some (tell entry)
+told_here tell xs i entry here = told_at tell xs i ∙ ap (option_map tell) here
+
+-- what is told is told of an entry
+pub entry_told : {X : Type 0} (tell : Entry → X) (xs : List (Option Entry)) (i : ℕ) (x : X) → slice_index_or (map (option_map tell) xs) i None ≡ Some x
+    → (entry : Entry) × (entry_at xs i ≡ Some entry) × (tell entry ≡ x)
+entry_told tell [] i x e = absurd (cc)
+entry_told tell (None ∷ xs) zero x e = absurd (cc)
+entry_told tell (Some entry ∷ xs) zero x e = let same : tell entry ≡ x = cc in (entry, refl, same)
+entry_told tell (y ∷ xs) (suc i) x e = entry_told tell xs i x e
+
+-- one page changes, as callers see it
+pub states-set : (change : PageState → PageState) (xs : List (Option Entry)) (i : ℕ) (entry x : Entry) → entry_at xs i ≡ Some entry → state_of x ≡ change (state_of entry)
+    → states_of (slice_set xs i (Some x)) ≡ slice_set (states_of xs) i (option_map change (slice_index_or (states_of xs) i None))
+states-set change xs i entry x here same =
+    map-set (option_map state_of) xs i (Some x) ∙ ap (slice_set (states_of xs) i) (ap Some same ∙ ap (option_map change) (sym (told_here state_of xs i entry here)))
+
+-- a frame that is listed is a group's
+pub group_of : (table : TableState) (f : ℕ) → IsTable table → 1 ≤ times f table.groups → IsGroup table f
+group_of table f is some = ⊎_elim (λ none. absurd (omega (arith, none, some))) (λ group. group) (is.groups f)
+
+-- the counts after one of them became n
+pub counts-set : (counts : List ℕ) (f n g : ℕ) → f < length counts → slice_index_or (slice_set counts f n) g 0 ≡ (if f == g then n else slice_index_or counts g 0)
+counts-set counts f n g h = grind (arith, nat_tests, get_or-set_same counts f n 0, get_or-set_other counts f g n 0)
+
 -- of two pages on a frame where one lies, both are that one
 pub alone : (f : ℕ) (xs : List (Option Entry)) (i j : ℕ) → i < length xs → pages_on f xs ≡ 1 → is_on f (entry_at xs i) ≡ true → j ≢ i
     → is_on f (entry_at xs j) ≡ false
 alone f xs i j there one here ne =
-    let count = pages_on-set f xs i None there in
-    let counted = on_one-true f (entry_at xs i) here in
-    let left : pages_on f (slice_set xs i None) ≡ 0 = omega arith in
-    sym (ap (is_on f) (get_or-set_other xs i j None None ne)) ∙ none_on f (slice_set xs i None) j left
+    grind (arith, pages_on-set f xs i None there, get_or-set_other xs i j None None, none_on f (slice_set xs i None) j)
 
 -- what holds of the new entry and of each other one holds at each place
 pub at_set : (P : Option Entry → Type 0) (xs : List (Option Entry)) (i j : ℕ) (x : Option Entry) → P None → P x → (j ≢ i → P (entry_at xs j)) → P (entry_at (slice_set xs i x) j)
@@ -116,59 +135,45 @@ places_on-set n f [] i x h = refl
 places_on-set n f (y ∷ ys) zero x h = rw h refl
 places_on-set n f (y ∷ ys) (suc i) x h = rw (places_on-set (n + 1) f ys i x h) refl
 
+pub times-cons : (g h : ℕ) (gs : List ℕ) → times g (h ∷ gs) ≡ one_when (h == g) + times g gs
+times-cons g h gs = sum_by-cons (λ (x : ℕ). if x == g then 1 else 0) h gs
+
 -- a number that stands in a list occurs there
 pub times-head : (g : ℕ) (gs : List ℕ) → 1 ≤ times g (g ∷ gs)
-times-head g gs =
-    let split = sum_by-cons (λ (x : ℕ). if x == g then 1 else 0) g gs in
-    let one : one_when (g == g) ≡ 1 = ap one_when (equal g) in
-    omega (arith, split, one)
+times-head g gs = grind (arith, nat_tests, times-cons g g gs)
 
 pub times-tail : (g h : ℕ) (gs : List ℕ) → times g gs ≤ times g (h ∷ gs)
-times-tail g h gs = let split = sum_by-cons (λ (x : ℕ). if x == g then 1 else 0) h gs in omega arith
+times-tail g h gs = grind (arith, times-cons g h gs)
+
+-- two readings of each group
+pub groups-each : {X : Type 0} (f h : ℕ → X) (groups : List ℕ) → ((g : ℕ) → 1 ≤ times g groups → f g ≡ h g) → map f groups ≡ map h groups
+groups-each f h [] same = refl
+groups-each f h (g ∷ gs) same =
+    let first = same g (times-head g gs) in
+    let rest = groups-each f h gs (λ k le. let more = times-tail k g gs in same k (omega arith)) in
+    cc
 
 -- the groups, where each lies as before
 pub groups-kept : (old new : List (Option Entry)) (groups : List ℕ) → ((g : ℕ) → 1 ≤ times g groups → places_on 0 g new ≡ places_on 0 g old)
     → map (λ g. places_on 0 g new) groups ≡ map (λ g. places_on 0 g old) groups
-groups-kept old new [] h = refl
-groups-kept old new (g ∷ gs) h =
-    let first = h g (times-head g gs) in
-    let rest = groups-kept old new gs (λ f le. let more = times-tail f g gs in h f (omega arith)) in
-    cc
+groups-kept old new groups h = groups-each (λ g. places_on 0 g new) (λ g. places_on 0 g old) groups h
 
 -- each page of the arena has its bytes, where one is written
 pub pages-set : (arena : List (List ℕ)) (f : ℕ) (page : List ℕ) → ((g : ℕ) → g < length arena → length (page_at arena g) ≡ 4096) → length page ≡ 4096
     → (g : ℕ) → g < length (slice_set arena f page) → length (page_at (slice_set arena f page) g) ≡ 4096
-pages-set arena f page pages sized g h = ⊎_elim (λ e. here e.1) (λ ne. ap length (get_or-set_other arena f g page [] ne.1) ∙ pages g (omega (arith, h, length-set arena f page))) (eqb_tells g f)
-  where
-    here : g ≡ f → length (page_at (slice_set arena f page) g) ≡ 4096
-    here e =
-        let inside : f < length arena = omega (arith, h, e, length-set arena f page) in
-        ap (λ (n : ℕ). length (page_at (slice_set arena f page) n)) e ∙ ap length (get_or-set_same arena f page [] inside) ∙ sized
+pages-set arena f page pages sized g h = grind (arith, length-set arena f page, get_or-set_same arena f page [], get_or-set_other arena f g page [], pages g)
 
 -- an entry put where none was leaves all that are there
 pub kept-empty : (xs : List (Option Entry)) (i : ℕ) (x : Option Entry) → entry_at xs i ≡ None → (j : ℕ) (entry : Entry) → entry_at xs j ≡ Some entry → entry_at (slice_set xs i x) j ≡ Some entry
-kept-empty xs i x none j entry e = ⊎_elim (λ same. absurd (let both : entry_at xs i ≡ Some entry = ap (entry_at xs) (sym same.1) ∙ e in cc)) (λ other. get_or-set_other xs i j x None other.1 ∙ e) (eqb_tells j i)
+kept-empty xs i x none j entry e = grind (arith, get_or-set_other xs i j x None)
 
 -- an entry put where a page shared a frame leaves all that share none
 pub kept-shared : (xs : List (Option Entry)) (i : ℕ) (old : Entry) (x : Option Entry) → entry_at xs i ≡ Some old → is_shared old.status ≡ true
     → (j : ℕ) (entry : Entry) → entry_at xs j ≡ Some entry → is_shared entry.status ≡ false → entry_at (slice_set xs i x) j ≡ Some entry
-kept-shared xs i old x here shared j entry e own =
-    ⊎_elim (λ same. absurd (let both : Some old ≡ Some entry = sym here ∙ ap (entry_at xs) (sym same.1) ∙ e in let one = unwrapped both in cc)) (λ other. get_or-set_other xs i j x None other.1 ∙ e) (eqb_tells j i)
-  where
-    unwrapped : Some old ≡ Some entry → is_shared old.status ≡ is_shared entry.status
-    unwrapped e = ap (λ (y : Option Entry). shared_in y) e
-      where
-        shared_in : Option Entry → Bool
-        shared_in None = false
-        shared_in (Some y) = is_shared y.status
+kept-shared xs i old x here shared j entry e own = grind (arith, get_or-set_other xs i j x None)
 
 -- a page that keeps its frame leaves all frames where they are
 pub frames-kept : (xs : List (Option Entry)) (i : ℕ) (before after : Entry) → entry_at xs i ≡ Some before → after.frame ≡ before.frame
     → frames_of (slice_set xs i (Some after)) ≡ frames_of xs
-frames-kept [] i before after here same = absurd (cc)
-frames-kept (x ∷ xs) zero before after here same =
-    let first : Some after.frame ≡ option_map (λ (entry : Entry). entry.frame) x =
-    ap (λ (n : ℕ). Some n) same ∙ ap (option_map (λ (entry : Entry). entry.frame)) (sym here) in
-    ap (λ (frame : Option ℕ). frame ∷ frames_of xs) first
-frames-kept (x ∷ xs) (suc i) before after here same =
-    ap (λ (frames : List (Option ℕ)). option_map (λ (entry : Entry). entry.frame) x ∷ frames) (frames-kept xs i before after here same)
+frames-kept xs i before after here same =
+    map-set_same (option_map (λ (entry : Entry). entry.frame)) xs i (Some after) None (ap Some same ∙ ap (option_map (λ (entry : Entry). entry.frame)) (sym here))

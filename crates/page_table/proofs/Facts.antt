@@ -1,10 +1,10 @@
 -- The law of every memory, from what holds of its table.
-use Rattle.std.proofs.Common.{◌≡◌, ◌≢◌, ◌∙◌, ◌⊎◌, ◌↔◌, inl, inr, ⊎_elim, ℕ, zero, suc, ◌+◌, ◌-◌, ◌*◌, ◌/◌, ◌%◌, ◌<◌, ◌≤◌, ◌==◌, ◌&&◌, ◌||◌, Bool, true, false, not, if◌then◌else◌, List, [], ◌∷◌, length, map, sum_by, filter, All, AllPairs, slice_index_or, Option, Some, None, IsSome, IfSome, is_some, option_map, refl, sym, ap, subst, arith}
+use Rattle.std.proofs.Common.{◌≡◌, ◌≢◌, ◌∙◌, ◌⊎◌, ◌↔◌, inl, inr, ⊎_elim, ℕ, zero, suc, ◌+◌, ◌-◌, ◌*◌, ◌/◌, ◌%◌, ◌<◌, ◌≤◌, ◌==◌, Bool, true, false, not, if◌then◌else◌, List, [], ◌∷◌, length, map, sum_by, filter, All, AllPairs, slice_index_or, Option, Some, None, IsSome, IfSome, is_some, option_map, refl, sym, ap, subst, arith}
 use Rattle.std.specs.List.{list_any, range_with_len}
 use Rattle.std.proofs.lemmas.List.{get_or_default, length-map}
 use Rattle.std.proofs.lemmas.List.Sums.{sum_by-cons, length-filter}
 use Rattle.std.proofs.lemmas.List.Kept.{AllPairs-cons}
-use Rattle.std.proofs.lemmas.Bool.Decides.{eqb_tells, nat_tests}
+use Rattle.std.proofs.lemmas.Bool.Decides.{nat_tests}
 use Rattle.page_table.specs.declared.pass.Pass.{Pass}
 use Rattle.host_types.specs.declared.shape.Shape.{Shape}
 use Rattle.host_types.specs.declared.status.Status.{Status}
@@ -23,22 +23,17 @@ use Rattle.page_table.specs.State.{MemoryState, free_of, part, bytes_of_map}
 use Rattle.page_table.specs.Table.{TableState, CountsState, IsTable, IsEntry, IsAlone, IsGroup, IsSound, IsPageAt, AreCounts, LiesRight, maps_of, contents_of, times, one_if_zero, entry_at, state_of, states_of, frames_of, groups_of, sharing_of, is_on, pages_on, places_on}
 use Rattle.page_table.specs.View.{view_of, IsMemory}
 use Rattle.page_table.specs.Reads.{ReadsAs, AreGroups, AreMerged, HasPage, status_at, has_both, is_frame, free_frames}
-use Rattle.page_table.proofs.Entries.{one_when, alone, inside, equal, times-head, times-tail, one_if_zero-above}
-use Rattle.page_table.proofs.Putting.{entry_fits, page_there as no_page}
+use Rattle.page_table.proofs.Changing.{entry_fits}
+use Rattle.page_table.proofs.Entries.{one_when, alone, inside, equal, times-head, times-tail, one_if_zero-above, times-cons, told_at, group_of, entry_told}
+use Rattle.page_table.proofs.Putting.{page_there as no_page, page_of_entry}
 use Rattle.page_table.proofs.Maps.{length-maps_of}
 use Rattle.page_table.proofs.Reading.{map_at-part, bytes_in, is_page_at}
 use Rattle.page_table.proofs.Recording.{reserved_fits}
-use Rattle.page_table.proofs.Scanning.{is_page_at_entry, page_there, frame_told}
+use Rattle.page_table.proofs.Scanning.{page_there, frame_told}
 use Rattle.page_table.proofs.Creating.{length-contents}
 use Rattle.page_table.proofs.Free.{free_is}
 use Rattle.page_table.proofs.Groups.{among-places, length-places}
-use Rattle.page_table.proofs.Counting.{same_either_way, length-unused, empty-frame}
-
--- what is told of the entry at a place
-pub told_at : {X : Type 0} (tell : Entry → X) (xs : List (Option Entry)) (i : ℕ) → slice_index_or (map (option_map tell) xs) i None ≡ option_map tell (entry_at xs i)
-told_at tell [] i = refl
-told_at tell (x ∷ xs) zero = refl
-told_at tell (x ∷ xs) (suc i) = told_at tell xs i
+use Rattle.page_table.proofs.Counting.{length-unused, empty-frame}
 
 status_is : (table : TableState) (pass : Pass) (i : ℕ) → status_at (sharing_of table pass) i ≡ option_map (λ (entry : Entry). entry.status) (entry_at table.entries i)
 status_is table pass i = ap (option_map (λ (state : PageState). state.status)) (told_at state_of table.entries i) ∙ of_entry (entry_at table.entries i)
@@ -55,32 +50,14 @@ record Lies (table : TableState) (i x : ℕ) : Type 0 where
   pub fits : IsEntry table entry
 
 lies : (table : TableState) (i x : ℕ) → IsTable table → slice_index_or (frames_of table.entries) i None ≡ Some x → Lies table i x
-lies table i x is h = by_entry (entry_at table.entries i) refl
-  where
-    by_entry : (y : Option Entry) → entry_at table.entries i ≡ y → Lies table i x
-    by_entry None e =
-        let told : slice_index_or (frames_of table.entries) i None ≡ None = told_at (λ (entry : Entry). entry.frame) table.entries i ∙ ap (option_map (λ (entry : Entry). entry.frame)) e in
-        absurd (cc)
-    by_entry (Some entry) e =
-        let told : slice_index_or (frames_of table.entries) i None ≡ Some entry.frame = told_at (λ (entry : Entry). entry.frame) table.entries i ∙ ap (option_map (λ (entry : Entry). entry.frame)) e in
-        record { entry = entry; here = e; on = same entry.frame x (sym told ∙ h); fits = entry_fits table i entry is e }
-      where
-        same : (a b : ℕ) → Some a ≡ Some b → a ≡ b
-        same a b e = cc
+lies table i x is h =
+    let found = entry_told (λ (entry : Entry). entry.frame) table.entries i x h in
+    record { entry = found.0; here = found.1; on = found.2; fits = entry_fits table i found.0 is found.1 }
 
 told : (table : TableState) (pass : Pass) (i : ℕ) (status : Status) → IsTable table → status_at (sharing_of table pass) i ≡ Some status → (entry : Entry) × (entry_at table.entries i ≡ Some entry) × (entry.status ≡ status) × IsEntry table entry
-told table pass i status is h = by_entry (entry_at table.entries i) refl
-  where
-    by_entry : (y : Option Entry) → entry_at table.entries i ≡ y → (entry : Entry) × (entry_at table.entries i ≡ Some entry) × (entry.status ≡ status) × IsEntry table entry
-    by_entry None e =
-        let told : status_at (sharing_of table pass) i ≡ None = status_is table pass i ∙ ap (option_map (λ (entry : Entry). entry.status)) e in
-        absurd (cc)
-    by_entry (Some entry) e =
-        let told : status_at (sharing_of table pass) i ≡ Some entry.status = status_is table pass i ∙ ap (option_map (λ (entry : Entry). entry.status)) e in
-        (entry, e, same entry.status status (sym told ∙ h), entry_fits table i entry is e)
-      where
-        same : (a b : Status) → Some a ≡ Some b → a ≡ b
-        same a b e = cc
+told table pass i status is h =
+    let found = entry_told (λ (entry : Entry). entry.status) table.entries i status (told_at (λ (entry : Entry). entry.status) table.entries i ∙ sym (status_is table pass i) ∙ h) in
+    (found.0, found.1, found.2, entry_fits table i found.0 is found.1)
 
 status_there : (table : TableState) (pass : Pass) (i : ℕ) (entry : Entry) (status : Status) → entry_at table.entries i ≡ Some entry → entry.status ≡ status → status_at (sharing_of table pass) i ≡ Some status
 status_there table pass i entry status e same = status_is table pass i ∙ ap (option_map (λ (entry : Entry). entry.status)) e ∙ ap Some same
@@ -100,15 +77,12 @@ kind table entry fits = by_status entry.status refl fits.right
     by_status Grouped e right = inr (inl (e, right))
     by_status Zero e right = inr (inr (e, right))
 
-group : (table : TableState) (f : ℕ) → IsTable table → 1 ≤ times f table.groups → IsGroup table f
-group table f is some = ⊎_elim (λ none. absurd (omega (arith, none, some))) (λ group. group) (is.groups f)
-
 -- a page on the zero frame is told to be there
 zero_status : (table : TableState) (entry : Entry) → IsTable table → IsEntry table entry → entry.frame ≡ 0 → entry.status ≡ Zero
 unfolding Kind
 zero_status table entry is fits e =
-    ⊎_elim (λ lone. absurd (let above = IsAlone.above lone in omega (arith, above, e)))
-    (λ other. ⊎_elim (λ in_group. absurd (let above = IsGroup.above (group table entry.frame is (omega (arith, in_group.1))) in omega (arith, above, e))) (λ zeros. zeros.0) other)
+    ⊎_elim (λ lone. absurd (omega (arith, IsAlone.above lone, e)))
+    (λ other. ⊎_elim (λ in_group. absurd (omega (arith, IsGroup.above (group_of table entry.frame is (omega (arith, in_group.1))), e))) (λ zeros. zeros.0) other)
     (kind table entry fits)
 
 -- a page on a group's frame is told to be in a group
@@ -116,7 +90,7 @@ grouped_status : (table : TableState) (entry : Entry) → IsTable table → IsEn
 unfolding Kind
 grouped_status table entry is fits some =
     ⊎_elim (λ lone. absurd (let none = IsAlone.no_group lone in omega (arith, none, some)))
-    (λ other. ⊎_elim (λ in_group. in_group.0) (λ zeros. absurd (let above = IsGroup.above (group table entry.frame is some) in omega (arith, above, zeros.1))) other)
+    (λ other. ⊎_elim (λ in_group. in_group.0) (λ zeros. absurd (let above = IsGroup.above (group_of table entry.frame is some) in omega (arith, above, zeros.1))) other)
     (kind table entry fits)
 
 among : (f : ℕ) (xs : List (Option Entry)) (i : ℕ) → is_among i (places_on 0 f xs) ≡ is_on f (entry_at xs i)
@@ -124,9 +98,6 @@ among f xs i = let same : 0 + i ≡ i = omega arith in ap (λ n. is_among n (pla
 
 among-entry : (f : ℕ) (xs : List (Option Entry)) (i : ℕ) (entry : Entry) → entry_at xs i ≡ Some entry → is_among i (places_on 0 f xs) ≡ (entry.frame == f)
 among-entry f xs i entry e = among f xs i ∙ ap (is_on f) e
-
-equal_frame : (f g : ℕ) → f ≡ g → (f == g) ≡ true
-equal_frame f g e = grind (arith, nat_tests)
 
 frame_equal : (f g : ℕ) → (f == g) ≡ true → f ≡ g
 frame_equal f g e = grind (arith, nat_tests)
@@ -136,37 +107,14 @@ both_there : (xs : List (Option Entry)) (groups : List ℕ) (i j f : ℕ) → is
     → has_both (map (λ g. places_on 0 g xs) groups) i j ≡ true
 both_there xs [] i j f one other some = absurd (omega (arith, some))
 both_there xs (g ∷ gs) i j f one other some =
-    ⊎_elim
-    (λ here. first (subst (λ n. is_among i (places_on 0 n xs) ≡ true) (sym here.1) (among f xs i ∙ one)) (subst (λ n. is_among j (places_on 0 n xs) ≡ true) (sym here.1) (among f xs j ∙ other)))
-    (λ there. let split = sum_by-cons (λ (x : ℕ). if x == f then 1 else 0) g gs in
-    let none = ap one_when there.0 in
-    later (both_there xs gs i j f one other (omega (arith, some, split, none))))
-    (eqb_tells g f)
-  where
-    first : is_among i (places_on 0 g xs) ≡ true → is_among j (places_on 0 g xs) ≡ true → has_both (map (λ g. places_on 0 g xs) (g ∷ gs)) i j ≡ true
-    first one other = rw (one, other) refl
-
-    later : has_both (map (λ g. places_on 0 g xs) gs) i j ≡ true → has_both (map (λ g. places_on 0 g xs) (g ∷ gs)) i j ≡ true
-    later rest = by_test (is_among i (places_on 0 g xs) && is_among j (places_on 0 g xs)) rest
-      where
-        by_test : (b : Bool) → has_both (map (λ g. places_on 0 g xs) gs) i j ≡ true → (b || has_both (map (λ g. places_on 0 g xs) gs) i j) ≡ true
-        by_test true rest = refl
-        by_test false rest = rest
+    grind (arith, nat_tests, times-cons f g gs, among g xs i, among g xs j, both_there xs gs i j f one other)
 
 -- two pages of a group lie on one frame
 both_lie : (xs : List (Option Entry)) (groups : List ℕ) (i j : ℕ) (one other : Entry) → entry_at xs i ≡ Some one → entry_at xs j ≡ Some other
     → has_both (map (λ g. places_on 0 g xs) groups) i j ≡ true → one.frame ≡ other.frame
 both_lie xs [] i j one other e k h = absurd (cc)
-both_lie xs (g ∷ gs) i j one other e k h = by_test (one.frame == g) (other.frame == g) refl refl (both_lie xs gs i j one other e k) now
-  where
-    now : ((one.frame == g) && (other.frame == g) || has_both (map (λ g. places_on 0 g xs) gs) i j) ≡ true
-    now = rw (among-entry g xs i one e, among-entry g xs j other k) at h
-
-    by_test : (b c : Bool) → (one.frame == g) ≡ b → (other.frame == g) ≡ c → (has_both (map (λ g. places_on 0 g xs) gs) i j ≡ true → one.frame ≡ other.frame)
-        → (b && c || has_both (map (λ g. places_on 0 g xs) gs) i j) ≡ true → one.frame ≡ other.frame
-    by_test true true p q rest h = frame_equal one.frame g p ∙ sym (frame_equal other.frame g q)
-    by_test true false p q rest h = rest h
-    by_test false c p q rest h = rest h
+both_lie xs (g ∷ gs) i j one other e k h =
+    grind (arith, nat_tests, among-entry g xs i one e, among-entry g xs j other k, both_lie xs gs i j one other e k)
 
 -- what holds of each group's places holds of all groups
 all_groups : (P : List ℕ → Type 0) (xs : List (Option Entry)) (groups : List ℕ) → ((g : ℕ) → 1 ≤ times g groups → P (places_on 0 g xs)) → All P (map (λ g. places_on 0 g xs) groups)
@@ -182,10 +130,7 @@ in_groups xs groups i entry e = length-filter (is_among i) (map (λ g. places_on
     counted [] = refl
     counted (g ∷ gs) =
         let split = sum_by-cons (λ group. if is_among i group then 1 else 0) (places_on 0 g xs) (map (λ g. places_on 0 g xs) gs) in
-        let part = sum_by-cons (λ (x : ℕ). if x == entry.frame then 1 else 0) g gs in
-        let first : one_when (is_among i (places_on 0 g xs)) ≡ one_when (g == entry.frame) = ap one_when (among-entry g xs i entry e ∙ same_either_way entry.frame g) in
-        let rest = counted gs in
-        omega (arith, split, part, first, rest)
+        grind (arith, nat_tests, split, times-cons entry.frame g gs, among-entry g xs i entry e, counted gs)
 
 -- the places on a frame are in order
 places_above : (n f : ℕ) (xs : List (Option Entry)) → All (λ i. n ≤ i) (places_on n f xs)
@@ -213,7 +158,7 @@ module _ (table : TableState) (pass : Pass) (is : IsTable table) where
   unfolding groups_of
   are_groups =
       record {
-        some = all_groups (λ group. 0 < length group) table.entries table.groups (λ g some. let long = length-places 0 g table.entries in let pages = IsGroup.some (group table g is some) in omega (arith, long, pages));
+        some = all_groups (λ group. 0 < length group) table.entries table.groups (λ g some. let long = length-places 0 g table.entries in let pages = IsGroup.some (group_of table g is some) in omega (arith, long, pages));
         ordered = all_groups (AllPairs (λ i j. i < j)) table.entries table.groups (λ g some. places_ordered 0 g table.entries);
         grouped = all_groups (λ group. (i : ℕ) → is_among i group ≡ true → status_at (sharing_of table pass) i ≡ Some Grouped) table.entries table.groups (λ g some i h. member g i some (entry_at table.entries i) refl (sym (among g table.entries i) ∙ h));
         once = λ i h. let entry = told table pass i Grouped is h in one entry.0 i entry.1 entry.2 entry.3;
@@ -246,7 +191,7 @@ module _ (table : TableState) (pass : Pass) (is : IsTable table) where
           on_one = ap (is_on a.entry.frame) a.here ∙ equal a.entry.frame
 
           on_other : is_on a.entry.frame (entry_at table.entries j) ≡ true
-          on_other = ap (is_on a.entry.frame) b.here ∙ equal_frame b.entry.frame a.entry.frame (sym same)
+          on_other = ap (is_on a.entry.frame) b.here ∙ grind (arith, nat_tests)
 
           two : IsAlone table a.entry.frame → ⊥
           two lone =
@@ -296,9 +241,8 @@ module _ (table : TableState) (shapes : List (Option Shape)) (tenants : List Ten
       has : (x : Option Entry) → entry_at table.entries i ≡ x → is_some (option_map state_of (entry_at table.entries i)) ≡ true → HasPage view i
       has None e h = absurd (let none = ap (λ (x : Option Entry). is_some (option_map state_of x)) e in cc)
       has (Some entry) e h =
-          let there = page_there table shapes tenants pass reserved is (named i) (omega arith) (omega arith) (subst (IsPageAt table) (sym place) (is_page_at_entry table i entry fits e)) in
-          let same = ap (λ bytes. length bytes) (map_named i) in
-          omega (arith, there, same)
+          let there = page_there table shapes tenants pass reserved is (named i) (omega arith) (omega arith) (subst (IsPageAt table) (sym place) (page_of_entry table i entry fits e)) in
+          omega (arith, there, ap (λ bytes. length bytes) (map_named i))
 
       found : (x : Option Entry) → entry_at table.entries i ≡ x → HasPage view i → is_some (option_map state_of (entry_at table.entries i)) ≡ true
       found None e h =
@@ -338,7 +282,7 @@ module _ (table : TableState) (shapes : List (Option Shape)) (tenants : List Ten
         one_frame = one_frame table pass sound.fits;
         zero_frame = λ i. (λ h. to_zero i (lies table i 0 sound.fits h), λ h. from_zero i (told table pass i Zero sound.fits h));
         zeros = sound.fits.zero;
-        placed = λ i. placed i (entry_at table.entries i) refl;
+        placed = λ i. (λ h. grind (arith, frame_of i, told_at state_of table.entries i), λ h. grind (arith, frame_of i, told_at state_of table.entries i));
         there = λ i. there i (entry_at table.entries i) refl;
         free = free_is_counted;
         reserved = reserved_fits table shapes tenants pass reserved is;
@@ -353,9 +297,7 @@ module _ (table : TableState) (shapes : List (Option Shape)) (tenants : List Ten
     where
       pinned_places : PinsFit (states_of table.entries) pass.pins → length pass.pins ≡ length tenants * 2048
       pinned_places fit =
-          let states = length-map table.entries (option_map state_of) in
-          let contents = length-contents table in
-          omega (arith, fit.as_many, states, contents, is.maps.places, is.numbers)
+          omega (arith, fit.as_many, length-map table.entries (option_map state_of), length-contents table, is.maps.places, is.numbers)
 
       to_zero : (i : ℕ) → Lies table i 0 → status_at (sharing_of table pass) i ≡ Some Zero
       to_zero i a = status_there table pass i a.entry Zero a.here (zero_status table a.entry sound.fits a.fits a.on)
@@ -365,13 +307,6 @@ module _ (table : TableState) (shapes : List (Option Shape)) (tenants : List Ten
 
       from_zero : (i : ℕ) → ((entry : Entry) × (entry_at table.entries i ≡ Some entry) × (entry.status ≡ Zero) × IsEntry table entry) → slice_index_or (frames_of table.entries) i None ≡ Some 0
       from_zero i entry = frame_of i ∙ ap (option_map (λ (entry : Entry). entry.frame)) entry.1 ∙ ap Some (subst (LiesRight table entry.0.frame) entry.2 entry.3.right)
-
-      placed : (i : ℕ) (x : Option Entry) → entry_at table.entries i ≡ x → (IsSome (slice_index_or (frames_of table.entries) i None) ↔ IsSome (slice_index_or (states_of table.entries) i None))
-      placed i x e = rw (frame_of i, told_at state_of table.entries i, e) (of_entry x)
-        where
-          of_entry : (x : Option Entry) → (IsSome (option_map (λ (entry : Entry). entry.frame) x) ↔ IsSome (option_map state_of x))
-          of_entry None = (λ h. h, λ h. h)
-          of_entry (Some entry) = (λ h. refl, λ h. refl)
 
       there : (i : ℕ) (x : Option Entry) → entry_at table.entries i ≡ x → IfSome (slice_index_or (frames_of table.entries) i None) (λ frame. frame < length table.arena)
       there i x e = rw (frame_of i, e) (of_entry x (subst (λ (y : Option Entry). IfSome y (IsEntry table)) e (sound.fits.entries i)))

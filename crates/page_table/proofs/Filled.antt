@@ -1,14 +1,16 @@
 -- How many pages are pinned, where one is pinned more, and where those of a map aren't any more.
-use Rattle.std.proofs.Common.{◌≡◌, ◌≢◌, ◌∙◌, ◌⊎◌, ⊎_elim, ℕ, zero, suc, ◌+◌, ◌-◌, ◌*◌, ◌/◌, ◌%◌, ◌<◌, ◌≤◌, Bool, true, false, if◌then◌else◌, List, [], ◌∷◌, ◌++◌, length, take, drop, replicate, slice_index_or, slice_set, refl, sym, ap, subst, arith}
-use Rattle.std.proofs.lemmas.List.{get_or-set_same, get_or-set_other, length-set, length-replicate, take-replicate, drop-replicate, get_or-replicate, get_or-take, get_or-drop}
+use Rattle.std.proofs.Common.{◌≡◌, ◌≢◌, ◌∙◌, ⊎_elim, ℕ, ◌+◌, ◌-◌, ◌*◌, ◌/◌, ◌%◌, ◌<◌, ◌≤◌, Bool, true, false, if◌then◌else◌, List, [], ◌∷◌, ◌++◌, length, take, drop, replicate, slice_index_or, slice_set, refl, sym, ap, subst, arith}
+use Rattle.std.proofs.lemmas.List.{get_or-set_same, get_or-set_other, length-set, length-replicate, take-replicate, drop-replicate, get_or-replicate, get_or-take, get_or-drop, ext_get_or}
 use Rattle.std.proofs.Math.Seq.{take-append_seam}
 use Rattle.std.proofs.lemmas.List.Sums.{sum_by-cons, sum_by-set}
 use Rattle.std.proofs.lemmas.List.Folds.{sum_by-replicate}
+use Rattle.std.proofs.lemmas.Bool.Decides.{nat_tests}
 use Rattle.host_types.specs.Bytes.{part_of, with_part}
 use Rattle.host_types.proofs.Lists.{length-part_of, length-with_part, part-with_part_same}
 use Rattle.frame_arena.proofs.Parts.{with_part-same}
 use Rattle.page_table.specs.Pins.{pinned_among, ArePinsOf}
-use Rattle.page_table.proofs.Creating.{filled_more, with_part-none, others-filled}
+use Rattle.page_table.proofs.Sides.{is_same}
+use Rattle.page_table.proofs.Creating.{others-filled, filled_at}
 use Rattle.page_table.proofs.Maps.{part_of-set_same, part_of-set_other}
 
 abbrev one_if : Bool → ℕ
@@ -17,11 +19,7 @@ one_if b = if b then 1 else 0
 -- no more pages are pinned than there are
 few-pinned : (pins : List Bool) → pinned_among pins ≤ length pins
 few-pinned [] = omega arith
-few-pinned (b ∷ pins) = let rest = few-pinned pins in let head = few b in let split = sum_by-cons one_if b pins in omega (arith, rest, head, split)
-  where
-    few : (b : Bool) → one_if b ≤ 1
-    few true = omega arith
-    few false = omega arith
+few-pinned (b ∷ pins) = grind (arith, few-pinned pins, sum_by-cons one_if b pins)
 
 pub none-pinned : (n : ℕ) → pinned_among (replicate n false) ≡ 0
 none-pinned n = sum_by-replicate one_if n false ∙ omega arith
@@ -34,21 +32,15 @@ all-false (false ∷ pins) none = let split = sum_by-cons one_if false pins in a
 
 -- what is filled behind a filled part is a longer part
 filled-behind : (pins : List Bool) (at n m : ℕ) → at + n + m ≤ length pins → with_part (with_part pins at (replicate n false)) (at + n) (replicate m false) ≡ with_part pins at (replicate (n + m) false)
-filled-behind pins at n zero inside =
-    let same : n ≡ n + 0 = omega arith in
-    sym (with_part-none (with_part pins at (replicate n false)) (at + n)) ∙ ap (λ (k : ℕ). with_part pins at (replicate k false)) same
-filled-behind pins at n (suc m) inside =
-    let one : m + 1 ≡ suc m = omega arith in
-    let sum : n + m + 1 ≡ n + suc m = omega arith in
-    let place : at + n + m ≡ at + (n + m) = omega arith in
-    let filled = length-replicate n false in
-    let long = length-with_part pins at (replicate n false) (omega (arith, filled, inside)) in
-    ap (λ (k : ℕ). with_part (with_part pins at (replicate n false)) (at + n) (replicate k false)) (sym one)
-    ∙ sym (filled_more (with_part pins at (replicate n false)) (at + n) m false (omega (arith, long, inside)))
-    ∙ ap (λ (l : List Bool). slice_set l (at + n + m) false) (filled-behind pins at n m (omega (arith, inside)))
-    ∙ ap (λ (i : ℕ). slice_set (with_part pins at (replicate (n + m) false)) i false) place
-    ∙ filled_more pins at (n + m) false (omega (arith, inside))
-    ∙ ap (λ (k : ℕ). with_part pins at (replicate k false)) sum
+filled-behind pins at n m inside =
+    let one = length-replicate n false in
+    let more = length-replicate m false in
+    let both = length-replicate (n + m) false in
+    let short = length-with_part pins at (replicate n false) (omega (arith, one, inside)) in
+    let twice = length-with_part (with_part pins at (replicate n false)) (at + n) (replicate m false) (omega (arith, more, short, inside)) in
+    let once = length-with_part pins at (replicate (n + m) false) (omega (arith, both, inside)) in
+    ext_get_or false _ _ (omega (arith, short, twice, once))
+    (λ i less. grind (arith, nat_tests, filled_at (with_part pins at (replicate n false)) (at + n) m i false false, filled_at pins at n i false false, filled_at pins at (n + m) i false false, short))
 
 -- the memory without a map
 pub pins-new : (maps : ℕ) → ArePinsOf (replicate (maps * 256) false) (replicate maps 0)
@@ -68,14 +60,23 @@ pins-new maps =
         ∙ ap pinned_among (take-replicate 256 (maps * 256 - k * 256) false (omega (arith, less)))
         ∙ none-pinned 256
 
+-- the pins of one map changed, and its number with them
+pins-changed : (pins now : List Bool) (numbers : List ℕ) (k n : ℕ) → ArePinsOf pins numbers → k < length numbers → length now ≡ length pins
+    → ((j : ℕ) → j ≢ k → part_of now (j * 256) 256 ≡ part_of pins (j * 256) 256) → n ≡ pinned_among (part_of now (k * 256) 256) → ArePinsOf now (slice_set numbers k n)
+pins-changed pins now numbers k n are inside long others here = record {
+  maps = omega (arith, long, are.maps, length-set numbers k n);
+  each = λ j less. ⊎_elim
+      (λ same. ap (λ (i : ℕ). slice_index_or (slice_set numbers k n) i 0) same ∙ get_or-set_same numbers k n 0 inside ∙ here ∙ ap (λ (i : ℕ). pinned_among (part_of now (i * 256) 256)) (sym same))
+      (λ other. get_or-set_other numbers k j n 0 other ∙ are.each j (omega (arith, less, length-set numbers k n)) ∙ sym (ap pinned_among (others j other)))
+      (is_same j k);
+}
+
 module _ (pins : List Bool) (numbers : List ℕ) (are : ArePinsOf pins numbers) where
   -- a map's number is no more than that of its pages
   pub number-small : (k : ℕ) → k < length numbers → slice_index_or numbers k 0 ≤ 256
   number-small k less =
       let few = few-pinned (part_of pins (k * 256) 256) in
-      let long = length-part_of pins (k * 256) 256 (omega (arith, are.maps, less)) in
-      let told = are.each k less in
-      omega (arith, few, long, told)
+      omega (arith, few, length-part_of pins (k * 256) 256 (omega (arith, are.maps, less)), are.each k less)
 
   pub map-inside : (k : ℕ) → k * 256 < length pins → k < length numbers
   map-inside k less = omega (arith, are.maps, less)
@@ -101,32 +102,13 @@ module _ (pins : List Bool) (numbers : List ℕ) (are : ArePinsOf pins numbers) 
     more : pinned_among (slice_set part n true) ≡ pinned_among part + 1
     more =
         let l = long in
-        let count = sum_by-set one_if part n true false (omega (arith, l, small)) in
-        let none = ap one_if was in
-        omega (arith, count, none)
+        omega (arith, sum_by-set one_if part n true false (omega (arith, l, small)), ap one_if was)
 
     pub pins-more : ArePinsOf (slice_set pins (k * 256 + n) true) (slice_set numbers k (slice_index_or numbers k 0 + 1))
-    pins-more = record {
-      maps = let a = length-set pins (k * 256 + n) true in let b = length-set numbers k (slice_index_or numbers k 0 + 1) in omega (arith, a, b, are.maps);
-      each = λ j less. ⊎_elim (λ same. at_same j same) (λ other. at_other j other (let b = length-set numbers k (slice_index_or numbers k 0 + 1) in omega (arith, less, b))) (order j k);
-    }
-      where
-        order : (a b : ℕ) → (a ≡ b) ⊎ (a ≢ b)
-        order a b = grind arith
-
-        at_k : slice_index_or (slice_set numbers k (slice_index_or numbers k 0 + 1)) k 0 ≡ pinned_among (part_of (slice_set pins (k * 256 + n) true) (k * 256) 256)
-        at_k =
-            get_or-set_same numbers k (slice_index_or numbers k 0 + 1) 0 here
-            ∙ ap (λ (m : ℕ). m + 1) (are.each k here) ∙ sym more
-            ∙ sym (ap pinned_among (part_of-set_same pins (k * 256) n 256 true small))
-
-        at_same : (j : ℕ) → j ≡ k → slice_index_or (slice_set numbers k (slice_index_or numbers k 0 + 1)) j 0 ≡ pinned_among (part_of (slice_set pins (k * 256 + n) true) (j * 256) 256)
-        at_same j same = subst (λ (j : ℕ). slice_index_or (slice_set numbers k (slice_index_or numbers k 0 + 1)) j 0 ≡ pinned_among (part_of (slice_set pins (k * 256 + n) true) (j * 256) 256)) (sym same) at_k
-
-        at_other : (j : ℕ) → j ≢ k → j < length numbers → slice_index_or (slice_set numbers k (slice_index_or numbers k 0 + 1)) j 0 ≡ pinned_among (part_of (slice_set pins (k * 256 + n) true) (j * 256) 256)
-        at_other j ne less =
-            get_or-set_other numbers k j (slice_index_or numbers k 0 + 1) 0 ne ∙ are.each j less
-            ∙ sym (ap pinned_among (part_of-set_other pins k n j 256 true small ne))
+    pins-more =
+        pins-changed pins (slice_set pins (k * 256 + n) true) numbers k (slice_index_or numbers k 0 + 1) are here (length-set pins (k * 256 + n) true)
+        (λ j ne. part_of-set_other pins k n j 256 true small ne)
+        (ap (λ (m : ℕ). m + 1) (are.each k here) ∙ sym more ∙ sym (ap pinned_among (part_of-set_same pins (k * 256) n 256 true small)))
 
   -- the same by the page's place
   pub pins-more-at : (place now : ℕ) → place < length pins → slice_index_or pins place false ≡ false → now ≡ slice_index_or numbers (place / 256) 0 → ArePinsOf (slice_set pins place true) (slice_set numbers (place / 256) (now + 1))
@@ -149,26 +131,10 @@ module _ (pins : List Bool) (numbers : List ℕ) (are : ArePinsOf pins numbers) 
         ap (with_part pins (k * 256)) (sym same) ∙ with_part-same pins (k * 256) 256 whole
 
     pub pins-cleared : ArePinsOf (with_part pins (k * 256) (replicate 256 false)) (slice_set numbers k 0)
-    pins-cleared = record {
-      maps = let a = length-with_part pins (k * 256) (replicate 256 false) whole in let b = length-set numbers k 0 in omega (arith, a, b, are.maps);
-      each = λ j less. ⊎_elim (λ same. at_same j same) (λ other. at_other j other (let b = length-set numbers k 0 in omega (arith, less, b))) (order j k);
-    }
-      where
-        order : (a b : ℕ) → (a ≡ b) ⊎ (a ≢ b)
-        order a b = grind arith
-
-        at_k : slice_index_or (slice_set numbers k 0) k 0 ≡ pinned_among (part_of (with_part pins (k * 256) (replicate 256 false)) (k * 256) 256)
-        at_k =
-            get_or-set_same numbers k 0 0 inside ∙ sym (none-pinned 256)
-            ∙ sym (ap pinned_among (part-with_part_same pins (k * 256) (replicate 256 false) 256 refl whole))
-
-        at_same : (j : ℕ) → j ≡ k → slice_index_or (slice_set numbers k 0) j 0 ≡ pinned_among (part_of (with_part pins (k * 256) (replicate 256 false)) (j * 256) 256)
-        at_same j same = subst (λ (j : ℕ). slice_index_or (slice_set numbers k 0) j 0 ≡ pinned_among (part_of (with_part pins (k * 256) (replicate 256 false)) (j * 256) 256)) (sym same) at_k
-
-        at_other : (j : ℕ) → j ≢ k → j < length numbers → slice_index_or (slice_set numbers k 0) j 0 ≡ pinned_among (part_of (with_part pins (k * 256) (replicate 256 false)) (j * 256) 256)
-        at_other j ne less =
-            get_or-set_other numbers k j 0 0 ne ∙ are.each j less
-            ∙ sym (ap pinned_among (others-filled pins k 256 j false (omega arith) whole ne))
+    pins-cleared =
+        pins-changed pins (with_part pins (k * 256) (replicate 256 false)) numbers k 0 are inside (length-with_part pins (k * 256) (replicate 256 false) whole)
+        (λ j ne. others-filled pins (k * 256) k 0 256 j 256 false (omega arith) (omega arith) whole ne)
+        (sym (none-pinned 256) ∙ sym (ap pinned_among (part-with_part_same pins (k * 256) (replicate 256 false) 256 refl whole)))
 
 -- another map more has no pinned pages
 pub filled-more : (pins : List Bool) (first n : ℕ) → first * 256 + n * 256 + 256 ≤ length pins

@@ -50,10 +50,7 @@ pub waiting-free : (table : TableState) (pass : Pass) (i : ℕ) (entry : Entry) 
 waiting-free table pass i entry fit e waiting = get_or_default pass.pins i true false inside_pins ∙ by_test (slice_index_or pass.pins i false) refl
   where
     inside_pins : i < length pass.pins
-    inside_pins =
-        let there = inside table.entries i entry e in
-        let long = length-map table.entries (option_map state_of) in
-        omega (arith, there, fit.as_many, long)
+    inside_pins = omega (arith, inside table.entries i entry e, fit.as_many, length-map table.entries (option_map state_of))
 
     by_test : (b : Bool) → slice_index_or pass.pins i false ≡ b → slice_index_or pass.pins i false ≡ false
     by_test false h = h

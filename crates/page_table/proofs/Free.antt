@@ -10,20 +10,15 @@ use Rattle.page_table.specs.declared.tenant.Tenant.{Tenant}
 use Rattle.page_table.specs.State.{free_of}
 use Rattle.page_table.specs.Table.{TableState, states_of, state_of, groups_of, own_pages, places_on, used_by}
 use Rattle.page_table.specs.View.{view_of}
-use Rattle.page_table.proofs.Adding.{own_one}
+use Rattle.page_table.proofs.Changing.{own_one}
 
 own_of_states : (entries : List (Option Entry)) → sum_by own_frame (states_of entries) ≡ sum_by own_one entries
 own_of_states [] = refl
 own_of_states (x ∷ xs) =
-    let one = sum_by-cons own_frame (option_map state_of x) (states_of xs) in
-    let other = sum_by-cons own_one x xs in
-    let rest = own_of_states xs in
-    omega (arith, one, other, rest)
+    omega (arith, sum_by-cons own_frame (option_map state_of x) (states_of xs), sum_by-cons own_one x xs, own_of_states xs)
 
 pub free_is : (table : TableState) (shapes : List (Option Shape)) (tenants : List Tenant) (pass : Pass) → used_by table ≤ length table.arena
     → free_of (view_of table shapes tenants pass) + used_by table ≡ length table.arena
 unfolding view_of frames_free groups_of own_pages
 free_is table shapes tenants pass fits =
-    let long = length-map table.groups (λ f. places_on 0 f table.entries) in
-    let own = own_of_states table.entries in
-    omega (arith, long, own, fits)
+    omega (arith, length-map table.groups (λ f. places_on 0 f table.entries), own_of_states table.entries, fits)

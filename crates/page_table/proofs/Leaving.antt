@@ -1,19 +1,17 @@
 -- A page table stays sound where a page leaves a frame on which others lie.
-use Rattle.std.proofs.Common.{◌≡◌, ◌≢◌, ◌∙◌, inl, inr, ⊎_elim, ℕ, ◌+◌, ◌-◌, ◌<◌, ◌≤◌, ◌==◌, true, false, if◌then◌else◌, List, [], ◌∷◌, length, map, slice_index_or, slice_set, Option, Some, None, IfSome, option_map, refl, sym, ap, subst, arith}
-use Rattle.std.proofs.lemmas.Bool.{lt-ltb}
-use Rattle.std.proofs.lemmas.List.{get_or-set_same, get_or-set_other, get_or-map, set-get_or, length-set, map-set}
-use Rattle.std.proofs.lemmas.Bool.Decides.{eqb_tells}
+use Rattle.std.proofs.Common.{◌≡◌, ◌≢◌, ◌∙◌, ℕ, ◌+◌, ◌-◌, ◌<◌, ◌≤◌, ◌==◌, true, false, if◌then◌else◌, List, [], ◌∷◌, length, map, slice_index_or, slice_set, Option, Some, option_map, refl, sym, ap, subst, arith}
+use Rattle.std.proofs.lemmas.List.{get_or-set_same, get_or-set_other, set-get_or, length-set, map-set}
+use Rattle.std.proofs.lemmas.Bool.Decides.{nat_tests}
 use Rattle.page_table.specs.declared.pass.Pass.{Pass}
-use Rattle.host_types.specs.declared.status.Status.{Status}
-use Rattle.host_types.specs.declared.status.Status.TheVariants.{New, Volatile, Waiting, Grouped, Zero}
-use Rattle.host_types.specs.Sharing.{broken, broken_page, is_shared, left_by, without}
+use Rattle.host_types.specs.Sharing.{broken, broken_page, is_shared, left_by, without, state_at}
 use Rattle.frame_arena.specs.Pages.{page_at}
 use Rattle.page_table.specs.declared.entry.Entry.{Entry}
-use Rattle.page_table.specs.Table.{TableState, CountsState, IsTable, IsEntry, IsAlone, IsGroup, IsSound, AreCountsOf, LiesRight, times, one_if_zero, entry_at, state_of, states_of, contents_of, groups_of, sharing_of, is_on, places_on, pages_on, used_by}
-use Rattle.page_table.proofs.Entries.{one_when, on_one, elsewhere, not_equal, equal, pages_on-set, none_on, inside, alone, at_set, entry_content-kept, contents-set, pages-set, times-head, times-tail, one_if_zero-above}
-use Rattle.page_table.proofs.Adding.{own_one, own_pages-set, IsEntry-kept, IsUnused}
-use Rattle.page_table.proofs.Putting.{entry_fits, content_at}
-use Rattle.page_table.proofs.Groups.{length-places, without-places}
+use Rattle.page_table.specs.Table.{TableState, CountsState, IsTable, IsEntry, IsGroup, IsSound, AreCountsOf, times, one_if_zero, entry_at, state_of, states_of, contents_of, groups_of, sharing_of, is_on, places_on, pages_on, used_by}
+use Rattle.page_table.proofs.Changing.{entry_fits, table-changed, counted-changed, lies_alone, apart_alone, pages_on-changed, own_pages-changed}
+use Rattle.page_table.proofs.Entries.{not_equal, equal, none_on, inside, entry_content-kept, contents-set, pages-set, times-head, times-tail, one_if_zero-above, group_of, told_here, counts-set}
+use Rattle.page_table.proofs.Adding.{IsUnused, unused_apart}
+use Rattle.page_table.proofs.Putting.{content_at}
+use Rattle.page_table.proofs.Groups.{length-places, without-here}
 
 -- the groups after a page left, where each still has pages
 pub groups-left : (old new : List (Option Entry)) (i : ℕ) (groups : List ℕ)
@@ -22,12 +20,14 @@ pub groups-left : (old new : List (Option Entry)) (i : ℕ) (groups : List ℕ)
     → map (λ g. places_on 0 g new) groups ≡ left_by i (map (λ g. places_on 0 g old) groups)
 groups-left old new i [] same some = refl
 groups-left old new i (g ∷ gs) same some =
-    let first = same g (times-head g gs) in
-    let long = length-places 0 g new in
-    let pages = some g (times-head g gs) in
-    let stays = lt-ltb 0 (length (places_on 0 g new)) (omega (arith, long, pages)) in
-    let rest = groups-left old new i gs (λ f le. let more = times-tail f g gs in same f (omega arith)) (λ f le. let more = times-tail f g gs in some f (omega arith)) in
-    rw (first, stays) (ap (λ l. places_on 0 g new ∷ l) rest)
+    grind (
+      arith,
+      nat_tests,
+      same g (times-head g gs),
+      some g (times-head g gs),
+      length-places 0 g new,
+      groups-left old new i gs (λ f le. let more = times-tail f g gs in same f (omega arith)) (λ f le. let more = times-tail f g gs in some f (omega arith)),
+    )
 
 -- a page that is shared is broken, where its state and the groups tell so
 pub sharing-broken : (old new : TableState) (i : ℕ) (entry : Entry) → entry_at old.entries i ≡ Some entry → is_shared entry.status ≡ true
@@ -36,8 +36,7 @@ pub sharing-broken : (old new : TableState) (i : ℕ) (entry : Entry) → entry_
     → (pass : Pass) → sharing_of new pass ≡ broken (sharing_of old pass) i
 unfolding broken
 sharing-broken old new i entry here shared states groups pass =
-    let at : slice_index_or (states_of old.entries) i None ≡ Some (state_of entry) =
-    get_or-map (option_map state_of) old.entries i None None (inside old.entries i entry here) ∙ ap (option_map state_of) here in
+    let at : state_at (sharing_of old pass) i ≡ Some (state_of entry) = told_here state_of old.entries i entry here in
     rw (at, shared, states, groups) refl
 
 -- the table where the page at a place lies on a frame of its own, with a copy
@@ -58,35 +57,16 @@ module _ (table : TableState) (i : ℕ) (entry next : Entry) (is : IsTable table
   lies = ap (is_on entry.frame) here ∙ equal entry.frame
 
   fresh : (j : ℕ) (other : Entry) → entry_at table.entries j ≡ Some other → other.frame ≢ next.frame
-  fresh j other e = elsewhere next.frame other.frame (sym (ap (is_on next.frame) e) ∙ none_on next.frame table.entries j free.empty)
+  fresh = unused_apart table next.frame free
 
   pages_on-left : (g : ℕ) → pages_on g (left table i entry next).entries + (if entry.frame == g then 1 else 0) ≡ pages_on g table.entries + (if next.frame == g then 1 else 0)
-  pages_on-left g =
-      let count = pages_on-set g table.entries i (Some next) there in
-      let before : on_one g (entry_at table.entries i) ≡ (if entry.frame == g then 1 else 0) = ap (on_one g) here in
-      omega (arith, count, before)
-
-  -- a frame's pages but the one that leaves
-  pages_on-old : pages_on entry.frame (left table i entry next).entries + 1 ≡ pages_on entry.frame table.entries
-  pages_on-old =
-      let count = pages_on-left entry.frame in
-      let one = ap one_when (equal entry.frame) in
-      let none = ap one_when (not_equal entry.frame next.frame (λ e. fresh i entry here (sym e))) in
-      omega (arith, count, one, none)
+  pages_on-left = pages_on-changed table.entries i entry (Some next) here
 
   pages_on-new : pages_on next.frame (left table i entry next).entries ≡ 1
-  pages_on-new =
-      let count = pages_on-left next.frame in
-      let one = ap one_when (equal next.frame) in
-      let none = ap one_when (not_equal next.frame entry.frame (fresh i entry here)) in
-      omega (arith, count, one, none, free.empty)
+  pages_on-new = grind (arith, nat_tests, pages_on-left next.frame, fresh i entry here, free.empty)
 
   pages_on-other : (g : ℕ) → g ≢ entry.frame → g ≢ next.frame → pages_on g (left table i entry next).entries ≡ pages_on g table.entries
-  pages_on-other g old new =
-      let count = pages_on-left g in
-      let one = ap one_when (not_equal g entry.frame (λ e. old (sym e))) in
-      let none = ap one_when (not_equal g next.frame (λ e. new (sym e))) in
-      omega (arith, count, one, none)
+  pages_on-other g old new = grind (arith, nat_tests, pages_on-left g)
 
   pub contents-left : contents_of (left table i entry next) ≡ contents_of table
   unfolding contents_of
@@ -100,87 +80,39 @@ module _ (table : TableState) (i : ℕ) (entry next : Entry) (is : IsTable table
   states-left : states_of (left table i entry next).entries ≡ slice_set (states_of table.entries) i (Some (broken_page (state_of entry)))
   states-left = map-set (option_map state_of) table.entries i (Some next) ∙ ap (λ s. slice_set (states_of table.entries) i (Some s)) state
 
-  is_group : (g : ℕ) → 1 ≤ times g table.groups → IsGroup table g
-  is_group g le = ⊎_elim (λ e. absurd (omega (arith, e, le))) (λ group. group) (is.groups g)
-
   no_new_group : (g : ℕ) → 1 ≤ times g table.groups → next.frame ≢ g
   no_new_group g le e = absurd (omega (arith, subst (λ (n : ℕ). 1 ≤ times n table.groups) (sym e) le, free.no_group))
 
   -- each group still has pages
   still : (g : ℕ) → IsGroup table g → next.frame ≢ g → 1 ≤ pages_on g (left table i entry next).entries
-  still g group ne = ⊎_elim (λ same. old same.1) (λ other. let e = pages_on-other g other.1 (λ e. ne (sym e)) in omega (arith, e, IsGroup.some group)) (eqb_tells g entry.frame)
-    where
-      old : g ≡ entry.frame → 1 ≤ pages_on g (left table i entry next).entries
-      old same =
-          let above = one_if_zero-above g (IsGroup.above group) in
-          let held : 1 < one_if_zero g + pages_on g table.entries = subst (λ (n : ℕ). 1 < one_if_zero n + pages_on n table.entries) (sym same) company in
-          let count : pages_on g (left table i entry next).entries + 1 ≡ pages_on g table.entries =
-          subst (λ (n : ℕ). pages_on n (left table i entry next).entries + 1 ≡ pages_on n table.entries) (sym same) pages_on-old in
-          omega (arith, above, held, count)
+  still g group ne = grind (arith, nat_tests, pages_on-left g, company, group.some, one_if_zero-above g group.above)
 
   groups_of-left : groups_of (left table i entry next) ≡ left_by i (groups_of table)
   unfolding groups_of
   groups_of-left =
-      let start : i ≡ 0 + i = omega arith in
       groups-left table.entries (left table i entry next).entries i table.groups
-      (λ g le. ap (λ (n : ℕ). without n (places_on 0 g table.entries)) start ∙ without-places 0 g table.entries i (Some next) (not_equal g next.frame (no_new_group g le)))
-      (λ g le. still g (is_group g le) (no_new_group g le))
+      (λ g le. without-here g table.entries i (Some next) (not_equal g next.frame (no_new_group g le)))
+      (λ g le. still g (group_of table g is le) (no_new_group g le))
 
   pub sharing-left : (pass : Pass) → sharing_of (left table i entry next) pass ≡ broken (sharing_of table pass) i
   sharing-left = sharing-broken table (left table i entry next) i entry here shared states-left groups_of-left
 
   pub used-left : used_by (left table i entry next) ≡ used_by table + 1
-  used-left =
-      let count = own_pages-set table.entries i (Some next) there in
-      let before : own_one (entry_at table.entries i) ≡ 0 = rw (here, shared) refl in
-      let after : own_one (Some next) ≡ 1 = rw own refl in
-      omega (arith, count, before, after)
+  used-left = grind (arith, own_pages-changed table.entries i entry (Some next) here, shared, own)
 
   IsTable-left : next.protected ≡ false → IsTable (left table i entry next)
   IsTable-left protected =
-      let new : TableState = left table i entry next in
       let page = page_at table.arena entry.frame in
-      let long : length new.arena ≡ length table.arena = length-set table.arena next.frame page in
-      record {
-        some = omega (arith, long, is.some);
-        small = omega (arith, long, is.small);
-        pages = pages-set table.arena next.frame page is.pages (is.pages entry.frame fits.frame);
-        zero = get_or-set_other table.arena next.frame 0 page [] (λ e. omega (arith, free.above)) ∙ is.zero;
-        entries = λ j. at_set (λ x. IfSome x (IsEntry new)) table.entries i j (Some next) tt
-            (record {
-              frame = omega (arith, long, free.there);
-              protected = protected ∙ sym own;
-              right = right next.status own;
-            })
-            (λ ne. other j (entry_at table.entries j) ne refl (is.entries j));
-        groups = λ g. ⊎_elim (λ e. inl e) (λ group. inr (record { above = IsGroup.above group; once = IsGroup.once group; some = still g group (no_new_group g (omega (arith, IsGroup.once group))) })) (is.groups g);
-        few = rw (length-set table.entries i (Some next)) is.few;
-      }
-    where
-      lone : IsAlone (left table i entry next) next.frame
-      lone = record { above = free.above; one = pages_on-new; no_group = free.no_group }
-
-      right : (status : Status) → is_shared status ≡ false → LiesRight (left table i entry next) next.frame status
-      right New e = lone
-      right Volatile e = lone
-      right Waiting e = lone
-      right Grouped e = absurd (cc)
-      right Zero e = absurd (cc)
-
-      -- a page that is alone isn't on the frame that was left
-      apart : (j : ℕ) (entry' : Entry) → j ≢ i → entry_at table.entries j ≡ Some entry' → pages_on entry'.frame table.entries ≡ 1 → entry'.frame ≢ entry.frame
-      apart j entry' ne e one same =
-          elsewhere entry.frame entry'.frame
-          (sym (ap (is_on entry.frame) e)
-          ∙ alone entry.frame table.entries i j there (subst (λ (n : ℕ). pages_on n table.entries ≡ 1) same one) lies ne)
-          same
-
-      other : (j : ℕ) (x : Option Entry) → j ≢ i → entry_at table.entries j ≡ x → IfSome x (IsEntry table) → IfSome x (IsEntry (left table i entry next))
-      other j None ne e h = tt
-      other j (Some entry') ne e h =
-          IsEntry-kept table (left table i entry next) entry' (length-set table.arena next.frame (page_at table.arena entry.frame))
-          (λ one none. pages_on-other entry'.frame (apart j entry' ne e one) (fresh j entry' e) ∙ one)
-          refl h
+      let long = length-set table.arena next.frame page in
+      table-changed table (left table i entry next) i (Some next) is refl refl long (pages-set table.arena next.frame page is.pages (is.pages entry.frame fits.frame))
+      (get_or-set_other table.arena next.frame 0 page [] (λ e. omega (arith, free.above)) ∙ is.zero)
+      (record {
+        frame = omega (arith, long, free.there);
+        protected = protected ∙ sym own;
+        right = lies_alone (left table i entry next) next.frame next.status own (record { above = free.above; one = pages_on-new; no_group = free.no_group });
+      })
+      (λ j y ne e a. pages_on-other y.frame (apart_alone table i j entry y here e ne a.one) (fresh j y e) ∙ a.one)
+      (λ g group. still g group (no_new_group g (omega (arith, group.once))))
 
   pub sound-left : (old taken new : CountsState) → next.protected ≡ false → AreCountsOf table old
       → taken.counts ≡ slice_set old.counts next.frame 1 → length taken.unused + 1 ≡ length old.unused
@@ -188,58 +120,19 @@ module _ (table : TableState) (i : ℕ) (entry next : Entry) (is : IsTable table
       → length new.unused ≡ length taken.unused + one_if_zero (slice_index_or taken.counts entry.frame 0 - 1)
       → IsSound (left table i entry next) new
   sound-left old taken new protected counted took fewer counts more =
+      let inside : next.frame < length old.counts = omega (arith, counted.sized, free.there) in
+      let sized : length taken.counts ≡ length old.counts = ap length took ∙ length-set old.counts next.frame 1 in
+      let read : (g : ℕ) → slice_index_or taken.counts g 0 ≡ (if next.frame == g then 1 else slice_index_or old.counts g 0) =
+      λ g. ap (λ (l : List ℕ). slice_index_or l g 0) took ∙ counts-set old.counts next.frame 1 g inside in
+      let before : slice_index_or taken.counts entry.frame 0 ≡ one_if_zero entry.frame + pages_on entry.frame table.entries =
+      grind (arith, nat_tests, read entry.frame, fresh i entry here, counted.counted entry.frame fits.frame) in
       let held = one_if_zero-above (slice_index_or taken.counts entry.frame 0 - 1) (omega (arith, company, before)) in
-      let used = used-left in
       record {
         fits = IsTable-left protected;
-        counted = record {
-          sized = ap length counts ∙ length-set taken.counts entry.frame (slice_index_or taken.counts entry.frame 0 - 1) ∙ sized ∙ sym long;
-          counted = count;
-          used = omega (arith, fewer, more, held, counted.used, used, long);
-        };
+        counted = counted-changed table (left table i entry next) old new counted (length-set table.arena next.frame (page_at table.arena entry.frame))
+            (ap length counts ∙ length-set taken.counts entry.frame (slice_index_or taken.counts entry.frame 0 - 1) ∙ sized)
+            (let used = used-left in omega (arith, fewer, more, held, used))
+            (λ g h.
+            let after = ap (λ (l : List ℕ). slice_index_or l g 0) counts ∙ counts-set taken.counts entry.frame (slice_index_or taken.counts entry.frame 0 - 1) g (omega (arith, sized, counted.sized, fits.frame)) in
+            grind (arith, nat_tests, after, read g, before, company, pages_on-left g, counted.counted next.frame free.there, one_if_zero-above next.frame free.above, free.empty, counted.counted g h));
       }
-    where
-      long : length (slice_set table.arena next.frame (page_at table.arena entry.frame)) ≡ length table.arena
-      long = length-set table.arena next.frame (page_at table.arena entry.frame)
-
-      sized : length taken.counts ≡ length table.arena
-      sized = ap length took ∙ length-set old.counts next.frame 1 ∙ counted.sized
-
-      taken-other : (g : ℕ) → g ≢ next.frame → slice_index_or taken.counts g 0 ≡ slice_index_or old.counts g 0
-      taken-other g ne = ap (λ (l : List ℕ). slice_index_or l g 0) took ∙ get_or-set_other old.counts next.frame g 1 0 ne
-
-      before : slice_index_or taken.counts entry.frame 0 ≡ one_if_zero entry.frame + pages_on entry.frame table.entries
-      before = taken-other entry.frame (fresh i entry here) ∙ counted.counted entry.frame fits.frame
-
-      new-other : (g : ℕ) → g ≢ entry.frame → slice_index_or new.counts g 0 ≡ slice_index_or taken.counts g 0
-      new-other g ne = ap (λ (l : List ℕ). slice_index_or l g 0) counts ∙ get_or-set_other taken.counts entry.frame g (slice_index_or taken.counts entry.frame 0 - 1) 0 ne
-
-      on_old : slice_index_or new.counts entry.frame 0 ≡ one_if_zero entry.frame + pages_on entry.frame (left table i entry next).entries
-      on_old =
-          let inside : entry.frame < length taken.counts = omega (arith, sized, fits.frame) in
-          let read : slice_index_or new.counts entry.frame 0 ≡ slice_index_or taken.counts entry.frame 0 - 1 =
-          ap (λ (l : List ℕ). slice_index_or l entry.frame 0) counts ∙ get_or-set_same taken.counts entry.frame (slice_index_or taken.counts entry.frame 0 - 1) 0 inside in
-          let count = pages_on-old in
-          omega (arith, read, before, count)
-
-      on_new : slice_index_or new.counts next.frame 0 ≡ one_if_zero next.frame + pages_on next.frame (left table i entry next).entries
-      on_new =
-          let inside : next.frame < length old.counts = omega (arith, counted.sized, free.there) in
-          let read : slice_index_or taken.counts next.frame 0 ≡ 1 = ap (λ (l : List ℕ). slice_index_or l next.frame 0) took ∙ get_or-set_same old.counts next.frame 1 0 inside in
-          let same = new-other next.frame (λ e. fresh i entry here (sym e)) in
-          let none = one_if_zero-above next.frame free.above in
-          let one = pages_on-new in
-          omega (arith, read, same, none, one)
-
-      on_other : (g : ℕ) → g < length (slice_set table.arena next.frame (page_at table.arena entry.frame)) → g ≢ entry.frame → g ≢ next.frame
-          → slice_index_or new.counts g 0 ≡ one_if_zero g + pages_on g (left table i entry next).entries
-      on_other g h apart apart' =
-          let known = counted.counted g (omega (arith, h, long)) in
-          let same = pages_on-other g apart apart' in
-          new-other g apart ∙ taken-other g apart' ∙ omega (arith, known, same)
-
-      count : (g : ℕ) → g < length (slice_set table.arena next.frame (page_at table.arena entry.frame)) → slice_index_or new.counts g 0 ≡ one_if_zero g + pages_on g (left table i entry next).entries
-      count g h =
-          ⊎_elim (λ same. subst (λ (n : ℕ). slice_index_or new.counts n 0 ≡ one_if_zero n + pages_on n (left table i entry next).entries) (sym same.1) on_old)
-          (λ apart. ⊎_elim (λ same. subst (λ (n : ℕ). slice_index_or new.counts n 0 ≡ one_if_zero n + pages_on n (left table i entry next).entries) (sym same.1) on_new)
-          (λ apart'. on_other g h apart.1 apart'.1) (eqb_tells g next.frame)) (eqb_tells g entry.frame)

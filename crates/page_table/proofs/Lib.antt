@@ -1,4 +1,6 @@
+pub mod Sides
 pub mod Entries
+pub mod Changing
 pub mod Adding
 pub mod Unused
 pub mod Unmerging
@@ -19,6 +21,7 @@ pub mod Moving
 pub mod Pairing
 pub mod Zeroing
 pub mod Merging
+pub mod Seen
 pub mod Breaks
 pub mod Counting
 pub mod Facts

@@ -1,9 +1,9 @@
 -- Maps as flat bytes, out of the contents of their pages.
-use Rattle.std.proofs.Common.{◌≡◌, ◌≢◌, ◌∙◌, ◌⊎◌, ⊎_elim, ℕ, zero, suc, ◌+◌, ◌-◌, ◌*◌, ◌<◌, ◌≤◌, List, [], ◌∷◌, ◌++◌, length, take, drop, replicate, slice_index_or, slice_set, Option, None, option_map, refl, sym, ap, subst, arith, append_assoc, length-append, length-drop}
+use Rattle.std.proofs.Common.{◌≡◌, ◌≢◌, ◌∙◌, ⊎_elim, ℕ, zero, suc, ◌+◌, ◌-◌, ◌*◌, ◌<◌, ◌≤◌, List, [], ◌∷◌, ◌++◌, length, take, drop, replicate, slice_index_or, slice_set, Option, None, option_map, refl, sym, ap, subst, arith, append_assoc, length-append, length-drop}
 use Rattle.std.specs.List.{concat}
 use Rattle.std.proofs.lemmas.List.{get_or-set_same, get_or-set_other, length-set, ext_get_or, length-take-le, drop_at, take_at, append-nil, drop-append-le, take-append-le, drop-drop, take-append-drop, take-replicate, drop-set-lt, drop-set-add, take-set-le}
 use Rattle.std.proofs.Math.Seq.{take-set-lt, take-append-add}
-use Rattle.std.proofs.lemmas.Bool.Decides.{eqb_tells}
+use Rattle.std.proofs.lemmas.Bool.Decides.{eqb_tells, nat_tests}
 use Rattle.host_types.specs.declared.shape.Shape.{Shape}
 use Rattle.host_types.specs.Bytes.{part_of, with_part}
 use Rattle.host_types.specs.Memory.{FlatMap}
@@ -12,6 +12,7 @@ use Rattle.host_types.specs.Shapes.{byte_len_of}
 use Rattle.frame_arena.proofs.Parts.{part_of-drop, part_of-first, with_part-append}
 use Rattle.page_table.specs.Limits.{page_count}
 use Rattle.page_table.specs.Table.{maps_of, flat_of, ArePages, ArePagesOf, AreMaps}
+use Rattle.page_table.proofs.Sides.{apart_order}
 
 -- parts of lists
 
@@ -31,11 +32,8 @@ part_of-set_same xs k n width x h = ap (take width) (drop-set-add k xs n x) ∙ 
 
 pub part_of-set_other : {X : Type 0} (xs : List X) (k n j width : ℕ) (x : X) → n < width → j ≢ k → part_of (slice_set xs (k * width + n) x) (j * width) width ≡ part_of xs (j * width) width
 unfolding part_of
-part_of-set_other xs k n j width x h ne = ⊎_elim (λ less. before less) (λ more. behind more) (order j k ne)
+part_of-set_other xs k n j width x h ne = ⊎_elim (λ less. before less) (λ more. behind more) (apart_order j k ne)
   where
-    order : (j k : ℕ) → j ≢ k → (j < k) ⊎ (k < j)
-    order j k ne = grind arith
-
     before : j < k → take width (drop (j * width) (slice_set xs (k * width + n) x)) ≡ take width (drop (j * width) xs)
     before less =
         let rest : ℕ = k - suc j in
@@ -75,21 +73,19 @@ pub maps_of-changed : (old new : List (Option Shape)) (before after : List (List
 maps_of-changed old new before after k flat long inside shapes pages here =
     let same : length (maps_of new after) ≡ length (slice_set (maps_of old before) k flat) =
     length-maps_of new after ∙ long ∙ sym (length-set (maps_of old before) k flat ∙ length-maps_of old before) in
-    ext_get_or None (maps_of new after) (slice_set (maps_of old before) k flat) same (λ i less. ⊎_elim (λ e. at_place i e.1) (λ ne. else_where i ne.1) (eqb_tells i k))
-  where
-    at_place : (i : ℕ) → i ≡ k → slice_index_or (maps_of new after) i None ≡ slice_index_or (slice_set (maps_of old before) k flat) i None
-    at_place i e =
-        let wide = length-maps_of old before in
-        let known : slice_index_or (maps_of new after) k None ≡ slice_index_or (slice_set (maps_of old before) k flat) k None =
-        map_at-maps_of new after k ∙ here ∙ sym (get_or-set_same (maps_of old before) k flat None (omega (arith, wide, inside))) in
-        subst (λ (n : ℕ). slice_index_or (maps_of new after) n None ≡ slice_index_or (slice_set (maps_of old before) k flat) n None) (sym e) known
-
-    else_where : (i : ℕ) → i ≢ k → slice_index_or (maps_of new after) i None ≡ slice_index_or (slice_set (maps_of old before) k flat) i None
-    else_where i ne =
-        map_at-maps_of new after i
-        ∙ ap (λ shape. option_map (flat_of (part_of after (i * 256) 256)) shape) (shapes i ne)
-        ∙ ap (λ p. option_map (flat_of p) (slice_index_or old i None)) (pages i ne)
-        ∙ sym (get_or-set_other (maps_of old before) k i flat None ne ∙ map_at-maps_of old before i)
+    ext_get_or None (maps_of new after) (slice_set (maps_of old before) k flat) same
+    (λ i less. grind (
+      arith,
+      nat_tests,
+      map_at-maps_of new after i,
+      map_at-maps_of old before i,
+      length-maps_of old before,
+      get_or-set_same (maps_of old before) k flat None,
+      get_or-set_other (maps_of old before) k i flat None,
+      shapes i,
+      pages i,
+      here,
+    ))
 
 -- the maps stay right where one of them changes
 pub AreMaps-changed : (old new : List (Option Shape)) (before after : List (List ℕ)) (k : ℕ) → length new ≡ length old → length after ≡ length before
@@ -100,16 +96,11 @@ pub AreMaps-changed : (old new : List (Option Shape)) (before after : List (List
 AreMaps-changed old new before after k long wide shapes pages here are =
     record {
       places = wide ∙ are.places ∙ ap (λ (n : ℕ). n * 256) (sym long);
-      each = λ i less. ⊎_elim (λ e. at_place i e.1) (λ ne. else_where i (omega (arith, less, long)) ne.1) (eqb_tells i k);
+      each = λ i less. ⊎_elim
+          (λ e. subst (λ (n : ℕ). ArePages (slice_index_or new n None) (part_of after (n * 256) 256)) (sym e.1) here)
+          (λ ne. rw (shapes i ne.1, pages i ne.1) (are.each i (omega (arith, less, long))))
+          (eqb_tells i k);
     }
-  where
-    at_place : (i : ℕ) → i ≡ k → ArePages (slice_index_or new i None) (part_of after (i * 256) 256)
-    at_place i e = subst (λ (n : ℕ). ArePages (slice_index_or new n None) (part_of after (n * 256) 256)) (sym e) here
-
-    else_where : (i : ℕ) → i < length old → i ≢ k → ArePages (slice_index_or new i None) (part_of after (i * 256) 256)
-    else_where i less ne =
-        subst (λ shape. ArePages shape (part_of after (i * 256) 256)) (sym (shapes i ne))
-        (subst (λ p. ArePages (slice_index_or old i None) p) (sym (pages i ne)) (are.each i less))
 
 -- the bytes of pages one after another
 

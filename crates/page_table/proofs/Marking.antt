@@ -1,17 +1,14 @@
 -- A page that keeps its own frame gets another status and fingerprint.
-use Rattle.std.proofs.Common.{◌≡◌, ◌∙◌, inl, inr, ⊎_elim, ℕ, ◌+◌, ◌<◌, Bool, false, if◌then◌else◌, length, slice_set, Option, Some, None, IfSome, option_map, refl, sym, ap, subst, arith}
-use Rattle.std.proofs.lemmas.List.{length-set, map-set}
+use Rattle.std.proofs.Common.{◌≡◌, ◌∙◌, ℕ, ◌<◌, false, length, slice_set, Some, refl, sym, ap, arith}
 use Rattle.host_types.specs.declared.status.Status.{Status}
-use Rattle.host_types.specs.declared.status.Status.TheVariants.{New, Volatile, Waiting, Grouped, Zero}
-use Rattle.host_types.specs.Sharing.{is_shared, state_at}
+use Rattle.host_types.specs.Sharing.{is_shared}
 use Rattle.host_types.specs.Visits.{with_page}
 use Rattle.page_table.specs.declared.entry.Entry.{Entry}
 use Rattle.page_table.specs.declared.pass.Pass.{Pass}
-use Rattle.page_table.specs.Table.{TableState, CountsState, IsOwnAt, IsTable, IsEntry, IsAlone, IsGroup, IsSound, AreCountsOf, LiesRight, one_if_zero, entry_at, contents_of, groups_of, state_of, states_of, sharing_of, is_on, pages_on, used_by, marked}
-use Rattle.page_table.proofs.Entries.{one_when, on_one, pages_on-set, inside, at_set, places_on-set, groups-kept}
-use Rattle.page_table.proofs.Adding.{own_one, own_pages-set}
-use Rattle.page_table.proofs.Putting.{is_alone, entry_fits}
-use Rattle.page_table.proofs.Moving.{with_entry, state_here, contents-entry, fits-after}
+use Rattle.page_table.specs.Table.{TableState, CountsState, IsOwnAt, IsTable, IsSound, AreCountsOf, entry_at, contents_of, groups_of, sharing_of, is_on, pages_on, used_by, marked}
+use Rattle.page_table.proofs.Changing.{is_alone, entry_fits, table-changed, counted-changed, lies_alone, own_seen, pages_on-changed, own_pages-changed}
+use Rattle.page_table.proofs.Entries.{inside, places_on-set, groups-kept, states-set}
+use Rattle.page_table.proofs.Moving.{with_entry, contents-entry}
 
 -- an entry with another status and fingerprint
 abbrev pub marked_entry : Entry → Status → ℕ → Entry
@@ -27,12 +24,8 @@ pub record IsMarking (table : TableState) (i : ℕ) (entry : Entry) (status : St
 -- a page that callers see as such may be marked
 pub marking-from : (table now : TableState) (i : ℕ) (entry : Entry) (status : Status) → table ≡ now → IsTable table → entry_at now.entries i ≡ Some entry → IsOwnAt now i → is_shared status ≡ false → IsMarking table i entry status
 marking-from table now i entry status e is there own own_new =
-    record {
-      is = is;
-      here = ap (λ (t : TableState). entry_at t.entries i) e ∙ there;
-      own = subst (λ (y : Option Entry). IfSome y (λ (e : Entry). is_shared e.status ≡ false)) there own;
-      own_new = own_new;
-    }
+    let seen = own_seen table now e i entry there own in
+    record { is = is; here = seen.here; own = seen.own; own_new = own_new }
 
 module _ (table : TableState) (i : ℕ) (entry : Entry) (status : Status) (last : ℕ) (marking : IsMarking table i entry status) where
   open marking use {is, here, own, own_new}
@@ -48,20 +41,13 @@ module _ (table : TableState) (i : ℕ) (entry : Entry) (status : Status) (last 
   on-marked g = sym (ap (is_on g) here)
 
   pages_on-marked : (g : ℕ) → pages_on g (slice_set table.entries i (Some x)) ≡ pages_on g table.entries
-  pages_on-marked g =
-      let count = pages_on-set g table.entries i (Some x) there in
-      let same : on_one g (Some x) ≡ on_one g (entry_at table.entries i) = ap one_when (on-marked g) in
-      omega (arith, count, same)
+  pages_on-marked g = let count = pages_on-changed table.entries i entry (Some x) here g in omega (arith, count)
 
   pub contents-marked : contents_of (with_entry table i x) ≡ contents_of table
   contents-marked = contents-entry table i entry x table.groups here refl
 
   pub used-marked : used_by (with_entry table i x) ≡ used_by table
-  used-marked =
-      let count = own_pages-set table.entries i (Some x) there in
-      let old : own_one (entry_at table.entries i) ≡ 1 = ap own_one here ∙ ap (λ (b : Bool). if b then 0 else 1) own in
-      let new : own_one (Some x) ≡ 1 = ap (λ (b : Bool). if b then 0 else 1) own_new in
-      omega (arith, count, old, new)
+  used-marked = grind (arith, own_pages-changed table.entries i entry (Some x) here, own, own_new)
 
   groups-marked : groups_of (with_entry table i x) ≡ groups_of table
   unfolding groups_of
@@ -69,56 +55,26 @@ module _ (table : TableState) (i : ℕ) (entry : Entry) (status : Status) (last 
 
   pub sharing-marked : (pass : Pass) → sharing_of (with_entry table i x) pass ≡ with_page (sharing_of table pass) i (marked status last)
   sharing-marked pass =
-      let page : Some (state_of x) ≡ option_map (marked status last) (state_at (sharing_of table pass) i) = sym (ap (option_map (marked status last)) (state_here table i entry pass here)) in
-      let pages : states_of (with_entry table i x).entries ≡ slice_set (states_of table.entries) i (option_map (marked status last) (state_at (sharing_of table pass) i)) =
-      map-set (option_map state_of) table.entries i (Some x) ∙ ap (slice_set (states_of table.entries) i) page in
+      let pages = states-set (marked status last) table.entries i entry x here refl in
       let groups = groups-marked in
       cc
 
   IsTable-marked : IsTable (with_entry table i x)
   IsTable-marked =
-      record {
-        some = is.some;
-        small = is.small;
-        pages = is.pages;
-        zero = is.zero;
-        entries = λ j. at_set (λ y. IfSome y (IsEntry (with_entry table i x))) table.entries i j (Some x) tt its_own (λ ne. other (entry_at table.entries j) (is.entries j));
-        groups = λ g. ⊎_elim (λ e. inl e)
-            (λ group. inr (record { above = IsGroup.above group; once = IsGroup.once group; some = let same = pages_on-marked g in omega (arith, same, IsGroup.some group) }))
-            (is.groups g);
-        few = rw (length-set table.entries i (Some x)) is.few;
-      }
-    where
-      stays : (f : ℕ) → IsAlone table f → IsAlone (with_entry table i x) f
-      stays f a = record { above = a.above; one = pages_on-marked f ∙ a.one; no_group = a.no_group }
-
-      lies : (status : Status) → is_shared status ≡ false → IsAlone (with_entry table i x) entry.frame → LiesRight (with_entry table i x) entry.frame status
-      lies New e a = a
-      lies Volatile e a = a
-      lies Waiting e a = a
-      lies Grouped e a = absurd (cc)
-      lies Zero e a = absurd (cc)
-
-      its_own : IsEntry (with_entry table i x) x
-      its_own =
-          let fits = entry_fits table i entry is here in
-          record {
-            frame = fits.frame;
-            protected = fits.protected ∙ own ∙ sym own_new;
-            right = lies status own_new (stays entry.frame (is_alone table entry fits own));
-          }
-
-      other : (y : Option Entry) → IfSome y (IsEntry table) → IfSome y (IsEntry (with_entry table i x))
-      other None h = tt
-      other (Some y) h = fits-after table (with_entry table i x) y refl (stays y.frame) (λ once. once) h
+      let fits = entry_fits table i entry is here in
+      let lone = is_alone table entry fits own in
+      table-changed table (with_entry table i x) i (Some x) is refl refl refl is.pages is.zero
+      (record {
+        frame = fits.frame;
+        protected = fits.protected ∙ own ∙ sym own_new;
+        right = lies_alone (with_entry table i x) entry.frame status own_new (record { above = lone.above; one = pages_on-marked entry.frame ∙ lone.one; no_group = lone.no_group });
+      })
+      (λ j y ne e a. pages_on-marked y.frame ∙ a.one)
+      (λ g group. let same = pages_on-marked g in omega (arith, same, group.some))
 
   pub sound-marked : (counts : CountsState) → AreCountsOf table counts → IsSound (with_entry table i x) counts
   sound-marked counts counted =
       record {
         fits = IsTable-marked;
-        counted = record {
-          sized = counted.sized;
-          counted = λ g h. counted.counted g h ∙ ap (λ (n : ℕ). one_if_zero g + n) (sym (pages_on-marked g));
-          used = let same = used-marked in let used = counted.used in omega (arith, same, used);
-        };
+        counted = counted-changed table (with_entry table i x) counts counts counted refl refl (let same = used-marked in omega (arith, same)) (λ g h. let same = pages_on-marked g in omega (arith, same));
       }

@@ -1,19 +1,28 @@
 -- What a memory tells after pages came to share frames, or left shared ones: the bytes of each page stay.
-use Rattle.std.proofs.Common.{◌≡◌, ◌≢◌, ◌∙◌, ℕ, zero, suc, ◌+◌, ◌*◌, ◌<◌, ◌≤◌, List, [], ◌∷◌, length, slice_index_or, Option, Some, None, IfSome, true, false, refl, sym, ap, subst, arith}
+use Rattle.std.proofs.Common.{◌≡◌, ◌≢◌, ℕ, zero, suc, ◌+◌, ◌*◌, ◌<◌, ◌≤◌, List, [], ◌∷◌, length, slice_index_or, Option, Some, None, IfSome, true, false, refl, sym, ap, subst, arith, Bool}
 use Rattle.page_table.specs.declared.pass.Pass.{Pass}
 use Rattle.host_types.specs.declared.shape.Shape.{Shape}
 use Rattle.host_types.specs.declared.shape.Page.{Page}
 use Rattle.host_types.specs.Bytes.{part_of}
-use Rattle.host_types.specs.Pages.{map_place, page_place, page_bytes}
-use Rattle.host_types.specs.Sharing.{PageState, state_at, is_shared, break_cost}
+use Rattle.host_types.specs.Pages.{map_place, page_place}
+use Rattle.host_types.specs.Sharing.{PageState, state_at, is_shared, break_cost, Sharing}
 use Rattle.page_table.specs.declared.entry.Entry.{Entry}
 use Rattle.page_table.specs.declared.tenant.Tenant.{Tenant}
-use Rattle.page_table.specs.State.{MemoryState, part, bytes_of_map, free_of, have_of}
+use Rattle.page_table.specs.State.{MemoryState, part, free_of, have_of}
 use Rattle.page_table.specs.Changes.{IsPageOf, IsOwn, MayMerge, AreKept, IsKeptBut, KeepsSettings, with_pins}
 use Rattle.page_table.specs.Table.{TableState, IsOwnAt, AreMaps, entry_at, state_of, states_of, contents_of, maps_of, sharing_of, used_by, break_frames}
 use Rattle.page_table.specs.View.{view_of, IsMemory}
-use Rattle.page_table.proofs.Reading.{page_located, page_number, few_pages, content_is}
+use Rattle.page_table.proofs.Reading.{page_located, page_number, few_pages}
 use Rattle.page_table.proofs.Free.{free_is}
+
+-- The pages' bytes stay, and frames were taken and given back. The pins and what is told of sharing are those of the table and the pass, before and after.
+pub record Moves (old new : MemoryState) (pins pins_now : List Bool) (told told_now : Sharing) (taken given : ℕ) : Type 0 where
+  pub maps : new.maps ≡ old.maps
+  pub kept : pins_now ≡ pins → AreKept old new
+  pub sharing : (change : Sharing → Sharing) → told_now ≡ change told → new.sharing ≡ change old.sharing
+  pub settings : KeepsSettings old new
+  pub free : free_of new + taken ≡ free_of old + given
+  pub have : have_of new + taken ≡ have_of old + given
 
 -- another table with the same pages, on as many frames
 module _ (table new : TableState) (shapes : List (Option Shape)) (tenants : List Tenant) (pass now : Pass) (contents : contents_of new ≡ contents_of table) (arena : length new.arena ≡ length table.arena) where
@@ -22,14 +31,6 @@ module _ (table new : TableState) (shapes : List (Option Shape)) (tenants : List
 
   abbrev after : MemoryState
   after = view_of new shapes tenants now
-
-  pub maps_kept : after.maps ≡ before.maps
-  unfolding view_of
-  maps_kept = ap (maps_of shapes) contents
-
-  pub parts_kept : now.pins ≡ pass.pins → AreKept before after
-  unfolding view_of part
-  parts_kept pins t = rw (contents, pins) refl
 
   -- another tenant's part stays where its pins do
   pub parts_but : (t : ℕ) → ((u : ℕ) → u ≢ t → part_of now.pins (u * 2048) 2048 ≡ part_of pass.pins (u * 2048) 2048) → IsKeptBut t before after
@@ -40,10 +41,6 @@ module _ (table new : TableState) (shapes : List (Option Shape)) (tenants : List
   pub part_pinned : (t : ℕ) → part after t ≡ with_pins (part_of after.sharing.pins (t * 2048) 2048) (part before t)
   unfolding view_of part
   part_pinned t = rw contents refl
-
-  pub settings_kept : KeepsSettings before after
-  unfolding view_of
-  settings_kept = record { tenants = refl; frames = arena }
 
   pub memory_kept : (reserved : ℕ) → IsMemory table shapes tenants reserved → reserved + used_by new ≤ length table.arena → IsMemory new shapes tenants reserved
   memory_kept reserved is room =
@@ -56,33 +53,26 @@ module _ (table new : TableState) (shapes : List (Option Shape)) (tenants : List
         room = omega (arith, arena, room);
       }
 
-  -- more frames are used, as far as there is room
-  pub free_less : (count : ℕ) → used_by new ≡ used_by table + count → used_by table + count ≤ length table.arena → free_of after + count ≡ free_of before
-  free_less count used room =
-      let old = free_is table shapes tenants pass (omega (arith, room)) in
-      let newer = free_is new shapes tenants now (omega (arith, room, used, arena)) in
-      omega (arith, old, newer, used, arena)
+  moves_told : (taken given reserved : ℕ) → IsMemory table shapes tenants reserved → reserved + used_by new ≤ length table.arena → used_by new + given ≡ used_by table + taken
+      → Moves before after pass.pins now.pins (sharing_of table pass) (sharing_of new now) taken given
+  unfolding view_of part
+  moves_told taken given reserved is room used =
+      let old = free_is table shapes tenants pass (omega (arith, is.room)) in
+      let newer = free_is new shapes tenants now (omega (arith, room, arena)) in
+      record {
+        maps = ap (maps_of shapes) contents;
+        kept = λ pins t. rw (contents, pins) refl;
+        sharing = λ change same. same;
+        settings = record { tenants = refl; frames = arena };
+        free = omega (arith, old, newer, used, arena);
+        have = omega (arith, old, newer, used, arena, is.room, is.sum, room);
+      }
 
-  pub have_less : (count : ℕ) → used_by new ≡ used_by table + count → used_by table + count ≤ length table.arena → count ≤ have_of before → have_of after + count ≡ have_of before
-  unfolding view_of
-  have_less count used room enough =
-      let free = free_less count used room in
-      omega (arith, free, enough)
-
-  -- one frame less is used
-  pub free_more : used_by new + 1 ≡ used_by table → used_by table ≤ length table.arena → free_of after ≡ free_of before + 1
-  free_more used room =
-      let old = free_is table shapes tenants pass room in
-      let newer = free_is new shapes tenants now (omega (arith, room, used, arena)) in
-      omega (arith, old, newer, used, arena)
-
-  pub have_more : (reserved : ℕ) → IsMemory table shapes tenants reserved → used_by new + 1 ≡ used_by table → have_of after ≡ have_of before + 1
-  unfolding view_of
-  have_more reserved is used =
-      let room : used_by table ≤ length table.arena = omega (arith, is.room) in
-      let free = free_more used room in
-      let old = free_is table shapes tenants pass room in
-      omega (arith, free, old, is.room, is.sum)
+  -- the same of what callers saw before
+  pub moves : (seen : MemoryState) → before ≡ seen → (taken given reserved : ℕ) → IsMemory table shapes tenants reserved → reserved + used_by new ≤ length table.arena
+      → used_by new + given ≡ used_by table + taken → Moves seen after pass.pins now.pins (sharing_of table pass) (sharing_of new now) taken given
+  moves seen same taken given reserved is room used =
+      subst (λ (s : MemoryState). Moves s after pass.pins now.pins (sharing_of table pass) (sharing_of new now) taken given) same (moves_told taken given reserved is room used)
 
 -- how many frames the break of a page takes, as callers see it
 module _ (table : TableState) (shapes : List (Option Shape)) (tenants : List Tenant) (pass : Pass) (costs : (pass : Pass) (i : ℕ) → break_cost (sharing_of table pass) i ≡ break_frames table i) where
@@ -95,17 +85,13 @@ module _ (table : TableState) (shapes : List (Option Shape)) (tenants : List Ten
       → used_by table + break_frames table i ≤ length table.arena
   unfolding view_of
   cost_fits reserved i is enough =
-      let told = costs pass i in
-      let free = free_is table shapes tenants pass (omega (arith, is.room)) in
-      omega (arith, told, enough, free, is.room, is.sum)
+      omega (arith, costs pass i, enough, free_is table shapes tenants pass (omega (arith, is.room)), is.room, is.sum)
 
   pub cost_reserved : (reserved i : ℕ) → IsMemory table shapes tenants reserved → break_cost (view_of table shapes tenants pass).sharing i ≤ have_of (view_of table shapes tenants pass)
       → reserved + (used_by table + break_frames table i) ≤ length table.arena
   unfolding view_of
   cost_reserved reserved i is enough =
-      let told = costs pass i in
-      let free = free_is table shapes tenants pass (omega (arith, is.room)) in
-      omega (arith, told, enough, free, is.room, is.sum)
+      omega (arith, costs pass i, enough, free_is table shapes tenants pass (omega (arith, is.room)), is.room, is.sum)
 
 -- what holds of an entry holds of the state at its place
 pub state_of_entry : (P : PageState → Type 0) (entries : List (Option Entry)) (i : ℕ) → IfSome (entry_at entries i) (λ entry. P (state_of entry)) → IfSome (slice_index_or (states_of entries) i None) P
@@ -142,22 +128,15 @@ module _ (table : TableState) (shapes : List (Option Shape)) (tenants : List Ten
   pub number_small : (page : Page) → IsPageOf (view_of table shapes tenants pass) page → page.number < 256
   number_small page there =
       let loc = page_located table shapes tenants pass reserved page is there in
-      let few = few_pages loc.shape loc.pages.shaped in
-      let h = page_number table shapes tenants pass reserved page is there in
-      omega arith
+      omega (arith, page_number table shapes tenants pass reserved page is there, few_pages loc.shape loc.pages.shaped)
 
   pub map_small : (page : Page) → IsPageOf (view_of table shapes tenants pass) page → page.map < 8
   map_small page there = (page_located table shapes tenants pass reserved page is there).small
 
-  pub places_apart : (first second : Page) → IsPageOf (view_of table shapes tenants pass) first → IsPageOf (view_of table shapes tenants pass) second → first ≢ second
+  pub places_apart : (now : MemoryState) → view_of table shapes tenants pass ≡ now → (first second : Page) → IsPageOf now first → IsPageOf now second → first ≢ second
       → page_place first ≢ page_place second
-  places_apart first second one other apart same =
+  places_apart now seen first second there_first there_second apart same =
+      let one : IsPageOf (view_of table shapes tenants pass) first = rw (← seen) at there_first in
+      let other : IsPageOf (view_of table shapes tenants pass) second = rw (← seen) at there_second in
       let told = same_place first.tenant first.map first.number second.tenant second.map second.number (map_small first one) (number_small first one) (map_small second other) (number_small second other) same in
       apart (same_page first.tenant first.map first.number second.tenant second.map second.number told.0 told.1 told.2)
-
-  -- two pages of the same bytes, in the table
-  pub contents_equal : (first second : Page) → IsPageOf (view_of table shapes tenants pass) first → IsPageOf (view_of table shapes tenants pass) second
-      → page_bytes (bytes_of_map (view_of table shapes tenants pass) first) first.number ≡ page_bytes (bytes_of_map (view_of table shapes tenants pass) second) second.number
-      → slice_index_or (contents_of table) (page_place first) [] ≡ slice_index_or (contents_of table) (page_place second) []
-  contents_equal first second one other same =
-      content_is table shapes tenants pass reserved first is one ∙ same ∙ sym (content_is table shapes tenants pass reserved second is other)

@@ -4,17 +4,15 @@ use Rattle.std.proofs.lemmas.List.{get_or-drop, length-drop}
 use Rattle.host_types.specs.Sharing.{PageState}
 use Rattle.host_types.specs.Visits.{is_mergeable, first_mergeable}
 use Rattle.host_types.proofs.Next.{next-after, next-none}
+use Rattle.page_table.proofs.Sides.{order}
 
 over : (pages : List (Option PageState)) (n d : ℕ) → ((i : ℕ) → n ≤ i → i < n + d → is_mergeable (slice_index_or pages i None) ≡ false)
     → first_mergeable n (drop n pages) ≡ first_mergeable (n + d) (drop (n + d) pages)
 over pages n zero apart = let same : n + 0 ≡ n = omega arith in rw same refl
 over pages n (suc d) apart =
     let place : n + suc d ≡ n + 1 + d = omega arith in
-    rw place (step (λ later. over pages (n + 1) d later) (split n (length pages)))
+    rw place (step (λ later. over pages (n + 1) d later) (order n (length pages)))
   where
-    split : (n m : ℕ) → (n < m) ⊎ (m ≤ n)
-    split n m = grind arith
-
     step : (((i : ℕ) → n + 1 ≤ i → i < n + 1 + d → is_mergeable (slice_index_or pages i None) ≡ false) → first_mergeable (n + 1) (drop (n + 1) pages) ≡ first_mergeable (n + 1 + d) (drop (n + 1 + d) pages))
         → (n < length pages) ⊎ (length pages ≤ n) → first_mergeable n (drop n pages) ≡ first_mergeable (n + 1 + d) (drop (n + 1 + d) pages)
     step rest (inl less) = next-after pages n less (apart n (omega arith) (omega arith)) ∙ rest (λ i le lt. apart i (omega (arith, le)) (omega (arith, lt)))

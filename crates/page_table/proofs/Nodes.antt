@@ -1,6 +1,6 @@
 -- How many contents have more than one group, told by the chains of the tree: of all contents one is taken out
 -- after another, and how often it occurs is the length of its chain.
-use Rattle.std.proofs.Common.{◌≡◌, ◌≢◌, ◌∙◌, ◌⊎◌, inl, inr, ⊎_elim, ℕ, zero, suc, ◌+◌, ◌==◌, nat_lt, not, bytes_eq, Bool, true, false, if◌then◌else◌, List, [], ◌∷◌, ◌++◌, length, map, filter, slice_index_or, All, AllPairs, refl, sym, ap, arith}
+use Rattle.std.proofs.Common.{◌≡◌, ◌≢◌, ◌∙◌, ◌⊎◌, inl, inr, ⊎_elim, ℕ, suc, ◌+◌, ◌==◌, nat_lt, not, bytes_eq, Bool, true, false, if◌then◌else◌, List, [], ◌∷◌, ◌++◌, length, map, filter, slice_index_or, All, AllPairs, refl, sym, ap, arith}
 use Rattle.std.specs.List.{concat}
 use Rattle.std.specs.Ordering.{is_eq}
 use Rattle.std.specs.declared.cmp.Ordering.TheVariants.{Less}
@@ -42,48 +42,18 @@ times-none b = refl
 times-last : (b : List ℕ) (xs : List (List ℕ)) (x : List ℕ) → times_among b (xs ++ x ∷ []) ≡ times_among b xs + one_when (bytes_eq x b)
 unfolding times_among
 times-last b xs x =
-    let split = sum_by-append (λ (other : List ℕ). if bytes_eq other b then 1 else 0) xs (x ∷ []) in
-    let one = times-cons b x [] in
-    let none = times-none b in
-    omega (arith, split, one, none)
+    omega (arith, sum_by-append (λ (other : List ℕ). if bytes_eq other b then 1 else 0) xs (x ∷ []), times-cons b x [], times-none b)
 
 times-gone : (c : List ℕ) (xs : List (List ℕ)) → times_among c (out c xs) ≡ 0
 times-gone c [] = times-none c
-times-gone c (x ∷ xs) = by_test (bytes_eq x c) refl (times-gone c xs)
-  where
-    by_test : (t : Bool) → bytes_eq x c ≡ t → times_among c (out c xs) ≡ 0 → times_among c (if not t then x ∷ out c xs else out c xs) ≡ 0
-    by_test true e rest = rest
-    by_test false e rest =
-        let split = times-cons c x (out c xs) in
-        let none = ap one_when e in
-        omega (arith, rest, split, none)
+times-gone c (x ∷ xs) = grind (arith, times-cons c x (out c xs), times-gone c xs)
 
 times-other : (b c : List ℕ) (xs : List (List ℕ)) → b ≢ c → times_among b (out c xs) ≡ times_among b xs
 times-other b c [] ne = refl
-times-other b c (x ∷ xs) ne = by_test (bytes_eq x c) refl (times-other b c xs ne)
-  where
-    by_test : (t : Bool) → bytes_eq x c ≡ t → times_among b (out c xs) ≡ times_among b xs → times_among b (if not t then x ∷ out c xs else out c xs) ≡ times_among b (x ∷ xs)
-    by_test true e rest =
-        let is : x ≡ c = (bytes_eq-Decides x c).0 e in
-        let split = times-cons b x xs in
-        let none = ap one_when (differ x b (λ same. ne (sym same ∙ is))) in
-        omega (arith, rest, split, none)
-    by_test false e rest =
-        let split = times-cons b x xs in
-        let kept = times-cons b x (out c xs) in
-        omega (arith, rest, split, kept)
+times-other b c (x ∷ xs) ne = grind (arith, times-cons b x xs, times-cons b x (out c xs), (bytes_eq-Decides x c).0, (bytes_eq-Decides x b).0, times-other b c xs)
 
 many-more : (k : ℕ) → one_when (k == 1) + many_in k ≡ many_in (k + 1)
-many-more zero = refl
-many-more (suc zero) = refl
-many-more (suc (suc k)) =
-    let here : nat_lt 1 (suc (suc k)) ≡ true = grind (arith, nat_tests) in
-    let more : nat_lt 1 (suc (suc k) + 1) ≡ true = grind (arith, nat_tests) in
-    let above : (suc (suc k) == 1) ≡ false = grind (arith, nat_tests) in
-    let a = ap one_when here in
-    let b = ap one_when more in
-    let c = ap one_when above in
-    omega (arith, a, b, c)
+many-more k = grind (arith, nat_tests)
 
 seconds-cons : (before : List (List ℕ)) (x : List ℕ) (xs : List (List ℕ)) → seconds_behind before (x ∷ xs) ≡ one_when (times_among x before == 1) + seconds_behind (before ++ x ∷ []) xs
 unfolding seconds_behind
@@ -95,69 +65,28 @@ seconds-none before = refl
 
 -- the second one of a content, and those of all others
 seconds-split : (c : List ℕ) (before xs : List (List ℕ)) → seconds_behind before xs + many_in (times_among c before) ≡ many_in (times_among c before + times_among c xs) + seconds_behind (out c before) (out c xs)
-seconds-split c before [] =
-    let none = times-none c in
-    let left = seconds-none before in
-    let right = seconds-none (out c before) in
-    let same : times_among c before + times_among c [] ≡ times_among c before = omega (arith, none) in
-    let many = ap many_in same in
-    omega (arith, left, right, many)
-seconds-split c before (x ∷ xs) = by_test (bytes_eq x c) refl (seconds-split c (before ++ x ∷ []) xs)
-  where
-    last : out c (before ++ x ∷ []) ≡ out c before ++ out c (x ∷ [])
-    last = filter-append (λ (other : List ℕ). not (bytes_eq other c)) before (x ∷ [])
-
-    by_test : (t : Bool) → bytes_eq x c ≡ t
-        → seconds_behind (before ++ x ∷ []) xs + many_in (times_among c (before ++ x ∷ [])) ≡ many_in (times_among c (before ++ x ∷ []) + times_among c xs) + seconds_behind (out c (before ++ x ∷ [])) (out c xs)
-        → seconds_behind before (x ∷ xs) + many_in (times_among c before) ≡ many_in (times_among c before + times_among c (x ∷ xs)) + seconds_behind (out c before) (if not t then x ∷ out c xs else out c xs)
-    by_test true e rest =
-        let is : x ≡ c = (bytes_eq-Decides x c).0 e in
-        let one = ap one_when e in
-        let grown = times-last c before x in
-        let split = times-cons c x xs in
-        let long : times_among c (before ++ x ∷ []) ≡ times_among c before + 1 = omega (arith, one, grown) in
-        let whole : times_among c (before ++ x ∷ []) + times_among c xs ≡ times_among c before + times_among c (x ∷ xs) = omega (arith, one, grown, split) in
-        let many = ap many_in long in
-        let most = ap many_in whole in
-        let same : out c (before ++ x ∷ []) ≡ out c before = last ∙ ap (λ (b : Bool). out c before ++ (if not b then x ∷ [] else [])) e ∙ append-nil (out c before) in
-        let behind = ap (λ l. seconds_behind l (out c xs)) same in
-        let first = ap (λ (y : List ℕ). one_when (times_among y before == 1)) is in
-        let next = seconds-cons before x xs in
-        let more = many-more (times_among c before) in
-        omega (arith, rest, many, most, behind, first, next, more)
-    by_test false e rest =
-        let apart : x ≢ c = λ is. let yes = (bytes_eq-Decides x c).1 is in cc in
-        let none = ap one_when e in
-        let grown = times-last c before x in
-        let split = times-cons c x xs in
-        let long : times_among c (before ++ x ∷ []) ≡ times_among c before = omega (arith, none, grown) in
-        let whole : times_among c (before ++ x ∷ []) + times_among c xs ≡ times_among c before + times_among c (x ∷ xs) = omega (arith, none, grown, split) in
-        let many = ap many_in long in
-        let most = ap many_in whole in
-        let same : out c (before ++ x ∷ []) ≡ out c before ++ x ∷ [] = last ∙ ap (λ (b : Bool). out c before ++ (if not b then x ∷ [] else [])) e in
-        let behind = ap (λ l. seconds_behind l (out c xs)) same in
-        let first = ap (λ (n : ℕ). one_when (n == 1)) (times-other x c before apart) in
-        let next = seconds-cons before x xs in
-        let after = seconds-cons (out c before) x (out c xs) in
-        omega (arith, rest, many, most, behind, first, next, after)
+seconds-split c before [] = grind (arith, times-none c, seconds-none before, seconds-none (out c before))
+seconds-split c before (x ∷ xs) =
+    let last : out c (before ++ x ∷ []) ≡ out c before ++ out c (x ∷ []) = filter-append (λ (other : List ℕ). not (bytes_eq other c)) before (x ∷ []) in
+    grind (
+      arith,
+      nat_tests,
+      last,
+      append-nil (out c before),
+      (bytes_eq-Decides x c).0,
+      (bytes_eq-Decides x c).1,
+      times-last c before x,
+      times-cons c x xs,
+      times-other x c before,
+      seconds-cons before x xs,
+      seconds-cons (out c before) x (out c xs),
+      many-more (times_among c before),
+      seconds-split c (before ++ x ∷ []) xs,
+    )
 
 -- as many, where a content occurs more than once
 abbrev share : ℕ → ℕ → ℕ
 share n m = if nat_lt 1 n then m else 0
-
-share-none : (n : ℕ) → share n 0 ≡ 0
-share-none n = by_test (nat_lt 1 n) 0 refl
-  where
-    by_test : (b : Bool) (m : ℕ) → m ≡ 0 → (if b then m else 0) ≡ 0
-    by_test true m e = e
-    by_test false m e = refl
-
-share-more : (n m : ℕ) → share n (1 + m) ≡ many_in n + share n m
-share-more n m = by_test (nat_lt 1 n)
-  where
-    by_test : (b : Bool) → (if b then 1 + m else 0) ≡ (if b then 1 else 0) + (if b then m else 0)
-    by_test true = refl
-    by_test false = refl
 
 repeated-cons : (all : List (List ℕ)) (x : List ℕ) (xs : List (List ℕ)) → repeated_among all (x ∷ xs) ≡ many_in (times_among x all) + repeated_among all xs
 unfolding repeated_among
@@ -169,51 +98,15 @@ repeated-none all = refl
 
 -- those of a content, and those of all others
 repeated-split : (c : List ℕ) (all xs : List (List ℕ)) → repeated_among all xs ≡ share (times_among c all) (times_among c xs) + repeated_among (out c all) (out c xs)
-repeated-split c all [] =
-    let none = ap (share (times_among c all)) (times-none c) ∙ share-none (times_among c all) in
-    let left = repeated-none all in
-    let right = repeated-none (out c all) in
-    omega (arith, none, left, right)
-repeated-split c all (x ∷ xs) = by_test (bytes_eq x c) refl (repeated-split c all xs)
-  where
-    by_test : (t : Bool) → bytes_eq x c ≡ t → repeated_among all xs ≡ share (times_among c all) (times_among c xs) + repeated_among (out c all) (out c xs)
-        → repeated_among all (x ∷ xs) ≡ share (times_among c all) (times_among c (x ∷ xs)) + repeated_among (out c all) (if not t then x ∷ out c xs else out c xs)
-    by_test true e rest =
-        let is : x ≡ c = (bytes_eq-Decides x c).0 e in
-        let one = ap one_when e in
-        let split = times-cons c x xs in
-        let long : times_among c (x ∷ xs) ≡ 1 + times_among c xs = omega (arith, one, split) in
-        let shared = ap (share (times_among c all)) long ∙ share-more (times_among c all) (times_among c xs) in
-        let first = ap (λ (y : List ℕ). many_in (times_among y all)) is in
-        let next = repeated-cons all x xs in
-        omega (arith, rest, shared, first, next)
-    by_test false e rest =
-        let apart : x ≢ c = λ is. let yes = (bytes_eq-Decides x c).1 is in cc in
-        let none = ap one_when e in
-        let split = times-cons c x xs in
-        let long : times_among c (x ∷ xs) ≡ times_among c xs = omega (arith, none, split) in
-        let shared = ap (share (times_among c all)) long in
-        let first = ap many_in (times-other x c all apart) in
-        let next = repeated-cons all x xs in
-        let after = repeated-cons (out c all) x (out c xs) in
-        omega (arith, rest, shared, first, next, after)
+repeated-split c all [] = grind (arith, times-none c, repeated-none all, repeated-none (out c all))
+repeated-split c all (x ∷ xs) =
+    grind (arith, nat_tests, times-cons c x xs, (bytes_eq-Decides x c).0, (bytes_eq-Decides x c).1, repeated-cons all x xs, repeated-cons (out c all) x (out c xs), times-other x c all, repeated-split c all xs)
 
 module _ (arena : List (List ℕ)) where
   -- as many frames have the bytes
   pub times-has : (b : List ℕ) (frames : List ℕ) → times_among b (map (page_at arena) frames) ≡ length (filter (has arena b) frames)
   times-has b [] = times-none b
-  times-has b (f ∷ fs) = by_test (bytes_eq (page_at arena f) b) refl (times-has b fs)
-    where
-      by_test : (t : Bool) → bytes_eq (page_at arena f) b ≡ t → times_among b (map (page_at arena) fs) ≡ length (filter (has arena b) fs)
-          → times_among b (page_at arena f ∷ map (page_at arena) fs) ≡ length (if t then f ∷ filter (has arena b) fs else filter (has arena b) fs)
-      by_test true e rest =
-          let split = times-cons b (page_at arena f) (map (page_at arena) fs) in
-          let one = ap one_when e in
-          omega (arith, rest, split, one)
-      by_test false e rest =
-          let split = times-cons b (page_at arena f) (map (page_at arena) fs) in
-          let one = ap one_when e in
-          omega (arith, rest, split, one)
+  times-has b (f ∷ fs) = grind (arith, times-cons b (page_at arena f) (map (page_at arena) fs), times-has b fs)
 
   has-split : (b chain : List ℕ) (chains : List (List ℕ)) → IsChain arena chain
       → length (filter (has arena b) (chain ++ concat chains)) ≡ length (if bytes_eq (content arena chain) b then chain else []) + length (filter (has arena b) (concat chains))
@@ -233,19 +126,12 @@ module _ (arena : List (List ℕ)) where
       let none = same x in
       absurd (omega (arith, split, one, none))
   nodes-told (chain ∷ chains) all are ascending same =
-      let seconds : seconds_behind [] all + many_in (times_among (content arena chain) []) ≡ many_in (times_among (content arena chain) [] + times_among (content arena chain) all) + seconds_behind [] (out (content arena chain) all) = seconds-split (content arena chain) [] all in
-      let repeated = repeated-split (content arena chain) all all in
-      let none = times-none (content arena chain) in
-      let start : many_in (times_among (content arena chain) []) ≡ 0 = ap many_in none in
-      let sum : times_among (content arena chain) [] + times_among (content arena chain) all ≡ length chain = omega (arith, none, whole) in
-      let many = ap many_in sum in
-      let dups = ap dups_in whole in
       let rest = nodes-told chains (out (content arena chain) all) (All-tail (IsChain arena) chain chains are) (λ i j d less there. ascending (suc i) (suc j) d (omega arith) (omega arith)) less in
-      let first = rest.0 in
-      let second = rest.1 in
       let more = sum_by-cons (λ (one : List ℕ). many_in (length one)) chain chains in
-      let most = sum_by-cons (λ (one : List ℕ). dups_in (length one)) chain chains in
-      (omega (arith, seconds, start, many, first, more), omega (arith, repeated, dups, second, most))
+      let most = sum_by-cons (λ (one : List ℕ). dups_in (length one)) chain chains in (
+        grind (arith, nat_tests, seconds-split (content arena chain) [] all, times-none (content arena chain), whole, rest.0, more),
+        grind (arith, nat_tests, repeated-split (content arena chain) all all, whole, rest.1, most),
+      )
     where
       is : IsChain arena chain
       is = are 0 [] (omega arith)

@@ -1,108 +1,60 @@
 -- Two pages of the same bytes become a new last group: the first one founds the group, and the second one moves to its frame.
-use Rattle.std.proofs.Common.{◌≡◌, ◌≢◌, ◌∙◌, ◌⊎◌, inl, inr, ⊎_elim, ℕ, zero, suc, ◌+◌, ◌-◌, ◌<◌, ◌≤◌, ◌==◌, nat_lt, Bool, true, false, if◌then◌else◌, List, [], ◌∷◌, ◌++◌, length, slice_index_or, slice_set, Option, Some, None, IfSome, option_map, refl, sym, ap, subst, arith}
-use Rattle.std.proofs.lemmas.List.{get_or-set_other, length-set, length-append, map-set, map-append}
-use Rattle.std.proofs.lemmas.List.Sums.{sum_by-cons}
-use Rattle.std.proofs.lemmas.Bool.Decides.{nat_tests, eqb_tells, leb_tells}
+use Rattle.std.proofs.Common.{◌≡◌, ◌≢◌, ◌∙◌, ◌⊎◌, inl, inr, ⊎_elim, ℕ, zero, suc, ◌+◌, ◌-◌, ◌<◌, ◌≤◌, ◌==◌, true, false, List, [], ◌∷◌, ◌++◌, length, slice_index_or, slice_set, Option, Some, None, option_map, refl, sym, ap, subst, arith}
+use Rattle.std.proofs.lemmas.List.{get_or-set_other, length-append, map-append}
+use Rattle.std.proofs.lemmas.Bool.Decides.{nat_tests, eqb_tells}
 use Rattle.page_table.specs.declared.pass.Pass.{Pass}
-use Rattle.host_types.specs.declared.status.Status.{Status}
 use Rattle.host_types.specs.declared.status.Status.TheVariants.{Grouped}
 use Rattle.host_types.specs.Sharing.{PageState, is_shared, with_status, state_at, joined_by, paired, waiting_without}
 use Rattle.frame_arena.specs.Pages.{page_at}
 use Rattle.page_table.specs.declared.entry.Entry.{Entry}
-use Rattle.page_table.specs.Table.{TableState, CountsState, IsOwnAt, IsTable, IsEntry, IsAlone, IsGroup, IsSound, AreCountsOf, LiesRight, times, one_if_zero, entry_at, contents_of, groups_of, state_of, states_of, sharing_of, forgets, is_on, places_on, pages_on, used_by}
-use Rattle.page_table.proofs.Entries.{one_when, on_one, on_one-true, on_one-false, some_on, elsewhere, not_equal, equal, pages_on-set, inside, alone, at_set, places_on-set, groups-kept}
-use Rattle.page_table.proofs.Adding.{own_one, own_pages-set}
-use Rattle.page_table.proofs.Putting.{is_alone, entry_fits, content_at}
+use Rattle.page_table.specs.Table.{TableState, CountsState, IsOwnAt, IsTable, IsAlone, IsGroup, IsSound, AreCountsOf, LiesRight, times, one_if_zero, entry_at, contents_of, groups_of, state_of, states_of, sharing_of, forgets, is_on, places_on, pages_on, used_by}
+use Rattle.page_table.proofs.Changing.{is_alone, entry_fits, table-set, counted-changed, apart_alone, own_seen, own_alone, pages_on-changed, own_pages-changed}
+use Rattle.page_table.proofs.Entries.{one_when, not_equal, equal, inside, alone, places_on-set, groups-kept, pages_on-cons, none_on, states-set, told_here}
+use Rattle.page_table.proofs.Putting.{content_at}
 use Rattle.page_table.proofs.Unused.{times-push}
 use Rattle.page_table.proofs.Waiters.{others_of, waiting-forgets}
-use Rattle.page_table.proofs.Moving.{IsMove, with_entry, state_here, contents-entry, fits-after, contents-moved, used-moved, sound-moved}
-
-is_below : (n m : ℕ) → n < m → nat_lt n m ≡ true
-is_below n m h = grind (arith, nat_tests)
-
-is_not_below : (n m : ℕ) → m ≤ n → nat_lt n m ≡ false
-is_not_below n m h = grind (arith, nat_tests)
+use Rattle.page_table.proofs.Moving.{IsMove, with_entry, contents-entry, contents-moved, used-moved, sound-moved, IsMerged}
 
 -- no places are on a frame without pages
 places-none : (n f : ℕ) (xs : List (Option Entry)) → pages_on f xs ≡ 0 → places_on n f xs ≡ []
-unfolding places_on pages_on
+unfolding places_on
 places-none n f [] h = refl
-places-none n f (x ∷ xs) h = by_head (is_on f x) refl (sum_by-cons (on_one f) x xs) (places-none (n + 1) f xs)
-  where
-    by_head : (b : Bool) → is_on f x ≡ b → pages_on f (x ∷ xs) ≡ on_one f x + pages_on f xs → (pages_on f xs ≡ 0 → places_on (n + 1) f xs ≡ [])
-        → (if b then n ∷ places_on (n + 1) f xs else places_on (n + 1) f xs) ≡ []
-    by_head true e split rest = absurd (let one = on_one-true f x e in omega (arith, one, split, h))
-    by_head false e split rest = rest (omega (arith, split, h))
+places-none n f (x ∷ xs) h = grind (arith, pages_on-cons f x xs, places-none (n + 1) f xs)
 
 -- the place of the one page on a frame
 places-one : (n f : ℕ) (xs : List (Option Entry)) (i : ℕ) → pages_on f xs ≡ 1 → is_on f (entry_at xs i) ≡ true → places_on n f xs ≡ (n + i) ∷ []
-unfolding places_on pages_on
+unfolding places_on
 places-one n f [] i h on = absurd (cc)
-places-one n f (x ∷ xs) zero h on =
-    let split = sum_by-cons (on_one f) x xs in
-    let one = on_one-true f x on in
-    let here : n + 0 ≡ n = omega arith in
-    rw (on, here) (ap (λ (l : List ℕ). n ∷ l) (places-none (n + 1) f xs (omega (arith, split, one, h))))
-places-one n f (x ∷ xs) (suc i) h on = by_head (is_on f x) refl (sum_by-cons (on_one f) x xs) (some_on f xs i on) (λ one. places-one (n + 1) f xs i one on)
-  where
-    by_head : (b : Bool) → is_on f x ≡ b → pages_on f (x ∷ xs) ≡ on_one f x + pages_on f xs → 1 ≤ pages_on f xs
-        → (pages_on f xs ≡ 1 → places_on (n + 1) f xs ≡ (n + 1 + i) ∷ [])
-        → (if b then n ∷ places_on (n + 1) f xs else places_on (n + 1) f xs) ≡ (n + suc i) ∷ []
-    by_head true e split some rest = absurd (let one = on_one-true f x e in omega (arith, one, split, some, h))
-    by_head false e split some rest =
-        let none = on_one-false f x e in
-        let next : n + 1 + i ≡ n + suc i = omega arith in
-        rest (omega (arith, none, split, h)) ∙ ap (λ (m : ℕ). m ∷ []) next
+places-one n f (x ∷ xs) zero h on = grind (arith, pages_on-cons f x xs, places-none (n + 1) f xs)
+places-one n f (x ∷ xs) (suc i) h on = grind (arith, pages_on-cons f x xs, places-one (n + 1) f xs i, none_on f xs i)
 
 -- a place before all others joins them as the first
 joined-first : (n m f : ℕ) (xs : List (Option Entry)) → n < m → joined_by n (places_on m f xs) ≡ n ∷ places_on m f xs
 unfolding places_on joined_by
 joined-first n m f [] h = refl
-joined-first n m f (x ∷ xs) h = by_head (is_on f x) (joined-first n (m + 1) f xs (omega arith))
-  where
-    by_head : (b : Bool) → joined_by n (places_on (m + 1) f xs) ≡ n ∷ places_on (m + 1) f xs
-        → joined_by n (if b then m ∷ places_on (m + 1) f xs else places_on (m + 1) f xs) ≡ n ∷ (if b then m ∷ places_on (m + 1) f xs else places_on (m + 1) f xs)
-    by_head true rest = rw (is_below n m h) refl
-    by_head false rest = rest
+joined-first n m f (x ∷ xs) h = grind (arith, nat_tests, joined-first n (m + 1) f xs)
 
 -- the places on a frame to which a page moves
 pub places-joined : (n f : ℕ) (xs : List (Option Entry)) (j : ℕ) (y : Option Entry) → j < length xs → is_on f y ≡ true → is_on f (entry_at xs j) ≡ false
     → places_on n f (slice_set xs j y) ≡ joined_by (n + j) (places_on n f xs)
 unfolding places_on joined_by
 places-joined n f [] j y h on off = absurd (omega arith)
-places-joined n f (x ∷ xs) zero y h on off =
-    let here : n + 0 ≡ n = omega arith in
-    rw (here, on, off) (sym (joined-first n (n + 1) f xs (omega arith)))
-places-joined n f (x ∷ xs) (suc j) y h on off =
-    let next : n + suc j ≡ n + 1 + j = omega arith in
-    by_head (is_on f x) (places-joined (n + 1) f xs j y (omega arith) on off ∙ ap (λ (m : ℕ). joined_by m (places_on (n + 1) f xs)) (sym next))
-  where
-    by_head : (b : Bool) → places_on (n + 1) f (slice_set xs j y) ≡ joined_by (n + suc j) (places_on (n + 1) f xs)
-        → (if b then n ∷ places_on (n + 1) f (slice_set xs j y) else places_on (n + 1) f (slice_set xs j y))
-        ≡ joined_by (n + suc j) (if b then n ∷ places_on (n + 1) f xs else places_on (n + 1) f xs)
-    by_head true rest = rw (is_not_below (n + suc j) n (omega arith)) (ap (λ (l : List ℕ). n ∷ l) rest)
-    by_head false rest = rest
+places-joined n f (x ∷ xs) zero y h on off = grind (arith, nat_tests, joined-first n (n + 1) f xs)
+places-joined n f (x ∷ xs) (suc j) y h on off = grind (arith, nat_tests, places-joined (n + 1) f xs j y)
+
+-- the places from the first one on
+pub joined-here : (f : ℕ) (xs : List (Option Entry)) (j : ℕ) (y : Option Entry) → j < length xs → is_on f y ≡ true → is_on f (entry_at xs j) ≡ false
+    → places_on 0 f (slice_set xs j y) ≡ joined_by j (places_on 0 f xs)
+joined-here f xs j y h on off = let start : 0 + j ≡ j = omega arith in places-joined 0 f xs j y h on off ∙ ap (λ n. joined_by n (places_on 0 f xs)) start
 
 -- two places in their order
 joined-two : (i j : ℕ) → i ≢ j → joined_by j (i ∷ []) ≡ joined_by i (j ∷ [])
 unfolding joined_by
-joined-two i j ne = ⊎_elim (λ le. first (below le.1)) (λ gt. second gt.1) (leb_tells i j)
-  where
-    below : i ≤ j → i < j
-    below le = grind arith
-
-    first : i < j → joined_by j (i ∷ []) ≡ joined_by i (j ∷ [])
-    first h = rw (is_not_below j i (omega arith), is_below i j h) refl
-
-    second : j < i → joined_by j (i ∷ []) ≡ joined_by i (j ∷ [])
-    second h = rw (is_below j i h, is_not_below i j (omega arith)) refl
+joined-two i j ne = grind (arith, nat_tests)
 
 -- an entry of a page in a group
-pub record IsGroupEntry (old new : Entry) (f : ℕ) : Type 0 where
-  pub state : state_of new ≡ with_status Grouped (state_of old)
-  pub frame : new.frame ≡ f
-  pub status : new.status ≡ Grouped
-  pub protected : new.protected ≡ true
+abbrev pub IsGroupEntry : Entry → Entry → ℕ → Type 0
+IsGroupEntry old new f = IsMerged old new f Grouped
 
 -- the table with a new last group, of the page at a place alone
 abbrev pub founded : TableState → ℕ → Entry → TableState
@@ -132,67 +84,41 @@ module _ (table : TableState) (i : ℕ) (entry x : Entry) (founding : IsFounding
   on-founded g = ap (λ (f : ℕ). f == g) to.frame ∙ sym (ap (is_on g) here)
 
   pages_on-founded : (g : ℕ) → pages_on g (founded table i x).entries ≡ pages_on g table.entries
-  pages_on-founded g =
-      let count = pages_on-set g table.entries i (Some x) there in
-      let same : on_one g (Some x) ≡ on_one g (entry_at table.entries i) = ap one_when (on-founded g) in
-      omega (arith, count, same)
+  pages_on-founded g = grind (arith, pages_on-changed table.entries i entry (Some x) here g, to.frame)
 
   times-founded : (g : ℕ) → times g (founded table i x).groups ≡ times g table.groups + one_when (entry.frame == g)
   times-founded g = times-push g x.frame table.groups ∙ ap (λ (f : ℕ). times g table.groups + one_when (f == g)) to.frame
 
   pub once-founded : times entry.frame (founded table i x).groups ≡ 1
-  once-founded =
-      let count = times-founded entry.frame in
-      let none = lone.no_group in
-      let one : one_when (entry.frame == entry.frame) ≡ 1 = ap one_when (equal entry.frame) in
-      omega (arith, count, none, one)
+  once-founded = grind (arith, nat_tests, times-founded entry.frame, lone.no_group)
 
   times-other : (g : ℕ) → g ≢ entry.frame → times g (founded table i x).groups ≡ times g table.groups
-  times-other g ne =
-      let count = times-founded g in
-      let none : one_when (entry.frame == g) ≡ 0 = ap one_when (not_equal g entry.frame (λ e. ne (sym e))) in
-      omega (arith, count, none)
+  times-other g ne = grind (arith, nat_tests, times-founded g)
 
   pub contents-founded : contents_of (founded table i x) ≡ contents_of table
   contents-founded = contents-entry table i entry x (founded table i x).groups here (ap (page_at table.arena) to.frame)
 
   pub used-founded : used_by (founded table i x) ≡ used_by table
   used-founded =
-      let count = own_pages-set table.entries i (Some x) there in
-      let old : own_one (entry_at table.entries i) ≡ 1 = ap own_one here ∙ ap (λ (b : Bool). if b then 0 else 1) own in
-      let new : own_one (Some x) ≡ 0 = ap (λ (s : Status). if is_shared s then 0 else 1) to.status in
-      let long = length-append table.groups (x.frame ∷ []) in
-      omega (arith, count, old, new, long)
+      let shared : is_shared x.status ≡ true = ap is_shared to.status_is in
+      grind (arith, own_pages-changed table.entries i entry (Some x) here, own, shared, length-append table.groups (x.frame ∷ []))
 
   pub IsTable-founded : IsTable (founded table i x)
   IsTable-founded =
-      let new : TableState = founded table i x in
-      record {
-        some = is.some;
-        small = is.small;
-        pages = is.pages;
-        zero = is.zero;
-        entries = λ j. at_set (λ y. IfSome y (IsEntry new)) table.entries i j (Some x) tt founder (λ ne. other j ne (entry_at table.entries j) refl (is.entries j));
-        groups = λ g. ⊎_elim (λ e. its_own g e.1) (λ e. another g e.1 (is.groups g)) (eqb_tells g entry.frame);
-        few = rw (length-set table.entries i (Some x)) is.few;
-      }
-    where
-      founder : IsEntry (founded table i x) x
-      founder = record {
+      table-set table (founded table i x) i (Some x) is refl refl is.pages is.zero
+      (record {
         frame = let fits = (entry_fits table i entry is here).frame in let same = to.frame in omega (arith, fits, same);
-        protected = to.protected ∙ ap is_shared (sym to.status);
-        right = subst (LiesRight (founded table i x) x.frame) (sym to.status) (ap (λ (f : ℕ). times f (founded table i x).groups) to.frame ∙ once-founded);
-      }
-
-      other : (j : ℕ) → j ≢ i → (y : Option Entry) → entry_at table.entries j ≡ y → IfSome y (IsEntry table) → IfSome y (IsEntry (founded table i x))
-      other j ne None e h = tt
-      other j ne (Some y) e h =
-          let ne : y.frame ≢ entry.frame = elsewhere entry.frame y.frame (sym (ap (is_on entry.frame) e) ∙ alone entry.frame table.entries i j there lone.one lies ne) in
-          fits-after table (founded table i x) y refl
-          (λ a. record { above = a.above; one = pages_on-founded y.frame ∙ a.one; no_group = times-other y.frame ne ∙ a.no_group })
-          (λ once. times-other y.frame ne ∙ once)
-          h
-
+        protected = to.protected ∙ ap is_shared (sym to.status_is);
+        right = subst (LiesRight (founded table i x) x.frame) (sym to.status_is) (ap (λ (f : ℕ). times f (founded table i x).groups) to.frame ∙ once-founded);
+      })
+      (λ j y ne e.
+      let apart = apart_alone table j i y entry e here (λ q. ne (sym q)) lone.one in
+      let same = times-other y.frame (λ q. apart (sym q)) in (
+        λ a. record { above = a.above; one = pages_on-founded y.frame ∙ a.one; no_group = same ∙ a.no_group },
+        λ once. same ∙ once,
+      ))
+      (λ g. ⊎_elim (λ e. its_own g e.1) (λ e. another g e.1 (is.groups g)) (eqb_tells g entry.frame))
+    where
       its_own : (g : ℕ) → g ≡ entry.frame → (times g (founded table i x).groups ≡ 0) ⊎ IsGroup (founded table i x) g
       its_own g e = subst (λ n. (times n (founded table i x).groups ≡ 0) ⊎ IsGroup (founded table i x) n) (sym e)
           (inr (record { above = lone.above; once = once-founded; some = let one = pages_on-founded entry.frame in let lone = lone.one in omega (arith, one, lone) }))
@@ -203,11 +129,7 @@ module _ (table : TableState) (i : ℕ) (entry x : Entry) (founding : IsFounding
 
   pub counted-founded : (counts : CountsState) → AreCountsOf table counts → AreCountsOf (founded table i x) counts
   counted-founded counts counted =
-      record {
-        sized = counted.sized;
-        counted = λ g h. counted.counted g h ∙ ap (λ (n : ℕ). one_if_zero g + n) (sym (pages_on-founded g));
-        used = let same = used-founded in let used = counted.used in omega (arith, same, used);
-      }
+      counted-changed table (founded table i x) counts counts counted refl refl (let same = used-founded in omega (arith, same)) (λ g h. let same = pages_on-founded g in omega (arith, same))
 
 -- Two pages of the same bytes, each with its own frame, and their entries in the new group of the first page's frame.
 pub record IsPairing (table : TableState) (i j : ℕ) (one other x y : Entry) : Type 0 where
@@ -231,26 +153,22 @@ pub pairing-from : (table now : TableState) (i j : ℕ) (one other x y : Entry) 
     → slice_index_or (contents_of now) i [] ≡ slice_index_or (contents_of now) j []
     → IsGroupEntry one x one.frame → IsGroupEntry other y one.frame → IsPairing table i j one other x y
 pairing-from table now i j one other x y e is apart there_first there_second own_first own_second bytes to_first to_second =
+    let first = own_seen table now e i one there_first own_first in
+    let second = own_seen table now e j other there_second own_second in
     record {
       is = is;
       apart = apart;
-      first = first;
-      second = second;
-      own_first = subst (λ (z : Option Entry). IfSome z (λ (e : Entry). is_shared e.status ≡ false)) there_first own_first;
-      own_second = subst (λ (z : Option Entry). IfSome z (λ (e : Entry). is_shared e.status ≡ false)) there_second own_second;
+      first = first.here;
+      second = second.here;
+      own_first = first.own;
+      own_second = second.own;
       to_first = to_first;
       to_second = to_second;
       same =
-          sym (content_at table i one first)
+          sym (content_at table i one first.here)
           ∙ ap (λ t. slice_index_or (contents_of t) i []) e ∙ bytes ∙ ap (λ t. slice_index_or (contents_of t) j []) (sym e)
-          ∙ content_at table j other second;
+          ∙ content_at table j other second.here;
     }
-  where
-    first : entry_at table.entries i ≡ Some one
-    first = ap (λ (t : TableState). entry_at t.entries i) e ∙ there_first
-
-    second : entry_at table.entries j ≡ Some other
-    second = ap (λ (t : TableState). entry_at t.entries j) e ∙ there_second
 
 module _ (table : TableState) (i j : ℕ) (one other x y : Entry) (pairing : IsPairing table i j one other x y) where
   open pairing use {is, apart, first, second, own_first, own_second, to_first, to_second, same}
@@ -266,11 +184,11 @@ module _ (table : TableState) (i j : ℕ) (one other x y : Entry) (pairing : IsP
     is = IsTable-founded table i one x founding;
     here = here-founded;
     own = own_second;
-    shared = ap is_shared to_second.status;
+    shared = ap is_shared to_second.status_is;
     fits = record {
       frame = let fits = (entry_fits table i one is first).frame in let same = to_second.frame in omega (arith, fits, same);
-      protected = to_second.protected ∙ ap is_shared (sym to_second.status);
-      right = subst (LiesRight (founded table i x) y.frame) (sym to_second.status)
+      protected = to_second.protected ∙ ap is_shared (sym to_second.status_is);
+      right = subst (LiesRight (founded table i x) y.frame) (sym to_second.status_is)
           (ap (λ (f : ℕ). times f (founded table i x).groups) to_second.frame ∙ once-founded table i one x founding);
     };
     same = ap (page_at table.arena) to_second.frame ∙ same;
@@ -296,10 +214,10 @@ module _ (table : TableState) (i j : ℕ) (one other x y : Entry) (pairing : IsP
   not_of f g none some = not_equal g f (λ e. let also : times g table.groups ≡ 0 = ap (λ n. times n table.groups) (sym e) ∙ none in omega (arith, also, some))
 
   lone_first : IsAlone table one.frame
-  lone_first = is_alone table one (entry_fits table i one is first) own_first
+  lone_first = own_alone table i one is (record { here = first; own = own_first })
 
   lone_second : IsAlone table other.frame
-  lone_second = is_alone table other (entry_fits table j other is second) own_second
+  lone_second = own_alone table j other is (record { here = second; own = own_second })
 
   -- another group keeps its places
   places-kept : (g : ℕ) → 1 ≤ times g table.groups → places_on 0 g (with_pair table i j x y).entries ≡ places_on 0 g table.entries
@@ -312,22 +230,17 @@ module _ (table : TableState) (i j : ℕ) (one other x y : Entry) (pairing : IsP
   -- the new group's places
   places-pair : places_on 0 x.frame (with_pair table i j x y).entries ≡ joined_by i (j ∷ [])
   places-pair =
-      let there : j < length (founded table i x).entries = inside (founded table i x).entries j other here-founded in
+      let there = inside (founded table i x).entries j other here-founded in
       let on : is_on one.frame (Some y) ≡ true = ap (λ (f : ℕ). f == one.frame) to_second.frame ∙ equal one.frame in
       let lies : is_on one.frame (entry_at table.entries i) ≡ true = ap (is_on one.frame) first ∙ equal one.frame in
       let off : is_on one.frame (entry_at (founded table i x).entries j) ≡ false =
       ap (is_on one.frame) (get_or-set_other table.entries i j (Some x) None (λ e. apart (sym e)))
       ∙ alone one.frame table.entries i j (inside table.entries i one first) lone_first.one lies (λ e. apart (sym e)) in
-      let single : places_on 0 one.frame (founded table i x).entries ≡ (0 + i) ∷ [] =
-      places_on-set 0 one.frame table.entries i (Some x) (on-founded table i one x founding one.frame) ∙ places-one 0 one.frame table.entries i lone_first.one lies in
       let i_is : 0 + i ≡ i = omega arith in
-      let j_is : 0 + j ≡ j = omega arith in
+      let single : places_on 0 one.frame (founded table i x).entries ≡ i ∷ [] =
+      places_on-set 0 one.frame table.entries i (Some x) (on-founded table i one x founding one.frame) ∙ places-one 0 one.frame table.entries i lone_first.one lies ∙ ap (λ n. n ∷ []) i_is in
       ap (λ (f : ℕ). places_on 0 f (with_pair table i j x y).entries) to_first.frame
-      ∙ places-joined 0 one.frame (founded table i x).entries j (Some y) there on off
-      ∙ ap (joined_by (0 + j)) single
-      ∙ ap (λ (n : ℕ). joined_by n ((0 + i) ∷ [])) j_is
-      ∙ ap (λ (n : ℕ). joined_by j (n ∷ [])) i_is
-      ∙ joined-two i j apart
+      ∙ joined-here one.frame (founded table i x).entries j (Some y) there on off ∙ ap (joined_by j) single ∙ joined-two i j apart
 
   groups-pair : groups_of (with_pair table i j x y) ≡ groups_of table ++ joined_by i (j ∷ []) ∷ []
   unfolding groups_of
@@ -341,12 +254,12 @@ module _ (table : TableState) (i j : ℕ) (one other x y : Entry) (pairing : IsP
   unfolding paired
   sharing-pair pass =
       let grouped : Option PageState → Option PageState = option_map (with_status Grouped) in
-      let at_first : Some (state_of x) ≡ grouped (state_at (sharing_of table pass) i) = ap Some to_first.state ∙ sym (ap grouped (state_here table i one pass first)) in
-      let at_second : Some (state_of y) ≡ grouped (state_at (sharing_of table pass) j) = ap Some to_second.state ∙ sym (ap grouped (state_here table j other pass second)) in
+      let at_second : state_at (sharing_of table pass) j ≡ slice_index_or (states_of (founded table i x).entries) j None =
+      told_here state_of table.entries j other second ∙ sym (told_here state_of (founded table i x).entries j other here-founded) in
       let pages : states_of (with_pair table i j x y).entries ≡ slice_set (slice_set (states_of table.entries) i (grouped (state_at (sharing_of table pass) i))) j (grouped (state_at (sharing_of table pass) j)) =
-      map-set (option_map state_of) (founded table i x).entries j (Some y)
-      ∙ ap (λ (l : List (Option PageState)). slice_set l j (Some (state_of y))) (map-set (option_map state_of) table.entries i (Some x) ∙ ap (slice_set (states_of table.entries) i) at_first)
-      ∙ ap (slice_set (slice_set (states_of table.entries) i (grouped (state_at (sharing_of table pass) i))) j) at_second in
+      states-set (with_status Grouped) (founded table i x).entries j other y here-founded to_second.state
+      ∙ ap (λ (l : List (Option PageState)). slice_set l j (grouped (slice_index_or (states_of (founded table i x).entries) j None))) (states-set (with_status Grouped) table.entries i one x first to_first.state)
+      ∙ ap (λ (s : Option PageState). slice_set (slice_set (states_of table.entries) i (grouped (state_at (sharing_of table pass) i))) j (grouped s)) (sym at_second) in
       let groups = groups-pair in
       let waiting = waiting-forgets i (others_of j pass.waiting.listed) ∙ ap (waiting_without i) (waiting-forgets j pass.waiting.listed) in
       cc

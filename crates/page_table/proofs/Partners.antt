@@ -1,5 +1,5 @@
 -- Waiting pages as callers see them.
-use Rattle.std.proofs.Common.{◌≡◌, ◌∙◌, ℕ, ◌+◌, ◌<◌, ◌≤◌, ◌==◌, ◌&&◌, ◌||◌, nat_le, bytes_eq, Bool, true, false, if◌then◌else◌, All, is_some, drop, slice_index_or, slice_set, List, [], ◌∷◌, ◌++◌, length, map, find, Option, Some, None, IfSome, option_map, refl, sym, ap, subst, arith}
+use Rattle.std.proofs.Common.{◌≡◌, ◌∙◌, ℕ, ◌+◌, ◌<◌, ◌≤◌, ◌==◌, ◌&&◌, bytes_eq, Bool, true, false, if◌then◌else◌, All, is_some, drop, slice_index_or, slice_set, List, [], ◌∷◌, ◌++◌, length, map, find, Option, Some, None, IfSome, option_map, refl, sym, ap, subst, arith}
 use Rattle.std.proofs.lemmas.List.{map-append}
 use Rattle.std.proofs.lemmas.List.Elements.{All-nil, All-cons}
 use Rattle.std.proofs.lemmas.Slice.Eq.{bytes_eq-Decides}
@@ -20,8 +20,8 @@ use Rattle.page_table.specs.declared.tenant.Tenant.{Tenant}
 use Rattle.page_table.specs.Changes.{IsNotWaiting, MayMerge}
 use Rattle.page_table.specs.Table.{TableState, IsTable, AreOthersKept, entry_at, waiting_of, states_of, state_of, groups_of, sharing_of, marked}
 use Rattle.page_table.specs.View.{view_of, IsMemory, IsPass, IsWaiter, AreWaiters, is_listed, is_behind}
+use Rattle.page_table.proofs.Changing.{entry_fits}
 use Rattle.page_table.proofs.Fitting.{not-pinned}
-use Rattle.page_table.proofs.Putting.{entry_fits}
 use Rattle.page_table.proofs.Scanning.{frame_told}
 use Rattle.page_table.proofs.Costs.{state-at}
 use Rattle.page_table.proofs.Next.{next-is}
@@ -47,21 +47,9 @@ found-waiter entries c test (v ∷ ws) w are e = by_head (test v) refl (found-wa
     one : Some v ≡ Some w → v ≡ w
     one e = cc
 
-    same_place : (v.place == v.place) ≡ true
-    same_place = grind (arith, nat_tests)
-
-    first : test v ≡ true → IsFound entries c test (v ∷ ws) v
-    first h = record { waiter = are.0; passes = h; listed = ap (λ b. b || is_listed v.place ws) same_place }
-
-    any : (b : Bool) → (b || true) ≡ true
-    any true = refl
-    any false = refl
-
     by_head : (b : Bool) → test v ≡ b → (find test ws ≡ Some w → IsFound entries c test ws w) → (if b then Some v else find test ws) ≡ Some w → IsFound entries c test (v ∷ ws) w
-    by_head true h rest e = subst (IsFound entries c test (v ∷ ws)) (one e) (first h)
-    by_head false h rest e =
-        let later = rest e in
-        record { waiter = later.waiter; passes = later.passes; listed = ap (λ b. (v.place == w.place) || b) later.listed ∙ any (v.place == w.place) }
+    by_head true h rest e = subst (IsFound entries c test (v ∷ ws)) (one e) (record { waiter = are.0; passes = h; listed = grind (arith, nat_tests) })
+    by_head false h rest e = let later = rest e in record { waiter = later.waiter; passes = later.passes; listed = grind (arith, later.listed) }
 
 module _ (table : TableState) (shapes : List (Option Shape)) (tenants : List Tenant) (pass : Pass) (reserved : ℕ) (is : IsMemory table shapes tenants reserved) (fits : IsTable table) where
   abbrev contents : ℕ → List ℕ
@@ -76,36 +64,22 @@ module _ (table : TableState) (shapes : List (Option Shape)) (tenants : List Ten
   pub partners-told : (fingerprint : ℕ) (bytes : List ℕ) (c : Option ℕ) (ws : List Waiter) → AreWaiters table.entries c ws
       → option_map (λ (entry : ℕ × ℕ). entry.0) (find (is_partner contents fingerprint bytes) (map waiting_of ws)) ≡ option_map (λ (w : Waiter). w.place) (find (is_match table.arena fingerprint bytes) ws)
   partners-told fingerprint bytes c [] are = refl
-  partners-told fingerprint bytes c (w ∷ ws) are =
-      ap (λ (b : Bool). option_map (λ (entry : ℕ × ℕ). entry.0) (if b then Some (waiting_of w) else find (is_partner contents fingerprint bytes) (map waiting_of ws))) (partner-told fingerprint bytes c w are.0)
-      ∙ by_head (is_match table.arena fingerprint bytes w) (partners-told fingerprint bytes c ws are.2)
-    where
-      by_head : (b : Bool) → option_map (λ (entry : ℕ × ℕ). entry.0) (find (is_partner contents fingerprint bytes) (map waiting_of ws)) ≡ option_map (λ (w : Waiter). w.place) (find (is_match table.arena fingerprint bytes) ws)
-          → option_map (λ (entry : ℕ × ℕ). entry.0) (if b then Some (waiting_of w) else find (is_partner contents fingerprint bytes) (map waiting_of ws)) ≡ option_map (λ (w : Waiter). w.place) (if b then Some w else find (is_match table.arena fingerprint bytes) ws)
-      by_head true rest = refl
-      by_head false rest = rest
+  partners-told fingerprint bytes c (w ∷ ws) are = grind (arith, partner-told fingerprint bytes c w are.0, partners-told fingerprint bytes c ws are.2)
 
 -- there is room for one more
 pub room-left : (table : TableState) (shapes : List (Option Shape)) (tenants : List Tenant) (reserved : ℕ) (c : Option ℕ) (ws : List Waiter) (room : ℕ) → IsMemory table shapes tenants reserved → AreWaiters table.entries c ws → length table.arena ≤ room → length ws < room
-room-left table shapes tenants reserved c ws room is are fitting =
-    let few = waiters-few table.entries c ws are in
-    omega (arith, few, fitting, is.room)
+room-left table shapes tenants reserved c ws room is are fitting = omega (arith, waiters-few table.entries c ws are, fitting, is.room)
+
+-- a waiting page, where the cursor went on
+waiter-at : (entries : List (Option Entry)) (c d : Option ℕ) (w : Waiter) → IsWaiter entries c w → is_behind d w.place ≡ true → IsWaiter entries d w
+waiter-at entries c d w is behind = record { entry = is.entry; here = is.here; frame = is.frame; status = is.status; mergeable = is.mergeable; behind = behind }
 
 -- the page that becomes the one visited last stands behind those that wait
 pub waiters-behind : (entries : List (Option Entry)) (c i : ℕ) (ws : List Waiter) → c < i → AreWaiters entries (Some c) ws → AreWaiters entries (Some i) ws
-waiters-behind entries c i ws h are =
-    waiters-kept entries entries (Some c) (Some i) ws
-    (λ w waiter. record { entry = waiter.entry; here = waiter.here; frame = waiter.frame; status = waiter.status; mergeable = waiter.mergeable; behind = later w waiter.behind })
-    are
-  where
-    later : (w : Waiter) → nat_le w.place c ≡ true → nat_le w.place i ≡ true
-    later w le = grind (arith, nat_tests)
+waiters-behind entries c i ws h are = waiters-kept entries entries (Some c) (Some i) ws (λ w waiter. waiter-at entries (Some c) (Some i) w waiter (grind (arith, nat_tests, waiter.behind))) are
 
 pub waiters-started : (entries : List (Option Entry)) (c : Option ℕ) (ws : List Waiter) → AreWaiters entries c ws → AreWaiters entries None ws
-waiters-started entries c ws are =
-    waiters-kept entries entries c None ws
-    (λ w waiter. record { entry = waiter.entry; here = waiter.here; frame = waiter.frame; status = waiter.status; mergeable = waiter.mergeable; behind = refl })
-    are
+waiters-started entries c ws are = waiters-kept entries entries c None ws (λ w waiter. waiter-at entries c None w waiter refl) are
 
 -- a visit goes past all that wait, and a pass begins without them
 pub advanced : (entries : List (Option Entry)) (pages : List (Option PageState)) (c : Option ℕ) (ws : List Waiter) (i : ℕ) → AreWaiters entries c ws
@@ -189,18 +163,14 @@ may-free table shapes tenants pass page may = not-pinned pass.pins (page_place p
 
 -- a match has the bytes
 pub match-bytes : (arena : List (List ℕ)) (fingerprint : ℕ) (bytes : List ℕ) (w : Waiter) → is_match arena fingerprint bytes w ≡ true → page_at arena w.frame ≡ bytes
-match-bytes arena fingerprint bytes w h = by_test (w.fingerprint == fingerprint) h
-  where
-    by_test : (b : Bool) → (b && bytes_eq (page_at arena w.frame) bytes) ≡ true → page_at arena w.frame ≡ bytes
-    by_test true h = (bytes_eq-Decides (page_at arena w.frame) bytes).0 h
-    by_test false h = absurd (cc)
+match-bytes arena fingerprint bytes w h = grind (arith, (bytes_eq-Decides (page_at arena w.frame) bytes).0)
 
 -- an entry of a page that may be merged
 pub entry-may : (table : TableState) (pass : Pass) (i : ℕ) → is_mergeable (state_at (sharing_of table pass) i) ≡ true → (entry : Entry) × (entry_at table.entries i ≡ Some entry)
 entry-may table pass i may = by_entry (entry_at table.entries i) refl
   where
     by_entry : (x : Option Entry) → entry_at table.entries i ≡ x → (entry : Entry) × (entry_at table.entries i ≡ Some entry)
-    by_entry None e = absurd (let none : false ≡ true = sym (ap is_mergeable (state-at table pass i ∙ ap (option_map state_of) e)) ∙ may in cc)
+    by_entry None e = absurd (grind (arith, state-at table pass i))
     by_entry (Some entry) e = (entry, e)
 
 -- a page that had the fingerprint and waits with it only has another status

@@ -1,32 +1,14 @@
 -- A page table stays sound where bytes of a page are written, and a new one is sound.
-use Rattle.std.proofs.Common.{◌≡◌, ◌∙◌, inl, inr, ⊎_elim, ℕ, zero, suc, ◌+◌, ◌<◌, ◌≤◌, true, false, List, [], ◌∷◌, length, map, replicate, slice_index_or, slice_set, Option, Some, None, IfSome, refl, sym, ap, subst, arith}
+use Rattle.std.proofs.Common.{◌≡◌, ◌∙◌, inl, ℕ, zero, suc, ◌+◌, ◌<◌, ◌≤◌, true, List, [], ◌∷◌, length, map, replicate, slice_index_or, slice_set, Option, Some, None, IfSome, refl, sym, ap, subst, arith}
 use Rattle.std.proofs.lemmas.List.{get_or-set_same, get_or-set_other, length-set, set-get_or, get_or-map, get_or-replicate, length-replicate}
 use Rattle.std.proofs.lemmas.List.Folds.{sum_by-replicate}
-use Rattle.host_types.specs.Sharing.{is_shared}
-use Rattle.host_types.specs.declared.status.Status.{Status}
-use Rattle.host_types.specs.declared.status.Status.TheVariants.{New, Volatile, Waiting, Grouped, Zero}
 use Rattle.host_types.specs.Pages.{zero_page}
 use Rattle.frame_arena.specs.Pages.{page_at}
 use Rattle.frame_arena.proofs.Pages.{length-zero_page}
 use Rattle.page_table.specs.declared.entry.Entry.{Entry}
-use Rattle.page_table.specs.Table.{TableState, CountsState, IsPageAt, IsTable, IsEntry, IsAlone, IsGroup, IsSound, AreCountsOf, LiesRight, one_if_zero, entry_at, entry_content, contents_of, is_on, pages_on, own_pages}
+use Rattle.page_table.specs.Table.{TableState, CountsState, IsPageAt, IsTable, IsEntry, IsAlone, IsSound, AreCountsOf, one_if_zero, entry_at, entry_content, contents_of, is_on, pages_on, own_pages}
+use Rattle.page_table.proofs.Changing.{table-changed, counted-changed, fits-after, entry_fits, own_one}
 use Rattle.page_table.proofs.Entries.{on_one, equal, alone, entry_content-kept, contents-set, inside, pages-set}
-use Rattle.page_table.proofs.Adding.{own_one, IsEntry-kept}
-
--- a page that isn't shared is alone on its frame
-pub is_alone : (table : TableState) (entry : Entry) → IsEntry table entry → is_shared entry.status ≡ false → IsAlone table entry.frame
-is_alone table entry is own = by_status entry.status own is.right
-  where
-    by_status : (status : Status) → is_shared status ≡ false → LiesRight table entry.frame status → IsAlone table entry.frame
-    by_status New e a = a
-    by_status Volatile e a = a
-    by_status Waiting e a = a
-    by_status Grouped e a = absurd (cc)
-    by_status Zero e a = absurd (cc)
-
--- the entry at a place fits
-pub entry_fits : (table : TableState) (i : ℕ) (entry : Entry) → IsTable table → entry_at table.entries i ≡ Some entry → IsEntry table entry
-entry_fits table i entry is e = subst (λ (x : Option Entry). IfSome x (IsEntry table)) e (is.entries i)
 
 -- a table with another page in a frame
 abbrev pub with_page : TableState → ℕ → List ℕ → TableState
@@ -50,11 +32,22 @@ page_there table i h e =
     let zero : length (slice_index_or (map (entry_content table.arena) table.entries) i []) ≡ 0 = ap length none in
     omega (arith, zero, h)
 
+-- the same of a table as callers see it, and of what was read there
+pub place_of_page : (table now : TableState) → table ≡ now → (i : ℕ) → IsPageAt now i → i < length table.entries
+place_of_page table now same i there = page_inside table i (rw (← same) at there)
+
+pub entry_of_page : (table now : TableState) → table ≡ now → (i : ℕ) → IsPageAt now i → (read : Option Entry) → read ≡ entry_at table.entries i → read ≡ None → ⊥
+entry_of_page table now same i there read told none = page_there table i (rw (← same) at there) (sym told ∙ none)
+
 -- the content of a page that is there
 pub content_at : (table : TableState) (i : ℕ) (entry : Entry) → entry_at table.entries i ≡ Some entry → slice_index_or (contents_of table) i [] ≡ page_at table.arena entry.frame
 unfolding contents_of
 content_at table i entry e =
     get_or-map (entry_content table.arena) table.entries i None [] (inside table.entries i entry e) ∙ ap (entry_content table.arena) e
+
+-- a page with an entry is there
+pub page_of_entry : (table : TableState) (i : ℕ) (entry : Entry) → IsTable table → entry_at table.entries i ≡ Some entry → IsPageAt table i
+page_of_entry table i entry is e = ap length (content_at table i entry e) ∙ is.pages entry.frame (entry_fits table i entry is e).frame
 
 -- where no bytes are, there is no page
 pub no_entry_of_content : (table : TableState) (i : ℕ) → IsTable table → slice_index_or (contents_of table) i [] ≡ [] → entry_at table.entries i ≡ None
@@ -86,41 +79,24 @@ module _ (table : TableState) (i : ℕ) (entry : Entry) (page : List ℕ) (is : 
 
   IsTable-put : IsTable (with_page table entry.frame page)
   IsTable-put =
-      let long : length (slice_set table.arena entry.frame page) ≡ length table.arena = length-set table.arena entry.frame page in
-      record {
-        some = omega (arith, long, is.some);
-        small = omega (arith, long, is.small);
-        pages = pages-set table.arena entry.frame page is.pages sized;
-        zero = get_or-set_other table.arena entry.frame 0 page [] (λ e. omega (arith, lone.above)) ∙ is.zero;
-        entries = λ j. kept (entry_at table.entries j) (is.entries j);
-        groups = λ g. ⊎_elim (λ e. inl e) (λ group. inr (record { above = IsGroup.above group; once = IsGroup.once group; some = IsGroup.some group })) (is.groups g);
-        few = is.few;
-      }
-    where
-      kept : (x : Option Entry) → IfSome x (IsEntry table) → IfSome x (IsEntry (with_page table entry.frame page))
-      kept None h = tt
-      kept (Some other) h = IsEntry-kept table (with_page table entry.frame page) other (length-set table.arena entry.frame page) (λ one lone. one) refl h
+      let long = length-set table.arena entry.frame page in
+      table-changed table (with_page table entry.frame page) i (entry_at table.entries i) is (sym (set-get_or table.entries i None)) refl long (pages-set table.arena entry.frame page is.pages sized)
+      (get_or-set_other table.arena entry.frame 0 page [] (λ e. omega (arith, lone.above)) ∙ is.zero)
+      (rw here (fits-after table (with_page table entry.frame page) entry long (λ a. record { above = a.above; one = a.one; no_group = a.no_group }) (λ once. once) (entry_fits table i entry is here)))
+      (λ j y ne e a. a.one) (λ g group. group.some)
 
   pub sound-put : (counts : CountsState) → AreCountsOf table counts → IsSound (with_page table entry.frame page) counts
   sound-put counts counted =
-      let long : length (slice_set table.arena entry.frame page) ≡ length table.arena = length-set table.arena entry.frame page in
-      record {
-        fits = IsTable-put;
-        counted = record {
-          sized = counted.sized ∙ sym long;
-          counted = λ g h. counted.counted g (omega (arith, h, long));
-          used = counted.used ∙ sym long;
-        };
-      }
+      record { fits = IsTable-put; counted = counted-changed table (with_page table entry.frame page) counts counts counted (length-set table.arena entry.frame page) refl refl (λ g h. refl) }
 
 -- a table without pages
 abbrev pub empty_table : ℕ → ℕ → TableState
 empty_table frames places = record { arena = replicate frames zero_page; entries = replicate places None; groups = [] }
 
-no_entry : (places i : ℕ) → entry_at (replicate places None) i ≡ None
-no_entry zero i = refl
-no_entry (suc n) zero = refl
-no_entry (suc n) (suc i) = no_entry n i
+pub all_same : {X : Type 0} (x : X) (n i : ℕ) → slice_index_or (replicate n x) i x ≡ x
+all_same x zero i = refl
+all_same x (suc n) zero = refl
+all_same x (suc n) (suc i) = all_same x n i
 
 no_pages : (f places : ℕ) → pages_on f (replicate places None) ≡ 0
 unfolding pages_on
@@ -146,7 +122,7 @@ sound-new frames places counts some small few are fewer =
         small = omega (arith, long, small);
         pages = λ f h. ap length (get_or-replicate frames f zero_page [] (omega (arith, h, long))) ∙ length-zero_page;
         zero = get_or-replicate frames 0 zero_page [] (omega arith);
-        entries = λ i. subst (λ (x : Option Entry). IfSome x (IsEntry (empty_table frames places))) (sym (no_entry places i)) tt;
+        entries = λ i. subst (λ (x : Option Entry). IfSome x (IsEntry (empty_table frames places))) (sym (all_same {X = Option Entry} None places i)) tt;
         groups = λ f. inl refl;
         few = let e = length-replicate {A = Option Entry} places None in omega (arith, e, few);
       };

@@ -1,5 +1,5 @@
 -- What a memory tells of a page that is there.
-use Rattle.std.proofs.Common.{◌≡◌, ◌∙◌, ◌⊎◌, ⊎_elim, ℕ, zero, suc, ◌+◌, ◌*◌, ◌<◌, ◌≤◌, List, [], ◌∷◌, length, take, drop, slice_index_or, Option, Some, None, option_map, unwrap_or, refl, sym, ap, subst, arith, length-take}
+use Rattle.std.proofs.Common.{◌≡◌, ◌∙◌, ⊎_elim, ℕ, zero, suc, ◌+◌, ◌*◌, ◌<◌, ◌≤◌, List, [], ◌∷◌, length, take, drop, slice_index_or, Option, Some, None, option_map, unwrap_or, refl, sym, ap, subst, arith, length-take}
 use Rattle.std.specs.List.{concat}
 use Rattle.std.proofs.lemmas.List.{get_or_past, get_or-take, get_or-drop}
 use Rattle.page_table.specs.declared.pass.Pass.{Pass}
@@ -15,9 +15,11 @@ use Rattle.page_table.specs.declared.tenant.Tenant.{Tenant}
 use Rattle.page_table.specs.Limits.{page_count}
 use Rattle.page_table.specs.State.{part, bytes_of_map, frame_at}
 use Rattle.page_table.specs.Changes.{IsPageOf}
-use Rattle.page_table.specs.Table.{TableState, IsPageAt, maps_of, flat_of, ArePages, ArePagesOf, AreMaps, contents_of, entry_at, state_of, states_of, frames_of}
+use Rattle.page_table.specs.Table.{TableState, IsPageAt, maps_of, flat_of, ArePages, ArePagesOf, AreMaps, contents_of, entry_at, state_of}
 use Rattle.page_table.specs.View.{view_of, IsMemory}
+use Rattle.page_table.proofs.Sides.{order}
 use Rattle.page_table.proofs.Maps.{map_at-maps_of, page_bytes-page}
+use Rattle.page_table.proofs.Entries.{told_here}
 
 -- a tenant's map by its number, among the maps of all tenants
 pub map_at-part : (maps : FlatMaps) (t m : ℕ) → m < 8 → map_at (part_of maps (t * 8) 8) m ≡ map_at maps (map_place t m)
@@ -47,11 +49,8 @@ pub record IsLocated (shapes : List (Option Shape)) (contents : List (List ℕ))
 
 pub located : (shapes : List (Option Shape)) (contents : List (List ℕ)) (t m at : ℕ) → AreMaps shapes contents
     → at < length (bytes_in (map_at (part_of (maps_of shapes contents) (t * 8) 8) m)) → IsLocated shapes contents t m at
-located shapes contents t m at are there = ⊎_elim (λ small. by_shape small (slice_index_or shapes (map_place t m) None) refl) (λ past. absurd (omega (arith, ap (λ flat. length (bytes_in flat)) (map_at-past (maps_of shapes contents) t m past), there))) (order m)
+located shapes contents t m at are there = ⊎_elim (λ small. by_shape small (slice_index_or shapes (map_place t m) None) refl) (λ past. absurd (omega (arith, ap (λ flat. length (bytes_in flat)) (map_at-past (maps_of shapes contents) t m past), there))) (order m 8)
   where
-    order : (m : ℕ) → (m < 8) ⊎ (8 ≤ m)
-    order m = grind arith
-
     by_shape : m < 8 → (shape : Option Shape) → slice_index_or shapes (map_place t m) None ≡ shape → IsLocated shapes contents t m at
     by_shape small None e =
         let known : map_at (part_of (maps_of shapes contents) (t * 8) 8) m ≡ None =
@@ -110,18 +109,8 @@ module _ (table : TableState) (shapes : List (Option Shape)) (tenants : List Ten
 
   pub state_is : (entry : Entry) → entry_at table.entries (page_place page) ≡ Some entry → state_at (view_of table shapes tenants pass).sharing (page_place page) ≡ Some (state_of entry)
   unfolding view_of
-  state_is entry e = by_list table.entries (page_place page) e
-    where
-      by_list : (xs : List (Option Entry)) (i : ℕ) → entry_at xs i ≡ Some entry → slice_index_or (states_of xs) i None ≡ Some (state_of entry)
-      by_list [] i e = absurd (cc)
-      by_list (x ∷ xs) zero e = ap (option_map state_of) e
-      by_list (x ∷ xs) (suc i) e = by_list xs i e
+  state_is entry e = told_here state_of table.entries (page_place page) entry e
 
   pub frame_is : (entry : Entry) → entry_at table.entries (page_place page) ≡ Some entry → frame_at (view_of table shapes tenants pass) (page_place page) ≡ Some entry.frame
   unfolding view_of
-  frame_is entry e = by_list table.entries (page_place page) e
-    where
-      by_list : (xs : List (Option Entry)) (i : ℕ) → entry_at xs i ≡ Some entry → slice_index_or (frames_of xs) i None ≡ Some entry.frame
-      by_list [] i e = absurd (cc)
-      by_list (x ∷ xs) zero e = ap (option_map (λ (entry : Entry). entry.frame)) e
-      by_list (x ∷ xs) (suc i) e = by_list xs i e
+  frame_is entry e = told_here (λ (entry : Entry). entry.frame) table.entries (page_place page) entry e

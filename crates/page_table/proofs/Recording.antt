@@ -1,5 +1,5 @@
 -- Frames reserved for open runs, and what the maps of a memory meet.
-use Rattle.std.proofs.Common.{◌≡◌, ◌∙◌, ◌⊎◌, ⊎_elim, ℕ, ◌+◌, ◌-◌, ◌*◌, ◌<◌, ◌≤◌, List, length, sum_by, slice_index_or, slice_set, Option, IfSome, refl, sym, ap, subst, arith, All, length-set}
+use Rattle.std.proofs.Common.{◌≡◌, ◌∙◌, ⊎_elim, ℕ, ◌+◌, ◌-◌, ◌*◌, ◌<◌, ◌≤◌, List, length, sum_by, slice_index_or, slice_set, Option, IfSome, refl, sym, ap, subst, arith, All, length-set}
 use Rattle.std.proofs.lemmas.List.{get_or-set_same, get_or-set_other}
 use Rattle.std.proofs.lemmas.List.Sums.{sum_by-set}
 use Rattle.host_types.specs.declared.shape.Shape.{Shape}
@@ -12,6 +12,7 @@ use Rattle.page_table.specs.State.{MemoryState, part, unreserved_tenant, free_of
 use Rattle.page_table.specs.Changes.{IsKeptBut}
 use Rattle.page_table.specs.Table.{TableState, contents_of, maps_of, used_by}
 use Rattle.page_table.specs.View.{view_of, IsMemory}
+use Rattle.page_table.proofs.Sides.{order}
 use Rattle.page_table.proofs.Maps.{length-maps_of}
 use Rattle.page_table.proofs.Free.{free_is}
 use Rattle.page_table.proofs.Shapes.{length-part, map_ok, map_past}
@@ -39,35 +40,24 @@ module _ (table : TableState) (shapes : List (Option Shape)) (tenants : List Ten
   -- a tenant has eight places for maps
   pub eight_maps : (t : ℕ) → t < length memory.tenants → length (part memory t).maps ≡ 8
   unfolding view_of part
-  eight_maps t inside =
-      let short = length-part (maps_of shapes (contents_of table)) (t * 8) 8 in
-      let all = long in
-      omega (arith, short, all, inside)
+  eight_maps t inside = omega (arith, length-part (maps_of shapes (contents_of table)) (t * 8) 8, long, inside)
 
   -- a tenant with eight places for maps is there
   pub tenant_there : (t : ℕ) → length (part memory t).maps ≡ 8 → t < length tenants
   unfolding view_of part
-  tenant_there t eight =
-      let short = length-part (maps_of shapes (contents_of table)) (t * 8) 8 in
-      let all = long in
-      omega (arith, short, all, eight)
+  tenant_there t eight = omega (arith, length-part (maps_of shapes (contents_of table)) (t * 8) 8, long, eight)
 
   -- the maps of a tenant are flat maps
   pub flat_maps : All IsPage table.arena → (t : ℕ) → length (part memory t).maps ≡ 8 → AreFlatMaps (part memory t).maps
   flat_maps bytes t eight = record { eight = eight; each = λ m. ⊎_elim (λ less. map_ok table shapes tenants pass t m is.maps less bytes) (λ past. none m past) (order m 8) }
     where
-      order : (a b : ℕ) → (a < b) ⊎ (b ≤ a)
-      order a b = grind arith
-
       none : (m : ℕ) → 8 ≤ m → IfSome (map_at (part memory t).maps m) IsFlatMap
       none m past = subst (λ (x : Option FlatMap). IfSome x IsFlatMap) (sym (map_past memory t m past)) tt
 
   -- no more frames are reserved than are free
   pub reserved_fits : sum_by reserve_in memory.tenants ≤ free_of memory
   unfolding view_of
-  reserved_fits =
-      let told = free_is table shapes tenants pass (omega (arith, is.room)) in
-      omega (arith, told, is.room, is.sum)
+  reserved_fits = omega (arith, free_is table shapes tenants pass (omega (arith, is.room)), is.room, is.sum)
 
   -- another record of one tenant
   module _ (t : ℕ) (kept : Tenant) (eight : length (part memory t).maps ≡ 8) (room : kept.reserve ≤ have_of memory + (part memory t).reserve) where
@@ -82,10 +72,7 @@ module _ (table : TableState) (shapes : List (Option Shape)) (tenants : List Ten
 
     pub fits : reserved - before + kept.reserve + used_by table ≤ length table.arena
     unfolding view_of part
-    fits =
-        let told = free_is table shapes tenants pass (omega (arith, is.room)) in
-        let small = before_small in
-        omega (arith, told, is.room, is.sum, room, small)
+    fits = omega (arith, free_is table shapes tenants pass (omega (arith, is.room)), is.room, is.sum, room, before_small)
 
     pub memory_recorded : IsMemory table shapes recorded (reserved - before + kept.reserve)
     memory_recorded =
@@ -121,56 +108,40 @@ module _ (table : TableState) (shapes : List (Option Shape)) (tenants : List Ten
         let sum = sum-recorded tenants t kept (tenant_there t eight) in
         let small = reserve-small tenants t (tenant_there t eight) in
         let told = free_is table shapes tenants pass (omega (arith, is.room)) in
-        let same = free_is table shapes recorded pass (omega (arith, is.room)) in
-        omega (arith, sum, small, told, same, is.room, is.sum, room)
+        omega (arith, sum, small, told, free_is table shapes recorded pass (omega (arith, is.room)), is.room, is.sum, room)
 
--- what another record of one tenant leaves, over what callers see
-pub record Records (old new : MemoryState) (t : ℕ) (kept : Tenant) : Type 0 where
+-- what another record of one tenant needs and leaves, over what callers see
+pub record Records (old new : MemoryState) (table : TableState) (shapes : List (Option Shape)) (tenants : List Tenant) (reserved t before : ℕ) (kept : Tenant) : Type 0 where
+  pub there : t < length tenants
+  pub least : before ≤ reserved
+  pub small : reserved - before + kept.reserve ≤ 4096
+  pub memory : IsMemory table shapes (slice_set tenants t kept) (reserved - before + kept.reserve)
   pub recorded_part : part new t ≡ record (part old t) { reserve = kept.reserve; running = kept.running }
   pub others : IsKeptBut t old new
   pub have : have_of new + kept.reserve ≡ have_of old + (part old t).reserve
   pub all : new ≡ record old { tenants = slice_set old.tenants t kept }
 
-module _ (table : TableState) (shapes : List (Option Shape)) (tenants : List Tenant) (pass : Pass) (reserved : ℕ) (is : IsMemory table shapes tenants reserved)
-    (now : MemoryState) (same : view_of table shapes tenants pass ≡ now) (t before : ℕ) (kept : Tenant)
-    (eight : length (part now t).maps ≡ 8) (room : kept.reserve ≤ have_of now + (part now t).reserve) (told : before ≡ (part now t).reserve) where
-  abbrev renewed : List Tenant
-  renewed = slice_set tenants t kept
+reserve_told : (table : TableState) (shapes : List (Option Shape)) (tenants : List Tenant) (pass : Pass) (t : ℕ)
+    → (part (view_of table shapes tenants pass) t).reserve ≡ (slice_index_or tenants t unreserved_tenant).reserve
+unfolding view_of part
+reserve_told table shapes tenants pass t = refl
 
-  eight_here : length (part (view_of table shapes tenants pass) t).maps ≡ 8
-  eight_here = rw (← same) at eight
-
-  room_here : kept.reserve ≤ have_of (view_of table shapes tenants pass) + (part (view_of table shapes tenants pass) t).reserve
-  room_here = rw (← same) at room
-
-  pub before_is : before ≡ (slice_index_or tenants t unreserved_tenant).reserve
-  unfolding view_of part
-  before_is = rw (← same) at told
-
-  pub record_there : t < length tenants
-  record_there = tenant_there table shapes tenants pass reserved is t eight_here
-
-  pub record_before : before ≤ reserved
-  record_before =
-      let small = before_small table shapes tenants pass reserved is t kept eight_here room_here in
-      let e = before_is in
-      omega (arith, small, e)
-
-  pub record_fits : reserved - before + kept.reserve ≤ 4096
-  record_fits =
-      let few = fits table shapes tenants pass reserved is t kept eight_here room_here in
-      let e = before_is in
-      omega (arith, few, e, is.frames)
-
-  pub record_memory : IsMemory table shapes renewed (reserved - before + kept.reserve)
-  record_memory = rw before_is (memory_recorded table shapes tenants pass reserved is t kept eight_here room_here)
-
-  pub records : Records now (view_of table shapes renewed pass) t kept
-  records =
-      rw (← same)
-      record {
-        recorded_part = part_recorded table shapes tenants pass reserved is t kept eight_here room_here;
-        others = others_recorded table shapes tenants pass reserved is t kept eight_here room_here;
-        have = have_recorded table shapes tenants pass reserved is t kept eight_here room_here;
-        all = all_recorded table shapes tenants pass reserved is t kept eight_here room_here;
-      }
+pub records : (table : TableState) (shapes : List (Option Shape)) (tenants : List Tenant) (pass : Pass) (reserved : ℕ) → IsMemory table shapes tenants reserved
+    → (now : MemoryState) → view_of table shapes tenants pass ≡ now → (t before : ℕ) (kept : Tenant)
+    → length (part now t).maps ≡ 8 → kept.reserve ≤ have_of now + (part now t).reserve → before ≡ (part now t).reserve
+    → Records now (view_of table shapes (slice_set tenants t kept) pass) table shapes tenants reserved t before kept
+records table shapes tenants pass reserved is now same t before kept eight room told =
+    let eight_here : length (part (view_of table shapes tenants pass) t).maps ≡ 8 = rw (← same) at eight in
+    let room_here : kept.reserve ≤ have_of (view_of table shapes tenants pass) + (part (view_of table shapes tenants pass) t).reserve = rw (← same) at room in
+    let before_is : before ≡ (slice_index_or tenants t unreserved_tenant).reserve = (rw (← same) at told) ∙ reserve_told table shapes tenants pass t in
+    rw (← same)
+    record {
+      there = tenant_there table shapes tenants pass reserved is t eight_here;
+      least = omega (arith, before_small table shapes tenants pass reserved is t kept eight_here room_here, before_is);
+      small = omega (arith, fits table shapes tenants pass reserved is t kept eight_here room_here, before_is, is.frames);
+      memory = rw before_is (memory_recorded table shapes tenants pass reserved is t kept eight_here room_here);
+      recorded_part = part_recorded table shapes tenants pass reserved is t kept eight_here room_here;
+      others = others_recorded table shapes tenants pass reserved is t kept eight_here room_here;
+      have = have_recorded table shapes tenants pass reserved is t kept eight_here room_here;
+      all = all_recorded table shapes tenants pass reserved is t kept eight_here room_here;
+    }

@@ -1,10 +1,10 @@
 -- What a memory tells of pages by their places, of open groups and of waiting pages.
-use Rattle.std.proofs.Common.{◌≡◌, ◌∙◌, ◌⊎◌, ⊎_elim, ℕ, zero, suc, ◌+◌, ◌*◌, ◌/◌, ◌%◌, ◌<◌, ◌≤◌, ◌==◌, ◌&&◌, ◌||◌, nat_lt, bytes_eq, Bool, true, false, if◌then◌else◌, List, [], ◌∷◌, length, map, find, slice_index_or, slice_set, Option, Some, None, option_map, is_some, refl, sym, ap, subst, arith}
+use Rattle.std.proofs.Common.{◌≡◌, ◌∙◌, ⊎_elim, ℕ, suc, ◌+◌, ◌*◌, ◌/◌, ◌%◌, ◌<◌, ◌≤◌, ◌==◌, ◌&&◌, nat_lt, bytes_eq, Bool, true, if◌then◌else◌, List, [], ◌∷◌, length, map, find, slice_index_or, slice_set, Option, Some, None, option_map, is_some, refl, sym, ap, subst, arith}
 use Rattle.std.specs.List.{concat, list_any}
 use Rattle.std.proofs.lemmas.List.{length-take-le}
 use Rattle.std.proofs.lemmas.List.Sums.{sum_by-cons}
 use Rattle.std.proofs.lemmas.Slice.Eq.{bytes_eq-Decides}
-use Rattle.std.proofs.lemmas.Bool.Decides.{nat_tests, eqb_tells}
+use Rattle.std.proofs.lemmas.Bool.Decides.{nat_tests}
 use Rattle.host_types.specs.declared.shape.Page.{Page}
 use Rattle.host_types.specs.declared.status.Status.TheVariants.{Grouped}
 use Rattle.host_types.specs.declared.shape.Shape.{Shape}
@@ -23,18 +23,14 @@ use Rattle.page_table.specs.State.{MemoryState, part, bytes_of_map, frame_at}
 use Rattle.page_table.specs.Changes.{IsPageOf, frame_of_group, open_frame}
 use Rattle.page_table.specs.Table.{TableState, IsTable, IsPageAt, ArePages, ArePagesOf, maps_of, flat_of, contents_of, entry_at, groups_of, sharing_of, states_of, frames_of, times, is_on, places_on, pages_on, is_open_frame, joined_on}
 use Rattle.page_table.specs.View.{view_of, IsMemory}
+use Rattle.page_table.proofs.Sides.{order}
 use Rattle.page_table.proofs.Maps.{map_at-maps_of, length-concat}
 use Rattle.page_table.proofs.Reading.{map_at-part, bytes_in, content_in, content_is}
 use Rattle.page_table.proofs.Creating.{length-contents}
-use Rattle.page_table.proofs.Entries.{one_when, on_one, on_one-false, times-head, times-tail}
+use Rattle.page_table.proofs.Entries.{on_one, times-head, times-tail, times-cons, told_at, group_of}
 use Rattle.page_table.proofs.Groups.{length-places}
-use Rattle.page_table.proofs.Putting.{page_inside, content_at, entry_fits}
-use Rattle.page_table.proofs.Joining.{group_of}
+use Rattle.page_table.proofs.Putting.{page_inside, content_at, page_of_entry}
 use Rattle.page_table.proofs.Merging.{map_small, number_small}
-
--- a page with an entry is there
-pub is_page_at_entry : (table : TableState) (i : ℕ) (entry : Entry) → IsTable table → entry_at table.entries i ≡ Some entry → IsPageAt table i
-is_page_at_entry table i entry is e = ap length (content_at table i entry e) ∙ is.pages entry.frame (entry_fits table i entry is e).frame
 
 module _ (table : TableState) (shapes : List (Option Shape)) (tenants : List Tenant) (pass : Pass) (reserved : ℕ) (is : IsMemory table shapes tenants reserved) where
   abbrev view : MemoryState
@@ -50,10 +46,7 @@ module _ (table : TableState) (shapes : List (Option Shape)) (tenants : List Ten
       k = map_place page.tenant page.map
 
       inside_shapes : map_place page.tenant page.map < length shapes
-      inside_shapes =
-          let there = page_inside table (page_place page) at in
-          let long = length-contents table in
-          omega (arith, there, long, is.maps.places, few)
+      inside_shapes = omega (arith, page_inside table (page_place page) at, length-contents table, is.maps.places, few)
 
       content : length (slice_index_or (part_of (contents_of table) (map_place page.tenant page.map * 256) 256) page.number []) ≡ 4096
       content = sym (ap length (content_in (contents_of table) (map_place page.tenant page.map) page.number few)) ∙ at
@@ -72,9 +65,6 @@ module _ (table : TableState) (shapes : List (Option Shape)) (tenants : List Ten
           let bytes = ap (λ flat. length (bytes_in flat)) known in
           let below : page.number < page_count shape = ⊎_elim (λ less. less) (λ past. absurd (omega (arith, content, ap length (pages.none page.number past)))) (order page.number (page_count shape)) in
           omega (arith, bytes, front, below)
-        where
-          order : (a b : ℕ) → (a < b) ⊎ (b ≤ a)
-          order a b = grind arith
 
   -- the bytes at a page's place
   pub contents_told : (page : Page) → page.map < 8 → page.number < 256 → contents_in view.maps (page_place page) ≡ page_bytes (bytes_of_map view page) page.number
@@ -92,7 +82,7 @@ module _ (table : TableState) (shapes : List (Option Shape)) (tenants : List Ten
   pub frame_told : (i : ℕ) (entry : Entry) → IsTable table → entry_at table.entries i ≡ Some entry → contents_in view.maps i ≡ page_at table.arena entry.frame
   frame_told i entry fits e =
       let place : page_place (named i) ≡ i = omega arith in
-      let there = page_there (named i) (omega arith) (omega arith) (subst (IsPageAt table) (sym place) (is_page_at_entry table i entry fits e)) in
+      let there = page_there (named i) (omega arith) (omega arith) (subst (IsPageAt table) (sym place) (page_of_entry table i entry fits e)) in
       ap (contents_in view.maps) (sym place) ∙ contents_told (named i) (omega arith) (omega arith)
       ∙ sym (content_is table shapes tenants pass reserved (named i) is there)
       ∙ ap (λ j. slice_index_or (contents_of table) j []) place ∙ content_at table i entry e
@@ -119,53 +109,33 @@ first-places : {X : Type 0} (none : X) (read : ℕ → X) (told : X) (g n : ℕ)
     → first_in none read (places_on n g xs) ≡ told
 unfolding places_on pages_on
 first-places none read told g n [] h some = absurd (omega arith)
-first-places {X} none read told g n (x ∷ xs) h some = by_head (is_on g x) refl
-    (first-places none read told g (n + 1) xs (λ k on. let next : n + 1 + k ≡ n + suc k = omega arith in ap read next ∙ h (suc k) on))
-  where
-    by_head : (b : Bool) → is_on g x ≡ b → (1 ≤ pages_on g xs → first_in none read (places_on (n + 1) g xs) ≡ told)
-        → first_in none read (if b then n ∷ places_on (n + 1) g xs else places_on (n + 1) g xs) ≡ told
-    by_head true e rest = let start : n ≡ n + 0 = omega arith in ap read start ∙ h 0 e
-    by_head false e rest =
-        let split = sum_by-cons (on_one g) x xs in
-        let without = on_one-false g x e in
-        rest (omega (arith, split, without, some))
+first-places {X} none read told g n (x ∷ xs) h some =
+    let start : n ≡ n + 0 = omega arith in
+    grind (
+      arith,
+      sum_by-cons (on_one g) x xs,
+      ap read start,
+      h 0,
+      first-places none read told g (n + 1) xs (λ k on. let next : n + 1 + k ≡ n + suc k = omega arith in ap read next ∙ h (suc k) on),
+    )
 
 -- what is found stands in the list, and passes the test
 pub find-in : (test : ℕ → Bool) (gs : List ℕ) (f : ℕ) → find test gs ≡ Some f → (1 ≤ times f gs) × (test f ≡ true)
 find-in test [] f e = absurd (cc)
-find-in test (g ∷ gs) f e = by_head (test g) refl (find-in test gs f) e
-  where
-    one : Some g ≡ Some f → g ≡ f
-    one e = cc
-
-    by_head : (b : Bool) → test g ≡ b → (find test gs ≡ Some f → (1 ≤ times f gs) × (test f ≡ true)) → (if b then Some g else find test gs) ≡ Some f → (1 ≤ times f (g ∷ gs)) × (test f ≡ true)
-    by_head true h rest e = (subst (λ n. 1 ≤ times n (g ∷ gs)) (one e) (times-head g gs), ap test (sym (one e)) ∙ h)
-    by_head false h rest e = let later = rest e in (let more = times-tail f g gs in omega (arith, more, later.0), later.1)
+find-in test (g ∷ gs) f e = grind (arith, times-head g gs, times-tail f g gs, find-in test gs f)
 
 -- tests of groups and of their frames that agree
 module _ (test : List ℕ → Bool) (opens : ℕ → Bool) (places : ℕ → List ℕ) where
-  Agree : List ℕ → Type 0
-  Agree gs = (g : ℕ) → 1 ≤ times g gs → test (places g) ≡ opens g
-
   later : (g : ℕ) (gs : List ℕ) → ((f : ℕ) → 1 ≤ times f (g ∷ gs) → test (places f) ≡ opens f) → (f : ℕ) → 1 ≤ times f gs → test (places f) ≡ opens f
   later g gs same f some = same f (let more = times-tail f g gs in omega (arith, more, some))
 
   pub find-places : (gs : List ℕ) → ((g : ℕ) → 1 ≤ times g gs → test (places g) ≡ opens g) → find test (map places gs) ≡ option_map places (find opens gs)
   find-places [] same = refl
-  find-places (g ∷ gs) same = ap (λ (b : Bool). if b then Some (places g) else find test (map places gs)) (same g (times-head g gs)) ∙ by_head (opens g) (find-places gs (later g gs same))
-    where
-      by_head : (b : Bool) → find test (map places gs) ≡ option_map places (find opens gs)
-          → (if b then Some (places g) else find test (map places gs)) ≡ option_map places (if b then Some g else find opens gs)
-      by_head true rest = refl
-      by_head false rest = rest
+  find-places (g ∷ gs) same = grind (arith, same g (times-head g gs), find-places gs (later g gs same))
 
   pub any-places : (gs : List ℕ) → ((g : ℕ) → 1 ≤ times g gs → test (places g) ≡ opens g) → list_any test (map places gs) ≡ is_some (find opens gs)
   any-places [] same = refl
-  any-places (g ∷ gs) same = ap (λ (b : Bool). b || list_any test (map places gs)) (same g (times-head g gs)) ∙ by_head (opens g) (any-places gs (later g gs same))
-    where
-      by_head : (b : Bool) → list_any test (map places gs) ≡ is_some (find opens gs) → (b || list_any test (map places gs)) ≡ is_some (if b then Some g else find opens gs)
-      by_head true rest = refl
-      by_head false rest = rest
+  any-places (g ∷ gs) same = grind (arith, same g (times-head g gs), any-places gs (later g gs same))
 
   -- the groups, where a page joins the group of the frame f
   abbrev pub grown : ℕ → ℕ → ℕ → List ℕ
@@ -173,42 +143,14 @@ module _ (test : List ℕ → Bool) (opens : ℕ → Bool) (places : ℕ → Lis
 
   others-stay : (i f : ℕ) (gs : List ℕ) → times f gs ≡ 0 → map (grown i f) gs ≡ map places gs
   others-stay i f [] none = refl
-  others-stay i f (g ∷ gs) none =
-      let split = sum_by-cons (λ (x : ℕ). one_when (x == f)) g gs in
-      ⊎_elim (λ same. absurd (let one = ap one_when same.0 in omega (arith, split, none, one)))
-      (λ other. let rest = others-stay i f gs (omega (arith, split, none)) in
-      let first : grown i f g ≡ places g = ap (λ (b : Bool). if b then joined_by i (places g) else places g) other.0 in cc)
-      (eqb_tells g f)
+  others-stay i f (g ∷ gs) none = grind (arith, nat_tests, times-cons f g gs, others-stay i f gs)
 
   pub join-places : (i f : ℕ) (gs : List ℕ) → ((g : ℕ) → 1 ≤ times g gs → test (places g) ≡ opens g) → find opens gs ≡ Some f → times f gs ≤ 1
       → join_first test i (map places gs) ≡ map (grown i f) gs
   unfolding join_first
   join-places i f [] same e once = refl
   join-places i f (g ∷ gs) same e once =
-      ap (λ (b : Bool). if b then joined_by i (places g) ∷ map places gs else places g ∷ join_first test i (map places gs)) (same g (times-head g gs))
-      ∙ by_head (opens g) refl (join-places i f gs (later g gs same)) e (sum_by-cons (λ (x : ℕ). one_when (x == f)) g gs)
-    where
-      one : Some g ≡ Some f → g ≡ f
-      one e = cc
-
-      equal_here : g ≡ f → (g == f) ≡ true
-      equal_here e = grind (arith, nat_tests)
-
-      by_head : (b : Bool) → opens g ≡ b → (find opens gs ≡ Some f → times f gs ≤ 1 → join_first test i (map places gs) ≡ map (grown i f) gs)
-          → (if b then Some g else find opens gs) ≡ Some f → times f (g ∷ gs) ≡ one_when (g == f) + times f gs
-          → (if b then joined_by i (places g) ∷ map places gs else places g ∷ join_first test i (map places gs)) ≡ grown i f g ∷ map (grown i f) gs
-      by_head true h rest e split =
-          let here = equal_here (one e) in
-          let counted = ap one_when here in
-          let others = others-stay i f gs (omega (arith, split, counted, once)) in
-          let first : grown i f g ≡ joined_by i (places g) = ap (λ (b : Bool). if b then joined_by i (places g) else places g) here in
-          cc
-      by_head false h rest e split =
-          let there = find-in opens gs f e in
-          ⊎_elim (λ same. absurd (let one = ap one_when same.0 in omega (arith, split, once, one, there.0)))
-          (λ other. let first : grown i f g ≡ places g = ap (λ (b : Bool). if b then joined_by i (places g) else places g) other.0 in
-          let tail = rest e (omega (arith, split, once)) in cc)
-          (eqb_tells g f)
+      grind (arith, nat_tests, times-cons f g gs, same g (times-head g gs), others-stay i f gs, find-in opens gs f, join-places i f gs (later g gs same))
 
 module _ (table : TableState) (shapes : List (Option Shape)) (tenants : List Tenant) (pass : Pass) (reserved : ℕ) (is : IsMemory table shapes tenants reserved) (fits : IsTable table) where
   abbrev memory : MemoryState
@@ -237,13 +179,11 @@ module _ (table : TableState) (shapes : List (Option Shape)) (tenants : List Ten
       ∙ ap (λ n. bytes_eq (page_at table.arena g) bytes && nat_lt n pass.options.max_page_sharing) (length-places 0 g table.entries)
 
   frame-on : (g k : ℕ) → is_on g (entry_at table.entries k) ≡ true → slice_index_or (frames_of table.entries) k None ≡ Some g
-  frame-on g k on = by_list table.entries k on
+  frame-on g k on = told_at (λ (entry : Entry). entry.frame) table.entries k ∙ by_entry (entry_at table.entries k) on
     where
-      by_list : (xs : List (Option Entry)) (k : ℕ) → is_on g (entry_at xs k) ≡ true → slice_index_or (frames_of xs) k None ≡ Some g
-      by_list [] k on = absurd (cc)
-      by_list (None ∷ xs) zero on = absurd (cc)
-      by_list (Some entry ∷ xs) zero on = let same : entry.frame ≡ g = grind (arith, nat_tests) in ap Some same
-      by_list (x ∷ xs) (suc k) on = by_list xs k on
+      by_entry : (x : Option Entry) → is_on g x ≡ true → option_map (λ (entry : Entry). entry.frame) x ≡ Some g
+      by_entry None on = absurd (cc)
+      by_entry (Some entry) on = grind (arith, nat_tests)
 
   frame-of_group : (g : ℕ) → 1 ≤ times g table.groups → frame_of_group memory (Some (places_on 0 g table.entries)) ≡ Some g
   unfolding view_of
@@ -289,8 +229,4 @@ module _ (table : TableState) (shapes : List (Option Shape)) (tenants : List Ten
 
 -- an open group has the bytes
 pub open-bytes : (table : TableState) (bytes : List ℕ) (limit f : ℕ) → is_open_frame table bytes limit f ≡ true → page_at table.arena f ≡ bytes
-open-bytes table bytes limit f h = by_test (bytes_eq (page_at table.arena f) bytes) refl h
-  where
-    by_test : (b : Bool) → bytes_eq (page_at table.arena f) bytes ≡ b → (b && nat_lt (pages_on f table.entries) limit) ≡ true → page_at table.arena f ≡ bytes
-    by_test true e h = (bytes_eq-Decides (page_at table.arena f) bytes).0 e
-    by_test false e h = absurd (cc)
+open-bytes table bytes limit f h = grind (arith, (bytes_eq-Decides (page_at table.arena f) bytes).0)

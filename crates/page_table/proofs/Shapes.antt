@@ -1,15 +1,15 @@
 -- What a memory tells of a tenant's maps by their numbers.
-use Rattle.std.proofs.Common.{◌≡◌, ◌∙◌, ◌⊎◌, ⊎_elim, ℕ, zero, suc, ◌+◌, ◌*◌, ◌<◌, ◌≤◌, List, [], ◌∷◌, length, map, take, drop, slice_index_or, Option, Some, None, IfSome, option_map, is_none, position, refl, sym, ap, subst, arith, All, min, ◌-◌}
+use Rattle.std.proofs.Common.{◌≡◌, ◌∙◌, ⊎_elim, ℕ, zero, suc, ◌+◌, ◌*◌, ◌<◌, ◌≤◌, List, [], ◌∷◌, length, map, take, drop, slice_index_or, Option, Some, None, IfSome, option_map, is_none, position, refl, sym, ap, subst, arith, All, min, ◌-◌}
 use Rattle.std.specs.List.{position_or_len}
 use Rattle.std.proofs.lemmas.List.{get_or_past, get_or-take, get_or-drop, length-take, length-drop}
+use Rattle.std.specs.List.{concat}
+use Rattle.std.proofs.lemmas.List.{length-take-le}
+use Rattle.std.proofs.lemmas.List.Elements.{All-nil, All-cons, All-head, All-tail, All-append, All-take, All-drop}
 use Rattle.page_table.specs.declared.pass.Pass.{Pass}
 use Rattle.host_types.specs.declared.shape.Shape.{Shape}
 use Rattle.host_types.specs.Bytes.{part_of}
 use Rattle.host_types.specs.Memory.{FlatMap, FlatMaps, map_at}
 use Rattle.host_types.specs.Pages.{map_place}
-use Rattle.std.specs.List.{concat}
-use Rattle.std.proofs.lemmas.List.{length-take-le}
-use Rattle.std.proofs.lemmas.List.Elements.{All-nil, All-cons, All-head, All-tail, All-append, All-take, All-drop}
 use Rattle.host_types.specs.Shapes.{byte_len_of}
 use Rattle.host_types.specs.Tenant.{IsFlatMap}
 use Rattle.frame_arena.specs.Pages.{IsPage, page_at}
@@ -19,6 +19,7 @@ use Rattle.page_table.specs.declared.tenant.Tenant.{Tenant}
 use Rattle.page_table.specs.State.{MemoryState, part, free_number}
 use Rattle.page_table.specs.Table.{TableState, maps_of, flat_of, entry_content, contents_of, ArePages, ArePagesOf, AreMaps}
 use Rattle.page_table.specs.View.{view_of}
+use Rattle.page_table.proofs.Sides.{order}
 use Rattle.page_table.proofs.Maps.{map_at-maps_of, length-maps_of, length-concat}
 use Rattle.page_table.proofs.Reading.{map_at-part, map_at-past}
 
@@ -58,9 +59,6 @@ free_of_maps shapes contents from width =
     (length-part (maps_of shapes contents) from width ∙ ap (λ (n : ℕ). min width (n - from)) (length-maps_of shapes contents) ∙ sym (length-part shapes from width))
     (λ i. ⊎_elim (λ less. within i less) (λ more. past i more) (order i width))
   where
-    order : (a b : ℕ) → (a < b) ⊎ (b ≤ a)
-    order a b = grind arith
-
     within : (i : ℕ) → i < width → is_none (slice_index_or (take width (drop from (maps_of shapes contents))) i None) ≡ is_none (slice_index_or (take width (drop from shapes)) i None)
     within i less =
         ap (λ (x : Option FlatMap). is_none x) (get_or-take width (drop from (maps_of shapes contents)) i None less ∙ get_or-drop from (maps_of shapes contents) i None ∙ map_at-maps_of shapes contents (from + i))
@@ -143,6 +141,3 @@ map_ok table shapes tenants pass t m are small all =
     (⊎_elim (λ less. map_is table shapes (map_place t m) are less all)
     (λ past. subst (λ (x : Option Shape). IfSome (option_map (flat_of (part_of (contents_of table) (map_place t m * 256) 256)) x) IsFlatMap) (sym (get_or_past shapes (map_place t m) None past)) tt)
     (order (map_place t m) (length shapes)))
-  where
-    order : (a b : ℕ) → (a < b) ⊎ (b ≤ a)
-    order a b = grind arith

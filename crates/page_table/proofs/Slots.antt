@@ -1,5 +1,5 @@
 -- The slots of the groups in order of creation.
-use Rattle.std.proofs.Common.{◌≡◌, ◌≢◌, ◌∙◌, ◌⊎◌, ⊎_elim, ℕ, zero, suc, ◌+◌, ◌<◌, ◌≤◌, ◌==◌, not, Bool, true, false, if◌then◌else◌, List, [], ◌∷◌, ◌++◌, length, take, drop, slice_index_or, slice_set, All, AllPairs, refl, sym, ap, subst, arith, length-append}
+use Rattle.std.proofs.Common.{◌≡◌, ◌≢◌, ◌∙◌, ◌⊎◌, ⊎_elim, ℕ, zero, suc, ◌+◌, ◌<◌, ◌≤◌, ◌==◌, not, Bool, true, false, if◌then◌else◌, List, [], ◌∷◌, ◌++◌, length, take, drop, slice_index_or, slice_set, All, AllPairs, refl, sym, ap, subst, arith, length-append, inl, inr}
 use Rattle.std.proofs.lemmas.List.{get_or-set_same, get_or-set_other, length-set, get_or_append_left, get_or-append-add, get_or_default, take_at}
 use Rattle.std.proofs.lemmas.List.Elements.{All-filter, filter-append, filter_passes}
 use Rattle.std.proofs.lemmas.List.Kept.{AllPairs-filter}
@@ -9,6 +9,7 @@ use Rattle.stable_tree.proofs.Removing.{filter-absent}
 use Rattle.page_table.specs.Table.{ArePlaced, groups_in, times}
 use Rattle.page_table.proofs.Ending.{but}
 use Rattle.page_table.proofs.Entries.{one_when, times-head, times-tail}
+use Rattle.page_table.proofs.Sides.{is_same}
 
 full : (x : ℕ) → 0 < x → (x == 0) ≡ false
 full x h = grind (arith, nat_tests)
@@ -19,21 +20,11 @@ empty x h = grind (arith, nat_tests)
 some : (x : ℕ) → (x == 0) ≡ false → 0 < x
 some x h = grind (arith, nat_tests)
 
-other : (x f : ℕ) → x ≢ f → (x == f) ≡ false
-other x f ne = grind (arith, nat_tests)
-
-itself : (x : ℕ) → (x == x) ≡ true
-itself x = grind (arith, nat_tests)
-
 -- the group in a slot is one of the groups
 pub in-groups : (slots : List ℕ) (i : ℕ) → i < length slots → 0 < slice_index_or slots i 0 → 1 ≤ times (slice_index_or slots i 0) (groups_in slots)
 in-groups [] i h above = absurd (omega (arith, h))
-in-groups (x ∷ xs) zero h above = rw (full x above) (times-head x (groups_in xs))
-in-groups (x ∷ xs) (suc i) h above = by_test (x == 0) refl (in-groups xs i (omega arith) above)
-  where
-    by_test : (b : Bool) → (x == 0) ≡ b → 1 ≤ times (slice_index_or xs i 0) (groups_in xs) → 1 ≤ times (slice_index_or xs i 0) (if not b then x ∷ groups_in xs else groups_in xs)
-    by_test true e rest = rest
-    by_test false e rest = let more = times-tail (slice_index_or xs i 0) x (groups_in xs) in omega (arith, rest, more)
+in-groups (x ∷ xs) zero h above = grind (arith, nat_tests, times-head x (groups_in xs))
+in-groups (x ∷ xs) (suc i) h above = grind (arith, in-groups xs i, times-tail (slice_index_or xs i 0) x (groups_in xs))
 
 -- where a group stands
 pub slot-of-group : (slots : List ℕ) (f : ℕ) → 1 ≤ times f (groups_in slots) → (i : ℕ) × (i < length slots) × (slice_index_or slots i 0 ≡ f) × (0 < f)
@@ -56,56 +47,18 @@ slot-of-group (x ∷ xs) f h = by_test (x == 0) refl (slot-of-group xs f) h
 pub groups-emptied : (slots : List ℕ) (i f : ℕ) → i < length slots → slice_index_or slots i 0 ≡ f → ((j : ℕ) → j < length slots → slice_index_or slots j 0 ≡ f → j ≡ i)
     → groups_in (slice_set slots i 0) ≡ but f (groups_in slots)
 groups-emptied [] i f h here once = absurd (omega (arith, h))
-groups-emptied (x ∷ xs) zero f h here once = sym (by_test (x == 0) refl)
-  where
-    absent : All (λ g. g ≢ f) xs
-    absent = λ k d less same. let place = once (suc k) (omega (arith, less)) (get_or_default xs k 0 d less ∙ same) in absurd (omega (arith, place))
-
-    rest : but f (groups_in xs) ≡ groups_in xs
-    rest = filter-absent (groups_in xs) f (All-filter (λ g. not (g == 0)) (λ g. g ≢ f) xs absent)
-
-    by_test : (b : Bool) → (x == 0) ≡ b → but f (if not b then x ∷ groups_in xs else groups_in xs) ≡ groups_in xs
-    by_test true e = rest
-    by_test false e =
-        let same : (x == f) ≡ true = ap (λ (n : ℕ). n == f) here ∙ itself f in
-        ap (λ (b : Bool). if not b then x ∷ but f (groups_in xs) else but f (groups_in xs)) same ∙ rest
+groups-emptied (x ∷ xs) zero f h here once =
+    let absent : All (λ g. g ≢ f) xs = λ k d less same. let place = once (suc k) (omega (arith, less)) (get_or_default xs k 0 d less ∙ same) in absurd (omega (arith, place)) in
+    grind (arith, nat_tests, filter-absent (groups_in xs) f (All-filter (λ g. not (g == 0)) (λ g. g ≢ f) xs absent))
 groups-emptied (x ∷ xs) (suc i) f h here once =
-    by_test (x == 0) (groups-emptied xs i f (omega arith) here (λ j less e. let place = once (suc j) (omega (arith, less)) e in omega (arith, place)))
-  where
-    apart : x ≢ f
-    apart same = let place = once 0 (omega arith) same in omega (arith, place)
-
-    by_test : (b : Bool) → groups_in (slice_set xs i 0) ≡ but f (groups_in xs)
-        → (if not b then x ∷ groups_in (slice_set xs i 0) else groups_in (slice_set xs i 0)) ≡ but f (if not b then x ∷ groups_in xs else groups_in xs)
-    by_test true rest = rest
-    by_test false rest = rw (other x f apart) (ap (λ l. x ∷ l) rest)
+    let apart : x ≢ f = λ same. let place = once 0 (omega arith) same in omega (arith, place) in
+    grind (arith, nat_tests, apart, groups-emptied xs i f (omega arith) here (λ j less e. let place = once (suc j) (omega (arith, less)) e in omega (arith, place)))
 
 module _ (slots slot_of : List ℕ) (are : ArePlaced slots slot_of) where
   -- a group stands once
   pub stands-once : (i j : ℕ) → i < length slots → j < length slots → 0 < slice_index_or slots i 0 → slice_index_or slots j 0 ≡ slice_index_or slots i 0 → j ≡ i
   stands-once i j h k above same =
       sym (are.placed j k (subst (λ (n : ℕ). 0 < n) (sym same) above)) ∙ ap (λ (n : ℕ). slice_index_or slot_of n 0) same ∙ are.placed i h above
-
-  pub placed-emptied : (i : ℕ) → ArePlaced (slice_set slots i 0) slot_of
-  placed-emptied i =
-      record {
-        below = λ j less. below j (rw (length-set slots i 0) at less);
-        placed = λ j less above. placed j (rw (length-set slots i 0) at less) above;
-      }
-    where
-      below : (j : ℕ) → j < length slots → slice_index_or (slice_set slots i 0) j 0 < length slot_of
-      below j less =
-          ⊎_elim
-          (λ same. let none : slice_index_or (slice_set slots i 0) j 0 ≡ 0 = ap (λ (n : ℕ). slice_index_or (slice_set slots i 0) n 0) same.1 ∙ get_or-set_same slots i 0 0 (subst (λ (n : ℕ). n < length slots) same.1 less) in let old = are.below j less in omega (arith, none, old))
-          (λ apart. let kept = get_or-set_other slots i j 0 0 apart.1 in let old = are.below j less in omega (arith, kept, old))
-          (eqb_tells j i)
-
-      placed : (j : ℕ) → j < length slots → 0 < slice_index_or (slice_set slots i 0) j 0 → slice_index_or slot_of (slice_index_or (slice_set slots i 0) j 0) 0 ≡ j
-      placed j less above =
-          ⊎_elim
-          (λ same. let none : slice_index_or (slice_set slots i 0) j 0 ≡ 0 = ap (λ (n : ℕ). slice_index_or (slice_set slots i 0) n 0) same.1 ∙ get_or-set_same slots i 0 0 (subst (λ (n : ℕ). n < length slots) same.1 less) in absurd (omega (arith, none, above)))
-          (λ apart. let kept = get_or-set_other slots i j 0 0 apart.1 in ap (λ (n : ℕ). slice_index_or slot_of n 0) kept ∙ are.placed j less (omega (arith, kept, above)))
-          (eqb_tells j i)
 
   -- the slot of a group is the one that is noted
   pub noted : (f : ℕ) → 1 ≤ times f (groups_in slots)
@@ -132,42 +85,25 @@ module _ (slots slot_of : List ℕ) (are : ArePlaced slots slot_of) where
   pub placed-pushed : (f : ℕ) → 0 < f → f < length slot_of → times f (groups_in slots) ≡ 0 → ArePlaced (slots ++ f ∷ []) (slice_set slot_of f (length slots))
   placed-pushed f above there none =
       record {
-        below = λ j less. ⊎_elim (λ front. before_below j front) (λ last. last_below j last) (split j (more j less));
-        placed = λ j less full. ⊎_elim (λ front. before_placed j front full) (λ last. last_placed j last) (split j (more j less));
+        below = λ j less. let inside = more j less in grind (arith, nat_tests, inside, pushed j inside, length-set slot_of f (length slots), are.below j, there);
+        placed = λ j less full. placed j (more j less) full (is_same j (length slots));
       }
     where
       more : (j : ℕ) → j < length (slots ++ f ∷ []) → j < length slots + 1
       more j less = let long = length-append slots (f ∷ []) in omega (arith, long, less)
 
-      split : (j : ℕ) → j < length slots + 1 → (j < length slots) ⊎ (j ≡ length slots + 0)
-      split j less = grind arith
+      pushed : (j : ℕ) → j < length slots + 1 → slice_index_or (slots ++ f ∷ []) j 0 ≡ (if j == length slots then f else slice_index_or slots j 0)
+      pushed j less =
+          ⊎_elim (λ last. ap (λ (n : ℕ). slice_index_or (slots ++ f ∷ []) n 0) (omega (arith, last)) ∙ get_or-append-add slots (f ∷ []) 0 0 ∙ grind (arith, nat_tests))
+          (λ front. get_or_append_left slots (f ∷ []) 0 j (omega (arith, less, front)) ∙ grind (arith, nat_tests)) (is_same j (length slots))
 
-      last_is : (j : ℕ) → j ≡ length slots + 0 → slice_index_or (slots ++ f ∷ []) j 0 ≡ f
-      last_is j e = ap (λ (n : ℕ). slice_index_or (slots ++ f ∷ []) n 0) e ∙ get_or-append-add slots (f ∷ []) 0 0
-
-      last_below : (j : ℕ) → j ≡ length slots + 0 → slice_index_or (slots ++ f ∷ []) j 0 < length (slice_set slot_of f (length slots))
-      last_below j e = let is = last_is j e in let long = length-set slot_of f (length slots) in omega (arith, is, long, there)
-
-      last_placed : (j : ℕ) → j ≡ length slots + 0 → slice_index_or (slice_set slot_of f (length slots)) (slice_index_or (slots ++ f ∷ []) j 0) 0 ≡ j
-      last_placed j e =
-          ap (λ (n : ℕ). slice_index_or (slice_set slot_of f (length slots)) n 0) (last_is j e)
-          ∙ get_or-set_same slot_of f (length slots) 0 there ∙ (omega (arith, e))
-
-      front_is : (j : ℕ) → j < length slots → slice_index_or (slots ++ f ∷ []) j 0 ≡ slice_index_or slots j 0
-      front_is j less = get_or_append_left slots (f ∷ []) 0 j less
-
-      before_below : (j : ℕ) → j < length slots → slice_index_or (slots ++ f ∷ []) j 0 < length (slice_set slot_of f (length slots))
-      before_below j less = let is = front_is j less in let long = length-set slot_of f (length slots) in let old = are.below j less in omega (arith, is, long, old)
-
-      before_placed : (j : ℕ) → j < length slots → 0 < slice_index_or (slots ++ f ∷ []) j 0 → slice_index_or (slice_set slot_of f (length slots)) (slice_index_or (slots ++ f ∷ []) j 0) 0 ≡ j
-      before_placed j less full =
-          let is = front_is j less in
-          let above : 0 < slice_index_or slots j 0 = omega (arith, is, full) in
-          let listed = in-groups slots j less above in
-          let apart : slice_index_or slots j 0 ≢ f = λ same. let also = ap (λ (n : ℕ). times n (groups_in slots)) same in omega (arith, also, none, listed) in
-          ap (λ (n : ℕ). slice_index_or (slice_set slot_of f (length slots)) n 0) is
-          ∙ get_or-set_other slot_of f (slice_index_or slots j 0) (length slots) 0 apart
-          ∙ are.placed j less above
+      placed : (j : ℕ) → j < length slots + 1 → 0 < slice_index_or (slots ++ f ∷ []) j 0 → (j ≡ length slots) ⊎ (j ≢ length slots)
+          → slice_index_or (slice_set slot_of f (length slots)) (slice_index_or (slots ++ f ∷ []) j 0) 0 ≡ j
+      placed j less full (inl last) = grind (arith, nat_tests, pushed j less, get_or-set_same slot_of f (length slots) 0)
+      placed j less full (inr front) =
+          let listed = in-groups slots j (omega (arith, less, front)) in
+          let apart : 0 < slice_index_or slots j 0 → slice_index_or slots j 0 ≢ f = λ some same. let also = ap (λ (n : ℕ). times n (groups_in slots)) same in omega (arith, also, none, listed some) in
+          grind (arith, nat_tests, pushed j less, apart, get_or-set_other slot_of f (slice_index_or slots j 0) (length slots) 0, are.placed j)
 
   -- the groups alone
   pub groups-below : All (λ f. f < length slot_of) (groups_in slots)
@@ -197,12 +133,7 @@ module _ (slots slot_of : List ℕ) (are : ArePlaced slots slot_of) where
 -- the groups alone have no empty slot
 pub groups-again : (slots : List ℕ) → groups_in (groups_in slots) ≡ groups_in slots
 groups-again [] = refl
-groups-again (x ∷ xs) = by_test (x == 0) refl (groups-again xs)
-  where
-    by_test : (b : Bool) → (x == 0) ≡ b → groups_in (groups_in xs) ≡ groups_in xs
-        → groups_in (if not b then x ∷ groups_in xs else groups_in xs) ≡ (if not b then x ∷ groups_in xs else groups_in xs)
-    by_test true e rest = rest
-    by_test false e rest = rw e (ap (λ l. x ∷ l) rest)
+groups-again (x ∷ xs) = grind (arith, groups-again xs)
 
 pub groups-pushed : (slots : List ℕ) (f : ℕ) → 0 < f → groups_in (slots ++ f ∷ []) ≡ groups_in slots ++ f ∷ []
 groups-pushed slots f above =

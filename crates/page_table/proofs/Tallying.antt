@@ -1,11 +1,9 @@
 -- What is counted of pages, and the contents of the groups.
-use Rattle.std.proofs.Common.{◌≡◌, ℕ, zero, suc, ◌+◌, ◌-◌, ◌<◌, ◌≤◌, Bool, true, false, if◌then◌else◌, replicate, List, [], ◌∷◌, length, map, sum_by, slice_set, Option, Some, None, option_map, refl, ap, arith}
+use Rattle.std.proofs.Common.{◌≡◌, ℕ, zero, suc, ◌+◌, ◌-◌, ◌<◌, ◌≤◌, replicate, List, [], ◌∷◌, length, map, sum_by, slice_set, Option, None, option_map, refl, ap, arith}
 use Rattle.std.proofs.lemmas.List.{length-map, map-set}
 use Rattle.std.proofs.lemmas.List.Sums.{sum_by-cons, sum_by-set, sum_by-le, get_or-le-sum_by}
-use Rattle.host_types.specs.declared.status.Status.{Status}
-use Rattle.host_types.specs.declared.status.Status.TheVariants.{New, Volatile, Waiting, Grouped, Zero}
-use Rattle.host_types.specs.Counters.{group_contents, unshared_at, volatile_at, one_if_waiting, one_if_volatile}
-use Rattle.host_types.specs.Sharing.{PageState, is_shared_page}
+use Rattle.host_types.specs.Counters.{group_contents, unshared_at, volatile_at}
+use Rattle.host_types.specs.Sharing.{PageState}
 use Rattle.host_types.specs.declared.shape.Shape.{Shape}
 use Rattle.host_types.specs.Visits.{group_bytes}
 use Rattle.frame_arena.specs.Pages.{page_at}
@@ -16,9 +14,8 @@ use Rattle.page_table.specs.Changes.{contents_now}
 use Rattle.page_table.specs.Table.{TableState, IsTable, entry_at, states_of, state_of, groups_of, places_on, times}
 use Rattle.page_table.specs.Tallies.{IsTally, shared_at}
 use Rattle.page_table.specs.View.{view_of, IsMemory}
-use Rattle.page_table.proofs.Entries.{times-head, times-tail}
+use Rattle.page_table.proofs.Entries.{times-head, times-tail, told_at}
 use Rattle.page_table.proofs.Scanning.{bytes-of_group}
-use Rattle.page_table.proofs.Facts.{told_at}
 
 -- what is counted after another page stands at a place
 pub counted-set : (f : Option PageState → ℕ) (pages : List (Option Entry)) (i count : ℕ) (x : Option Entry) → i < length pages
@@ -37,38 +34,16 @@ counted-set f pages i count x inside e =
 -- at most all pages are counted
 pub counted-few : (f : Option PageState → ℕ) (pages : List (Option Entry)) (count : ℕ) → ((x : Option PageState) → f x ≤ 1) → count ≡ sum_by f (states_of pages) → count ≤ length pages
 counted-few f pages count one e =
-    let long = length-map pages (option_map state_of) in
-    let most = sum_by-le f 1 (states_of pages) (λ i d less. one _) in
-    omega (arith, e, most, long)
+    omega (arith, e, sum_by-le f 1 (states_of pages) (λ i d less. one _), length-map pages (option_map state_of))
 
 pub unshared-one : (x : Option PageState) → unshared_at x ≤ 1
-unshared-one None = omega arith
-unshared-one (Some state) = by_status state.status
-  where
-    by_status : (status : Status) → one_if_waiting status ≤ 1
-    by_status New = omega arith
-    by_status Volatile = omega arith
-    by_status Waiting = omega arith
-    by_status Grouped = omega arith
-    by_status Zero = omega arith
+unshared-one x = grind arith
 
 pub volatile-one : (x : Option PageState) → volatile_at x ≤ 1
-volatile-one None = omega arith
-volatile-one (Some state) = by_status state.status
-  where
-    by_status : (status : Status) → one_if_volatile status ≤ 1
-    by_status New = omega arith
-    by_status Volatile = omega arith
-    by_status Waiting = omega arith
-    by_status Grouped = omega arith
-    by_status Zero = omega arith
+volatile-one x = grind arith
 
 pub shared-one : (x : Option PageState) → shared_at x ≤ 1
-shared-one x = by_test (is_shared_page x)
-  where
-    by_test : (b : Bool) → (if b then 1 else 0) ≤ 1
-    by_test true = omega arith
-    by_test false = omega arith
+shared-one x = grind arith
 
 -- without pages nothing is counted
 pub counted-none : (places : ℕ) → IsTally (record { unshared = 0; volatile = 0; shared = 0 }) (states_of (replicate places None))
@@ -76,10 +51,7 @@ counted-none places = record { waiting = none unshared_at refl places; changed =
   where
     none : (f : Option PageState → ℕ) → f None ≡ 0 → (n : ℕ) → 0 ≡ sum_by f (states_of (replicate n None))
     none f e zero = refl
-    none f e (suc n) =
-        let split = sum_by-cons f None (states_of (replicate n None)) in
-        let rest = none f e n in
-        omega (arith, split, rest, e)
+    none f e (suc n) = grind (arith, sum_by-cons f None (states_of (replicate n None)), none f e n)
 
 -- the bytes of the groups' pages are those of their frames
 pub contents-told : (table : TableState) (shapes : List (Option Shape)) (tenants : List Tenant) (pass : Pass) (reserved : ℕ) (is : IsMemory table shapes tenants reserved) (fits : IsTable table)

@@ -1,18 +1,18 @@
 -- The tree of groups has the groups of each content in order of creation, whatever happens to the table.
-use Rattle.std.proofs.Common.{◌≡◌, ◌≢◌, ◌∙◌, ⊎_elim, ℕ, zero, suc, ◌+◌, ◌<◌, ◌≤◌, ◌==◌, ◌&&◌, nat_lt, not, bytes_eq, Bool, true, false, if◌then◌else◌, List, [], ◌∷◌, ◌++◌, length, filter, find, slice_index_or, slice_set, All, Option, Some, refl, sym, ap, arith}
+use Rattle.std.proofs.Common.{◌≡◌, ◌≢◌, ◌∙◌, ℕ, zero, suc, ◌<◌, ◌≤◌, ◌==◌, nat_lt, not, Bool, true, List, [], ◌∷◌, ◌++◌, length, filter, find, slice_index_or, slice_set, All, refl, sym, ap, arith}
 use Rattle.std.specs.List.{concat}
 use Rattle.std.proofs.lemmas.List.{get_or-set_other, length-set}
 use Rattle.std.proofs.lemmas.List.Elements.{All-nil, All-cons, filter-append}
 use Rattle.std.proofs.lemmas.List.Sums.{sum_by-cons, sum_by-append}
-use Rattle.std.proofs.lemmas.Bool.Decides.{eqb_tells}
+use Rattle.std.proofs.lemmas.Bool.Decides.{nat_tests}
 use Rattle.frame_arena.specs.Pages.{page_at}
 use Rattle.stable_tree.specs.Groups.{Groups, IsSorted, IsChain, has, content}
 use Rattle.stable_tree.proofs.Removing.{has-itself}
 use Rattle.page_table.specs.Table.{TableState, CountsState, IsSound, IsGroup, IsTreeOf, times, pages_on, is_open_frame}
-use Rattle.page_table.proofs.Ending.{but}
 use Rattle.host_types.proofs.Without.{without-length, times-gone, times-kept}
-use Rattle.page_table.proofs.Entries.{one_when, times-head, times-tail, not_equal, one_if_zero-above}
-use Rattle.page_table.proofs.Joining.{group_of, group-inside}
+use Rattle.page_table.proofs.Ending.{but}
+use Rattle.page_table.proofs.Entries.{one_when, times-head, times-tail, one_if_zero-above, group_of, times-cons}
+use Rattle.page_table.proofs.Joining.{group-inside}
 
 -- a number that stands nowhere
 pub nowhere : (f : ℕ) (xs : List ℕ) → times f xs ≡ 0 → All (λ g. g ≢ f) xs
@@ -25,39 +25,20 @@ nowhere f (x ∷ xs) none =
 -- a number passes a test as often as it stands there
 times-filter : (f : ℕ) (test : ℕ → Bool) (xs : List ℕ) → test f ≡ true → times f (filter test xs) ≡ times f xs
 times-filter f test [] passes = refl
-times-filter f test (x ∷ xs) passes =
-    let split = sum_by-cons (λ (y : ℕ). one_when (y == f)) x xs in
-    by_test (test x) refl (times-filter f test xs passes) split
-  where
-    by_test : (b : Bool) → test x ≡ b → times f (filter test xs) ≡ times f xs → times f (x ∷ xs) ≡ one_when (x == f) + times f xs
-        → times f (if b then x ∷ filter test xs else filter test xs) ≡ times f (x ∷ xs)
-    by_test true e rest split =
-        let kept = sum_by-cons (λ (y : ℕ). one_when (y == f)) x (filter test xs) in
-        omega (arith, rest, split, kept)
-    by_test false e rest split =
-        let apart : x ≢ f = λ same. let passed : test x ≡ true = ap test same ∙ passes in cc in
-        let none = ap one_when (not_equal f x apart) in
-        omega (arith, rest, split, none)
+times-filter f test (x ∷ xs) passes = grind (arith, nat_tests, times-cons f x xs, times-cons f x (filter test xs), times-filter f test xs)
 
 -- lists with the same numbers are as long
 same-length : (n : ℕ) (xs ys : List ℕ) → length xs ≤ n → ((f : ℕ) → times f xs ≡ times f ys) → length xs ≡ length ys
 same-length n [] [] few same = refl
-same-length n [] (y ∷ ys) few same = let here = times-head y ys in let none = same y in absurd (omega (arith, here, none))
+same-length n [] (y ∷ ys) few same = grind (arith, times-head y ys, same y)
 same-length zero (x ∷ xs) ys few same = absurd (omega (arith, few))
 same-length (suc n) (x ∷ xs) ys few same =
-    let here = times-head x xs in
     let left = without-length x (x ∷ xs) in
-    let right = without-length x ys in
-    let both = same x in
-    let rest = same-length n (but x (x ∷ xs)) (but x ys) (omega (arith, left, here, few)) less in
-    omega (arith, rest, left, right, both)
+    let here = times-head x xs in
+    omega (arith, same-length n (but x (x ∷ xs)) (but x ys) (omega (arith, left, here, few)) less, left, without-length x ys, same x)
   where
     less : (f : ℕ) → times f (but x (x ∷ xs)) ≡ times f (but x ys)
-    less f =
-        ⊎_elim
-        (λ is. ap (λ n. times n (but x (x ∷ xs))) is.1 ∙ times-gone x (x ∷ xs) ∙ sym (ap (λ n. times n (but x ys)) is.1 ∙ times-gone x ys))
-        (λ other. times-kept x f (x ∷ xs) other.1 ∙ same f ∙ sym (times-kept x f ys other.1))
-        (eqb_tells f x)
+    less f = grind (arith, times-gone x (x ∷ xs), times-gone x ys, times-kept x f (x ∷ xs), times-kept x f ys, same f)
 
 module _ (arena : List (List ℕ)) (groups : List ℕ) (tree : Groups) (is : IsTreeOf arena groups tree) where
   pub tree-times : (f : ℕ) → times f (concat tree.chains) ≡ times f groups
@@ -83,18 +64,14 @@ in-chain : (chains : List (List ℕ)) (k : ℕ) (d : List ℕ) (f : ℕ) → k <
 in-chain [] k d f h some = absurd (omega (arith, h))
 in-chain (c ∷ cs) zero d f h some = let split = sum_by-append (λ (y : ℕ). one_when (y == f)) c (concat cs) in omega (arith, split, some)
 in-chain (c ∷ cs) (suc k) d f h some =
-    let split = sum_by-append (λ (y : ℕ). one_when (y == f)) c (concat cs) in
-    let rest = in-chain cs k d f (omega arith) some in
-    omega (arith, split, rest)
+    omega (arith, sum_by-append (λ (y : ℕ). one_when (y == f)) c (concat cs), in-chain cs k d f (omega arith) some)
 
 -- frames whose pages stay have their bytes still
 filter-kept : (old new : List (List ℕ)) (bytes xs : List ℕ) → ((f : ℕ) → 1 ≤ times f xs → page_at new f ≡ page_at old f) → filter (has new bytes) xs ≡ filter (has old bytes) xs
 filter-kept old new bytes [] same = refl
 filter-kept old new bytes (x ∷ xs) same =
-    let here = same x (times-head x xs) in
     let rest = filter-kept old new bytes xs (λ f some. let more = times-tail f x xs in same f (omega (arith, some, more))) in
-    ap (λ (page : List ℕ). if bytes_eq page bytes then x ∷ filter (has new bytes) xs else filter (has new bytes) xs) here
-    ∙ ap (λ (l : List ℕ). if bytes_eq (page_at old x) bytes then x ∷ l else l) rest
+    grind (arith, same x (times-head x xs), rest)
 
 module _ (old new : List (List ℕ)) (size : length new ≡ length old) where
   entry_content-kept : (chain : List ℕ) → 0 < length chain → ((f : ℕ) → 1 ≤ times f chain → page_at new f ≡ page_at old f) → content new chain ≡ content old chain
@@ -153,14 +130,7 @@ tree-pushed arena groups old new f is sorted room inserted =
 -- one test after another
 filter-filter : (p q : ℕ → Bool) (xs : List ℕ) → filter p (filter q xs) ≡ filter q (filter p xs)
 filter-filter p q [] = refl
-filter-filter p q (x ∷ xs) = by_tests (p x) (q x) refl refl (filter-filter p q xs)
-  where
-    by_tests : (a b : Bool) → p x ≡ a → q x ≡ b → filter p (filter q xs) ≡ filter q (filter p xs)
-        → filter p (if b then x ∷ filter q xs else filter q xs) ≡ filter q (if a then x ∷ filter p xs else filter p xs)
-    by_tests true true is also rest = rw (is, also) (ap (λ l. x ∷ l) rest)
-    by_tests true false is also rest = rw also rest
-    by_tests false true is also rest = rw is rest
-    by_tests false false is also rest = rest
+filter-filter p q (x ∷ xs) = grind (arith, filter-filter p q xs)
 
 -- a group less
 pub tree-removed : (arena : List (List ℕ)) (groups : List ℕ) (old new : Groups) (f : ℕ) → IsTreeOf arena groups old → IsSorted arena new.chains → new.room ≡ old.room
@@ -194,28 +164,17 @@ pub find-open : (table : TableState) (counts bytes : List ℕ) (limit : ℕ) (gs
     → find (λ f. nat_lt (slice_index_or counts f 0) limit) (filter (has table.arena bytes) gs) ≡ find (is_open_frame table bytes limit) gs
 find-open table counts bytes limit [] same = refl
 find-open table counts bytes limit (g ∷ gs) same =
-    by_bytes (bytes_eq (page_at table.arena g) bytes) (find-open table counts bytes limit gs (λ f some. let more = times-tail f g gs in same f (omega (arith, some, more))))
-  where
-    by_bytes : (b : Bool) → find (λ f. nat_lt (slice_index_or counts f 0) limit) (filter (has table.arena bytes) gs) ≡ find (is_open_frame table bytes limit) gs
-        → find (λ f. nat_lt (slice_index_or counts f 0) limit) (if b then g ∷ filter (has table.arena bytes) gs else filter (has table.arena bytes) gs)
-        ≡ (if b && nat_lt (pages_on g table.entries) limit then Some g else find (is_open_frame table bytes limit) gs)
-    by_bytes true rest =
-        ap (λ (n : ℕ). if nat_lt n limit then Some g else find (λ f. nat_lt (slice_index_or counts f 0) limit) (filter (has table.arena bytes) gs)) (same g (times-head g gs))
-        ∙ ap (λ (o : Option ℕ). if nat_lt (pages_on g table.entries) limit then Some g else o) rest
-    by_bytes false rest = rest
+    grind (arith, same g (times-head g gs), find-open table counts bytes limit gs (λ f some. let more = times-tail f g gs in same f (omega (arith, some, more))))
 
 module _ (table : TableState) (counts : CountsState) (tree : Groups) (sound : IsSound table counts) (is : IsTreeOf table.arena table.groups tree) where
   -- there is room for one more group
   pub tree-room : length (concat tree.chains) < tree.room
-  tree-room =
-      let long = tree-length table.arena table.groups tree is in
-      omega (arith, long, is.room, sound.counted.used)
+  tree-room = omega (arith, tree-length table.arena table.groups tree is, is.room, sound.counted.used)
 
   counted : (f : ℕ) → 1 ≤ times f table.groups → slice_index_or counts.counts f 0 ≡ pages_on f table.entries
   counted f some =
       let known = sound.counted.counted f (group-inside table f sound.fits some) in
-      let none = one_if_zero-above f (IsGroup.above (group_of table f sound.fits some)) in
-      omega (arith, known, none)
+      omega (arith, known, one_if_zero-above f (IsGroup.above (group_of table f sound.fits some)))
 
   -- the earliest open group is the earliest one of its bytes in the tree
   pub found-open : (bytes : List ℕ) (limit : ℕ) (gs : List ℕ) → gs ≡ filter (has table.arena bytes) (concat tree.chains)

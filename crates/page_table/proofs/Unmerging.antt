@@ -1,6 +1,8 @@
 -- What unmerging takes, told by the pages on the groups' frames.
-use Rattle.std.proofs.Common.{◌≡◌, ◌∙◌, ⊎_elim, ℕ, zero, suc, ◌+◌, ◌-◌, ◌<◌, ◌≤◌, ◌==◌, Bool, true, false, if◌then◌else◌, List, [], ◌∷◌, length, map, sum_by, slice_index_or, Option, Some, None, option_map, is_some, refl, sym, ap, subst, arith}
+use Rattle.std.proofs.Common.{◌≡◌, ◌∙◌, ⊎_elim, ℕ, zero, suc, ◌+◌, ◌-◌, ◌<◌, ◌≤◌, ◌==◌, Bool, true, false, List, [], ◌∷◌, length, map, sum_by, slice_index_or, Option, Some, None, option_map, is_some, refl, sym, ap, subst, arith}
 use Rattle.std.proofs.lemmas.List.Sums.{sum_by-cons}
+use Rattle.std.proofs.lemmas.List.{length-map}
+use Rattle.std.proofs.lemmas.Bool.Decides.{nat_tests}
 use Rattle.host_types.specs.declared.status.Status.{Status}
 use Rattle.host_types.specs.declared.status.Status.TheVariants.{New, Volatile, Waiting, Grouped, Zero}
 use Rattle.host_types.specs.Sharing.{Sharing, PageState, state_at, is_shared_page, broken, break_cost, broken_from, cost_from}
@@ -13,56 +15,33 @@ use Rattle.page_table.specs.declared.tenant.Tenant.{Tenant}
 use Rattle.page_table.specs.State.{have_of}
 use Rattle.page_table.specs.View.{view_of, IsMemory, IsPass}
 use Rattle.host_types.specs.declared.shape.Shape.{Shape}
-use Rattle.page_table.proofs.Free.{free_is}
-use Rattle.page_table.specs.Table.{TableState, CountsState, IsTable, IsSound, IsEntry, IsGroup, IsPageAt, LiesRight, times, entry_at, is_on, state_of, states_of, groups_of, sharing_of, used_by, new_pass, pages_on, places_on}
+use Rattle.page_table.specs.Table.{TableState, CountsState, IsTable, IsSound, IsEntry, IsGroup, IsPageAt, LiesRight, times, entry_at, state_of, states_of, groups_of, sharing_of, used_by, new_pass, pages_on, places_on}
 use Rattle.page_table.specs.Tallies.{shared_at}
+use Rattle.page_table.proofs.Changing.{entry_fits}
+use Rattle.page_table.proofs.Free.{free_is}
 use Rattle.page_table.proofs.Breaks.{cost_from-last, broken_from-last}
-use Rattle.page_table.proofs.Counting.{same_either_way}
 use Rattle.page_table.proofs.Creating.{length-states}
 use Rattle.page_table.proofs.Costs.{state-at}
-use Rattle.page_table.proofs.Entries.{one_when, on_one, not_equal, equal, times-head, times-tail}
+use Rattle.page_table.proofs.Entries.{one_when, on_one, not_equal, equal, times-head, times-tail, times-cons, group_of}
 use Rattle.page_table.proofs.Groups.{length-places}
 use Rattle.page_table.proofs.Moving.{pages_on-le}
-use Rattle.page_table.proofs.Putting.{entry_fits, content_at}
+use Rattle.page_table.proofs.Putting.{page_of_entry}
+
+times-step : (i n : ℕ) (places : List ℕ) → without.times i (n ∷ places) ≡ one_when (n == i) + without.times i places
+times-step i n places = sum_by-cons (λ (j : ℕ). without.one_when (j == i)) n places
 
 -- a place before the first one doesn't stand among those on a frame
 before-places : (n f : ℕ) (xs : List (Option Entry)) (i : ℕ) → i < n → without.times i (places_on n f xs) ≡ 0
 unfolding places_on
 before-places n f [] i h = refl
-before-places n f (x ∷ xs) i h = by_head (is_on f x) (before-places (n + 1) f xs i (omega arith))
-  where
-    by_head : (b : Bool) → without.times i (places_on (n + 1) f xs) ≡ 0 → without.times i (if b then n ∷ places_on (n + 1) f xs else places_on (n + 1) f xs) ≡ 0
-    by_head true rest =
-        let split = sum_by-cons (λ (j : ℕ). without.one_when (j == i)) n (places_on (n + 1) f xs) in
-        let none = ap without.one_when (not_equal i n (λ e. omega arith)) in
-        omega (arith, split, none, rest)
-    by_head false rest = rest
+before-places n f (x ∷ xs) i h = grind (arith, nat_tests, times-step i n (places_on (n + 1) f xs), before-places (n + 1) f xs i)
 
 -- a place stands once among those on the frame of its page
 times-places : (n f : ℕ) (xs : List (Option Entry)) (i : ℕ) → without.times (n + i) (places_on n f xs) ≡ on_one f (entry_at xs i)
 unfolding places_on
 times-places n f [] i = refl
-times-places n f (x ∷ xs) zero =
-    let here : n + 0 ≡ n = omega arith in
-    rw here (by_head (is_on f x) (before-places (n + 1) f xs n (omega arith)))
-  where
-    by_head : (b : Bool) → without.times n (places_on (n + 1) f xs) ≡ 0 → without.times n (if b then n ∷ places_on (n + 1) f xs else places_on (n + 1) f xs) ≡ one_when b
-    by_head true rest =
-        let split = sum_by-cons (λ (j : ℕ). without.one_when (j == n)) n (places_on (n + 1) f xs) in
-        let one = ap without.one_when (equal n) in
-        omega (arith, split, one, rest)
-    by_head false rest = rest
-times-places n f (x ∷ xs) (suc i) =
-    let next : n + suc i ≡ n + 1 + i = omega arith in
-    by_head (is_on f x) (ap (λ (m : ℕ). without.times m (places_on (n + 1) f xs)) next ∙ times-places (n + 1) f xs i)
-  where
-    by_head : (b : Bool) → without.times (n + suc i) (places_on (n + 1) f xs) ≡ on_one f (entry_at xs i)
-        → without.times (n + suc i) (if b then n ∷ places_on (n + 1) f xs else places_on (n + 1) f xs) ≡ on_one f (entry_at xs i)
-    by_head true rest =
-        let split = sum_by-cons (λ (j : ℕ). without.one_when (j == n + suc i)) n (places_on (n + 1) f xs) in
-        let none = ap without.one_when (not_equal (n + suc i) n (λ e. omega arith)) in
-        omega (arith, split, none, rest)
-    by_head false rest = rest
+times-places n f (x ∷ xs) zero = grind (arith, nat_tests, times-step n n (places_on (n + 1) f xs), before-places (n + 1) f xs n)
+times-places n f (x ∷ xs) (suc i) = grind (arith, nat_tests, times-step (n + suc i) n (places_on (n + 1) f xs), times-places (n + 1) f xs i)
 
 times-at_frame : (g : ℕ) (xs : List (Option Entry)) (i : ℕ) → without.times i (places_on 0 g xs) ≡ on_one g (entry_at xs i)
 times-at_frame g xs i = let start : i ≡ 0 + i = omega arith in ap (λ (n : ℕ). without.times n (places_on 0 g xs)) start ∙ times-places 0 g xs i
@@ -80,44 +59,31 @@ held-none (Some entry) = refl
 held-cons : (x : Option Entry) (g : ℕ) (gs : List ℕ) → held x (g ∷ gs) ≡ on_one g x + held x gs
 unfolding held
 held-cons None g gs = refl
-held-cons (Some entry) g gs =
-    let split = sum_by-cons (λ (x : ℕ). one_when (x == entry.frame)) g gs in
-    let same = ap one_when (same_either_way g entry.frame) in
-    omega (arith, split, same)
+held-cons (Some entry) g gs = grind (arith, nat_tests, times-cons entry.frame g gs)
 
 listed-frames : (xs : List (Option Entry)) (groups : List ℕ) (i : ℕ) → law.listed i (map (λ g. places_on 0 g xs) groups) ≡ held (entry_at xs i) groups
 listed-frames xs [] i = sym (held-none (entry_at xs i))
 listed-frames xs (g ∷ gs) i =
     let split = sum_by-cons (without.times i) (places_on 0 g xs) (map (λ g. places_on 0 g xs) gs) in
-    let here = times-at_frame g xs i in
-    let rest = listed-frames xs gs i in
-    let more = held-cons (entry_at xs i) g gs in
-    omega (arith, split, here, rest, more)
+    omega (arith, split, times-at_frame g xs i, listed-frames xs gs i, held-cons (entry_at xs i) g gs)
 
 -- what holds of each group's pages holds where one is left out
 some-groups : (xs : List (Option Entry)) (groups : List ℕ) → ((g : ℕ) → 1 ≤ times g groups → 1 ≤ pages_on g xs) → law.AreSome (map (λ g. places_on 0 g xs) groups)
 some-groups xs [] h = tt
 some-groups xs (g ∷ gs) h =
-    let long = length-places 0 g xs in
-    let pages = h g (times-head g gs) in
-    (omega (arith, long, pages), some-groups xs gs (λ f le. let more = times-tail f g gs in h f (omega (arith, le, more))))
+    (grind (arith, length-places 0 g xs, h g (times-head g gs)), some-groups xs gs (λ f le. let more = times-tail f g gs in h f (omega (arith, le, more))))
 
 members-frames : (xs : List (Option Entry)) (groups : List ℕ) → sum_by (λ (group : List ℕ). length group) (map (λ g. places_on 0 g xs) groups) ≡ sum_by (λ (g : ℕ). pages_on g xs) groups
 members-frames xs [] = refl
 members-frames xs (g ∷ gs) =
     let split = sum_by-cons (λ (group : List ℕ). length group) (places_on 0 g xs) (map (λ g. places_on 0 g xs) gs) in
-    let whole = sum_by-cons (λ (g : ℕ). pages_on g xs) g gs in
-    let long = length-places 0 g xs in
-    let rest = members-frames xs gs in
-    omega (arith, split, whole, long, rest)
+    omega (arith, split, sum_by-cons (λ (g : ℕ). pages_on g xs) g gs, length-places 0 g xs, members-frames xs gs)
 
 some-members : (xs : List (Option Entry)) (groups : List ℕ) → ((g : ℕ) → 1 ≤ times g groups → 1 ≤ pages_on g xs) → length groups ≤ sum_by (λ (g : ℕ). pages_on g xs) groups
 some-members xs [] h = omega arith
 some-members xs (g ∷ gs) h =
-    let whole = sum_by-cons (λ (g : ℕ). pages_on g xs) g gs in
-    let pages = h g (times-head g gs) in
     let rest = some-members xs gs (λ f le. let more = times-tail f g gs in h f (omega (arith, le, more))) in
-    omega (arith, whole, pages, rest)
+    omega (arith, sum_by-cons (λ (g : ℕ). pages_on g xs) g gs, h g (times-head g gs), rest)
 
 -- the pages on the groups' frames, counted group by group and page by page
 held-frames : (xs : List (Option Entry)) (groups : List ℕ) → sum_by (λ (g : ℕ). pages_on g xs) groups ≡ sum_by (λ (x : Option Entry). held x groups) xs
@@ -126,32 +92,21 @@ held-frames [] groups = none groups
   where
     none : (gs : List ℕ) → sum_by (λ (g : ℕ). 0) gs ≡ 0
     none [] = refl
-    none (g ∷ gs) = let split = sum_by-cons (λ (g : ℕ). 0) g gs in let rest = none gs in omega (arith, split, rest)
-held-frames (x ∷ xs) groups =
-    let split = sum_by-cons (λ (y : Option Entry). held y groups) x xs in
-    let rest = held-frames xs groups in
-    let more = one_more groups in
-    omega (arith, split, rest, more)
+    none (g ∷ gs) = grind (arith, sum_by-cons (λ (g : ℕ). 0) g gs, none gs)
+held-frames (x ∷ xs) groups = grind (arith, sum_by-cons (λ (y : Option Entry). held y groups) x xs, held-frames xs groups, one_more groups)
   where
     one_more : (gs : List ℕ) → sum_by (λ (g : ℕ). sum_by (on_one g) (x ∷ xs)) gs ≡ held x gs + sum_by (λ (g : ℕ). sum_by (on_one g) xs) gs
     one_more [] = let none = held-none x in omega (arith, none)
     one_more (g ∷ gs) =
         let whole = sum_by-cons (λ (g : ℕ). sum_by (on_one g) (x ∷ xs)) g gs in
-        let part = sum_by-cons (λ (g : ℕ). sum_by (on_one g) xs) g gs in
-        let here = sum_by-cons (on_one g) x xs in
-        let rest = one_more gs in
-        let top = held-cons x g gs in
-        omega (arith, whole, part, here, rest, top)
+        omega (arith, whole, sum_by-cons (λ (g : ℕ). sum_by (on_one g) xs) g gs, sum_by-cons (on_one g) x xs, one_more gs, held-cons x g gs)
 
 zeros-frames : (xs : List (Option Entry)) → ((i : ℕ) → zeros_at (option_map state_of (entry_at xs i)) ≡ on_one 0 (entry_at xs i)) → sum_by zeros_at (states_of xs) ≡ pages_on 0 xs
 unfolding pages_on
 zeros-frames [] h = refl
 zeros-frames (x ∷ xs) h =
     let split = sum_by-cons zeros_at (option_map state_of x) (states_of xs) in
-    let whole = sum_by-cons (on_one 0) x xs in
-    let first = h 0 in
-    let rest = zeros-frames xs (λ i. h (suc i)) in
-    omega (arith, split, whole, first, rest)
+    omega (arith, split, sum_by-cons (on_one 0) x xs, h 0, zeros-frames xs (λ i. h (suc i)))
 
 -- the pages that share a frame are those of the groups and those of zeros
 shared-frames : (xs : List (Option Entry)) (groups : List ℕ)
@@ -160,20 +115,13 @@ shared-frames : (xs : List (Option Entry)) (groups : List ℕ)
 shared-frames [] groups h = refl
 shared-frames (x ∷ xs) groups h =
     let shared = sum_by-cons shared_at (option_map state_of x) (states_of xs) in
-    let grouped = sum_by-cons (λ (y : Option Entry). held y groups) x xs in
     let zeros = sum_by-cons zeros_at (option_map state_of x) (states_of xs) in
-    let first = h 0 in
-    let rest = shared-frames xs groups (λ i. h (suc i)) in
-    omega (arith, shared, grouped, zeros, first, rest)
+    omega (arith, shared, sum_by-cons (λ (y : Option Entry). held y groups) x xs, zeros, h 0, shared-frames xs groups (λ i. h (suc i)))
 
 length-map_groups : (xs : List (Option Entry)) (groups : List ℕ) → length (map (λ g. places_on 0 g xs) groups) ≡ length groups
-length-map_groups xs [] = refl
-length-map_groups xs (g ∷ gs) = ap suc (length-map_groups xs gs)
+length-map_groups xs groups = length-map groups (λ g. places_on 0 g xs)
 
 module _ (table : TableState) (is : IsTable table) where
-  group_pages : (g : ℕ) → 1 ≤ times g table.groups → 1 ≤ pages_on g table.entries
-  group_pages g some = ⊎_elim (λ none. absurd (omega (arith, none, some))) (λ group. IsGroup.some group) (is.groups g)
-
   no_zero_group : (f : ℕ) → f ≡ 0 → times f table.groups ≡ 0
   no_zero_group f e = ⊎_elim (λ none. none) (λ group. absurd (let above = IsGroup.above group in omega (arith, above, e))) (is.groups f)
 
@@ -198,7 +146,7 @@ module _ (table : TableState) (is : IsTable table) where
   unfolding groups_of
   are_listed pass =
       record {
-        some = some-groups table.entries table.groups group_pages;
+        some = some-groups table.entries table.groups (λ g some. IsGroup.some (group_of table g is some));
         once = λ i. listed-frames table.entries table.groups i ∙ grouped i ∙ sym (ap law.grouped_at (state-at table pass i));
       }
 
@@ -240,7 +188,7 @@ module _ (table : TableState) (is : IsTable table) where
   unfolding unmerge_need members zero_pages groups_of
   need-told pass =
       let pages = members-frames table.entries table.groups in
-      let some = some-members table.entries table.groups group_pages in
+      let some = some-members table.entries table.groups (λ g some. IsGroup.some (group_of table g is some)) in
       let few = length-map_groups table.entries table.groups in
       let all = held-frames table.entries table.groups in
       let both = shared-frames table.entries table.groups shared in
@@ -251,13 +199,9 @@ module _ (table : TableState) (is : IsTable table) where
   unfolding zero_pages
   zeros-told pass = let zero = zeros-frames table.entries zeros in omega (arith, zero)
 
-  -- a page is there where an entry is
-  pub page_of_entry : (i : ℕ) (entry : Entry) → entry_at table.entries i ≡ Some entry → IsPageAt table i
-  page_of_entry i entry e = ap length (content_at table i entry e) ∙ is.pages entry.frame (IsEntry.frame (entry_fits table i entry is e))
-
   pub page_of_some : (i : ℕ) (x : Option Entry) → x ≡ entry_at table.entries i → is_some x ≡ true → IsPageAt table i
   page_of_some i None e some = absurd (cc)
-  page_of_some i (Some entry) e some = page_of_entry i entry (sym e)
+  page_of_some i (Some entry) e some = page_of_entry table i entry is (sym e)
 
 module _ (table : TableState) (counts : CountsState) (is : IsSound table counts) where
   -- the zero frame has one holder more than its pages
@@ -319,9 +263,7 @@ module _ (table : TableState) (is : IsTable table) (pass : Pass) where
       let last = cost_next (sharing_of table pass) n in
       let here = ap (λ (s : Sharing). break_cost s n) broken in
       let m : ℕ = length table.entries - (n + 1) in
-      let less = cost_from-less (sharing_of table pass) (n + 1) m in
-      let all = all_cost (n + 1 + m) (omega (arith, there)) in
-      omega (arith, last, here, less, all, taken, room)
+      omega (arith, last, here, cost_from-less (sharing_of table pass) (n + 1) m, all_cost (n + 1 + m) (omega (arith, there)), taken, room)
 
 -- the need hangs on the table alone
 need_of_table : (table : TableState) (pass now : Pass) → unmerge_need (sharing_of table now) ≡ unmerge_need (sharing_of table pass)
@@ -333,16 +275,11 @@ module _ (table : TableState) (shapes : List (Option Shape)) (tenants : List Ten
     (enough : unmerge_need (view_of table shapes tenants pass).sharing ≤ have_of (view_of table shapes tenants pass)) where
   pub need_reserved : reserved + (used_by table + unmerge_need (view_of table shapes tenants pass).sharing) ≤ length table.arena
   unfolding view_of
-  need_reserved =
-      let free = free_is table shapes tenants pass (omega (arith, is.room)) in
-      omega (arith, enough, free, is.room, is.sum)
+  need_reserved = omega (arith, enough, free_is table shapes tenants pass (omega (arith, is.room)), is.room, is.sum)
 
   pub need_fits : (now : Pass) → used_by table + unmerge_need (sharing_of table now) ≤ length table.arena
   unfolding view_of
-  need_fits now =
-      let same = need_of_table table pass now in
-      let room = need_reserved in
-      omega (arith, same, room)
+  need_fits now = omega (arith, need_of_table table pass now, need_reserved)
 
 -- the state of sharing after all pages were taken out and the scanner was stopped
 module _ (old new : TableState) (pass now : Pass) (stopped : now ≡ record pass { options = record pass.options { run = 2 } })

@@ -1,5 +1,5 @@
 -- How many pages of a map aren't pinned, told by how many are.
-use Rattle.std.proofs.Common.{◌≡◌, ◌∙◌, ◌⊎◌, ⊎_elim, ℕ, zero, suc, ◌+◌, ◌-◌, ◌*◌, ◌<◌, ◌≤◌, Bool, true, false, if◌then◌else◌, List, [], ◌∷◌, length, take, drop, slice_index_or, Option, Some, None, option_map, unwrap_or, refl, sym, ap, arith}
+use Rattle.std.proofs.Common.{◌≡◌, ◌∙◌, ⊎_elim, ℕ, zero, suc, ◌+◌, ◌-◌, ◌*◌, ◌<◌, ◌≤◌, Bool, true, false, if◌then◌else◌, List, [], ◌∷◌, length, take, drop, slice_index_or, Option, Some, None, option_map, unwrap_or, refl, sym, ap, arith}
 use Rattle.std.proofs.lemmas.List.{get_or_default, get_or_past, get_or-take, get_or-drop}
 use Rattle.std.proofs.lemmas.List.Sums.{sum_by-cons}
 use Rattle.host_types.specs.declared.shape.Shape.{Shape}
@@ -15,14 +15,12 @@ use Rattle.page_table.specs.State.{MemoryState, part}
 use Rattle.page_table.specs.Changes.{pages_of_map}
 use Rattle.page_table.specs.Table.{TableState, IsTable, states_of}
 use Rattle.page_table.specs.View.{view_of, IsMemory}
+use Rattle.page_table.proofs.Sides.{order}
 use Rattle.page_table.proofs.Dropping.{number_small, few, map_pins, unpinned_behind}
 use Rattle.page_table.proofs.Shapes.{shape_told}
 
 abbrev one_if : Bool → ℕ
 one_if b = if b then 1 else 0
-
-abbrev one_unless : Bool → ℕ
-one_unless b = if b then 0 else 1
 
 part-cons : (pins : List Bool) (at n : ℕ) → at < length pins → part_of pins at (suc n) ≡ slice_index_or pins at false ∷ part_of pins (at + 1) n
 unfolding part_of
@@ -39,26 +37,14 @@ pinned-cons pins at n inside = ap pinned_among (part-cons pins at n inside) ∙ 
 all-told : (pins : List Bool) (at n : ℕ) → at + n ≤ length pins → unpinned_from pins at n + pinned_among (part_of pins at n) ≡ n
 unfolding unpinned_from part_of
 all-told pins at zero inside = refl
-all-told pins at (suc n) inside =
-    let here : at < length pins = omega (arith, inside) in
-    let split = pinned-cons pins at n here in
-    let rest = all-told pins (at + 1) n (omega (arith, inside)) in
-    let same = ap one_unless (get_or_default pins at true false here) in
-    let one = either (slice_index_or pins at false) in
-    omega (arith, split, rest, same, one)
-  where
-    either : (b : Bool) → one_unless b + one_if b ≡ 1
-    either true = omega arith
-    either false = omega arith
+all-told pins at (suc n) inside = grind (arith, pinned-cons pins at n, get_or_default pins at true false, all-told pins (at + 1) n)
 
 none-pinned : (pins : List Bool) (at n : ℕ) → at + n ≤ length pins → ((i : ℕ) → at ≤ i → i < at + n → slice_index_or pins i false ≡ false) → pinned_among (part_of pins at n) ≡ 0
 unfolding part_of
 none-pinned pins at zero inside none = refl
 none-pinned pins at (suc n) inside none =
-    let split = pinned-cons pins at n (omega (arith, inside)) in
-    let here = ap one_if (none at (omega arith) (omega arith)) in
     let rest = none-pinned pins (at + 1) n (omega (arith, inside)) (λ i from less. none i (omega (arith, from)) (omega (arith, less))) in
-    omega (arith, split, here, rest)
+    grind (arith, pinned-cons pins at n, none at, rest)
 
 -- behind some pages none is pinned
 fewer-pinned : (pins : List Bool) (at n d : ℕ) → at + n + d ≤ length pins → ((i : ℕ) → at + n ≤ i → i < at + n + d → slice_index_or pins i false ≡ false) → pinned_among (part_of pins at (n + d)) ≡ pinned_among (part_of pins at n)
@@ -68,21 +54,17 @@ fewer-pinned pins at zero d inside none =
     ap (λ (m : ℕ). pinned_among (part_of pins at m)) same ∙ none-pinned pins at d (omega (arith, inside)) (λ i from less. none i (omega (arith, from)) (omega (arith, less)))
 fewer-pinned pins at (suc n) d inside none =
     let next : suc n + d ≡ suc (n + d) = omega arith in
-    let long = ap (λ (m : ℕ). pinned_among (part_of pins at m)) next in
-    let more = pinned-cons pins at (n + d) (omega (arith, inside)) in
-    let less = pinned-cons pins at n (omega (arith, inside)) in
     let rest = fewer-pinned pins (at + 1) n d (omega (arith, inside)) (λ i from less. none i (omega (arith, from)) (omega (arith, less))) in
-    omega (arith, long, more, less, rest)
+    ap (λ (m : ℕ). pinned_among (part_of pins at m)) next ∙ grind (arith, pinned-cons pins at (n + d), pinned-cons pins at n, rest)
 
 -- a part's pages, in the part
 unpinned-in_part : (pins : List Bool) (first at n : ℕ) → at + n ≤ 2048 → unpinned_from (part_of pins first 2048) at n ≡ unpinned_from pins (first + at) n
 unfolding unpinned_from part_of
 unpinned-in_part pins first at zero small = refl
 unpinned-in_part pins first at (suc n) small =
-    let here = ap one_unless (get_or-take 2048 (drop first pins) at true (omega (arith, small)) ∙ get_or-drop first pins at true) in
     let next : first + (at + 1) ≡ first + at + 1 = omega arith in
-    let rest = unpinned-in_part pins first (at + 1) n (omega (arith, small)) ∙ ap (λ (i : ℕ). unpinned_from pins i n) next in
-    omega (arith, here, rest)
+    let here = get_or-take 2048 (drop first pins) at true (omega (arith, small)) ∙ get_or-drop first pins at true in
+    grind (arith, here, unpinned-in_part pins first (at + 1) n, ap (λ (i : ℕ). unpinned_from pins i n) next)
 
 -- the pages of a map that is there, and of one that isn't
 pub pages-some : (owned : Option FlatMap) (shape : Shape) → option_map (λ (flat : FlatMap). flat.shape) owned ≡ Some shape → unwrap_or (option_map (λ (flat : FlatMap). page_count flat.shape) owned) 0 ≡ page_count shape
@@ -104,9 +86,6 @@ module _ (table : TableState) (shapes : List (Option Shape)) (tenants : List Ten
       let found : slice_index_or shapes (map_place t m) None ≡ Some shape = sym (shape_told table shapes tenants pass t m small) ∙ told in
       rw (← same)
       (⊎_elim (λ less. omega (arith, less, is.numbers, small)) (λ past. absurd (let none = get_or_past shapes (map_place t m) None past in cc)) (order (map_place t m) (length shapes)))
-    where
-      order : (a b : ℕ) → (a < b) ⊎ (b ≤ a)
-      order a b = grind arith
 
   module _ (fits : IsTable table) (fit : PinsFit (states_of table.entries) pass.pins) where
     abbrev k : ℕ
@@ -126,8 +105,7 @@ module _ (table : TableState) (shapes : List (Option Shape)) (tenants : List Ten
         let none = fewer-pinned pass.pins (k * 256) (page_count shape) (256 - page_count shape) (omega (arith, inside, small))
         (λ i from less. unpinned_behind table shapes tenants pass reserved t m shape now same is tenant-inside here fits fit i from (omega (arith, less, small))) in
         let as_many = ap (λ (n : ℕ). pinned_among (part_of pass.pins (k * 256) n)) rest in
-        let told = all-told pass.pins (k * 256) (page_count shape) (omega (arith, inside, small)) in
-        omega (arith, none, as_many, told)
+        omega (arith, none, as_many, all-told pass.pins (k * 256) (page_count shape) (omega (arith, inside, small)))
 
     pins : (part now t).pins ≡ part_of pass.pins (t * 2048) 2048
     unfolding view_of part

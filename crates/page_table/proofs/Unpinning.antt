@@ -1,12 +1,13 @@
 -- What a memory tells where the pins of one tenant changed.
-use Rattle.std.proofs.Common.{◌≡◌, ◌≢◌, ◌∙◌, ◌⊎◌, inl, inr, ⊎_elim, ℕ, zero, suc, ◌+◌, ◌-◌, ◌*◌, ◌<◌, ◌≤◌, Bool, true, false, List, [], ◌∷◌, ◌++◌, length, take, drop, replicate, slice_index_or, slice_set, Option, option_map, refl, sym, ap, arith}
+use Rattle.std.proofs.Common.{◌≡◌, ◌≢◌, ◌∙◌, ◌⊎◌, inl, inr, ⊎_elim, ℕ, zero, suc, ◌+◌, ◌*◌, ◌<◌, ◌≤◌, Bool, true, false, List, [], ◌∷◌, ◌++◌, length, take, drop, replicate, slice_index_or, slice_set, Option, option_map, refl, sym, ap, arith}
 use Rattle.std.proofs.lemmas.List.{length-drop, length-replicate, length-map, get_or_past}
+use Rattle.std.proofs.lemmas.Bool.Decides.{nat_tests}
 use Rattle.host_types.specs.declared.shape.Shape.{Shape}
 use Rattle.host_types.specs.Bytes.{part_of, with_part}
 use Rattle.host_types.specs.Pages.{map_place}
 use Rattle.host_types.specs.Pins.{PinsFit, released}
 use Rattle.host_types.specs.Sharing.{PageState}
-use Rattle.host_types.proofs.Lists.{length-part_of, length-with_part, part-with_part_before, part-with_part_behind}
+use Rattle.host_types.proofs.Lists.{length-part_of, length-with_part}
 use Rattle.frame_arena.proofs.Parts.{take-with_part, with_part-whole}
 use Rattle.page_table.specs.declared.pass.Pass.{Pass}
 use Rattle.page_table.specs.declared.tenant.Tenant.{Tenant}
@@ -14,7 +15,8 @@ use Rattle.page_table.specs.Changes.{IsKeptBut, with_pins}
 use Rattle.page_table.specs.State.{part}
 use Rattle.page_table.specs.Table.{TableState, IsPageAt, contents_of, state_of, states_of}
 use Rattle.page_table.specs.View.{view_of, IsMemory}
-use Rattle.page_table.proofs.Creating.{behind_filled, in_filled, length-contents}
+use Rattle.page_table.proofs.Sides.{order}
+use Rattle.page_table.proofs.Creating.{length-contents, filled_at, others-filled}
 use Rattle.page_table.proofs.Fitting.{pinned_if}
 use Rattle.page_table.proofs.Maps.{part_of-set_other}
 
@@ -29,26 +31,7 @@ pinned-others pins true t m n u small few ne =
 -- what is no longer pinned of a tenant is so of no other one
 pub others-unpinned : (pins : List Bool) (t m n u : ℕ) → m + n ≤ 2048 → t * 2048 + 2048 ≤ length pins → u ≢ t
     → part_of (with_part pins (t * 2048 + m) (replicate n false)) (u * 2048) 2048 ≡ part_of pins (u * 2048) 2048
-others-unpinned pins t m n u few all ne = ⊎_elim (λ less. before less) (λ more. behind more) (order u t ne)
-  where
-    order : (a b : ℕ) → a ≢ b → (a < b) ⊎ (b < a)
-    order a b ne = grind arith
-
-    before : u < t → part_of (with_part pins (t * 2048 + m) (replicate n false)) (u * 2048) 2048 ≡ part_of pins (u * 2048) 2048
-    before less =
-        let rest : ℕ = (t - u) * 2048 + m in
-        let place : t * 2048 + m ≡ u * 2048 + rest = omega (arith, less) in
-        ap (λ (at : ℕ). part_of (with_part pins at (replicate n false)) (u * 2048) 2048) place
-        ∙ part-with_part_before pins (replicate n false) (u * 2048) 2048 rest (omega (arith, less)) (omega (arith, place, all, few))
-
-    behind : t < u → part_of (with_part pins (t * 2048 + m) (replicate n false)) (u * 2048) 2048 ≡ part_of pins (u * 2048) 2048
-    behind more =
-        let long = length-replicate n false in
-        let rest : ℕ = u * 2048 - (t * 2048 + m + n) in
-        let place : u * 2048 ≡ t * 2048 + m + length (replicate n false) + rest = omega (arith, more, long, few) in
-        ap (λ (at : ℕ). part_of (with_part pins (t * 2048 + m) (replicate n false)) at 2048) place
-        ∙ part-with_part_behind pins (t * 2048 + m) (replicate n false) 2048 rest (omega (arith, long, all, few))
-        ∙ ap (λ (at : ℕ). part_of pins at 2048) (sym place)
+others-unpinned pins t m n u few all ne = others-filled pins (t * 2048 + m) t m n u 2048 false refl few (omega (arith, few, all)) ne
 
 drop-with_part : (xs ys : List Bool) (a b : ℕ) → a ≤ length xs → drop a (with_part xs (a + b) ys) ≡ with_part (drop a xs) b ys
 unfolding with_part
@@ -61,32 +44,11 @@ drop-with_part (x ∷ xs) ys (suc a) b h =
     ∙ ap (λ (n : ℕ). drop (suc a) (x ∷ take (a + b) xs ++ ys ++ drop n (x ∷ xs))) behind
     ∙ drop-with_part xs ys a b (omega (arith, h))
 
-before_filled : (xs : List Bool) (at i : ℕ) (ys : List Bool) → at ≤ length xs → i < at → slice_index_or (with_part xs at ys) i false ≡ slice_index_or xs i false
-unfolding with_part
-before_filled xs zero i ys h less = absurd (omega (arith, less))
-before_filled [] (suc at) i ys h less = absurd (omega (arith, h))
-before_filled (x ∷ xs) (suc at) zero ys h less = refl
-before_filled (x ∷ xs) (suc at) (suc i) ys h less =
-    let behind : suc at + length ys ≡ suc (at + length ys) = omega arith in
-    ap (λ (n : ℕ). slice_index_or (take at xs ++ ys ++ drop n (x ∷ xs)) i false) behind ∙ before_filled xs at i ys (omega (arith, h)) (omega (arith, less))
-
 -- a page that is pinned still stands outside, and was pinned
 pub outside-pinned : (pins : List Bool) (at n i : ℕ) → at + n ≤ length pins → slice_index_or (with_part pins at (replicate n false)) i false ≡ true → ((i < at) ⊎ (at + n ≤ i)) × (slice_index_or pins i false ≡ true)
-outside-pinned pins at n i inside pinned = ⊎_elim (λ less. (inl less, sym (before_filled pins at i (replicate n false) (omega (arith, inside)) less) ∙ pinned)) (λ more. behind more) (order i at)
-  where
-    order : (a b : ℕ) → (a < b) ⊎ (b ≤ a)
-    order a b = grind arith
-
-    within : at ≤ i → i < at + n → slice_index_or (with_part pins at (replicate n false)) i false ≡ false
-    within from less =
-        let place : i ≡ at + (i - at) = omega (arith, from) in
-        ap (λ (j : ℕ). slice_index_or (with_part pins at (replicate n false)) j false) place ∙ in_filled pins at n (i - at) false false inside (omega (arith, from, less))
-
-    behind : at ≤ i → ((i < at) ⊎ (at + n ≤ i)) × (slice_index_or pins i false ≡ true)
-    behind from =
-        ⊎_elim (λ less. absurd (let none = within from less in let no : false ≡ true = sym none ∙ pinned in cc))
-        (λ past. (inr past, sym (behind_filled pins at n i false false inside past) ∙ pinned))
-        (order i (at + n))
+outside-pinned pins at n i inside pinned =
+    let told = filled_at pins at n i false false inside in
+    (⊎_elim (λ less. inl less) (λ from. ⊎_elim (λ within. absurd (grind (arith, nat_tests, told))) (λ past. inr past) (order i (at + n))) (order i at), grind (arith, nat_tests, told))
 
 pub still-pinned : (pins : List Bool) (at n i : ℕ) → at + n ≤ length pins → slice_index_or (with_part pins at (replicate n false)) i false ≡ true → slice_index_or pins i false ≡ true
 still-pinned pins at n i inside pinned = (outside-pinned pins at n i inside pinned).1
@@ -107,18 +69,13 @@ page-inside table pass fit i there =
     ⊎_elim (λ less. let long = length-map table.entries (option_map state_of) in let contents = length-contents table in omega (arith, less, long, contents, fit.as_many))
     (λ past. absurd (let none = ap (λ (l : List ℕ). length l) (get_or_past (contents_of table) i [] past) in omega (arith, none, there)))
     (order i (length (contents_of table)))
-  where
-    order : (a b : ℕ) → (a < b) ⊎ (b ≤ a)
-    order a b = grind arith
 
 -- the memory after a tenant's pins were taken away
 module _ (table : TableState) (shapes : List (Option Shape)) (tenants : List Tenant) (pass : Pass) (reserved : ℕ) (is : IsMemory table shapes tenants reserved) (fit : PinsFit (states_of table.entries) pass.pins)
     (t : ℕ) (inside : t < length tenants) where
   pub pins-inside : t * 2048 + 2048 ≤ length pass.pins
   pins-inside =
-      let long = length-map table.entries (option_map state_of) in
-      let contents = length-contents table in
-      omega (arith, long, contents, fit.as_many, is.maps.places, is.numbers, inside)
+      omega (arith, length-map table.entries (option_map state_of), length-contents table, fit.as_many, is.maps.places, is.numbers, inside)
 
   abbrev unpinned : List Bool
   unpinned = with_part pass.pins (t * 2048) (replicate 2048 false)

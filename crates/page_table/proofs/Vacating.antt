@@ -1,19 +1,17 @@
 -- A page table stays sound where a page is taken away that has its own frame, or leaves others on its frame.
-use Rattle.std.proofs.Common.{◌≡◌, ◌≢◌, ◌∙◌, inl, inr, ⊎_elim, ℕ, zero, suc, ◌+◌, ◌-◌, ◌<◌, ◌≤◌, ◌==◌, Bool, true, false, if◌then◌else◌, List, [], length, slice_index_or, slice_set, Option, Some, None, IfSome, option_map, refl, sym, ap, subst, arith}
+use Rattle.std.proofs.Common.{◌≡◌, ◌≢◌, ◌∙◌, ℕ, zero, suc, ◌+◌, ◌-◌, ◌<◌, ◌≤◌, ◌==◌, Bool, true, false, if◌then◌else◌, List, [], length, slice_index_or, slice_set, Option, Some, None, IfSome, option_map, refl, sym, ap, subst, arith}
 use Rattle.std.proofs.lemmas.List.{length-set, map-set, set-set}
-use Rattle.std.proofs.lemmas.Bool.Decides.{eqb_tells}
+use Rattle.std.proofs.lemmas.Bool.Decides.{nat_tests}
 use Rattle.page_table.specs.declared.pass.Pass.{Pass}
-use Rattle.host_types.specs.Sharing.{Sharing, state_at, is_shared, is_shared_page, broken, gone, gone_from, left_by, without}
+use Rattle.host_types.specs.Sharing.{Sharing, state_at, is_shared, is_shared_page, broken, gone, gone_from, left_by}
 use Rattle.host_types.proofs.Unmerging.{broken-own}
 use Rattle.page_table.specs.declared.entry.Entry.{Entry}
-use Rattle.page_table.specs.Table.{TableState, CountsState, IsTable, IsEntry, IsGroup, IsOwnAt, IsSound, AreCountsOf, times, one_if_zero, entry_at, entry_content, state_of, states_of, contents_of, groups_of, sharing_of, is_on, places_on, pages_on, used_by}
-use Rattle.page_table.proofs.Adding.{own_one, own_pages-set, IsEntry-kept}
+use Rattle.page_table.specs.Table.{TableState, CountsState, IsTable, IsEntry, IsGroup, IsOwnAt, IsSound, AreCountsOf, times, one_if_zero, entry_at, entry_content, state_of, states_of, contents_of, groups_of, sharing_of, is_on, pages_on, used_by}
+use Rattle.page_table.proofs.Changing.{is_alone, entry_fits, table-changed, counted-changed, apart_alone, pages_on-changed, own_pages-changed}
 use Rattle.page_table.proofs.Costs.{state-at, count-some}
-use Rattle.page_table.proofs.Entries.{one_when, on_one, elsewhere, not_equal, equal, pages_on-set, places_on-set, groups-kept, inside, alone, at_set, one_if_zero-above}
-use Rattle.page_table.proofs.Groups.{without-places}
+use Rattle.page_table.proofs.Entries.{one_when, not_equal, places_on-set, groups-kept, one_if_zero-above, group_of, counts-set}
+use Rattle.page_table.proofs.Groups.{without-here}
 use Rattle.page_table.proofs.Leaving.{groups-left}
-use Rattle.page_table.proofs.Moving.{counts-released}
-use Rattle.page_table.proofs.Putting.{is_alone, entry_fits}
 
 -- the table without the page at a place
 abbrev pub vacated : TableState → ℕ → TableState
@@ -21,32 +19,14 @@ vacated table i = record table { entries = slice_set table.entries i None }
 
 module _ (table : TableState) (i : ℕ) (entry : Entry) (is : IsTable table) (here : entry_at table.entries i ≡ Some entry)
     (company : is_shared entry.status ≡ true → 1 < one_if_zero entry.frame + pages_on entry.frame table.entries) where
-  there : i < length table.entries
-  there = inside table.entries i entry here
-
   pub fits : IsEntry table entry
   fits = entry_fits table i entry is here
 
-  lies : is_on entry.frame (entry_at table.entries i) ≡ true
-  lies = ap (is_on entry.frame) here ∙ equal entry.frame
-
   pages_on-vacated : (g : ℕ) → pages_on g (vacated table i).entries + one_when (entry.frame == g) ≡ pages_on g table.entries
-  pages_on-vacated g =
-      let count = pages_on-set g table.entries i None there in
-      let before : on_one g (entry_at table.entries i) ≡ one_when (entry.frame == g) = ap (on_one g) here in
-      omega (arith, count, before)
-
-  pages_on-here : pages_on entry.frame (vacated table i).entries + 1 ≡ pages_on entry.frame table.entries
-  pages_on-here =
-      let count = pages_on-vacated entry.frame in
-      let one : one_when (entry.frame == entry.frame) ≡ 1 = ap one_when (equal entry.frame) in
-      omega (arith, count, one)
+  pages_on-vacated g = let count = pages_on-changed table.entries i entry None here g in omega (arith, count)
 
   pages_on-other : (g : ℕ) → g ≢ entry.frame → pages_on g (vacated table i).entries ≡ pages_on g table.entries
-  pages_on-other g ne =
-      let count = pages_on-vacated g in
-      let none : one_when (entry.frame == g) ≡ 0 = ap one_when (not_equal g entry.frame (λ e. ne (sym e))) in
-      omega (arith, count, none)
+  pages_on-other g ne = grind (arith, nat_tests, pages_on-vacated g)
 
   pub contents-vacated : contents_of (vacated table i) ≡ slice_set (contents_of table) i []
   unfolding contents_of
@@ -63,29 +43,18 @@ module _ (table : TableState) (i : ℕ) (entry : Entry) (is : IsTable table) (he
       by_test true e = refl
       by_test false e = absurd (let none = (is_alone table entry fits e).no_group in omega (arith, none, once))
 
-  is_group : (g : ℕ) → 1 ≤ times g table.groups → IsGroup table g
-  is_group g le = ⊎_elim (λ e. absurd (omega (arith, e, le))) (λ group. group) (is.groups g)
-
   -- each group still has pages
   still : (g : ℕ) → IsGroup table g → 1 ≤ pages_on g (vacated table i).entries
-  still g group = ⊎_elim (λ same. old same.1) (λ other. let e = pages_on-other g other.1 in omega (arith, e, IsGroup.some group)) (eqb_tells g entry.frame)
-    where
-      old : g ≡ entry.frame → 1 ≤ pages_on g (vacated table i).entries
-      old same =
-          let above = one_if_zero-above g (IsGroup.above group) in
-          let shared = in_group (subst (λ (n : ℕ). times n table.groups ≡ 1) same (IsGroup.once group)) in
-          let held : 1 < one_if_zero g + pages_on g table.entries = subst (λ (n : ℕ). 1 < one_if_zero n + pages_on n table.entries) (sym same) (company shared) in
-          let count : pages_on g (vacated table i).entries + 1 ≡ pages_on g table.entries =
-          subst (λ (n : ℕ). pages_on n (vacated table i).entries + 1 ≡ pages_on n table.entries) (sym same) pages_on-here in
-          omega (arith, above, held, count)
+  still g group =
+      let shared : g ≡ entry.frame → is_shared entry.status ≡ true = λ same. in_group (subst (λ (n : ℕ). times n table.groups ≡ 1) same group.once) in
+      grind (arith, nat_tests, pages_on-vacated g, shared, company, group.some, one_if_zero-above g group.above)
 
   groups-shared : groups_of (vacated table i) ≡ left_by i (groups_of table)
   unfolding groups_of
   groups-shared =
-      let start : i ≡ 0 + i = omega arith in
       groups-left table.entries (vacated table i).entries i table.groups
-      (λ g le. ap (λ (n : ℕ). without n (places_on 0 g table.entries)) start ∙ without-places 0 g table.entries i None refl)
-      (λ g le. still g (is_group g le))
+      (λ g le. without-here g table.entries i None refl)
+      (λ g le. still g (group_of table g is le))
 
   groups-own : is_shared entry.status ≡ false → groups_of (vacated table i) ≡ groups_of table
   unfolding groups_of
@@ -110,35 +79,12 @@ module _ (table : TableState) (i : ℕ) (entry : Entry) (is : IsTable table) (he
       by_test false e = rw (at, e, states-vacated, groups-own e) refl
 
   pub used-vacated : used_by (vacated table i) + (if is_shared entry.status then 0 else 1) ≡ used_by table
-  used-vacated =
-      let count = own_pages-set table.entries i None there in
-      let before : own_one (entry_at table.entries i) ≡ (if is_shared entry.status then 0 else 1) = ap own_one here in
-      omega (arith, count, before)
+  used-vacated = let count = own_pages-changed table.entries i entry None here in omega (arith, count)
 
   IsTable-vacated : IsTable (vacated table i)
   IsTable-vacated =
-      let new : TableState = vacated table i in
-      record {
-        some = is.some;
-        small = is.small;
-        pages = is.pages;
-        zero = is.zero;
-        entries = λ j. at_set (λ x. IfSome x (IsEntry new)) table.entries i j None tt tt (λ ne. other j (entry_at table.entries j) ne refl (is.entries j));
-        groups = λ g. ⊎_elim (λ e. inl e) (λ group. inr (record { above = IsGroup.above group; once = IsGroup.once group; some = still g group })) (is.groups g);
-        few = rw (length-set table.entries i None) is.few;
-      }
-    where
-      -- a page that is alone isn't on the frame that was left
-      apart : (j : ℕ) (page : Entry) → j ≢ i → entry_at table.entries j ≡ Some page → pages_on page.frame table.entries ≡ 1 → page.frame ≢ entry.frame
-      apart j page ne e one same =
-          elsewhere entry.frame page.frame
-          (sym (ap (is_on entry.frame) e)
-          ∙ alone entry.frame table.entries i j there (subst (λ (n : ℕ). pages_on n table.entries ≡ 1) same one) lies ne)
-          same
-
-      other : (j : ℕ) (x : Option Entry) → j ≢ i → entry_at table.entries j ≡ x → IfSome x (IsEntry table) → IfSome x (IsEntry (vacated table i))
-      other j None ne e h = tt
-      other j (Some page) ne e h = IsEntry-kept table (vacated table i) page refl (λ one none. pages_on-other page.frame (apart j page ne e one) ∙ one) refl h
+      table-changed table (vacated table i) i None is refl refl refl is.pages is.zero tt
+      (λ j y ne e a. pages_on-other y.frame (apart_alone table i j entry y here e ne a.one) ∙ a.one) still
 
   module _ (old new : CountsState) (counted : AreCountsOf table old) where
     before : (slice_index_or old.counts entry.frame 0 ≡ one_if_zero entry.frame + pages_on entry.frame table.entries) × (1 ≤ slice_index_or old.counts entry.frame 0)
@@ -162,24 +108,14 @@ module _ (table : TableState) (i : ℕ) (entry : Entry) (is : IsTable table) (he
         → length new.unused ≡ length old.unused + one_if_zero (slice_index_or old.counts entry.frame 0 - 1)
         → IsSound (vacated table i) new
     sound-vacated counts unused =
-        let used = used-vacated in
-        let more = freed in
         record {
           fits = IsTable-vacated;
-          counted = record {
-            sized = ap length counts ∙ length-set old.counts entry.frame (slice_index_or old.counts entry.frame 0 - 1) ∙ counted.sized;
-            counted = count;
-            used = omega (arith, unused, counted.used, used, more);
-          };
+          counted = counted-changed table (vacated table i) old new counted refl (ap length counts ∙ length-set old.counts entry.frame (slice_index_or old.counts entry.frame 0 - 1))
+              (let used = used-vacated in let more = freed in omega (arith, unused, used, more))
+              (λ g h.
+              let less = ap (λ (l : List ℕ). slice_index_or l g 0) counts ∙ counts-set old.counts entry.frame (slice_index_or old.counts entry.frame 0 - 1) g (omega (arith, counted.sized, fits.frame)) in
+              grind (arith, nat_tests, less, before.1, pages_on-vacated g));
         }
-      where
-        count : (g : ℕ) → g < length table.arena → slice_index_or new.counts g 0 ≡ one_if_zero g + pages_on g (vacated table i).entries
-        count g h =
-            let read : slice_index_or new.counts g 0 ≡ slice_index_or (slice_set old.counts entry.frame (slice_index_or old.counts entry.frame 0 - 1)) g 0 = ap (λ (l : List ℕ). slice_index_or l g 0) counts in
-            let less = counts-released old.counts entry.frame g (omega (arith, counted.sized, fits.frame)) before.1 in
-            let known = counted.counted g h in
-            let pages = pages_on-vacated g in
-            omega (arith, read, less, known, pages)
 
 -- once a page has its own frame, it goes as it would have gone before
 gone-broken : (s : Sharing) (i : ℕ) → is_shared_page (state_at (broken s i) i) ≡ false → gone (broken s i) i ≡ gone s i

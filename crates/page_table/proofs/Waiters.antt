@@ -9,8 +9,8 @@ use Rattle.page_table.specs.declared.entry.Entry.{Entry}
 use Rattle.page_table.specs.declared.pass.Pass.{Pass}
 use Rattle.page_table.specs.Table.{TableState, AreOwnKept, AreOthersKept, entry_at, own_pages, waiting_of, forgets}
 use Rattle.page_table.specs.View.{is_listed, IsWaiter, AreWaiters, IsPass}
+use Rattle.page_table.proofs.Changing.{own_one, own_pages-set}
 use Rattle.page_table.proofs.Entries.{inside}
-use Rattle.page_table.proofs.Adding.{own_one, own_pages-set}
 use Rattle.page_table.proofs.Fitting.{pins-kept, apart-pinned}
 
 -- a waiting page has a frame of its own
@@ -48,20 +48,12 @@ others_of i ws = filter (λ w. not (w.place == i)) ws
 
 pub listed-others : (i : ℕ) (ws : List Waiter) → is_listed i (others_of i ws) ≡ false
 listed-others i [] = refl
-listed-others i (w ∷ ws) = by_head (w.place == i) refl (listed-others i ws)
-  where
-    by_head : (b : Bool) → (w.place == i) ≡ b → is_listed i (others_of i ws) ≡ false → is_listed i (if not b then w ∷ others_of i ws else others_of i ws) ≡ false
-    by_head true e rest = rest
-    by_head false e rest = rw e rest
+listed-others i (w ∷ ws) = grind (arith, listed-others i ws)
 
 -- a page that doesn't wait doesn't wait among fewer
 pub listed-fewer : (i j : ℕ) (ws : List Waiter) → is_listed i ws ≡ false → is_listed i (others_of j ws) ≡ false
 listed-fewer i j [] none = refl
-listed-fewer i j (w ∷ ws) none = by_head (not (w.place == j)) (either (w.place == i) (is_listed i ws) none) (listed-fewer i j ws (either (w.place == i) (is_listed i ws) none).1)
-  where
-    by_head : (b : Bool) → ((w.place == i) ≡ false) × (is_listed i ws ≡ false) → is_listed i (others_of j ws) ≡ false → is_listed i (if b then w ∷ others_of j ws else others_of j ws) ≡ false
-    by_head true parts rest = rw parts.0 rest
-    by_head false parts rest = rest
+listed-fewer i j (w ∷ ws) none = grind (arith, listed-fewer i j ws)
 
 pub waiters-fewer : (entries : List (Option Entry)) (c : Option ℕ) (i : ℕ) (ws : List Waiter) → AreWaiters entries c ws → AreWaiters entries c (others_of i ws)
 waiters-fewer entries c i [] are = tt
@@ -74,12 +66,7 @@ waiters-fewer entries c i (w ∷ ws) are = by_head (not (w.place == i)) (waiters
 -- the waiting list without a page, as callers see it
 pub waiting-forgets : (i : ℕ) (ws : List Waiter) → map waiting_of (others_of i ws) ≡ waiting_without i (map waiting_of ws)
 waiting-forgets i [] = refl
-waiting-forgets i (w ∷ ws) = by_head (not (w.place == i)) (waiting-forgets i ws)
-  where
-    by_head : (b : Bool) → map waiting_of (others_of i ws) ≡ waiting_without i (map waiting_of ws)
-        → map waiting_of (if b then w ∷ others_of i ws else others_of i ws) ≡ (if b then waiting_of w ∷ waiting_without i (map waiting_of ws) else waiting_without i (map waiting_of ws))
-    by_head true rest = ap (λ l. waiting_of w ∷ l) rest
-    by_head false rest = rest
+waiting-forgets i (w ∷ ws) = grind (arith, waiting-forgets i ws)
 
 -- one more page waits
 pub waiters-more : (entries : List (Option Entry)) (c : Option ℕ) (ws : List Waiter) (w : Waiter) → AreWaiters entries c ws → IsWaiter entries c w → is_listed w.place ws ≡ false → AreWaiters entries c (ws ++ w ∷ [])

@@ -1,5 +1,5 @@
 -- What a memory tells after bytes of a page were written.
-use Rattle.std.proofs.Common.{◌≡◌, ◌≢◌, ◌∙◌, ◌⊎◌, ⊎_elim, Bool, ℕ, zero, suc, ◌+◌, ◌*◌, ◌<◌, ◌≤◌, List, [], ◌∷◌, length, take, drop, slice_index_or, slice_set, Option, Some, None, IfSome, false, option_map, refl, sym, ap, subst, arith, length-set}
+use Rattle.std.proofs.Common.{◌≡◌, ◌≢◌, ◌∙◌, Bool, ℕ, zero, suc, ◌+◌, ◌*◌, ◌<◌, ◌≤◌, List, [], ◌∷◌, length, take, drop, slice_index_or, slice_set, Option, Some, None, IfSome, false, option_map, refl, sym, ap, subst, arith, length-set}
 use Rattle.std.specs.List.{concat}
 use Rattle.std.proofs.lemmas.List.{get_or-set_same, get_or-set_other, get_or_past, length-take-le}
 use Rattle.page_table.specs.declared.pass.Pass.{Pass}
@@ -17,10 +17,10 @@ use Rattle.page_table.specs.declared.tenant.Tenant.{Tenant}
 use Rattle.page_table.specs.Limits.{page_count}
 use Rattle.page_table.specs.State.{MemoryState, part, bytes_of_map}
 use Rattle.page_table.specs.Changes.{IsPageOf, IsOwn, map_written, part_written, IsKeptBut, AreMapsKeptBut, KeepsSettings}
-use Rattle.page_table.specs.Table.{TableState, entry_at, state_of, maps_of, flat_of, ArePages, ArePagesOf, contents_of, groups_of, states_of, frames_of}
+use Rattle.page_table.specs.Table.{TableState, entry_at, state_of, maps_of, flat_of, ArePages, ArePagesOf, contents_of, groups_of, states_of, frames_of, used_by}
 use Rattle.page_table.specs.View.{view_of, IsMemory}
-use Rattle.page_table.proofs.Maps.{maps_of-changed, AreMaps-changed, length-maps_of, part_of-set_same, part_of-set_other, concat-written, length-concat}
 use Rattle.frame_arena.proofs.Parts.{take-with_part, drop-with_part_before}
+use Rattle.page_table.proofs.Maps.{maps_of-changed, AreMaps-changed, length-maps_of, part_of-set_same, part_of-set_other, concat-written, length-concat}
 use Rattle.page_table.proofs.Reading.{IsLocated, page_located, page_number, few_pages, content_in, bytes_in, map_at-part}
 
 -- a memory with one map of a tenant replaced
@@ -39,6 +39,50 @@ pub maps-set_other : (old new : MemoryState) (t m : ℕ) (flat : Option FlatMap)
 maps-set_other old new t m flat small tenants maps j ne =
     ap (λ (owned : TenantPart). map_at owned.maps j) (part-set_same old new t m flat (part_of new.sharing.pins (t * 2048) 2048) small tenants maps refl)
     ∙ get_or-set_other (part old t).maps m j flat None ne
+
+-- one map of a tenant became another one, or none, and nothing else of its part has changed but its pins
+pub record OneMap (old new : MemoryState) (t m : ℕ) (flat : Option FlatMap) (pins : List Bool) : Type 0 where
+  pub part_new : part new t ≡ record (part old t) { maps = slice_set (part old t).maps m flat; pins = pins }
+  pub there : map_at (part new t).maps m ≡ flat
+  pub other_maps : AreMapsKeptBut m (part old t) (part new t)
+  pub others : IsKeptBut t old new
+  pub settings : KeepsSettings old new
+
+-- the pages of one map change, and perhaps its shape
+module _ (table new : TableState) (shapes renewed : List (Option Shape)) (tenants : List Tenant) (reserved t m : ℕ) (is : IsMemory table shapes tenants reserved)
+    (small : m < 8) (inside : map_place t m < length shapes) (long : length renewed ≡ length shapes) (wide : length (contents_of new) ≡ length (contents_of table))
+    (other_shapes : (j : ℕ) → j ≢ map_place t m → slice_index_or renewed j None ≡ slice_index_or shapes j None)
+    (other_pages : (j : ℕ) → j ≢ map_place t m → part_of (contents_of new) (j * 256) 256 ≡ part_of (contents_of table) (j * 256) 256)
+    (arena : length new.arena ≡ length table.arena) where
+  pub memory_changed : reserved + used_by new ≤ length table.arena → ArePages (slice_index_or renewed (map_place t m) None) (part_of (contents_of new) (map_place t m * 256) 256)
+      → IsMemory new renewed tenants reserved
+  memory_changed room right =
+      record {
+        maps = AreMaps-changed shapes renewed (contents_of table) (contents_of new) (map_place t m) long wide other_shapes other_pages right is.maps;
+        numbers = long ∙ is.numbers;
+        few = is.few;
+        frames = omega (arith, arena, is.frames);
+        sum = is.sum;
+        room = omega (arith, arena, room);
+      }
+
+  pub one_map : (pass now : Pass) (flat : Option FlatMap) (pins : List Bool)
+      → option_map (flat_of (part_of (contents_of new) (map_place t m * 256) 256)) (slice_index_or renewed (map_place t m) None) ≡ flat
+      → part_of now.pins (t * 2048) 2048 ≡ pins → ((u : ℕ) → u ≢ t → part_of now.pins (u * 2048) 2048 ≡ part_of pass.pins (u * 2048) 2048)
+      → OneMap (view_of table shapes tenants pass) (view_of new renewed tenants now) t m flat pins
+  unfolding view_of part
+  one_map pass now flat pins here own others =
+      let before : MemoryState = view_of table shapes tenants pass in
+      let after : MemoryState = view_of new renewed tenants now in
+      let maps = maps_of-changed shapes renewed (contents_of table) (contents_of new) (map_place t m) flat long inside other_shapes other_pages here in
+      record {
+        part_new = part-set_same before after t m flat pins small refl maps own;
+        there = map_at-part (maps_of renewed (contents_of new)) t m small ∙ ap (λ (maps : FlatMaps). map_at maps (map_place t m)) maps
+            ∙ get_or-set_same (maps_of shapes (contents_of table)) (map_place t m) flat None (omega (arith, length-maps_of shapes (contents_of table), inside));
+        other_maps = maps-set_other before after t m flat small refl maps;
+        others = part-set_other before after t m flat small refl maps others;
+        settings = record { tenants = refl; frames = arena };
+      }
 
 -- bytes of a page were written, and nothing else has changed
 pub record Writes (old new : MemoryState) (page : Page) (at : ℕ) (bytes : List ℕ) : Type 0 where
@@ -76,26 +120,13 @@ module _ (shape : Shape) (pages : List (List ℕ)) (n at : ℕ) (bytes : List �
       }
     where
       inside_page : n < length pages
-      inside_page = by_length (are.there n there)
-        where
-          by_length : length (slice_index_or pages n []) ≡ 4096 → n < length pages
-          by_length e = ⊎_elim (λ less. less) (λ past. absurd (omega (arith, e, ap length (get_or_past pages n [] past)))) (order n (length pages))
-            where
-              order : (a b : ℕ) → (a < b) ⊎ (b ≤ a)
-              order a b = grind arith
+      inside_page = grind (arith, are.there n, get_or_past pages n [])
 
       at_page : (m : ℕ) → m < page_count shape → length (slice_index_or (slice_set pages n written) m []) ≡ 4096
-      at_page m less = ⊎_elim (λ e. here m e) (λ ne. ap length (get_or-set_other pages n m written [] ne) ∙ are.there m less) (order m n)
-        where
-          order : (a b : ℕ) → (a ≡ b) ⊎ (a ≢ b)
-          order a b = grind arith
-
-          here : (m : ℕ) → m ≡ n → length (slice_index_or (slice_set pages n written) m []) ≡ 4096
-          here m e =
-              let long = are.there n there in
-              ap (λ (k : ℕ). length (slice_index_or (slice_set pages n written) k [])) e
-              ∙ ap length (get_or-set_same pages n written [] inside_page)
-              ∙ length-with_part (slice_index_or pages n []) at bytes (omega (arith, long, in_page)) ∙ long
+      at_page m less =
+          let long = are.there n there in
+          let sized = length-with_part (slice_index_or pages n []) at bytes (omega (arith, long, in_page)) in
+          grind (arith, are.there m, get_or-set_other pages n m written [], get_or-set_same pages n written [], inside_page, sized, long)
 
 module _ (table new : TableState) (shapes : List (Option Shape)) (tenants : List Tenant) (pass : Pass) (reserved : ℕ) (page : Page) (at : ℕ) (bytes : List ℕ) (is : IsMemory table shapes tenants reserved) (there : IsPageOf (view_of table shapes tenants pass) page) (in_page : at + length bytes ≤ 4096) (in_map : page.number * 4096 + at + length bytes ≤ length (bytes_of_map (view_of table shapes tenants pass) page))
     (contents : contents_of new ≡ slice_set (contents_of table) (page_place page) (with_part (slice_index_or (contents_of table) (page_place page) []) at bytes))
@@ -120,8 +151,7 @@ module _ (table new : TableState) (shapes : List (Option Shape)) (tenants : List
   in_bytes =
       let long : length (bytes_of_map (view_of table shapes tenants pass) page) ≡ length (take (byte_len_of loc.shape) (concat old_pages)) = ap (λ flat. length (bytes_in flat)) loc.flat in
       let whole_is = length-concat old_pages (page_count loc.shape) loc.pages.there loc.pages.none in
-      let front = length-take-le (byte_len_of loc.shape) (concat old_pages) (omega arith) in
-      omega (arith, in_map, long, front)
+      omega (arith, in_map, long, length-take-le (byte_len_of loc.shape) (concat old_pages) (omega arith))
 
   contents_new : contents_of new ≡ slice_set (contents_of table) (k * 256 + page.number) (with_part (slice_index_or old_pages page.number []) at bytes)
   contents_new = contents ∙ ap (λ l. slice_set (contents_of table) (k * 256 + page.number) (with_part l at bytes)) (content_in (contents_of table) k page.number small)
@@ -135,28 +165,14 @@ module _ (table new : TableState) (shapes : List (Option Shape)) (tenants : List
   abbrev flat_new : FlatMap
   flat_new = map_written (page.number * 4096 + at) bytes (flat_of old_pages loc.shape)
 
-  maps_new : maps_of shapes (contents_of new) ≡ slice_set (maps_of shapes (contents_of table)) k (Some flat_new)
-  maps_new =
-      maps_of-changed shapes shapes (contents_of table) (contents_of new) k (Some flat_new) refl loc.inside (λ j ne. refl) others_new
-      (ap (option_map (flat_of (part_of (contents_of new) (k * 256) 256))) loc.here
-      ∙ ap (λ p. Some (flat_of p loc.shape)) pages_new
-      ∙ ap (λ f. Some f) (flat_written loc.shape old_pages page.number at bytes loc.pages number in_page in_bytes))
+  wide : length (contents_of new) ≡ length (contents_of table)
+  wide = ap length contents ∙ length-set (contents_of table) (page_place page) (with_part (slice_index_or (contents_of table) (page_place page) []) at bytes)
 
   pub memory_written : IsMemory new shapes tenants reserved
   memory_written =
-      record {
-        maps = AreMaps-changed shapes shapes (contents_of table) (contents_of new) k refl
-            (ap length contents ∙ length-set (contents_of table) (page_place page) (with_part (slice_index_or (contents_of table) (page_place page) []) at bytes))
-            (λ j ne. refl) others_new
-            (subst (λ s. ArePages s (part_of (contents_of new) (k * 256) 256)) (sym loc.here)
-            (subst (λ p. ArePagesOf loc.shape p) (sym pages_new) (pages_written loc.shape old_pages page.number at bytes loc.pages number in_page in_bytes)))
-            is.maps;
-        numbers = is.numbers;
-        few = is.few;
-        frames = omega (arith, arena, is.frames);
-        sum = is.sum;
-        room = rw (groups, entries, arena) is.room;
-      }
+      memory_changed table new shapes shapes tenants reserved page.tenant page.map is loc.small loc.inside refl wide (λ j ne. refl) others_new arena (rw (groups, entries) is.room)
+      (subst (λ s. ArePages s (part_of (contents_of new) (k * 256) 256)) (sym loc.here)
+      (subst (λ p. ArePagesOf loc.shape p) (sym pages_new) (pages_written loc.shape old_pages page.number at bytes loc.pages number in_page in_bytes)))
 
   abbrev before : MemoryState
   before = view_of table shapes tenants pass
@@ -164,38 +180,18 @@ module _ (table new : TableState) (shapes : List (Option Shape)) (tenants : List
   abbrev after : MemoryState
   after = view_of new shapes tenants pass
 
-  maps_after : after.maps ≡ slice_set before.maps k (Some flat_new)
-  unfolding view_of
-  maps_after = maps_new
-
   flat_before : map_at (part before page.tenant).maps page.map ≡ Some (flat_of old_pages loc.shape)
   unfolding view_of part
   flat_before = loc.flat
 
-  tenants_after : after.tenants ≡ before.tenants
-  unfolding view_of
-  tenants_after = refl
-
-  map_after : map_at (part after page.tenant).maps page.map ≡ Some flat_new
+  one : OneMap before after page.tenant page.map (Some flat_new) (part before page.tenant).pins
   unfolding view_of part
-  map_after =
-      map_at-part (maps_of shapes (contents_of new)) page.tenant page.map loc.small
-      ∙ ap (λ (maps : FlatMaps). map_at maps k) maps_new
-      ∙ get_or-set_same (maps_of shapes (contents_of table)) k (Some flat_new) None (let long = length-maps_of shapes (contents_of table) in let h = loc.inside in omega (arith, long, h))
-
-  pins_after : (u : ℕ) → part_of after.sharing.pins (u * 2048) 2048 ≡ (part before u).pins
-  unfolding view_of part
-  pins_after u = refl
-
-  others_after : IsKeptBut page.tenant before after
-  unfolding view_of
-  others_after = part-set_other before after page.tenant page.map (Some flat_new) loc.small tenants_after maps_after (λ u ne. refl)
-
-  part_after : part after page.tenant ≡ part_written (part before page.tenant) page.map (page.number * 4096 + at) bytes
-  part_after =
-      part-set_same before after page.tenant page.map (Some flat_new) (part before page.tenant).pins loc.small tenants_after maps_after (pins_after page.tenant)
-      ∙ ap (λ (flat : Option FlatMap). record (part before page.tenant) { maps = slice_set (part before page.tenant).maps page.map flat })
-      (sym (ap (option_map (map_written (page.number * 4096 + at) bytes)) flat_before))
+  one =
+      one_map table new shapes shapes tenants reserved page.tenant page.map is loc.small loc.inside refl wide (λ j ne. refl) others_new arena pass pass (Some flat_new) (part before page.tenant).pins
+      (ap (option_map (flat_of (part_of (contents_of new) (k * 256) 256))) loc.here
+      ∙ ap (λ p. Some (flat_of p loc.shape)) pages_new
+      ∙ ap (λ f. Some f) (flat_written loc.shape old_pages page.number at bytes loc.pages number in_page in_bytes))
+      refl (λ u ne. refl)
 
   sharing_after : after.sharing ≡ before.sharing
   unfolding view_of groups_of
@@ -205,20 +201,18 @@ module _ (table new : TableState) (shapes : List (Option Shape)) (tenants : List
   unfolding view_of
   frames_after = ap frames_of entries
 
-  settings_after : KeepsSettings before after
-  unfolding view_of
-  settings_after = record { tenants = refl; frames = arena }
-
   pub writes : Writes before after page at bytes
   writes =
       record {
-        written = part_after;
-        bytes_new = ap bytes_in map_after ∙ ap (λ flat. with_part (bytes_in flat) (page.number * 4096 + at) bytes) (sym flat_before);
-        other_maps = maps-set_other before after page.tenant page.map (Some flat_new) loc.small tenants_after maps_after;
-        others = others_after;
+        written = one.part_new
+            ∙ ap (λ (flat : Option FlatMap). record (part before page.tenant) { maps = slice_set (part before page.tenant).maps page.map flat })
+            (sym (ap (option_map (map_written (page.number * 4096 + at) bytes)) flat_before));
+        bytes_new = ap bytes_in one.there ∙ ap (λ flat. with_part (bytes_in flat) (page.number * 4096 + at) bytes) (sym flat_before);
+        other_maps = one.other_maps;
+        others = one.others;
         sharing = sharing_after;
         frames = frames_after;
-        settings = settings_after;
+        settings = one.settings;
       }
 
 -- what holds of the state at a place holds of its entry

@@ -1,46 +1,21 @@
 -- A page of zeros moves to the zero frame.
-use Rattle.std.proofs.Common.{◌≡◌, ◌∙◌, ⊎_elim, ℕ, ◌<◌, ◌≤◌, ◌==◌, true, false, [], slice_index_or, slice_set, Option, Some, IfSome, option_map, sym, ap, subst, arith}
-use Rattle.std.proofs.lemmas.List.{map-set}
+use Rattle.std.proofs.Common.{◌≡◌, ◌∙◌, ⊎_elim, ℕ, ◌<◌, ◌≤◌, ◌==◌, false, [], slice_index_or, Some, sym, ap, arith, refl}
 use Rattle.page_table.specs.declared.pass.Pass.{Pass}
 use Rattle.host_types.specs.declared.status.Status.TheVariants.{Zero}
-use Rattle.host_types.specs.Sharing.{is_shared, with_status, state_at, zeroed}
+use Rattle.host_types.specs.Sharing.{with_status, zeroed}
 use Rattle.host_types.specs.Pages.{zero_page}
-use Rattle.frame_arena.specs.Pages.{page_at}
 use Rattle.page_table.specs.declared.entry.Entry.{Entry}
-use Rattle.page_table.specs.Table.{TableState, IsOwnAt, IsTable, IsGroup, LiesRight, times, entry_at, contents_of, groups_of, state_of, states_of, sharing_of, forgets, is_on}
-use Rattle.page_table.proofs.Entries.{not_equal, places_on-set, groups-kept}
-use Rattle.page_table.proofs.Putting.{content_at}
+use Rattle.page_table.specs.Table.{TableState, IsOwnAt, IsTable, IsGroup, times, entry_at, contents_of, groups_of, sharing_of, forgets, is_on}
+use Rattle.page_table.proofs.Entries.{not_equal, places_on-set, groups-kept, states-set}
 use Rattle.page_table.proofs.Waiters.{waiting-forgets}
-use Rattle.page_table.proofs.Moving.{IsMove, with_entry, state_here, lone}
-
--- an entry of a page on the zero frame
-pub record IsZeroEntry (old new : Entry) : Type 0 where
-  pub state : state_of new ≡ with_status Zero (state_of old)
-  pub frame : new.frame ≡ 0
-  pub status : new.status ≡ Zero
-  pub protected : new.protected ≡ true
+use Rattle.page_table.proofs.Moving.{IsMove, with_entry, lone, IsMerged, move-merged}
 
 -- a page of zeros may move to the zero frame
 pub move-zeroed : (table now : TableState) (i : ℕ) (entry x : Entry) → table ≡ now → IsTable table → entry_at now.entries i ≡ Some entry → IsOwnAt now i
-    → slice_index_or (contents_of now) i [] ≡ zero_page → IsZeroEntry entry x → IsMove table i entry x
-move-zeroed table now i entry x e is there own zeros to =
-    record {
-      is = is;
-      here = here;
-      own = subst (λ (y : Option Entry). IfSome y (λ (e : Entry). is_shared e.status ≡ false)) there own;
-      shared = ap is_shared to.status;
-      fits = record {
-        frame = let some = is.some in let zero = to.frame in omega (arith, some, zero);
-        protected = to.protected ∙ ap is_shared (sym to.status);
-        right = subst (LiesRight table x.frame) (sym to.status) to.frame;
-      };
-      same = ap (page_at table.arena) to.frame ∙ is.zero ∙ sym zeros ∙ ap (λ t. slice_index_or (contents_of t) i []) (sym e) ∙ content_at table i entry here;
-    }
-  where
-    here : entry_at table.entries i ≡ Some entry
-    here = ap (λ (t : TableState). entry_at t.entries i) e ∙ there
+    → slice_index_or (contents_of now) i [] ≡ zero_page → IsMerged entry x 0 Zero → IsMove table i entry x
+move-zeroed table now i entry x e is there own zeros to = move-merged table now i entry x 0 Zero e is there own (zeros ∙ sym is.zero) is.some refl refl to
 
-module _ (table : TableState) (i : ℕ) (entry x : Entry) (move : IsMove table i entry x) (to : IsZeroEntry entry x) where
+module _ (table : TableState) (i : ℕ) (entry x : Entry) (move : IsMove table i entry x) (to : IsMerged entry x 0 Zero) where
   open move use {is, here}
 
   no_group : times entry.frame table.groups ≡ 0
@@ -65,10 +40,7 @@ module _ (table : TableState) (i : ℕ) (entry x : Entry) (move : IsMove table i
   pub sharing-zeroed : (pass : Pass) → sharing_of (with_entry table i x) (forgets i pass) ≡ zeroed (sharing_of table pass) i
   unfolding zeroed
   sharing-zeroed pass =
-      let page : Some (state_of x) ≡ option_map (with_status Zero) (state_at (sharing_of table pass) i) =
-      ap Some to.state ∙ sym (ap (option_map (with_status Zero)) (state_here table i entry pass here)) in
-      let pages : states_of (with_entry table i x).entries ≡ slice_set (states_of table.entries) i (option_map (with_status Zero) (state_at (sharing_of table pass) i)) =
-      map-set (option_map state_of) table.entries i (Some x) ∙ ap (slice_set (states_of table.entries) i) page in
+      let pages = states-set (with_status Zero) table.entries i entry x here to.state in
       let groups = groups-zeroed in
       let waiting = waiting-forgets i pass.waiting.listed in
       cc

@@ -11,16 +11,12 @@ left c = filter_same _ _ _ (λ x b f' k. search rules) _ _ c.retain.ensures.filt
 lent : (c : After-deref) → c.deref.result.now ≡ groups_in c.args.slots.now.items
 lent c = c.deref.ensures.value ∙ left c
 
-pub place_all-requires-clause-there : goal.place_all-requires-clause-there
-place_all-requires-clause-there c =
-    subst (All (λ (f : ℕ). f < length c.args.slot_of.now)) (sym (lent (goal.at.place_all-requires-clause-there c).After-deref)) (groups-below c.args.slots.now.items c.args.slot_of.now c.requires.placed)
-
-pub place_all-requires-clause-apart : goal.place_all-requires-clause-apart
-place_all-requires-clause-apart c =
-    subst (AllPairs (λ (f g : ℕ). f ≢ g)) (sym (lent (goal.at.place_all-requires-clause-apart c).After-deref)) (groups-apart c.args.slots.now.items c.args.slot_of.now c.requires.placed)
-
-pub place_all-requires-clause-few : goal.place_all-requires-clause-few
-place_all-requires-clause-few c = let long = ap length (lent (goal.at.place_all-requires-clause-few c).After-deref) in omega (arith, long, c.requires.room, c.requires.few)
+pub place_all-requires : goal.place_all-requires
+place_all-requires c = record {
+  there = subst (All (λ (f : ℕ). f < length c.args.slot_of.now)) (sym (lent (goal.at.place_all-requires c).After-deref)) (groups-below c.args.slots.now.items c.args.slot_of.now c.requires.placed);
+  apart = subst (AllPairs (λ (f g : ℕ). f ≢ g)) (sym (lent (goal.at.place_all-requires c).After-deref)) (groups-apart c.args.slots.now.items c.args.slot_of.now c.requires.placed);
+  few = let long = ap length (lent (goal.at.place_all-requires c).After-deref) in omega (arith, long, c.requires.room, c.requires.few);
+}
 
 below : (c : After-deref) (i : ℕ) → i < length (groups_in c.args.slots.now.items) → slice_index_or (groups_in c.args.slots.now.items) i 0 < length c.args.slot_of.now
 below c i less = groups-below c.args.slots.now.items c.args.slot_of.now c.requires.placed i 0 less
@@ -43,5 +39,4 @@ returns-clause-listed c =
 pub returns-clause-room : goal.returns-clause-room
 returns-clause-room c =
     let d = (goal.at.returns-clause-room c).After-deref in
-    let long = ap length (left d) in
-    omega (arith, long, c.requires.room, c.place_all.ensures.frames)
+    omega (arith, ap length (left d), c.requires.room, c.place_all.ensures.frames)

@@ -13,8 +13,7 @@ returns-in_default c = λ i le less.
 pub next_mergeable-requires : goal.next_mergeable-requires
 next_mergeable-requires c =
     let few = few_pages c.in-Some.shape (shaped c.args.shapes.now _ c.args.index c.in-Some.shape c.requires.maps c.requires.map c.in-Some.is).shaped in
-    let all = length-contents c.args.table.now in
-    omega (arith, few, all, c.requires.maps.places, c.requires.map, c.pages.ensures)
+    omega (arith, few, length-contents c.args.table.now, c.requires.maps.places, c.requires.map, c.pages.ensures)
 
 -- what is known of a map's pages holds of all its places
 whole : (result : Option ℕ) (mergeable : ℕ → Type 0) (first : ℕ → Type 0) (from end last : ℕ) → MatchOption result ((i : ℕ) → from ≤ i → i < end → mergeable i) first

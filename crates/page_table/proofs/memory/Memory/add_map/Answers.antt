@@ -10,21 +10,15 @@ use Rattle.page_table.proofs.Waiters.{pass-kept, kept-own}
 use Rattle.page_table.proofs.Ahead.{ahead-more}
 use Rattle.page_table.proofs.memory.Memory.add_map.Goals as goal
 
-pub add_pages-requires-clause-there : goal.add_pages-requires-clause-there
-add_pages-requires-clause-there c =
-    let told = places_inside c.self.inside.table c.self.inside.shapes.items c.self.inside.tenants.items c.self.inside.pass c.self.inside.reserved c.args.tenant c.args.number c.args.shape c.self.invariant.0 c.requires.number (tenant_inside c.self.inside.table c.self.inside.shapes.items c.self.inside.tenants.items c.self.inside.pass c.args.self.now c.self.view_is c.args.tenant c.requires.tenant) (number_empty c.self.inside.table c.self.inside.shapes.items c.self.inside.tenants.items c.self.inside.pass c.args.self.now c.self.view_is c.args.tenant c.args.number c.requires.number c.requires.none) c.requires.shape in
-    omega (arith, told, c.map_index-index.ensures, c.pages.ensures)
-
-pub add_pages-requires-clause-few : goal.add_pages-requires-clause-few
-add_pages-requires-clause-few c = few_entries c.self.inside.table c.self.inside.shapes.items c.self.inside.tenants.items c.self.inside.pass c.self.inside.reserved c.args.tenant c.args.number c.args.shape c.self.invariant.0 c.requires.number (tenant_inside c.self.inside.table c.self.inside.shapes.items c.self.inside.tenants.items c.self.inside.pass c.args.self.now c.self.view_is c.args.tenant c.requires.tenant) (number_empty c.self.inside.table c.self.inside.shapes.items c.self.inside.tenants.items c.self.inside.pass c.args.self.now c.self.view_is c.args.tenant c.args.number c.requires.number c.requires.none) c.requires.shape
-
-pub add_pages-requires-clause-empty : goal.add_pages-requires-clause-empty
-add_pages-requires-clause-empty c = rw (c.map_index-index.ensures, c.pages.ensures) (no_contents c.self.inside.table c.self.inside.shapes.items c.self.inside.tenants.items c.self.inside.pass c.self.inside.reserved c.args.tenant c.args.number c.args.shape c.self.invariant.0 c.requires.number (tenant_inside c.self.inside.table c.self.inside.shapes.items c.self.inside.tenants.items c.self.inside.pass c.args.self.now c.self.view_is c.args.tenant c.requires.tenant) (number_empty c.self.inside.table c.self.inside.shapes.items c.self.inside.tenants.items c.self.inside.pass c.args.self.now c.self.view_is c.args.tenant c.args.number c.requires.number c.requires.none) c.requires.shape)
-
-pub add_pages-requires-clause-room : goal.add_pages-requires-clause-room
-add_pages-requires-clause-room c =
-    let told = (room_inside c.self.inside.table c.self.inside.shapes.items c.self.inside.tenants.items c.self.inside.pass c.args.self.now c.self.view_is c.self.inside.reserved (page_count c.args.shape) c.self.invariant.0 c.requires.room) in
-    omega (arith, told, c.pages.ensures)
+pub add_pages-requires : goal.add_pages-requires
+add_pages-requires c = record {
+  there = let told = places_inside c.self.inside.table c.self.inside.shapes.items c.self.inside.tenants.items c.self.inside.pass c.self.inside.reserved c.args.tenant c.args.number c.args.shape c.self.invariant.0 c.requires.number (tenant_inside c.self.inside.table c.self.inside.shapes.items c.self.inside.tenants.items c.self.inside.pass c.args.self.now c.self.view_is c.args.tenant c.requires.tenant) (number_empty c.self.inside.table c.self.inside.shapes.items c.self.inside.tenants.items c.self.inside.pass c.args.self.now c.self.view_is c.args.tenant c.args.number c.requires.number c.requires.none) c.requires.shape in
+      omega (arith, told, c.map_index-index.ensures, c.pages.ensures);
+  few = few_entries c.self.inside.table c.self.inside.shapes.items c.self.inside.tenants.items c.self.inside.pass c.self.inside.reserved c.args.tenant c.args.number c.args.shape c.self.invariant.0 c.requires.number (tenant_inside c.self.inside.table c.self.inside.shapes.items c.self.inside.tenants.items c.self.inside.pass c.args.self.now c.self.view_is c.args.tenant c.requires.tenant) (number_empty c.self.inside.table c.self.inside.shapes.items c.self.inside.tenants.items c.self.inside.pass c.args.self.now c.self.view_is c.args.tenant c.args.number c.requires.number c.requires.none) c.requires.shape;
+  empty = rw (c.map_index-index.ensures, c.pages.ensures) (no_contents c.self.inside.table c.self.inside.shapes.items c.self.inside.tenants.items c.self.inside.pass c.self.inside.reserved c.args.tenant c.args.number c.args.shape c.self.invariant.0 c.requires.number (tenant_inside c.self.inside.table c.self.inside.shapes.items c.self.inside.tenants.items c.self.inside.pass c.args.self.now c.self.view_is c.args.tenant c.requires.tenant) (number_empty c.self.inside.table c.self.inside.shapes.items c.self.inside.tenants.items c.self.inside.pass c.args.self.now c.self.view_is c.args.tenant c.args.number c.requires.number c.requires.none) c.requires.shape);
+  room = let told = (room_inside c.self.inside.table c.self.inside.shapes.items c.self.inside.tenants.items c.self.inside.pass c.args.self.now c.self.view_is c.self.inside.reserved (page_count c.args.shape) c.self.invariant.0 c.requires.room) in
+      omega (arith, told, c.pages.ensures);
+}
 
 pub index_mut-requires : goal.index_mut-requires
 index_mut-requires c =
@@ -53,23 +47,13 @@ told c =
     creates c.self.inside.table c.add_pages.new.table c.self.inside.shapes.items c.self.inside.tenants.items c.self.inside.pass c.self.inside.reserved c.args.tenant c.args.number c.args.shape c.args.mergeable
     c.self.invariant.0 c.requires.number (tenant_inside c.self.inside.table c.self.inside.shapes.items c.self.inside.tenants.items c.self.inside.pass c.args.self.now c.self.view_is c.args.tenant c.requires.tenant) (number_empty c.self.inside.table c.self.inside.shapes.items c.self.inside.tenants.items c.self.inside.pass c.args.self.now c.self.view_is c.args.tenant c.args.number c.requires.number c.requires.none) c.requires.shape (contents c) (states c) c.add_pages.ensures.groups (used c) c.add_pages.ensures.arena (room_inside c.self.inside.table c.self.inside.shapes.items c.self.inside.tenants.items c.self.inside.pass c.args.self.now c.self.view_is c.self.inside.reserved (page_count c.args.shape) c.self.invariant.0 c.requires.room)
 
-pub returns-clause-created : goal.returns-clause-created
-returns-clause-created c = rw (← c.self.view_is, c.map_index-index.ensures) (told c).created
-
-pub returns-clause-there : goal.returns-clause-there
-returns-clause-there c = rw (c.map_index-index.ensures) (told c).there
-
-pub returns-clause-other_maps : goal.returns-clause-other_maps
-returns-clause-other_maps c = rw (← c.self.view_is, c.map_index-index.ensures) (told c).other_maps
-
-pub returns-clause-others : goal.returns-clause-others
-returns-clause-others c = rw (← c.self.view_is, c.map_index-index.ensures) (told c).others
-
-pub returns-clause-sharing : goal.returns-clause-sharing
-returns-clause-sharing c = rw (← c.self.view_is, c.map_index-index.ensures) (told c).sharing
-
-pub returns-clause-free : goal.returns-clause-free
-returns-clause-free c = rw (← c.self.view_is, c.map_index-index.ensures) (told c).free
-
-pub returns-clause-settings : goal.returns-clause-settings
-returns-clause-settings c = rw (← c.self.view_is, c.map_index-index.ensures) (told c).settings
+pub returns : goal.returns
+returns c = record {
+  created = rw (← c.self.view_is, c.map_index-index.ensures) (told c).created;
+  there = rw (c.map_index-index.ensures) (told c).there;
+  other_maps = rw (← c.self.view_is, c.map_index-index.ensures) (told c).other_maps;
+  others = rw (← c.self.view_is, c.map_index-index.ensures) (told c).others;
+  sharing = rw (← c.self.view_is, c.map_index-index.ensures) (told c).sharing;
+  free = rw (← c.self.view_is, c.map_index-index.ensures) (told c).free;
+  settings = rw (← c.self.view_is, c.map_index-index.ensures) (told c).settings;
+}

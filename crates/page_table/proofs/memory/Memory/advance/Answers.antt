@@ -27,9 +27,8 @@ small : (c : After-is_some) → page_place c.args.page < 32768
 small c =
     let inside = (next-is (states_of c.self.inside.table.entries) (look_from c.self.inside.pass.cursor) (page_place c.args.page) (next c)).inside in
     let long = length-map c.self.inside.table.entries (option_map state_of) in
-    let all = length-contents c.self.inside.table in
     let is = c.self.invariant.0 in
-    omega (arith, inside, long, all, is.maps.places, is.numbers, is.few)
+    omega (arith, inside, long, length-contents c.self.inside.table, is.maps.places, is.numbers, is.few)
 
 more : (c : After-is_some) → is_some (first_mergeable (page_place c.args.page + 1) (drop (page_place c.args.page + 1) (states_of c.self.inside.table.entries))) ≡ c.is_some.result
 more c = rw (← c.place_of-place.ensures) (ap is_some (sym c.next_mergeable.ensures) ∙ sym c.is_some.ensures)
@@ -42,28 +41,22 @@ invariant_of-self c =
 pub invariant_of-self-else-is_some : goal.invariant_of-self-else-is_some
 invariant_of-self-else-is_some c = (c.self.invariant.0, rw c.end.ensures (pass-ended c.self.inside.table c.self.inside.pass _ c.self.invariant.1), rw c.end.ensures tt)
 
-pub returns-then-is_some-clause-moved : goal.returns-then-is_some-clause-moved
+pub returns-then-is_some : goal.returns-then-is_some
 unfolding view_of
-returns-then-is_some-clause-moved c =
-    let d = (goal.at.returns-then-is_some-clause-moved c).After-is_some in
-    rw (← c.self.view_is, c.place_of-place.ensures)
-    (moved-on c.self.inside.table c.self.inside.shapes.items c.self.inside.tenants.items c.self.inside.pass (page_place c.args.page) (more d ∙ c.if-is_some.true))
+returns-then-is_some c = record {
+  moved = let d = (goal.at.returns-then-is_some c).After-is_some in
+      rw (← c.self.view_is, c.place_of-place.ensures)
+      (moved-on c.self.inside.table c.self.inside.shapes.items c.self.inside.tenants.items c.self.inside.pass (page_place c.args.page) (more d ∙ c.if-is_some.true));
+  free = let d = (goal.at.returns-then-is_some c).After-is_some in
+      waits-not c.self.inside.table c.self.inside.shapes.items c.self.inside.tenants.items c.self.inside.pass c.args.page (gone d).1;
+}
 
-pub returns-then-is_some-clause-free : goal.returns-then-is_some-clause-free
+pub returns-else-is_some : goal.returns-else-is_some
 unfolding view_of
-returns-then-is_some-clause-free c =
-    let d = (goal.at.returns-then-is_some-clause-free c).After-is_some in
-    waits-not c.self.inside.table c.self.inside.shapes.items c.self.inside.tenants.items c.self.inside.pass c.args.page (gone d).1
-
-pub returns-else-is_some-clause-moved : goal.returns-else-is_some-clause-moved
-unfolding view_of
-returns-else-is_some-clause-moved c =
-    let d = (goal.at.returns-else-is_some-clause-moved c).After-is_some in
-    rw (← c.self.view_is, c.end.ensures)
-    (moved-ended c.self.inside.table c.self.inside.shapes.items c.self.inside.tenants.items c.self.inside.pass (page_place c.args.page) (more d ∙ c.if-is_some.false))
-
-pub returns-else-is_some-clause-free : goal.returns-else-is_some-clause-free
-unfolding view_of
-returns-else-is_some-clause-free c =
-    let d = (goal.at.returns-else-is_some-clause-free c).After-is_some in
-    rw (c.end.ensures) (waits-not c.self.inside.table c.self.inside.shapes.items c.self.inside.tenants.items c.self.inside.pass c.args.page (gone d).1)
+returns-else-is_some c = record {
+  moved = let d = (goal.at.returns-else-is_some c).After-is_some in
+      rw (← c.self.view_is, c.end.ensures)
+      (moved-ended c.self.inside.table c.self.inside.shapes.items c.self.inside.tenants.items c.self.inside.pass (page_place c.args.page) (more d ∙ c.if-is_some.false));
+  free = let d = (goal.at.returns-else-is_some c).After-is_some in
+      rw (c.end.ensures) (waits-not c.self.inside.table c.self.inside.shapes.items c.self.inside.tenants.items c.self.inside.pass c.args.page (gone d).1);
+}

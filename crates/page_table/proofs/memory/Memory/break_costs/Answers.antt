@@ -26,9 +26,7 @@ run_inside table shapes tenants pass reserved page count is there within =
     let found = page_located table shapes tenants pass reserved page is there in
     let few = length-take (byte_len_of found.shape) (concat (part_of (contents_of table) (map_place page.tenant page.map * 256) 256)) in
     let bytes = ap (λ flat. length (bytes_in flat)) found.flat in
-    let small = (found.pages.shaped).paged in
-    let long = length-contents table in
-    omega (arith, found.inside, is.maps.places, long, few, bytes, small, within)
+    omega (arith, found.inside, is.maps.places, length-contents table, few, bytes, (found.pages.shaped).paged, within)
 
 pub break_costs-requires : goal.break_costs-requires
 break_costs-requires c =

@@ -8,8 +8,7 @@ use Rattle.page_table.proofs.memory.Memory.free_number.Goals as goal
 pub shapes_from-requires : goal.shapes_from-requires
 shapes_from-requires c =
     let inside = tenant_inside c.self.inside.table c.self.inside.shapes.items c.self.inside.tenants.items c.self.inside.pass c.args.self.now c.self.view_is c.args.tenant c.requires in
-    let same = ap length c.deref.ensures.value in
-    omega (arith, inside, same, c.self.invariant.0.numbers, c.map_index.ensures)
+    omega (arith, inside, ap length c.deref.ensures.value, c.self.invariant.0.numbers, c.map_index.ensures)
 
 pub returns-in_err-number-clause-first : goal.returns-in_err-number-clause-first
 returns-in_err-number-clause-first c =

@@ -1,31 +1,33 @@
 use Rattle.std.proofs.Common.{arith}
-use Rattle.page_table.proofs.Recording.{records, record_there, record_before, record_fits, record_memory}
+use Rattle.page_table.proofs.Recording.{records}
 use Rattle.page_table.proofs.memory.Memory.keep.Goals as goal
 
 pub overflow_sub-self : goal.overflow_sub-self
-overflow_sub-self c = record_before c.self.inside.table c.self.inside.shapes.items c.self.inside.tenants.items c.self.inside.pass c.self.inside.reserved c.self.invariant.0 c.args.self.now c.self.view_is c.args.tenant c.reserve-before.result c.args.kept c.requires.there c.requires.room c.reserve-before.ensures
+overflow_sub-self c =
+    let told = records c.self.inside.table c.self.inside.shapes.items c.self.inside.tenants.items c.self.inside.pass c.self.inside.reserved c.self.invariant.0 c.args.self.now c.self.view_is
+    c.args.tenant c.reserve-before.result c.args.kept c.requires.there c.requires.room c.reserve-before.ensures in
+    told.least
 
 pub overflow_add-self : goal.overflow_add-self
 overflow_add-self c =
-    let few = record_fits c.self.inside.table c.self.inside.shapes.items c.self.inside.tenants.items c.self.inside.pass c.self.inside.reserved c.self.invariant.0 c.args.self.now c.self.view_is c.args.tenant c.reserve-before.result c.args.kept c.requires.there c.requires.room c.reserve-before.ensures in
-    omega (arith, few)
+    let told = records c.self.inside.table c.self.inside.shapes.items c.self.inside.tenants.items c.self.inside.pass c.self.inside.reserved c.self.invariant.0 c.args.self.now c.self.view_is
+    c.args.tenant c.reserve-before.result c.args.kept c.requires.there c.requires.room c.reserve-before.ensures in
+    omega (arith, told.small)
 
 pub index_mut-requires : goal.index_mut-requires
 index_mut-requires c =
-    let there = record_there c.self.inside.table c.self.inside.shapes.items c.self.inside.tenants.items c.self.inside.pass c.self.inside.reserved c.self.invariant.0 c.args.self.now c.self.view_is c.args.tenant c.reserve-before.result c.args.kept c.requires.there c.requires.room c.reserve-before.ensures in
-    omega (arith, there)
+    let told = records c.self.inside.table c.self.inside.shapes.items c.self.inside.tenants.items c.self.inside.pass c.self.inside.reserved c.self.invariant.0 c.args.self.now c.self.view_is
+    c.args.tenant c.reserve-before.result c.args.kept c.requires.there c.requires.room c.reserve-before.ensures in
+    omega (arith, told.there)
 
 pub invariant_of-self : goal.invariant_of-self
-invariant_of-self c = (record_memory c.self.inside.table c.self.inside.shapes.items c.self.inside.tenants.items c.self.inside.pass c.self.inside.reserved c.self.invariant.0 c.args.self.now c.self.view_is c.args.tenant c.reserve-before.result c.args.kept c.requires.there c.requires.room c.reserve-before.ensures, c.self.invariant.1, c.self.invariant.2)
+invariant_of-self c =
+    let told = records c.self.inside.table c.self.inside.shapes.items c.self.inside.tenants.items c.self.inside.pass c.self.inside.reserved c.self.invariant.0 c.args.self.now c.self.view_is
+    c.args.tenant c.reserve-before.result c.args.kept c.requires.there c.requires.room c.reserve-before.ensures in
+    (told.memory, c.self.invariant.1, c.self.invariant.2)
 
-pub returns-clause-part : goal.returns-clause-part
-returns-clause-part c = (records c.self.inside.table c.self.inside.shapes.items c.self.inside.tenants.items c.self.inside.pass c.self.inside.reserved c.self.invariant.0 c.args.self.now c.self.view_is c.args.tenant c.reserve-before.result c.args.kept c.requires.there c.requires.room c.reserve-before.ensures).recorded_part
-
-pub returns-clause-others : goal.returns-clause-others
-returns-clause-others c = (records c.self.inside.table c.self.inside.shapes.items c.self.inside.tenants.items c.self.inside.pass c.self.inside.reserved c.self.invariant.0 c.args.self.now c.self.view_is c.args.tenant c.reserve-before.result c.args.kept c.requires.there c.requires.room c.reserve-before.ensures).others
-
-pub returns-clause-have : goal.returns-clause-have
-returns-clause-have c = (records c.self.inside.table c.self.inside.shapes.items c.self.inside.tenants.items c.self.inside.pass c.self.inside.reserved c.self.invariant.0 c.args.self.now c.self.view_is c.args.tenant c.reserve-before.result c.args.kept c.requires.there c.requires.room c.reserve-before.ensures).have
-
-pub returns-clause-all : goal.returns-clause-all
-returns-clause-all c = (records c.self.inside.table c.self.inside.shapes.items c.self.inside.tenants.items c.self.inside.pass c.self.inside.reserved c.self.invariant.0 c.args.self.now c.self.view_is c.args.tenant c.reserve-before.result c.args.kept c.requires.there c.requires.room c.reserve-before.ensures).all
+pub returns : goal.returns
+returns c =
+    let told = records c.self.inside.table c.self.inside.shapes.items c.self.inside.tenants.items c.self.inside.pass c.self.inside.reserved c.self.invariant.0 c.args.self.now c.self.view_is
+    c.args.tenant c.reserve-before.result c.args.kept c.requires.there c.requires.room c.reserve-before.ensures in
+    record { part = told.recorded_part; others = told.others; have = told.have; all = told.all }

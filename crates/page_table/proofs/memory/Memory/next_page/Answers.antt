@@ -4,9 +4,10 @@ use Rattle.host_types.specs.Sharing.{state_at}
 use Rattle.host_types.specs.Visits.{first_mergeable, is_mergeable, look_from}
 use Rattle.page_table.specs.Table.{IsPageAt, state_of, states_of, sharing_of}
 use Rattle.page_table.specs.View.{view_of}
+use Rattle.page_table.proofs.Putting.{page_of_entry}
 use Rattle.page_table.proofs.Next.{IsNext, next-is}
 use Rattle.page_table.proofs.Partners.{entry-may}
-use Rattle.page_table.proofs.Scanning.{page_there, is_page_at_entry}
+use Rattle.page_table.proofs.Scanning.{page_there}
 use Rattle.page_table.proofs.memory.Memory.next_page.Goals as goal
 use Rattle.page_table.proofs.memory.Memory.next_page.Goals.{In-Some}
 
@@ -17,9 +18,7 @@ next : (c : In-Some) → IsNext (states_of c.self.inside.table.entries) (look_fr
 next c = next-is (states_of c.self.inside.table.entries) (look_from c.self.inside.pass.cursor) c.in-Some.place (told c)
 
 small : (c : In-Some) → c.in-Some.place < 32768
-small c =
-    let long = length-map c.self.inside.table.entries (option_map state_of) in
-    omega (arith, long, (next c).inside, (c.facts.ensures.1).fits.few)
+small c = omega (arith, length-map c.self.inside.table.entries (option_map state_of), (next c).inside, (c.facts.ensures.1).fits.few)
 
 pub page_at-requires : goal.page_at-requires
 page_at-requires c = small (goal.at.page_at-requires c).In-Some
@@ -27,24 +26,18 @@ page_at-requires c = small (goal.at.page_at-requires c).In-Some
 there : (c : In-Some) → IsPageAt c.self.inside.table c.in-Some.place
 there c =
     let entry = entry-may c.self.inside.table c.self.inside.pass c.in-Some.place (next c).mergeable in
-    is_page_at_entry c.self.inside.table c.in-Some.place entry.0 (c.facts.ensures.1).fits entry.1
+    page_of_entry c.self.inside.table c.in-Some.place entry.0 (c.facts.ensures.1).fits entry.1
 
-pub returns-in-Some-clause-place : goal.returns-in-Some-clause-place
+pub returns-in-Some : goal.returns-in-Some
 unfolding view_of
-returns-in-Some-clause-place c =
-    rw (← c.self.view_is) (ap Some c.page_at.ensures.place ∙ sym (told (goal.at.returns-in-Some-clause-place c).In-Some))
-
-pub returns-in-Some-clause-there : goal.returns-in-Some-clause-there
-returns-in-Some-clause-there c =
-    rw (← c.self.view_is)
-    (page_there c.self.inside.table c.self.inside.shapes.items c.self.inside.tenants.items c.self.inside.pass c.self.inside.reserved c.self.invariant.0 c.page_at.result c.page_at.ensures.map c.page_at.ensures.number
-    (subst (IsPageAt c.self.inside.table) (sym c.page_at.ensures.place) (there (goal.at.returns-in-Some-clause-there c).In-Some)))
-
-pub returns-in-Some-clause-mergeable : goal.returns-in-Some-clause-mergeable
-unfolding view_of
-returns-in-Some-clause-mergeable c =
-    rw (← c.self.view_is)
-    (ap (λ i. is_mergeable (state_at (sharing_of c.self.inside.table c.self.inside.pass) i)) c.page_at.ensures.place ∙ (next (goal.at.returns-in-Some-clause-mergeable c).In-Some).mergeable)
+returns-in-Some c = record {
+  place = rw (← c.self.view_is) (ap Some c.page_at.ensures.place ∙ sym (told (goal.at.returns-in-Some c).In-Some));
+  there = rw (← c.self.view_is)
+      (page_there c.self.inside.table c.self.inside.shapes.items c.self.inside.tenants.items c.self.inside.pass c.self.inside.reserved c.self.invariant.0 c.page_at.result c.page_at.ensures.map c.page_at.ensures.number
+      (subst (IsPageAt c.self.inside.table) (sym c.page_at.ensures.place) (there (goal.at.returns-in-Some c).In-Some)));
+  mergeable = rw (← c.self.view_is)
+      (ap (λ i. is_mergeable (state_at (sharing_of c.self.inside.table c.self.inside.pass) i)) c.page_at.ensures.place ∙ (next (goal.at.returns-in-Some c).In-Some).mergeable);
+}
 
 pub returns-in-None-clause-place : goal.returns-in-None-clause-place
 unfolding view_of

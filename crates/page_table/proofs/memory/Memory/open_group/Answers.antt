@@ -25,10 +25,8 @@ found c =
     ∙ ap (λ l. find (is_open_frame c.self.inside.table l c.self.inside.pass.options.max_page_sharing) c.self.inside.table.groups)
     (content ∙ sym (bytes_here c.self.inside.table c.self.inside.shapes.items c.self.inside.tenants.items c.self.inside.pass c.self.inside.reserved c.self.invariant.0 c.args.page there))
 
-pub returns-clause-frame : goal.returns-clause-frame
-returns-clause-frame c =
-    rw (← c.self.view_is) (found c ∙ sym (open-frame c.self.inside.table c.self.inside.shapes.items c.self.inside.tenants.items c.self.inside.pass c.self.inside.reserved c.self.invariant.0 (c.facts.ensures.1).fits (page_place c.args.page)))
-
-pub returns-clause-told : goal.returns-clause-told
-returns-clause-told c =
-    rw (← c.self.view_is) (ap is_some (found c) ∙ sym (has-open c.self.inside.table c.self.inside.shapes.items c.self.inside.tenants.items c.self.inside.pass c.self.inside.reserved c.self.invariant.0 (c.facts.ensures.1).fits (page_place c.args.page)))
+pub returns : goal.returns
+returns c = record {
+  frame = rw (← c.self.view_is) (found c ∙ sym (open-frame c.self.inside.table c.self.inside.shapes.items c.self.inside.tenants.items c.self.inside.pass c.self.inside.reserved c.self.invariant.0 (c.facts.ensures.1).fits (page_place c.args.page)));
+  told = rw (← c.self.view_is) (ap is_some (found c) ∙ sym (has-open c.self.inside.table c.self.inside.shapes.items c.self.inside.tenants.items c.self.inside.pass c.self.inside.reserved c.self.invariant.0 (c.facts.ensures.1).fits (page_place c.args.page)));
+}

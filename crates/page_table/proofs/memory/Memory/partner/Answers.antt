@@ -8,8 +8,9 @@ use Rattle.page_table.specs.State.{bytes_of_map}
 use Rattle.page_table.specs.Changes.{IsPageOf, IsNotWaiting, contents_now, partner_place}
 use Rattle.page_table.specs.Table.{IsPageAt}
 use Rattle.page_table.specs.View.{view_of, is_listed}
+use Rattle.page_table.proofs.Putting.{page_of_entry}
 use Rattle.page_table.proofs.Entries.{inside}
-use Rattle.page_table.proofs.Scanning.{bytes_here, frame_told, page_there, is_page_at_entry}
+use Rattle.page_table.proofs.Scanning.{bytes_here, frame_told, page_there}
 use Rattle.page_table.proofs.Partners.{IsFound, found-waiter, partners-told, waiters-frames, not-waiting, may-told, match-bytes}
 use Rattle.page_table.proofs.Waiters.{waiter_own}
 use Rattle.page_table.proofs.Fitting.{waiting-free}
@@ -48,8 +49,7 @@ found c =
 pub page_at-requires : goal.page_at-requires
 page_at-requires c =
     let waiter = (found (goal.at.page_at-requires c).In-Some).waiter in
-    let there = inside c.self.inside.table.entries c.in-Some.waiter.place waiter.entry waiter.here in
-    omega (arith, there, (c.facts.ensures.1).fits.few)
+    omega (arith, inside c.self.inside.table.entries c.in-Some.waiter.place waiter.entry waiter.here, (c.facts.ensures.1).fits.few)
 
 partners : (c : After-find) → partner_place (view_of c.self.inside.table c.self.inside.shapes.items c.self.inside.tenants.items c.self.inside.pass) (page_place c.args.page) c.args.fingerprint ≡ option_map (λ (w : Waiter). w.place) c.find.result
 unfolding view_of
@@ -57,50 +57,39 @@ partners c =
     partners-told c.self.inside.table c.self.inside.shapes.items c.self.inside.tenants.items c.self.inside.pass c.self.inside.reserved c.self.invariant.0 (c.facts.ensures.1).fits c.args.fingerprint (bytes c) c.self.inside.pass.cursor c.self.inside.pass.waiting.listed c.self.invariant.1.waiters
     ∙ ap (option_map (λ (w : Waiter). w.place)) (sym (told c))
 
-pub returns-in-Some-clause-found : goal.returns-in-Some-clause-found
-returns-in-Some-clause-found c =
-    let d = (goal.at.returns-in-Some-clause-found c).In-Some in
-    rw (← c.self.view_is)
-    (ap Some c.page_at.ensures.place ∙ sym (partners d.before ∙ ap (option_map (λ (w : Waiter). w.place)) c.in-Some.is))
-
 page_is_there : (c : In-Some) → (page : Page) → page_place page ≡ c.in-Some.waiter.place → page.map < 8 → page.number < 256 → IsPageOf (view_of c.self.inside.table c.self.inside.shapes.items c.self.inside.tenants.items c.self.inside.pass) page
 page_is_there c page place small few =
     let waiter = (found c).waiter in
     page_there c.self.inside.table c.self.inside.shapes.items c.self.inside.tenants.items c.self.inside.pass c.self.inside.reserved c.self.invariant.0 page small few
-    (subst (IsPageAt c.self.inside.table) (sym place) (is_page_at_entry c.self.inside.table c.in-Some.waiter.place waiter.entry (c.facts.ensures.1).fits waiter.here))
+    (subst (IsPageAt c.self.inside.table) (sym place) (page_of_entry c.self.inside.table c.in-Some.waiter.place waiter.entry (c.facts.ensures.1).fits waiter.here))
 
-pub returns-in-Some-clause-there : goal.returns-in-Some-clause-there
-returns-in-Some-clause-there c =
-    rw (← c.self.view_is)
-    (page_is_there (goal.at.returns-in-Some-clause-there c).In-Some c.page_at.result c.page_at.ensures.place c.page_at.ensures.map c.page_at.ensures.number)
-
-pub returns-in-Some-clause-may : goal.returns-in-Some-clause-may
-returns-in-Some-clause-may c =
-    let waiter = (found (goal.at.returns-in-Some-clause-may c).In-Some).waiter in
-    rw (← c.self.view_is)
-    (may-told c.self.inside.table c.self.inside.shapes.items c.self.inside.tenants.items c.self.inside.pass c.page_at.result waiter.entry (rw c.page_at.ensures.place waiter.here) waiter.mergeable
-    (waiter_own c.self.inside.table.entries c.self.inside.pass.cursor c.in-Some.waiter waiter)
-    (rw c.page_at.ensures.place (waiting-free c.self.inside.table c.self.inside.pass c.in-Some.waiter.place waiter.entry c.self.invariant.1.pins waiter.here waiter.status)))
-
-pub returns-in-Some-clause-apart : goal.returns-in-Some-clause-apart
-returns-in-Some-clause-apart c e =
-    let listed = (found (goal.at.returns-in-Some-clause-apart c).In-Some).listed in
-    let free : IsNotWaiting (view_of c.self.inside.table c.self.inside.shapes.items c.self.inside.tenants.items c.self.inside.pass) c.args.page = rw (← c.self.view_is) at c.requires.free in
-    let same : c.in-Some.waiter.place ≡ page_place c.args.page = sym c.page_at.ensures.place ∙ ap page_place e in
-    let both : true ≡ false = sym listed ∙ ap (λ i. is_listed i c.self.inside.pass.waiting.listed) same ∙ not-waiting c.self.inside.table c.self.inside.shapes.items c.self.inside.tenants.items c.self.inside.pass c.args.page free in
-    cc
-
-pub returns-in-Some-clause-same : goal.returns-in-Some-clause-same
-returns-in-Some-clause-same c =
-    let d = (goal.at.returns-in-Some-clause-same c).In-Some in
-    let waiter = (found d).waiter in
-    rw (← c.self.view_is)
-    (sym (bytes_here c.self.inside.table c.self.inside.shapes.items c.self.inside.tenants.items c.self.inside.pass c.self.inside.reserved c.self.invariant.0 c.page_at.result (page_is_there d c.page_at.result c.page_at.ensures.place c.page_at.ensures.map c.page_at.ensures.number))
-    ∙ ap (contents_now (view_of c.self.inside.table c.self.inside.shapes.items c.self.inside.tenants.items c.self.inside.pass)) c.page_at.ensures.place
-    ∙ frame_told c.self.inside.table c.self.inside.shapes.items c.self.inside.tenants.items c.self.inside.pass c.self.inside.reserved c.self.invariant.0 c.in-Some.waiter.place waiter.entry (c.facts.ensures.1).fits waiter.here
-    ∙ ap (page_at c.self.inside.table.arena) waiter.frame
-    ∙ match-bytes c.self.inside.table.arena c.args.fingerprint (bytes d.before) c.in-Some.waiter (found d).passes
-    ∙ bytes_here c.self.inside.table c.self.inside.shapes.items c.self.inside.tenants.items c.self.inside.pass c.self.inside.reserved c.self.invariant.0 c.args.page (there d.before))
+pub returns-in-Some : goal.returns-in-Some
+returns-in-Some c = record {
+  found = let d = (goal.at.returns-in-Some c).In-Some in
+      rw (← c.self.view_is)
+      (ap Some c.page_at.ensures.place ∙ sym (partners d.before ∙ ap (option_map (λ (w : Waiter). w.place)) c.in-Some.is));
+  there = rw (← c.self.view_is)
+      (page_is_there (goal.at.returns-in-Some c).In-Some c.page_at.result c.page_at.ensures.place c.page_at.ensures.map c.page_at.ensures.number);
+  may = let waiter = (found (goal.at.returns-in-Some c).In-Some).waiter in
+      rw (← c.self.view_is)
+      (may-told c.self.inside.table c.self.inside.shapes.items c.self.inside.tenants.items c.self.inside.pass c.page_at.result waiter.entry (rw c.page_at.ensures.place waiter.here) waiter.mergeable
+      (waiter_own c.self.inside.table.entries c.self.inside.pass.cursor c.in-Some.waiter waiter)
+      (rw c.page_at.ensures.place (waiting-free c.self.inside.table c.self.inside.pass c.in-Some.waiter.place waiter.entry c.self.invariant.1.pins waiter.here waiter.status)));
+  apart = λ e. let listed = (found (goal.at.returns-in-Some c).In-Some).listed in
+      let free : IsNotWaiting (view_of c.self.inside.table c.self.inside.shapes.items c.self.inside.tenants.items c.self.inside.pass) c.args.page = rw (← c.self.view_is) at c.requires.free in
+      let same : c.in-Some.waiter.place ≡ page_place c.args.page = sym c.page_at.ensures.place ∙ ap page_place e in
+      let both : true ≡ false = sym listed ∙ ap (λ i. is_listed i c.self.inside.pass.waiting.listed) same ∙ not-waiting c.self.inside.table c.self.inside.shapes.items c.self.inside.tenants.items c.self.inside.pass c.args.page free in
+      cc;
+  same = let d = (goal.at.returns-in-Some c).In-Some in
+      let waiter = (found d).waiter in
+      rw (← c.self.view_is)
+      (sym (bytes_here c.self.inside.table c.self.inside.shapes.items c.self.inside.tenants.items c.self.inside.pass c.self.inside.reserved c.self.invariant.0 c.page_at.result (page_is_there d c.page_at.result c.page_at.ensures.place c.page_at.ensures.map c.page_at.ensures.number))
+      ∙ ap (contents_now (view_of c.self.inside.table c.self.inside.shapes.items c.self.inside.tenants.items c.self.inside.pass)) c.page_at.ensures.place
+      ∙ frame_told c.self.inside.table c.self.inside.shapes.items c.self.inside.tenants.items c.self.inside.pass c.self.inside.reserved c.self.invariant.0 c.in-Some.waiter.place waiter.entry (c.facts.ensures.1).fits waiter.here
+      ∙ ap (page_at c.self.inside.table.arena) waiter.frame
+      ∙ match-bytes c.self.inside.table.arena c.args.fingerprint (bytes d.before) c.in-Some.waiter (found d).passes
+      ∙ bytes_here c.self.inside.table c.self.inside.shapes.items c.self.inside.tenants.items c.self.inside.pass c.self.inside.reserved c.self.invariant.0 c.args.page (there d.before));
+}
 
 pub returns-in-None-clause-found : goal.returns-in-None-clause-found
 returns-in-None-clause-found c =

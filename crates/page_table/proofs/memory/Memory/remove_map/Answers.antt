@@ -9,21 +9,21 @@ use Rattle.page_table.specs.View.{view_of}
 use Rattle.page_table.proofs.Dropping.{Drops, left_outside, pass-outside, index_inside, places_inside, pages_there, few, map_pins, long_new, memory_dropped, drops}
 use Rattle.page_table.proofs.memory.Memory.remove_map.Goals as goal
 
-pub remove_all-requires-clause-inside : goal.remove_all-requires-clause-inside
-remove_all-requires-clause-inside c = rw (c.map_index-index.ensures, c.pages-count.ensures) (places_inside c.self.inside.table c.self.inside.shapes.items c.self.inside.tenants.items c.self.inside.pass c.self.inside.reserved c.args.tenant c.args.map c.args.shape c.args.self.now c.self.view_is c.self.invariant.0 c.requires.tenant c.requires.there)
+pub remove_all-requires : goal.remove_all-requires
+remove_all-requires c =
+    rw (c.map_index-index.ensures, c.pages-count.ensures)
+    record {
+      inside = places_inside c.self.inside.table c.self.inside.shapes.items c.self.inside.tenants.items c.self.inside.pass c.self.inside.reserved c.args.tenant c.args.map c.args.shape c.args.self.now c.self.view_is c.self.invariant.0 c.requires.tenant c.requires.there;
+      there = pages_there c.self.inside.table c.self.inside.shapes.items c.self.inside.tenants.items c.self.inside.pass c.self.inside.reserved c.args.tenant c.args.map c.args.shape c.args.self.now c.self.view_is c.self.invariant.0 c.requires.tenant c.requires.there;
+    }
 
-pub remove_all-requires-clause-there : goal.remove_all-requires-clause-there
-remove_all-requires-clause-there c = rw (c.map_index-index.ensures, c.pages-count.ensures) (pages_there c.self.inside.table c.self.inside.shapes.items c.self.inside.tenants.items c.self.inside.pass c.self.inside.reserved c.args.tenant c.args.map c.args.shape c.args.self.now c.self.view_is c.self.invariant.0 c.requires.tenant c.requires.there)
-
-pub release-requires-clause-map : goal.release-requires-clause-map
-release-requires-clause-map c =
-    let inside = map_pins c.self.inside.table c.self.inside.shapes.items c.self.inside.tenants.items c.self.inside.pass c.self.inside.reserved c.args.tenant c.args.map c.args.shape c.args.self.now c.self.view_is c.self.invariant.0 c.requires.tenant c.requires.there c.self.invariant.1.pins in
-    omega (arith, inside, c.map_index-index.ensures)
-
-pub release-requires-clause-few : goal.release-requires-clause-few
-release-requires-clause-few c =
-    let told = index_inside c.self.inside.table c.self.inside.shapes.items c.self.inside.tenants.items c.self.inside.pass c.self.inside.reserved c.args.tenant c.args.map c.args.shape c.args.self.now c.self.view_is c.self.invariant.0 c.requires.tenant c.requires.there in
-    omega (arith, told, c.map_index-index.ensures, c.self.invariant.0.numbers, c.self.invariant.0.few)
+pub release-requires : goal.release-requires
+release-requires c = record {
+  map = let inside = map_pins c.self.inside.table c.self.inside.shapes.items c.self.inside.tenants.items c.self.inside.pass c.self.inside.reserved c.args.tenant c.args.map c.args.shape c.args.self.now c.self.view_is c.self.invariant.0 c.requires.tenant c.requires.there c.self.invariant.1.pins in
+      omega (arith, inside, c.map_index-index.ensures);
+  few = let told = index_inside c.self.inside.table c.self.inside.shapes.items c.self.inside.tenants.items c.self.inside.pass c.self.inside.reserved c.args.tenant c.args.map c.args.shape c.args.self.now c.self.view_is c.self.invariant.0 c.requires.tenant c.requires.there in
+      omega (arith, told, c.map_index-index.ensures, c.self.invariant.0.numbers, c.self.invariant.0.few);
+}
 
 pub index_mut-requires : goal.index_mut-requires
 index_mut-requires c =
@@ -65,23 +65,15 @@ told c =
     drops c.self.inside.table c.self.inside.shapes.items c.self.inside.tenants.items c.self.inside.pass c.self.inside.reserved c.args.tenant c.args.map c.args.shape c.args.self.now c.self.view_is c.self.invariant.0 c.requires.tenant c.requires.there
     c.remove_all.new.self (contents c) c.remove_all.ensures.used c.remove_all.ensures.arena c.facts.ensures.1.fits c.self.invariant.1.pins c.end_if_done.new.pass (ended c) (gone c)
 
-pub returns-clause-dropped : goal.returns-clause-dropped
-returns-clause-dropped c = rw (← c.self.view_is, c.map_index-index.ensures) (told c).taken
-
-pub returns-clause-other_maps : goal.returns-clause-other_maps
-returns-clause-other_maps c = rw (← c.self.view_is, c.map_index-index.ensures) (told c).other_maps
-
-pub returns-clause-others : goal.returns-clause-others
-returns-clause-others c = rw (← c.self.view_is, c.map_index-index.ensures) (told c).others
-
-pub returns-clause-sharing : goal.returns-clause-sharing
-returns-clause-sharing c = rw (← c.self.view_is, c.map_index-index.ensures) (told c).sharing
-
-pub returns-clause-freed : goal.returns-clause-freed
-returns-clause-freed c = rw (← c.self.view_is, c.map_index-index.ensures) (told c).freed
-
-pub returns-clause-have : goal.returns-clause-have
-returns-clause-have c = rw (← c.self.view_is, c.map_index-index.ensures) (told c).have
-
-pub returns-clause-settings : goal.returns-clause-settings
-returns-clause-settings c = rw (← c.self.view_is, c.map_index-index.ensures) (told c).settings
+pub returns : goal.returns
+returns c =
+    rw (← c.self.view_is, c.map_index-index.ensures)
+    record {
+      dropped = (told c).taken;
+      other_maps = (told c).other_maps;
+      others = (told c).others;
+      sharing = (told c).sharing;
+      freed = (told c).freed;
+      have = (told c).have;
+      settings = (told c).settings;
+    }

@@ -1,15 +1,16 @@
 use Rattle.std.proofs.Common.{◌≡◌, ◌∙◌, ◌≤◌, ◌+◌, ◌&&◌, ℕ, length, sym, ap, arith}
 use Rattle.host_types.specs.Pages.{page_place}
-use Rattle.host_types.specs.Sharing.{state_at, is_shared_page, broken, break_cost}
-use Rattle.page_table.specs.State.{MemoryState, part, have_of}
+use Rattle.host_types.specs.Pins.{broken_by}
+use Rattle.host_types.specs.Sharing.{state_at, is_shared_page, broken, break_cost, Sharing}
+use Rattle.page_table.specs.State.{MemoryState, part}
 use Rattle.page_table.specs.Changes.{IsPageOf}
 use Rattle.page_table.specs.Table.{used_by, break_frames, sharing_of}
 use Rattle.page_table.specs.View.{view_of, IsPass}
-use Rattle.page_table.proofs.Reading.{is_page_at}
-use Rattle.page_table.proofs.Merging.{maps_kept, parts_but, part_pinned, map_small, number_small, settings_kept, memory_kept, free_less, have_less, cost_told, cost_fits, cost_reserved, own_told}
+use Rattle.page_table.proofs.Merging.{parts_but, part_pinned, map_small, number_small, memory_kept, cost_told, cost_fits, cost_reserved, own_told, moves}
 use Rattle.page_table.proofs.Fitting.{entries-long, pinned_if, sharing-taken, pins-taken}
 use Rattle.page_table.proofs.Unpinning.{page-inside, pinned-others}
 use Rattle.page_table.proofs.Waiters.{pass-kept}
+use Rattle.page_table.proofs.Seen.{sees}
 use Rattle.page_table.proofs.Ahead.{ahead-told, stay-broken}
 use Rattle.page_table.proofs.memory.Memory.take_out.Goals as goal
 
@@ -18,32 +19,30 @@ pins-is_pinned-requires c = c.requires.there
 
 pub pin_if-requires : goal.pin_if-requires
 pin_if-requires c =
-    let there : IsPageOf (view_of c.self.inside.table c.self.inside.shapes.items c.self.inside.tenants.items c.self.inside.pass) c.args.page = rw (← c.self.view_is) at c.requires.there in
-    rw c.place_of-place.ensures (page-inside c.self.inside.table c.self.inside.pass c.self.invariant.1.pins _ (is_page_at c.self.inside.table c.self.inside.shapes.items c.self.inside.tenants.items c.self.inside.pass c.self.inside.reserved c.args.page c.self.invariant.0 there))
+    let seen = sees c.self.inside.table c.self.inside.shapes.items c.self.inside.tenants.items c.self.inside.pass c.self.inside.reserved c.self.invariant.0 c.args.self.now c.self.view_is c.args.page c.place_of-place.result c.place_of-place.ensures in
+    page-inside c.self.inside.table c.self.inside.pass c.self.invariant.1.pins _ (seen.there c.requires.there)
 
-pub take_out-requires-clause-there : goal.take_out-requires-clause-there
-take_out-requires-clause-there c =
-    let there : IsPageOf (view_of c.self.inside.table c.self.inside.shapes.items c.self.inside.tenants.items c.self.inside.pass) c.args.page = rw (← c.self.view_is) at c.requires.there in
-    rw c.place_of-place.ensures (is_page_at c.self.inside.table c.self.inside.shapes.items c.self.inside.tenants.items c.self.inside.pass c.self.inside.reserved c.args.page c.self.invariant.0 there)
-
-pub take_out-requires-clause-room : goal.take_out-requires-clause-room
-take_out-requires-clause-room c =
-    rw c.place_of-place.ensures (cost_fits c.self.inside.table c.self.inside.shapes.items c.self.inside.tenants.items c.self.inside.pass c.costs_are_told.ensures c.self.inside.reserved (page_place c.args.page) c.self.invariant.0 (rw (← c.self.view_is) at c.requires.room))
+pub take_out-requires : goal.take_out-requires
+take_out-requires c =
+    let seen = sees c.self.inside.table c.self.inside.shapes.items c.self.inside.tenants.items c.self.inside.pass c.self.inside.reserved c.self.invariant.0 c.args.self.now c.self.view_is c.args.page c.place_of-place.result c.place_of-place.ensures in
+    record {
+      there = seen.there c.requires.there;
+      room = rw c.place_of-place.ensures (cost_fits c.self.inside.table c.self.inside.shapes.items c.self.inside.tenants.items c.self.inside.pass c.costs_are_told.ensures c.self.inside.reserved (page_place c.args.page) c.self.invariant.0 (rw (← c.self.view_is) at c.requires.room));
+    }
 
 abbrev before : goal.After-pin_if → MemoryState
 before c = view_of c.self.inside.table c.self.inside.shapes.items c.self.inside.tenants.items c.self.inside.pass
 
-room : (c : goal.After-pin_if) → break_cost (before c).sharing (page_place c.args.page) ≤ have_of (before c)
-room c = rw (← c.self.view_is) at c.requires.room
+told : (c : goal.After-pin_if) → break_cost c.args.self.now.sharing (page_place c.args.page) ≡ break_frames c.self.inside.table (page_place c.args.page)
+told c = rw (← c.self.view_is) (cost_told c.self.inside.table c.self.inside.shapes.items c.self.inside.tenants.items c.self.inside.pass c.costs_are_told.ensures (page_place c.args.page))
 
-told : (c : goal.After-pin_if) → break_cost (before c).sharing (page_place c.args.page) ≡ break_frames c.self.inside.table (page_place c.args.page)
-told c = cost_told c.self.inside.table c.self.inside.shapes.items c.self.inside.tenants.items c.self.inside.pass c.costs_are_told.ensures (page_place c.args.page)
-
-used : (c : goal.After-pin_if) → used_by c.take_out.new.self ≡ used_by c.self.inside.table + break_cost (before c).sharing (page_place c.args.page)
+used : (c : goal.After-pin_if) → used_by c.take_out.new.self ≡ used_by c.self.inside.table + break_cost c.args.self.now.sharing (page_place c.args.page)
 used c = rw (told c) (rw c.place_of-place.ensures at c.take_out.ensures.used)
 
-fits : (c : goal.After-pin_if) → used_by c.self.inside.table + break_cost (before c).sharing (page_place c.args.page) ≤ length c.self.inside.table.arena
-fits c = rw (told c) (cost_fits c.self.inside.table c.self.inside.shapes.items c.self.inside.tenants.items c.self.inside.pass c.costs_are_told.ensures c.self.inside.reserved (page_place c.args.page) c.self.invariant.0 (room c))
+room : (c : goal.After-pin_if) → c.self.inside.reserved + used_by c.take_out.new.self ≤ length c.self.inside.table.arena
+room c =
+    let reserved = cost_reserved c.self.inside.table c.self.inside.shapes.items c.self.inside.tenants.items c.self.inside.pass c.costs_are_told.ensures c.self.inside.reserved (page_place c.args.page) c.self.invariant.0 (rw (← c.self.view_is) at c.requires.room) in
+    omega (arith, used c, told c, reserved)
 
 pinned : (c : goal.After-pin_if) → c.pin_if.new.self ≡ pinned_if c.pins-is_pinned.result (page_place c.args.page) c.self.inside.pass.pins
 pinned c = c.pin_if.ensures ∙ ap (λ (i : ℕ). pinned_if c.pins-is_pinned.result i c.self.inside.pass.pins) c.place_of-place.ensures
@@ -67,58 +66,41 @@ pass c =
     }
 
 pub invariant_of-self : goal.invariant_of-self
-invariant_of-self c =
-    let reserved = cost_reserved c.self.inside.table c.self.inside.shapes.items c.self.inside.tenants.items c.self.inside.pass c.costs_are_told.ensures c.self.inside.reserved (page_place c.args.page) c.self.invariant.0 (room c) in (
-      memory_kept c.self.inside.table c.take_out.new.self c.self.inside.shapes.items c.self.inside.tenants.items c.self.inside.pass c.self.inside.pass c.take_out.ensures.contents c.take_out.ensures.arena
-          c.self.inside.reserved c.self.invariant.0 (omega (arith, used c, told c, reserved)),
-      pass c,
-      ahead-told c.self.inside.table c.take_out.new.self c.self.inside.pass _ c.self.inside.pass.cursor (c.take_out.ensures.sharing c.self.inside.pass) (stay-broken (sharing_of c.self.inside.table c.self.inside.pass) _) c.self.invariant.2,
-    )
+invariant_of-self c = (
+  memory_kept c.self.inside.table c.take_out.new.self c.self.inside.shapes.items c.self.inside.tenants.items c.self.inside.pass c.self.inside.pass c.take_out.ensures.contents c.take_out.ensures.arena
+      c.self.inside.reserved c.self.invariant.0 (room c),
+  pass c,
+  ahead-told c.self.inside.table c.take_out.new.self c.self.inside.pass _ c.self.inside.pass.cursor (c.take_out.ensures.sharing c.self.inside.pass)
+      (stay-broken (sharing_of c.self.inside.table c.self.inside.pass) _) c.self.invariant.2,
+)
 
-pub returns-clause-maps : goal.returns-clause-maps
-returns-clause-maps c =
-    rw (← c.self.view_is) (maps_kept c.self.inside.table c.take_out.new.self c.self.inside.shapes.items c.self.inside.tenants.items c.self.inside.pass _ c.take_out.ensures.contents c.take_out.ensures.arena)
-
-pub returns-clause-part : goal.returns-clause-part
-returns-clause-part c =
-    rw (← c.self.view_is) (part_pinned c.self.inside.table c.take_out.new.self c.self.inside.shapes.items c.self.inside.tenants.items c.self.inside.pass (record c.self.inside.pass { pins = c.pin_if.new.self }) c.take_out.ensures.contents c.take_out.ensures.arena c.args.page.tenant)
-
-pub returns-clause-others : goal.returns-clause-others
-returns-clause-others c =
-    let there : IsPageOf (before c) c.args.page = rw (← c.self.view_is) at c.requires.there in
-    rw (← c.self.view_is)
-    (parts_but c.self.inside.table c.take_out.new.self c.self.inside.shapes.items c.self.inside.tenants.items c.self.inside.pass (record c.self.inside.pass { pins = c.pin_if.new.self }) c.take_out.ensures.contents c.take_out.ensures.arena c.args.page.tenant
-    (λ u ne. rw (pinned c)
-    (pinned-others c.self.inside.pass.pins c.pins-is_pinned.result c.args.page.tenant c.args.page.map c.args.page.number u
-    (map_small c.self.inside.table c.self.inside.shapes.items c.self.inside.tenants.items c.self.inside.pass c.self.inside.reserved c.self.invariant.0 c.args.page there) (number_small c.self.inside.table c.self.inside.shapes.items c.self.inside.tenants.items c.self.inside.pass c.self.inside.reserved c.self.invariant.0 c.args.page there) ne)))
-
-pub returns-clause-sharing : goal.returns-clause-sharing
+frames : (c : goal.After-pin_if) → break_cost c.args.self.now.sharing (page_place c.args.page) ≡ 0
+    → (view_of c.take_out.new.self c.self.inside.shapes.items c.self.inside.tenants.items (record c.self.inside.pass { pins = c.pin_if.new.self })).frames ≡ c.args.self.now.frames
 unfolding view_of
-returns-clause-sharing c =
-    rw (← c.self.view_is, pinned c)
-    (sharing-taken c.self.inside.table c.take_out.new.self c.self.inside.pass (page_place c.args.page) (part (before c) c.args.page.tenant).running c.pins-is_pinned.result (pins c) (taken c))
+frames c none = rw (← c.self.view_is) ((rw c.place_of-place.ensures at c.take_out.ensures.frames) (sym (told c) ∙ none))
 
-pub returns-clause-own : goal.returns-clause-own
-returns-clause-own c =
-    own_told c.take_out.new.self c.self.inside.shapes.items c.self.inside.tenants.items (record c.self.inside.pass { pins = c.pin_if.new.self }) c.args.page (rw c.place_of-place.ensures at c.take_out.ensures.own)
-
-pub returns-clause-free : goal.returns-clause-free
-returns-clause-free c =
-    rw (← c.self.view_is) (free_less c.self.inside.table c.take_out.new.self c.self.inside.shapes.items c.self.inside.tenants.items c.self.inside.pass _ c.take_out.ensures.contents c.take_out.ensures.arena
-    (break_cost (before c).sharing (page_place c.args.page)) (used c) (fits c))
-
-pub returns-clause-have : goal.returns-clause-have
-returns-clause-have c =
-    rw (← c.self.view_is) (have_less c.self.inside.table c.take_out.new.self c.self.inside.shapes.items c.self.inside.tenants.items c.self.inside.pass _ c.take_out.ensures.contents c.take_out.ensures.arena
-    (break_cost (before c).sharing (page_place c.args.page)) (used c) (fits c) (room c))
-
-pub returns-clause-settings : goal.returns-clause-settings
-returns-clause-settings c =
-    rw (← c.self.view_is) (settings_kept c.self.inside.table c.take_out.new.self c.self.inside.shapes.items c.self.inside.tenants.items c.self.inside.pass _ c.take_out.ensures.contents c.take_out.ensures.arena)
-
-pub returns-clause-frames : goal.returns-clause-frames
-unfolding view_of
-returns-clause-frames c none =
-    let stays = rw c.place_of-place.ensures at c.take_out.ensures.frames in
-    let free : break_cost (before c).sharing (page_place c.args.page) ≡ 0 = rw (← c.self.view_is) at none in
-    rw (← c.self.view_is) (stays (sym (told c) ∙ free))
+pub returns : goal.returns
+returns c =
+    let moved = moves c.self.inside.table c.take_out.new.self c.self.inside.shapes.items c.self.inside.tenants.items c.self.inside.pass
+    (record c.self.inside.pass { pins = c.pin_if.new.self }) c.take_out.ensures.contents c.take_out.ensures.arena c.args.self.now c.self.view_is
+    (break_cost c.args.self.now.sharing (page_place c.args.page)) 0 c.self.inside.reserved c.self.invariant.0 (room c) (omega (arith, used c)) in
+    record {
+      frames = frames c;
+      maps = moved.maps;
+      part = rw (← c.self.view_is)
+          (part_pinned c.self.inside.table c.take_out.new.self c.self.inside.shapes.items c.self.inside.tenants.items c.self.inside.pass (record c.self.inside.pass { pins = c.pin_if.new.self }) c.take_out.ensures.contents c.take_out.ensures.arena c.args.page.tenant);
+      others =
+          let there : IsPageOf (before c) c.args.page = rw (← c.self.view_is) at c.requires.there in
+          rw (← c.self.view_is)
+          (parts_but c.self.inside.table c.take_out.new.self c.self.inside.shapes.items c.self.inside.tenants.items c.self.inside.pass (record c.self.inside.pass { pins = c.pin_if.new.self }) c.take_out.ensures.contents c.take_out.ensures.arena c.args.page.tenant
+          (λ u ne. rw (pinned c)
+          (pinned-others c.self.inside.pass.pins c.pins-is_pinned.result c.args.page.tenant c.args.page.map c.args.page.number u
+          (map_small c.self.inside.table c.self.inside.shapes.items c.self.inside.tenants.items c.self.inside.pass c.self.inside.reserved c.self.invariant.0 c.args.page there) (number_small c.self.inside.table c.self.inside.shapes.items c.self.inside.tenants.items c.self.inside.pass c.self.inside.reserved c.self.invariant.0 c.args.page there) ne)));
+      sharing = moved.sharing (λ (s : Sharing). broken_by (part c.args.self.now c.args.page.tenant).running s (page_place c.args.page))
+          (rw (← c.self.view_is, pinned c)
+          (sharing-taken c.self.inside.table c.take_out.new.self c.self.inside.pass (page_place c.args.page) (part (before c) c.args.page.tenant).running c.pins-is_pinned.result (pins c) (taken c)));
+      own = own_told c.take_out.new.self c.self.inside.shapes.items c.self.inside.tenants.items (record c.self.inside.pass { pins = c.pin_if.new.self }) c.args.page (rw c.place_of-place.ensures at c.take_out.ensures.own);
+      free = omega (arith, moved.free);
+      have = omega (arith, moved.have);
+      settings = moved.settings;
+    }

@@ -4,12 +4,10 @@ use Rattle.page_table.proofs.Creating.{length-states}
 use Rattle.page_table.proofs.Unmerging.{all_cost}
 use Rattle.page_table.proofs.memory.Memory.unmerge_need.Goals as goal
 
-pub returns-clause-need : goal.returns-clause-need
+pub returns : goal.returns
 unfolding view_of
-returns-clause-need c = rw (← c.self.view_is) (c.unmerge_need.ensures c.self.inside.pass)
-
-pub returns-clause-breaks : goal.returns-clause-breaks
-unfolding view_of
-returns-clause-breaks c =
-    rw (← c.self.view_is)
-    (c.unmerge_need.ensures c.self.inside.pass ∙ sym (all_cost c.self.inside.table c.facts.ensures.1.fits c.self.inside.pass _ (length-states c.self.inside.table.entries)))
+returns c = record {
+  need = rw (← c.self.view_is) (c.unmerge_need.ensures c.self.inside.pass);
+  breaks = rw (← c.self.view_is)
+      (c.unmerge_need.ensures c.self.inside.pass ∙ sym (all_cost c.self.inside.table c.facts.ensures.1.fits c.self.inside.pass _ (length-states c.self.inside.table.entries)));
+}

@@ -6,15 +6,13 @@ use Rattle.page_table.proofs.order.GroupOrder.remove.Goals as goal
 pub index-slot-requires : goal.index-slot-requires
 index-slot-requires c =
     let there : 1 ≤ times c.args.frame (groups_in c.self.inside.slots.items) = rw (← c.self.view_is) at c.requires in
-    let inside = (noted c.self.inside.slots.items c.self.inside.slot_of.items c.self.invariant.0 c.args.frame there).0 in
-    omega (arith, inside)
+    omega (arith, (noted c.self.inside.slots.items c.self.inside.slot_of.items c.self.invariant.0 c.args.frame there).0)
 
 pub index_mut-requires : goal.index_mut-requires
 index_mut-requires c =
     let there : 1 ≤ times c.args.frame (groups_in c.self.inside.slots.items) = rw (← c.self.view_is) at c.requires in
     let told = noted c.self.inside.slots.items c.self.inside.slot_of.items c.self.invariant.0 c.args.frame there in
-    let slot = read-told c.self.inside.slot_of.items c.args.frame c.index-slot.result.now told.0 c.index-slot.ensures in
-    omega (arith, slot, told.1)
+    omega (arith, read-told c.self.inside.slot_of.items c.args.frame c.index-slot.result.now told.0 c.index-slot.ensures, told.1)
 
 pub returns : goal.returns
 returns c =

@@ -15,9 +15,8 @@ overflow_add-first c = omega (arith, c.requires.few, c.loop-number-test.true)
 pub release-requires-clause-map : goal.release-requires-clause-map
 release-requires-clause-map c =
     let filled = length-replicate (c.loop-number.number * 256) false in
-    let same = ap (λ (l : List Bool). length l) c.loop-number.invariant in
     let long = length-with_part c.args.self.now (c.args.first * 256) (replicate (c.loop-number.number * 256) false) (omega (arith, filled, c.requires.maps, c.loop-number-test.true)) in
-    omega (arith, same, long, c.requires.maps, c.loop-number-test.true)
+    omega (arith, ap (λ (l : List Bool). length l) c.loop-number.invariant, long, c.requires.maps, c.loop-number-test.true)
 
 pub loop-number-preserved : goal.loop-number-preserved
 loop-number-preserved c =

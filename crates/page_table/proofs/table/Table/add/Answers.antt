@@ -1,4 +1,4 @@
-use Rattle.std.proofs.Common.{◌≡◌, ◌<◌, length, slice_index_or, [], None, length-set}
+use Rattle.std.proofs.Common.{◌≡◌, ◌<◌, length, slice_index_or, [], None, length-set, rules}
 use Rattle.host_types.specs.Pages.{zero_page}
 use Rattle.page_table.specs.Table.{TableState, contents_of, entry_at}
 use Rattle.page_table.proofs.Adding.{IsUnused, unused-frame, sound-added, contents-added, states-added, groups-added, used-added}
@@ -29,17 +29,13 @@ invariant_of-self c = (
   rw c.clear.ensures (tree-set c.self.inside.arena c.self.inside.groups.listed c.self.inside.tree c.take-frame.result zero_page c.self.invariant.2 (unused c).no_group),
 )
 
-pub returns-clause-contents : goal.returns-clause-contents
-returns-clause-contents c = rw (c.set.ensures, c.clear.ensures, ← c.self.view_is) (contents-added (table c) c.args.place c.take-frame.result c.args.mergeable c.self.invariant.0.fits (unused c) (there c) (empty c))
-
-pub returns-clause-states : goal.returns-clause-states
-returns-clause-states c = rw (c.set.ensures, ← c.self.view_is) (states-added (table c) c.args.place c.take-frame.result c.args.mergeable c.self.invariant.0.fits (unused c) (there c) (empty c))
-
-pub returns-clause-groups : goal.returns-clause-groups
-returns-clause-groups c = rw (c.set.ensures, c.clear.ensures, ← c.self.view_is) (groups-added (table c) c.args.place c.take-frame.result c.args.mergeable c.self.invariant.0.fits (unused c) (there c) (empty c))
-
-pub returns-clause-used : goal.returns-clause-used
-returns-clause-used c = rw (c.set.ensures, ← c.self.view_is) (used-added (table c) c.args.place c.take-frame.result c.args.mergeable c.self.invariant.0.fits (unused c) (there c) (empty c))
-
-pub returns-clause-kept : goal.returns-clause-kept
-returns-clause-kept c = rw (c.set.ensures, ← c.self.view_is) (kept-empty (table c).entries c.args.place _ (empty c))
+pub returns : goal.returns
+returns c = record {
+  contents = rw (c.set.ensures, c.clear.ensures, ← c.self.view_is) (contents-added (table c) c.args.place c.take-frame.result c.args.mergeable c.self.invariant.0.fits (unused c) (there c) (empty c));
+  states = rw (c.set.ensures, ← c.self.view_is) (states-added (table c) c.args.place c.take-frame.result c.args.mergeable c.self.invariant.0.fits (unused c) (there c) (empty c));
+  groups = rw (c.set.ensures, c.clear.ensures, ← c.self.view_is) (groups-added (table c) c.args.place c.take-frame.result c.args.mergeable c.self.invariant.0.fits (unused c) (there c) (empty c));
+  used = rw (c.set.ensures, ← c.self.view_is) (used-added (table c) c.args.place c.take-frame.result c.args.mergeable c.self.invariant.0.fits (unused c) (there c) (empty c));
+  arena = search rules;
+  entries = search rules;
+  kept = rw (c.set.ensures, ← c.self.view_is) (kept-empty (table c).entries c.args.place _ (empty c));
+}

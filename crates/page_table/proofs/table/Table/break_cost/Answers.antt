@@ -1,28 +1,22 @@
 use Rattle.std.proofs.Common.{◌≡◌, ◌∙◌, Some, ⊎_elim, sym, arith}
-use Rattle.page_table.specs.Table.{TableState, IsPageAt, entry_at}
+use Rattle.page_table.specs.Table.{TableState, entry_at}
+use Rattle.page_table.proofs.Changing.{entry_fits}
 use Rattle.page_table.proofs.Costs.{cost-own, cost-counted}
-use Rattle.page_table.proofs.Putting.{entry_fits, page_inside, page_there}
+use Rattle.page_table.proofs.Putting.{place_of_page, entry_of_page}
 use Rattle.page_table.proofs.table.Table.break_cost.Goals as goal
 use Rattle.page_table.proofs.table.Table.break_cost.Goals.{then-entry, else-entry}
 
 pub get-requires : goal.get-requires
-get-requires c =
-    let there : IsPageAt (record { arena = c.self.inside.arena; entries = c.self.inside.entries; groups = c.self.inside.groups.listed }) c.args.place = rw (← c.self.view_is) at c.requires in
-    let inside = page_inside _ c.args.place there in omega (arith, inside)
+get-requires c = omega (arith, place_of_page _ c.args.self.now c.self.view_is c.args.place c.requires)
 
 pub unreachable-requires : goal.unreachable-requires
-unreachable-requires c =
-    let there : IsPageAt (record { arena = c.self.inside.arena; entries = c.self.inside.entries; groups = c.self.inside.groups.listed }) c.args.place = rw (← c.self.view_is) at c.requires in
-    page_there _ c.args.place there
-    (sym c.get.ensures ∙ c.in_default.is)
+unreachable-requires c = entry_of_page _ c.args.self.now c.self.view_is c.args.place c.requires c.get.result c.get.ensures c.in_default.is
 
 abbrev table : goal.Then-entry → TableState
 table c = record { arena = c.self.inside.arena; entries = c.self.inside.entries; groups = c.self.inside.groups.listed }
 
 here : (c : goal.Then-entry) → entry_at (table c).entries c.args.place ≡ Some c.in-Some.entry
-here c =
-    let there : IsPageAt (table c) c.args.place = rw (← c.self.view_is) at c.requires in
-    sym c.get.ensures ∙ c.in-Some.is
+here c = sym c.get.ensures ∙ c.in-Some.is
 
 pub count-requires : goal.count-requires
 count-requires c =
@@ -32,7 +26,6 @@ count-requires c =
 pub returns : goal.returns
 returns c =
     let whole : TableState = record { arena = c.self.inside.arena; entries = c.self.inside.entries; groups = c.self.inside.groups.listed } in
-    let there : IsPageAt whole c.args.place = rw (← c.self.view_is) at c.requires in
     let here = sym c.get.ensures ∙ c.in-Some.is in
     rw (← c.self.view_is) (elim c.if-entry.branch [
       | then-entry w ↦ ⊎_elim

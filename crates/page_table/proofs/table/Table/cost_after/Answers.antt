@@ -1,19 +1,11 @@
-use Rattle.std.proofs.Common.{◌≡◌, ◌∙◌, ◌+◌, ◌-◌, ◌<◌, nat_lt, not, Bool, true, false, if◌then◌else◌, length, ℕ, Some, refl, sym, ap, arith}
+use Rattle.std.proofs.Common.{◌≡◌, ◌∙◌, ◌+◌, ◌-◌, ◌<◌, nat_lt, Bool, true, false, if◌then◌else◌, length, ℕ, Some, refl, sym, ap, arith}
 use mir.Val.{bool_byte}
 use Rattle.host_types.specs.Bytes.{part_of}
 use Rattle.page_table.specs.Table.{TableState, entry_at, pages_on}
-use Rattle.page_table.proofs.Putting.{entry_fits}
+use Rattle.page_table.proofs.Changing.{entry_fits}
 use Rattle.page_table.proofs.Breaks.{cost-after, cost-after-own, cost-after-none, count-part, entry-behind, pages-before}
 use Rattle.page_table.proofs.table.Table.cost_after.Goals as goal
 use Rattle.page_table.proofs.table.Table.cost_after.Goals.{In-Some}
-
-when-not : (b : Bool) → not b ≡ true → b ≡ false
-when-not true e = cc
-when-not false e = refl
-
-when-not-not : (b : Bool) → not b ≡ false → b ≡ true
-when-not-not true e = refl
-when-not-not false e = cc
 
 as-number : (b : Bool) → bool_byte b ≡ (if b then 1 else 0)
 as-number true = refl
@@ -44,7 +36,7 @@ before c =
 pub returns-then-not-entry-clause-cost : goal.returns-then-not-entry-clause-cost
 returns-then-not-entry-clause-cost c =
     rw (← c.self.view_is) (λ pass. sym (cost-after-own (table (goal.at.returns-then-not-entry-clause-cost c).In-Some) pass c.args.first c.args.number c.in-Some.entry c.self.invariant.0.fits (here (goal.at.returns-then-not-entry-clause-cost c).In-Some)
-    (when-not c.in-Some.entry.protected c.if-not-entry.true)))
+    (grind (arith, c.if-not-entry.true))))
 
 pub count-requires : goal.count-requires
 count-requires c =
@@ -64,4 +56,4 @@ returns-clause-cost c =
     ∙ as-number (nat_lt 1 (c.count.result - c.count_on.result))
     ∙ ap (λ (n : ℕ). if nat_lt 1 n then 1 else 0) left
     ∙ sym (cost-after (table (goal.at.returns-clause-cost c).In-Some) c.self.inside.counts pass c.args.first c.args.number c.in-Some.entry c.self.invariant.0 (inside (goal.at.returns-clause-cost c).In-Some) (here (goal.at.returns-clause-cost c).In-Some)
-    (when-not-not c.in-Some.entry.protected c.if-not-entry.false)))
+    (grind (arith, c.if-not-entry.false))))

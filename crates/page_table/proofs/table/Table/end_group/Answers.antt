@@ -1,4 +1,5 @@
-use Rattle.std.proofs.Common.{◌≡◌, ◌+◌, Some, ap, arith}
+use Rattle.std.proofs.Common.{◌≡◌, ◌+◌, Some, ap, arith, rules}
+use Rattle.std.proofs.lemmas.Grind.{common_steps}
 use Rattle.frame_arena.specs.Counted.{CountedPages}
 use Rattle.page_table.specs.Table.{TableState, GroupsState, entry_at, pages_on, one_if_zero}
 use Rattle.page_table.proofs.Ending.{but, one_group, contents-ended, sharing-ended, used-ended, sound-ended}
@@ -28,24 +29,6 @@ invariant_of-self c = (
       (tree-removed c.self.inside.arena c.self.inside.groups.listed c.self.inside.tree c.remove-2.new.self c.args.entry.frame c.self.invariant.2 (rw (ap (λ (counted : CountedPages). counted.pages) c.new.ensures) at c.remove-2.ensures.sorted) c.remove-2.ensures.room c.remove-2.ensures.removed),
 )
 
-pub returns-clause-contents : goal.returns-clause-contents
-returns-clause-contents c =
-    rw (c.set.ensures, left c, ← c.self.view_is)
-    (contents-ended (table c) c.args.place c.args.entry c.broken.result c.self.invariant.0.fits (here c) c.requires.shared (last c) c.broken.ensures.state c.broken.ensures.frame)
-
-pub returns-clause-sharing : goal.returns-clause-sharing
-returns-clause-sharing c pass =
-    rw (c.set.ensures, left c, ← c.self.view_is)
-    (sharing-ended (table c) c.args.place c.args.entry c.broken.result c.self.invariant.0.fits (here c) c.requires.shared (last c) c.broken.ensures.state c.broken.ensures.frame pass)
-
-pub returns-clause-used : goal.returns-clause-used
-returns-clause-used c =
-    rw (c.set.ensures, left c, ← c.self.view_is)
-    (used-ended (table c) c.args.place c.args.entry c.broken.result c.self.invariant.0.fits (here c) c.requires.shared (last c) c.broken.ensures.state c.broken.ensures.frame)
-
-pub returns-clause-kept : goal.returns-clause-kept
-returns-clause-kept c = rw (c.set.ensures, ← c.self.view_is) (kept-shared (table c).entries c.args.place c.args.entry _ (here c) c.requires.shared)
-
 pub remove-requires : goal.remove-requires
 remove-requires c =
     let before : TableState = record { arena = c.self.inside.arena; entries = c.self.inside.entries; groups = c.self.inside.groups.listed } in
@@ -54,5 +37,16 @@ remove-requires c =
     let one = one_group before c.args.place c.args.entry c.broken.result c.self.invariant.0.fits there c.requires.shared last c.broken.ensures.state c.broken.ensures.frame in
     omega (arith, one)
 
-pub returns-clause-frames : goal.returns-clause-frames
-returns-clause-frames c = rw (c.set.ensures, ← c.self.view_is) (frames-kept (table c).entries c.args.place c.args.entry c.broken.result (here c) c.broken.ensures.frame)
+pub returns : goal.returns
+returns c = record {
+  frames = rw (c.set.ensures, ← c.self.view_is) (frames-kept (table c).entries c.args.place c.args.entry c.broken.result (here c) c.broken.ensures.frame);
+  contents = rw (c.set.ensures, left c, ← c.self.view_is)
+      (contents-ended (table c) c.args.place c.args.entry c.broken.result c.self.invariant.0.fits (here c) c.requires.shared (last c) c.broken.ensures.state c.broken.ensures.frame);
+  sharing = λ pass. rw (c.set.ensures, left c, ← c.self.view_is)
+      (sharing-ended (table c) c.args.place c.args.entry c.broken.result c.self.invariant.0.fits (here c) c.requires.shared (last c) c.broken.ensures.state c.broken.ensures.frame pass);
+  own = grind (arith, common_steps);
+  kept = rw (c.set.ensures, ← c.self.view_is) (kept-shared (table c).entries c.args.place c.args.entry _ (here c) c.requires.shared);
+  used = rw (c.set.ensures, left c, ← c.self.view_is)
+      (used-ended (table c) c.args.place c.args.entry c.broken.result c.self.invariant.0.fits (here c) c.requires.shared (last c) c.broken.ensures.state c.broken.ensures.frame);
+  arena = search rules;
+}

@@ -1,8 +1,8 @@
 use Rattle.std.proofs.Common.{◌∙◌, sym, ap, option_map}
 use Rattle.host_types.specs.Sharing.{is_shared_page}
 use Rattle.page_table.specs.Table.{state_of}
+use Rattle.page_table.proofs.Changing.{entry_fits}
 use Rattle.page_table.proofs.Costs.{state-at}
-use Rattle.page_table.proofs.Putting.{entry_fits}
 use Rattle.page_table.proofs.table.Table.is_shared.Goals as goal
 
 pub returns : goal.returns

@@ -1,21 +1,22 @@
+use Rattle.std.proofs.Common.{rules}
 use Rattle.page_table.specs.Table.{TableState}
-use Rattle.page_table.proofs.Moving.{IsMove, few, contents-moved, used-moved, sound-moved}
-use Rattle.page_table.proofs.Pairing.{IsGroupEntry}
+use Rattle.host_types.specs.declared.status.Status.TheVariants.{Grouped}
+use Rattle.page_table.proofs.Moving.{IsMove, few, contents-moved, used-moved, sound-moved, IsMerged}
 use Rattle.page_table.proofs.Joining.{move-joined, groups-joined, states-joined}
 use Rattle.page_table.proofs.table.Table.join.Goals as goal
 
 pub share-requires-clause-few : goal.share-requires-clause-few
 share-requires-clause-few c =
     let table : TableState = record { arena = c.self.inside.arena; entries = c.self.inside.entries; groups = c.self.inside.groups.listed } in
-    let to : IsGroupEntry c.page-entry.result c.merged.result c.args.frame = record { state = c.merged.ensures.state; frame = c.merged.ensures.frame; status = c.merged.ensures.status; protected = c.merged.ensures.protected } in
+    let to : IsMerged c.page-entry.result c.merged.result c.args.frame Grouped = record { state = c.merged.ensures.state; frame = c.merged.ensures.frame; status_is = c.merged.ensures.status; protected = c.merged.ensures.protected } in
     let move = move-joined table c.args.self.now c.args.place c.page-entry.result c.merged.result c.args.frame c.self.view_is c.self.invariant.0.fits c.page-entry.ensures c.requires.own c.requires.group c.requires.same to in
     rw c.merged.ensures.frame at (few table c.args.place c.page-entry.result c.merged.result move c.self.inside.counts c.self.invariant.0.counted)
 
 abbrev table : goal.After-release → TableState
 table c = record { arena = c.self.inside.arena; entries = c.self.inside.entries; groups = c.self.inside.groups.listed }
 
-to : (c : goal.After-release) → IsGroupEntry c.page-entry.result c.merged.result c.args.frame
-to c = record { state = c.merged.ensures.state; frame = c.merged.ensures.frame; status = c.merged.ensures.status; protected = c.merged.ensures.protected }
+to : (c : goal.After-release) → IsMerged c.page-entry.result c.merged.result c.args.frame Grouped
+to c = record { state = c.merged.ensures.state; frame = c.merged.ensures.frame; status_is = c.merged.ensures.status; protected = c.merged.ensures.protected }
 
 move : (c : goal.After-release) → IsMove (table c) c.args.place c.page-entry.result c.merged.result
 move c =
@@ -29,14 +30,12 @@ invariant_of-self c = (
   c.self.invariant.2,
 )
 
-pub returns-clause-contents : goal.returns-clause-contents
-returns-clause-contents c = rw (c.set.ensures, ← c.self.view_is) (contents-moved (table c) c.args.place c.page-entry.result c.merged.result (move c))
-
-pub returns-clause-states : goal.returns-clause-states
-returns-clause-states c = rw (c.set.ensures, ← c.self.view_is) (states-joined (table c) c.args.place c.page-entry.result c.merged.result c.args.frame (move c) (to c))
-
-pub returns-clause-groups : goal.returns-clause-groups
-returns-clause-groups c = rw (c.set.ensures, ← c.self.view_is) (groups-joined (table c) c.args.place c.page-entry.result c.merged.result c.args.frame (move c) (to c))
-
-pub returns-clause-used : goal.returns-clause-used
-returns-clause-used c = rw (c.set.ensures, ← c.self.view_is) (used-moved (table c) c.args.place c.page-entry.result c.merged.result (move c))
+pub returns : goal.returns
+returns c = record {
+  contents = rw (c.set.ensures, ← c.self.view_is) (contents-moved (table c) c.args.place c.page-entry.result c.merged.result (move c));
+  states = rw (c.set.ensures, ← c.self.view_is) (states-joined (table c) c.args.place c.page-entry.result c.merged.result c.args.frame (move c) (to c));
+  groups = rw (c.set.ensures, ← c.self.view_is) (groups-joined (table c) c.args.place c.page-entry.result c.merged.result c.args.frame (move c) (to c));
+  used = rw (c.set.ensures, ← c.self.view_is) (used-moved (table c) c.args.place c.page-entry.result c.merged.result (move c));
+  arena = search rules;
+  others = search rules;
+}

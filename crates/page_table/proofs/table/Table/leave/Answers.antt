@@ -1,4 +1,5 @@
-use Rattle.std.proofs.Common.{◌≡◌, ◌<◌, ◌+◌, Some, length-set}
+use Rattle.std.proofs.Common.{◌≡◌, ◌<◌, ◌+◌, Some, length-set, rules, arith}
+use Rattle.std.proofs.lemmas.Grind.{common_steps}
 use Rattle.frame_arena.specs.Pages.{page_at}
 use Rattle.page_table.specs.Table.{TableState, entry_at, one_if_zero, pages_on}
 use Rattle.page_table.proofs.Adding.{IsUnused, unused-frame}
@@ -29,20 +30,15 @@ invariant_of-self c = (
       (tree-set c.self.inside.arena c.self.inside.groups.listed c.self.inside.tree c.broken.result.frame (page_at c.self.inside.arena c.args.entry.frame) c.self.invariant.2 (unused c).no_group),
 )
 
-pub returns-clause-contents : goal.returns-clause-contents
-returns-clause-contents c =
-    rw (c.set.ensures, c.copy.ensures, ← c.broken.ensures.frame, ← c.self.view_is)
-    (contents-left (table c) c.args.place c.args.entry c.broken.result c.self.invariant.0.fits (unused c) (here c) c.requires.shared (company c) c.broken.ensures.state c.broken.ensures.own)
-
-pub returns-clause-sharing : goal.returns-clause-sharing
-returns-clause-sharing c =
-    rw (c.set.ensures, c.copy.ensures, ← c.broken.ensures.frame, ← c.self.view_is)
-    (sharing-left (table c) c.args.place c.args.entry c.broken.result c.self.invariant.0.fits (unused c) (here c) c.requires.shared (company c) c.broken.ensures.state c.broken.ensures.own)
-
-pub returns-clause-used : goal.returns-clause-used
-returns-clause-used c =
-    rw (c.set.ensures, ← c.self.view_is)
-    (used-left (table c) c.args.place c.args.entry c.broken.result c.self.invariant.0.fits (unused c) (here c) c.requires.shared (company c) c.broken.ensures.state c.broken.ensures.own)
-
-pub returns-clause-kept : goal.returns-clause-kept
-returns-clause-kept c = rw (c.set.ensures, ← c.self.view_is) (kept-shared (table c).entries c.args.place c.args.entry _ (here c) c.requires.shared)
+pub returns : goal.returns
+returns c = record {
+  contents = rw (c.set.ensures, c.copy.ensures, ← c.broken.ensures.frame, ← c.self.view_is)
+      (contents-left (table c) c.args.place c.args.entry c.broken.result c.self.invariant.0.fits (unused c) (here c) c.requires.shared (company c) c.broken.ensures.state c.broken.ensures.own);
+  sharing = rw (c.set.ensures, c.copy.ensures, ← c.broken.ensures.frame, ← c.self.view_is)
+      (sharing-left (table c) c.args.place c.args.entry c.broken.result c.self.invariant.0.fits (unused c) (here c) c.requires.shared (company c) c.broken.ensures.state c.broken.ensures.own);
+  own = grind (arith, common_steps);
+  kept = rw (c.set.ensures, ← c.self.view_is) (kept-shared (table c).entries c.args.place c.args.entry _ (here c) c.requires.shared);
+  used = rw (c.set.ensures, ← c.self.view_is)
+      (used-left (table c) c.args.place c.args.entry c.broken.result c.self.invariant.0.fits (unused c) (here c) c.requires.shared (company c) c.broken.ensures.state c.broken.ensures.own);
+  arena = search rules;
+}

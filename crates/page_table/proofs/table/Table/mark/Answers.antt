@@ -1,3 +1,5 @@
+use Rattle.std.proofs.lemmas.Grind.{common_steps}
+use Rattle.std.proofs.Common.{rules, arith}
 use Rattle.page_table.specs.Table.{TableState}
 use Rattle.page_table.proofs.Marking.{IsMarking, marking-from, contents-marked, sharing-marked, used-marked, sound-marked}
 use Rattle.page_table.proofs.table.Table.mark.Goals as goal
@@ -16,11 +18,12 @@ invariant_of-self c = (
   c.self.invariant.2,
 )
 
-pub returns-clause-contents : goal.returns-clause-contents
-returns-clause-contents c = rw (c.set.ensures, ← c.self.view_is) (contents-marked (table c) c.args.place c.page-entry.result c.args.status c.args.last (marking c))
-
-pub returns-clause-sharing : goal.returns-clause-sharing
-returns-clause-sharing c pass = rw (c.set.ensures, ← c.self.view_is) (sharing-marked (table c) c.args.place c.page-entry.result c.args.status c.args.last (marking c) pass)
-
-pub returns-clause-used : goal.returns-clause-used
-returns-clause-used c = rw (c.set.ensures, ← c.self.view_is) (used-marked (table c) c.args.place c.page-entry.result c.args.status c.args.last (marking c))
+pub returns : goal.returns
+returns c = record {
+  contents = rw (c.set.ensures, ← c.self.view_is) (contents-marked (table c) c.args.place c.page-entry.result c.args.status c.args.last (marking c));
+  sharing = λ pass. rw (c.set.ensures, ← c.self.view_is) (sharing-marked (table c) c.args.place c.page-entry.result c.args.status c.args.last (marking c) pass);
+  used = rw (c.set.ensures, ← c.self.view_is) (used-marked (table c) c.args.place c.page-entry.result c.args.status c.args.last (marking c));
+  arena = search rules;
+  others = search rules;
+  here = grind (arith, common_steps);
+}

@@ -1,43 +1,28 @@
-use Rattle.std.proofs.Common.{◌≡◌, ◌∙◌, ◌∷◌, ◌++◌, [], false, ℕ, slice_set, Option, Some, None, IfSome, sym, ap, subst, ◌<◌, length, arith}
-use Rattle.host_types.specs.Sharing.{is_shared}
-use Rattle.frame_arena.specs.Counted.{CountedPages}
-use Rattle.page_table.specs.declared.entry.Entry.{Entry}
-use Rattle.page_table.specs.Table.{TableState, GroupsState, IsAlone, IsOwnAt, entry_at}
-use Rattle.page_table.proofs.Pairing.{IsPairing, IsGroupEntry, pairing-from, contents-pair, used-pair, sound-pair, sharing-pair}
+use Rattle.std.proofs.Common.{◌≡◌, ◌∙◌, ◌∷◌, ◌++◌, [], ℕ, slice_set, Some, None, sym, ap, arith, rules}
 use Rattle.std.proofs.lemmas.List.{get_or-set_other}
-use Rattle.page_table.proofs.Putting.{is_alone, entry_fits}
+use Rattle.frame_arena.specs.Counted.{CountedPages}
+use Rattle.page_table.specs.Table.{TableState, GroupsState, IsAlone}
+use Rattle.page_table.proofs.Changing.{entry_fits, own_seen, own_alone, IsOwnEntry}
+use Rattle.page_table.proofs.Pairing.{IsPairing, IsGroupEntry, pairing-from, contents-pair, used-pair, sound-pair, sharing-pair}
 use Rattle.page_table.proofs.Trees.{tree-absent, tree-room, tree-pushed}
 use Rattle.page_table.proofs.table.Table.pair.Goals as goal
 use Rattle.page_table.proofs.table.Table.pair.Goals.{After-release}
 
-fits_first : (c : After-release) → c.page-one.result.frame < length c.self.inside.arena
-fits_first c =
-    let before : TableState = record { arena = c.self.inside.arena; entries = c.self.inside.entries; groups = c.self.inside.groups.listed } in
-    let there : entry_at before.entries c.args.first ≡ Some c.page-one.result = rw (← c.self.view_is) at c.page-one.ensures in
-    (entry_fits before c.args.first c.page-one.result c.self.invariant.0.fits there).frame
+first : (c : After-release) → IsOwnEntry (record { arena = c.self.inside.arena; entries = c.self.inside.entries; groups = c.self.inside.groups.listed }) c.args.first c.page-one.result
+first c = own_seen _ c.args.self.now c.self.view_is c.args.first c.page-one.result c.page-one.ensures c.requires.own_first
 
 -- the first page is alone on its frame
 alone_first : (c : After-release) → IsAlone (record { arena = c.self.inside.arena; entries = c.self.inside.entries; groups = c.self.inside.groups.listed }) c.page-one.result.frame
-alone_first c =
-    let before : TableState = record { arena = c.self.inside.arena; entries = c.self.inside.entries; groups = c.self.inside.groups.listed } in
-    let there : entry_at before.entries c.args.first ≡ Some c.page-one.result = rw (← c.self.view_is) at c.page-one.ensures in
-    let own : IsOwnAt before c.args.first = rw (← c.self.view_is) at c.requires.own_first in
-    is_alone before c.page-one.result (entry_fits before c.args.first c.page-one.result c.self.invariant.0.fits there)
-    (subst (λ (x : Option Entry). IfSome x (λ (entry : Entry). is_shared entry.status ≡ false)) there own)
+alone_first c = own_alone _ c.args.first c.page-one.result c.self.invariant.0.fits (first c)
 
-pub push-requires-clause-above : goal.push-requires-clause-above
-push-requires-clause-above c = (alone_first (goal.at.push-requires-clause-above c).After-release).above
-
-pub push-requires-clause-there : goal.push-requires-clause-there
-push-requires-clause-there c =
-    let inside = fits_first (goal.at.push-requires-clause-there c).After-release in
-    omega (arith, inside, c.self.invariant.1)
-
-pub push-requires-clause-new : goal.push-requires-clause-new
-push-requires-clause-new c = (alone_first (goal.at.push-requires-clause-new c).After-release).no_group
-
-pub push-requires-clause-room : goal.push-requires-clause-room
-push-requires-clause-room c = omega (arith, c.self.invariant.0.counted.used, c.self.invariant.1)
+pub push-requires : goal.push-requires
+push-requires c = record {
+  above = (alone_first (goal.at.push-requires c).After-release).above;
+  there = let fits = entry_fits _ c.args.first c.page-one.result c.self.invariant.0.fits (first (goal.at.push-requires c).After-release).here in
+      omega (arith, fits.frame, c.self.invariant.1);
+  new = (alone_first (goal.at.push-requires c).After-release).no_group;
+  room = omega (arith, c.self.invariant.0.counted.used, c.self.invariant.1);
+}
 
 pub insert-requires-clause-new : goal.insert-requires-clause-new
 insert-requires-clause-new c = tree-absent c.self.inside.arena c.self.inside.groups.listed c.self.inside.tree c.self.invariant.2 c.page-one.result.frame (alone_first (goal.at.insert-requires-clause-new c).After-release).no_group
@@ -52,9 +37,9 @@ table c = record { arena = c.self.inside.arena; entries = c.self.inside.entries;
 pairs : (c : goal.After-insert) → IsPairing (table c) c.args.first c.args.second c.page-one.result c.page-other.result c.merged.result c.merged-2.result
 pairs c =
     let first : IsGroupEntry c.page-one.result c.merged.result c.page-one.result.frame =
-    record { state = c.merged.ensures.state; frame = c.merged.ensures.frame; status = c.merged.ensures.status; protected = c.merged.ensures.protected } in
+    record { state = c.merged.ensures.state; frame = c.merged.ensures.frame; status_is = c.merged.ensures.status; protected = c.merged.ensures.protected } in
     let second : IsGroupEntry c.page-other.result c.merged-2.result c.page-one.result.frame =
-    record { state = c.merged-2.ensures.state; frame = c.merged-2.ensures.frame; status = c.merged-2.ensures.status; protected = c.merged-2.ensures.protected } in
+    record { state = c.merged-2.ensures.state; frame = c.merged-2.ensures.frame; status_is = c.merged-2.ensures.status; protected = c.merged-2.ensures.protected } in
     pairing-from (table c) c.args.self.now c.args.first c.args.second c.page-one.result c.page-other.result c.merged.result c.merged-2.result
     c.self.view_is c.self.invariant.0.fits c.requires.apart c.page-one.ensures c.page-other.ensures c.requires.own_first c.requires.own_second c.requires.same first second
 
@@ -73,23 +58,16 @@ invariant_of-self c = (
       (tree-pushed c.self.inside.arena c.self.inside.groups.listed c.self.inside.tree c.insert.new.self c.page-one.result.frame c.self.invariant.2 (rw (ap (λ (counted : CountedPages). counted.pages) c.new.ensures) at c.insert.ensures.sorted) c.insert.ensures.room (rw (ap (λ (counted : CountedPages). counted.pages) c.new.ensures) at c.insert.ensures.inserted)),
 )
 
-pub returns-clause-contents : goal.returns-clause-contents
-returns-clause-contents c =
-    rw (c.set-2.ensures, c.set.ensures, ← c.self.view_is, pushed c)
-    (contents-pair (table c) c.args.first c.args.second c.page-one.result c.page-other.result c.merged.result c.merged-2.result (pairs c))
-
-pub returns-clause-sharing : goal.returns-clause-sharing
-returns-clause-sharing c pass =
-    rw (c.set-2.ensures, c.set.ensures, ← c.self.view_is, pushed c)
-    (sharing-pair (table c) c.args.first c.args.second c.page-one.result c.page-other.result c.merged.result c.merged-2.result (pairs c) pass)
-
-pub returns-clause-used : goal.returns-clause-used
-returns-clause-used c =
-    rw (c.set-2.ensures, c.set.ensures, ← c.self.view_is, pushed c)
-    (used-pair (table c) c.args.first c.args.second c.page-one.result c.page-other.result c.merged.result c.merged-2.result (pairs c))
-
-pub returns-clause-others : goal.returns-clause-others
-returns-clause-others c i ne_first ne_second =
-    rw (c.set-2.ensures, c.set.ensures, ← c.self.view_is)
-    (get_or-set_other (slice_set (table c).entries c.args.first (Some c.merged.result)) c.args.second i (Some c.merged-2.result) None ne_second
-    ∙ get_or-set_other (table c).entries c.args.first i (Some c.merged.result) None ne_first)
+pub returns : goal.returns
+returns c = record {
+  contents = rw (c.set-2.ensures, c.set.ensures, ← c.self.view_is, pushed c)
+      (contents-pair (table c) c.args.first c.args.second c.page-one.result c.page-other.result c.merged.result c.merged-2.result (pairs c));
+  others = λ i ne_first ne_second. rw (c.set-2.ensures, c.set.ensures, ← c.self.view_is)
+      (get_or-set_other (slice_set (table c).entries c.args.first (Some c.merged.result)) c.args.second i (Some c.merged-2.result) None ne_second
+      ∙ get_or-set_other (table c).entries c.args.first i (Some c.merged.result) None ne_first);
+  sharing = λ pass. rw (c.set-2.ensures, c.set.ensures, ← c.self.view_is, pushed c)
+      (sharing-pair (table c) c.args.first c.args.second c.page-one.result c.page-other.result c.merged.result c.merged-2.result (pairs c) pass);
+  used = rw (c.set-2.ensures, c.set.ensures, ← c.self.view_is, pushed c)
+      (used-pair (table c) c.args.first c.args.second c.page-one.result c.page-other.result c.merged.result c.merged-2.result (pairs c));
+  arena = search rules;
+}

@@ -1,38 +1,29 @@
-use Rattle.std.proofs.Common.{◌≡◌, ◌∙◌, false, List, length, Option, Some, IfSome, ℕ, sym, subst, arith, length-set}
+use Rattle.std.proofs.Common.{◌≡◌, ◌∙◌, List, length, Some, ℕ, sym, arith, length-set, refl}
 use Rattle.host_types.specs.Bytes.{with_part}
-use Rattle.host_types.specs.Sharing.{is_shared}
 use Rattle.frame_arena.specs.Pages.{page_at}
 use Rattle.host_types.proofs.Lists.{length-with_part}
-use Rattle.page_table.specs.declared.entry.Entry.{Entry}
-use Rattle.page_table.specs.Table.{TableState, IsAlone, IsPageAt, entry_at}
-use Rattle.page_table.proofs.Putting.{is_alone, entry_fits, contents-put, sound-put, content_at, page_inside, page_there}
+use Rattle.page_table.specs.Table.{TableState, IsAlone, entry_at, IsOwnAt}
+use Rattle.page_table.proofs.Changing.{entry_fits, own_seen, own_alone}
+use Rattle.page_table.proofs.Putting.{contents-put, sound-put, content_at, place_of_page, entry_of_page}
 use Rattle.page_table.proofs.Trees.{tree-set}
 use Rattle.page_table.proofs.table.Table.put.Goals as goal
 
 pub get-requires : goal.get-requires
-get-requires c =
-    let there : IsPageAt (record { arena = c.self.inside.arena; entries = c.self.inside.entries; groups = c.self.inside.groups.listed }) c.args.place = rw (← c.self.view_is) at c.requires.there in
-    let inside = page_inside _ c.args.place there in omega (arith, inside)
+get-requires c = omega (arith, place_of_page _ c.args.self.now c.self.view_is c.args.place c.requires.there)
 
 pub unreachable-requires : goal.unreachable-requires
-unreachable-requires c =
-    let there : IsPageAt (record { arena = c.self.inside.arena; entries = c.self.inside.entries; groups = c.self.inside.groups.listed }) c.args.place = rw (← c.self.view_is) at c.requires.there in
-    page_there _ c.args.place there
-    (sym c.get.ensures ∙ c.in_default.is)
+unreachable-requires c = entry_of_page _ c.args.self.now c.self.view_is c.args.place c.requires.there c.get.result c.get.ensures c.in_default.is
 
 abbrev table : goal.After-put → TableState
 table c = record { arena = c.self.inside.arena; entries = c.self.inside.entries; groups = c.self.inside.groups.listed }
 
 here : (c : goal.After-put) → entry_at (table c).entries c.args.place ≡ Some c.in-Some.entry
-here c =
-    let there : IsPageAt (table c) c.args.place = rw (← c.self.view_is) at c.requires.there in
-    sym c.get.ensures ∙ c.in-Some.is
+here c = sym c.get.ensures ∙ c.in-Some.is
 
 lone : (c : goal.After-put) → IsAlone (table c) c.in-Some.entry.frame
 lone c =
-    let own : IfSome (entry_at c.self.inside.entries c.args.place) (λ (entry : Entry). is_shared entry.status ≡ false) = rw (← c.self.view_is) at c.requires.own in
-    is_alone (table c) c.in-Some.entry (entry_fits (table c) c.args.place c.in-Some.entry c.self.invariant.0.fits (here c))
-    (subst (λ (x : Option Entry). IfSome x (λ (entry : Entry). is_shared entry.status ≡ false)) (here c) own)
+    let own : IsOwnAt (table c) c.args.place = rw (← c.self.view_is) at c.requires.own in
+    own_alone (table c) c.args.place c.in-Some.entry c.self.invariant.0.fits (own_seen (table c) (table c) refl c.args.place c.in-Some.entry (here c) own)
 
 abbrev page : goal.After-put → List ℕ
 page c = with_part (page_at c.self.inside.arena c.in-Some.entry.frame) c.args.at c.args.bytes.now
@@ -58,6 +49,5 @@ returns-clause-contents c =
 pub put-requires-clause-frame : goal.put-requires-clause-frame
 put-requires-clause-frame c =
     let whole : TableState = record { arena = c.self.inside.arena; entries = c.self.inside.entries; groups = c.self.inside.groups.listed } in
-    let there : IsPageAt whole c.args.place = rw (← c.self.view_is) at c.requires.there in
     let here = sym c.get.ensures ∙ c.in-Some.is in
     (entry_fits whole c.args.place c.in-Some.entry c.self.invariant.0.fits here).frame

@@ -1,51 +1,39 @@
-use Rattle.std.proofs.Common.{◌≡◌, ◌∙◌, ◌+◌, ◌≤◌, ◌<◌, ℕ, not, slice_index_or, Bool, true, false, Some, refl, sym, arith}
+use Rattle.std.proofs.Common.{◌≡◌, ◌∙◌, not, slice_index_or, true, false, Some, sym, arith, nat_lt}
+use Rattle.std.proofs.lemmas.Bool.Decides.{nat_tests}
 use Rattle.host_types.specs.Sharing.{is_shared}
-use Rattle.page_table.specs.Table.{TableState, IsEntry, IsPageAt, entry_at, pages_on, one_if_zero, break_frames}
-use Rattle.page_table.proofs.Costs.{cost-own, cost-one, cost-last, count-some}
+use Rattle.page_table.specs.Table.{TableState, IsEntry, entry_at, break_frames}
+use Rattle.page_table.proofs.Changing.{entry_fits}
+use Rattle.page_table.proofs.Entries.{one_when}
+use Rattle.page_table.proofs.Costs.{cost-own, count-some, cost-by_count}
 use Rattle.page_table.proofs.Ending.{sharing-unbroken}
-use Rattle.page_table.proofs.Putting.{entry_fits, page_inside, page_there}
+use Rattle.page_table.proofs.Putting.{place_of_page, entry_of_page}
 use Rattle.page_table.proofs.table.Table.take_out.Goals as goal
 use Rattle.page_table.proofs.table.Table.take_out.Goals.{In-Some}
 
 pub get-requires : goal.get-requires
-get-requires c =
-    let there : IsPageAt (record { arena = c.self.inside.arena; entries = c.self.inside.entries; groups = c.self.inside.groups.listed }) c.args.place = rw (← c.self.view_is) at c.requires.there in
-    let inside = page_inside _ c.args.place there in omega (arith, inside)
+get-requires c = omega (arith, place_of_page _ c.args.self.now c.self.view_is c.args.place c.requires.there)
 
 pub unreachable-requires : goal.unreachable-requires
-unreachable-requires c =
-    let there : IsPageAt (record { arena = c.self.inside.arena; entries = c.self.inside.entries; groups = c.self.inside.groups.listed }) c.args.place = rw (← c.self.view_is) at c.requires.there in
-    page_there _ c.args.place there
-    (sym c.get.ensures ∙ c.in_default.is)
+unreachable-requires c = entry_of_page _ c.args.self.now c.self.view_is c.args.place c.requires.there c.get.result c.get.ensures c.in_default.is
 
 abbrev table : In-Some → TableState
 table c = record { arena = c.self.inside.arena; entries = c.self.inside.entries; groups = c.self.inside.groups.listed }
 
 here : (c : In-Some) → entry_at (table c).entries c.args.place ≡ Some c.in-Some.entry
-here c =
-    let there : IsPageAt (table c) c.args.place = rw (← c.self.view_is) at c.requires.there in
-    sym c.get.ensures ∙ c.in-Some.is
+here c = sym c.get.ensures ∙ c.in-Some.is
 
 fits : (c : In-Some) → IsEntry (table c) c.in-Some.entry
 fits c = entry_fits (table c) c.args.place c.in-Some.entry c.self.invariant.0.fits (here c)
 
-own : (protected : Bool) → not protected ≡ true → protected ≡ false
-own true h = absurd (cc)
-own false h = refl
-
-locked : (protected : Bool) → not protected ≡ false → protected ≡ true
-locked true h = refl
-locked false h = absurd (cc)
-
 pub returns-then-not-entry-clause-sharing : goal.returns-then-not-entry-clause-sharing
 returns-then-not-entry-clause-sharing c pass =
     let d = (goal.at.returns-then-not-entry-clause-sharing c).In-Some in
-    rw (← c.self.view_is) (sharing-unbroken (table d) pass c.args.place c.in-Some.entry c.self.invariant.0.fits (here d) (own c.in-Some.entry.protected c.if-not-entry.true))
+    rw (← c.self.view_is) (sharing-unbroken (table d) pass c.args.place c.in-Some.entry c.self.invariant.0.fits (here d) (grind (arith, c.if-not-entry.true)))
 
 pub returns-then-not-entry-clause-used : goal.returns-then-not-entry-clause-used
 returns-then-not-entry-clause-used c =
     let d = (goal.at.returns-then-not-entry-clause-used c).In-Some in
-    let none : break_frames c.args.self.now c.args.place ≡ 0 = rw (← c.self.view_is) (cost-own (table d) c.args.place c.in-Some.entry c.self.invariant.0.fits (here d) (own c.in-Some.entry.protected c.if-not-entry.true)) in
+    let none : break_frames c.args.self.now c.args.place ≡ 0 = rw (← c.self.view_is) (cost-own (table d) c.args.place c.in-Some.entry c.self.invariant.0.fits (here d) (grind (arith, c.if-not-entry.true))) in
     omega (arith, none)
 
 pub count-requires : goal.count-requires
@@ -54,26 +42,11 @@ count-requires c =
     omega (arith, (fits d).frame, c.self.invariant.0.counted.sized)
 
 shared : (c : In-Some) → not c.in-Some.entry.protected ≡ false → is_shared c.in-Some.entry.status ≡ true
-shared c h = sym (fits c).protected ∙ locked c.in-Some.entry.protected h
+shared c h = sym (fits c).protected ∙ grind (arith, h)
 
--- how many hold the page's frame
-counted : (c : In-Some) (n : ℕ) → n ≡ slice_index_or c.self.inside.counts.counts c.in-Some.entry.frame 0
-    → (n ≡ one_if_zero c.in-Some.entry.frame + pages_on c.in-Some.entry.frame (table c).entries) × (1 ≤ n)
-counted c n e =
-    let known = count-some (table c) c.self.inside.counts c.args.place c.in-Some.entry c.self.invariant.0 (here c) in
-    (e ∙ known.0, omega (arith, e, known.1))
-
-cost_more : (c : In-Some) (n : ℕ) → not c.in-Some.entry.protected ≡ false → n ≡ slice_index_or c.self.inside.counts.counts c.in-Some.entry.frame 0 → 1 < n
-    → break_frames c.args.self.now c.args.place ≡ 1
-cost_more c n h e more =
-    let known = counted c n e in
-    rw (← c.self.view_is) (cost-one (table c) c.args.place c.in-Some.entry c.self.invariant.0.fits (here c) (shared c h) (omega (arith, more, known.0)))
-
-cost_last : (c : In-Some) (n : ℕ) → not c.in-Some.entry.protected ≡ false → n ≡ slice_index_or c.self.inside.counts.counts c.in-Some.entry.frame 0 → n ≤ 1
-    → break_frames c.args.self.now c.args.place ≡ 0
-cost_last c n h e last =
-    let known = counted c n e in
-    rw (← c.self.view_is) (cost-last (table c) c.args.place c.in-Some.entry c.self.invariant.0.fits (here c) (shared c h) (omega (arith, last, known.0)))
+-- what the break takes, told by the count of the page's frame
+told : (c : In-Some) → not c.in-Some.entry.protected ≡ false → break_frames c.args.self.now c.args.place ≡ one_when (nat_lt 1 (slice_index_or c.self.inside.counts.counts c.in-Some.entry.frame 0))
+told c h = rw (← c.self.view_is) (cost-by_count (table c) c.self.inside.counts c.args.place c.in-Some.entry c.self.invariant.0 (here c) (grind (arith, h)))
 
 pub leave-requires-clause-there : goal.leave-requires-clause-there
 leave-requires-clause-there c = rw (← c.self.view_is) (here (goal.at.leave-requires-clause-there c).In-Some)
@@ -83,31 +56,30 @@ leave-requires-clause-shared c = shared (goal.at.leave-requires-clause-shared c)
 
 pub leave-requires-clause-room : goal.leave-requires-clause-room
 leave-requires-clause-room c =
-    let one = cost_more (goal.at.leave-requires-clause-room c).In-Some c.count.result c.if-not-entry.false c.count.ensures c.if-count-gt1.true in
-    omega (arith, one, c.requires.room)
+    let cost = told (goal.at.leave-requires-clause-room c).In-Some c.if-not-entry.false in
+    grind (arith, nat_tests, cost, c.count.ensures, c.if-count-gt1.true, c.requires.room)
 
-pub end_group-requires-clause-there : goal.end_group-requires-clause-there
-end_group-requires-clause-there c = rw (← c.self.view_is) (here (goal.at.end_group-requires-clause-there c).In-Some)
-
-pub end_group-requires-clause-shared : goal.end_group-requires-clause-shared
-end_group-requires-clause-shared c = shared (goal.at.end_group-requires-clause-shared c).In-Some c.if-not-entry.false
-
-pub end_group-requires-clause-last : goal.end_group-requires-clause-last
-end_group-requires-clause-last c =
-    let known = counted (goal.at.end_group-requires-clause-last c).In-Some c.count.result c.count.ensures in
-    rw (← c.self.view_is) (omega (arith, known.0, known.1, c.if-count-gt1.false))
+pub end_group-requires : goal.end_group-requires
+end_group-requires c = record {
+  there = rw (← c.self.view_is) (here (goal.at.end_group-requires c).In-Some);
+  shared = shared (goal.at.end_group-requires c).In-Some c.if-not-entry.false;
+  last =
+      let d = (goal.at.end_group-requires c).In-Some in
+      let known = count-some (table d) c.self.inside.counts c.args.place c.in-Some.entry c.self.invariant.0 (here d) in
+      rw (← c.self.view_is) (omega (arith, known.0, known.1, c.count.ensures, c.if-count-gt1.false));
+}
 
 pub returns-then-count-gt1-clause-used : goal.returns-then-count-gt1-clause-used
 returns-then-count-gt1-clause-used c =
-    let one = cost_more (goal.at.returns-then-count-gt1-clause-used c).In-Some c.count.result c.if-not-entry.false c.count.ensures c.if-count-gt1.true in
-    omega (arith, one, c.leave.ensures.used)
+    let cost = told (goal.at.returns-then-count-gt1-clause-used c).In-Some c.if-not-entry.false in
+    grind (arith, nat_tests, cost, c.count.ensures, c.if-count-gt1.true, c.leave.ensures.used)
 
 pub returns-else-count-gt1-clause-used : goal.returns-else-count-gt1-clause-used
 returns-else-count-gt1-clause-used c =
-    let none = cost_last (goal.at.returns-else-count-gt1-clause-used c).In-Some c.count.result c.if-not-entry.false c.count.ensures c.if-count-gt1.false in
-    omega (arith, none, c.end_group.ensures.used)
+    let cost = told (goal.at.returns-else-count-gt1-clause-used c).In-Some c.if-not-entry.false in
+    grind (arith, nat_tests, cost, c.count.ensures, c.if-count-gt1.false, c.end_group.ensures.used)
 
 pub returns-then-count-gt1-clause-frames : goal.returns-then-count-gt1-clause-frames
 returns-then-count-gt1-clause-frames c none =
-    let one = cost_more (goal.at.returns-then-count-gt1-clause-frames c).In-Some c.count.result c.if-not-entry.false c.count.ensures c.if-count-gt1.true in
-    absurd (omega (arith, one, none))
+    let cost = told (goal.at.returns-then-count-gt1-clause-frames c).In-Some c.if-not-entry.false in
+    absurd (grind (arith, nat_tests, cost, c.count.ensures, c.if-count-gt1.true, none))

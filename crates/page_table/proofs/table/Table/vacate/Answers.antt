@@ -1,4 +1,4 @@
-use Rattle.std.proofs.Common.{◌≡◌, ◌+◌, ◌<◌, Some, None, true, arith}
+use Rattle.std.proofs.Common.{◌≡◌, ◌+◌, ◌<◌, Some, None, true, arith, rules}
 use Rattle.std.proofs.lemmas.List.{get_or-set_other}
 use Rattle.host_types.specs.Sharing.{is_shared}
 use Rattle.page_table.specs.Table.{TableState, entry_at, one_if_zero, pages_on}
@@ -21,21 +21,17 @@ clear-requires c =
     let there : entry_at c.self.inside.entries c.args.place ≡ Some c.args.entry = rw (← c.self.view_is) at c.requires.there in
     inside c.self.inside.entries c.args.place c.args.entry there
 
-pub release-requires-clause-frame : goal.release-requires-clause-frame
-release-requires-clause-frame c =
-    let before : TableState = record { arena = c.self.inside.arena; entries = c.self.inside.entries; groups = c.self.inside.groups.listed } in
-    let there : entry_at before.entries c.args.place ≡ Some c.args.entry = rw (← c.self.view_is) at c.requires.there in
-    let fit = fits before c.args.place c.args.entry c.self.invariant.0.fits there (λ shared. rw (← c.self.view_is) at c.requires.company shared) in
-    omega (arith, fit.frame, c.self.invariant.0.counted.sized)
-
-pub release-requires-clause-held : goal.release-requires-clause-held
-release-requires-clause-held c =
-    let before : TableState = record { arena = c.self.inside.arena; entries = c.self.inside.entries; groups = c.self.inside.groups.listed } in
-    let there : entry_at before.entries c.args.place ≡ Some c.args.entry = rw (← c.self.view_is) at c.requires.there in
-    (count-some before c.self.inside.counts c.args.place c.args.entry c.self.invariant.0 there).1
-
-pub release-requires-clause-room : goal.release-requires-clause-room
-release-requires-clause-room c = omega (arith, c.self.invariant.0.counted.used, c.self.invariant.0.counted.sized)
+pub release-requires : goal.release-requires
+release-requires c = record {
+  frame = let before : TableState = record { arena = c.self.inside.arena; entries = c.self.inside.entries; groups = c.self.inside.groups.listed } in
+      let there : entry_at before.entries c.args.place ≡ Some c.args.entry = rw (← c.self.view_is) at c.requires.there in
+      let fit = fits before c.args.place c.args.entry c.self.invariant.0.fits there (λ shared. rw (← c.self.view_is) at c.requires.company shared) in
+      omega (arith, fit.frame, c.self.invariant.0.counted.sized);
+  held = let before : TableState = record { arena = c.self.inside.arena; entries = c.self.inside.entries; groups = c.self.inside.groups.listed } in
+      let there : entry_at before.entries c.args.place ≡ Some c.args.entry = rw (← c.self.view_is) at c.requires.there in
+      (count-some before c.self.inside.counts c.args.place c.args.entry c.self.invariant.0 there).1;
+  room = omega (arith, c.self.invariant.0.counted.used, c.self.invariant.0.counted.sized);
+}
 
 pub invariant_of-self : goal.invariant_of-self
 invariant_of-self c = (
@@ -46,18 +42,12 @@ invariant_of-self c = (
   c.self.invariant.2,
 )
 
-pub returns-clause-contents : goal.returns-clause-contents
-returns-clause-contents c =
-    rw (c.clear.ensures, ← c.self.view_is) (contents-vacated (table c) c.args.place c.args.entry c.self.invariant.0.fits (here c) (company c))
-
-pub returns-clause-sharing : goal.returns-clause-sharing
-returns-clause-sharing c pass =
-    rw (c.clear.ensures, ← c.self.view_is) (sharing-vacated (table c) c.args.place c.args.entry c.self.invariant.0.fits (here c) (company c) pass)
-
-pub returns-clause-used : goal.returns-clause-used
-returns-clause-used c =
-    let used = used-vacated (table c) c.args.place c.args.entry c.self.invariant.0.fits (here c) (company c) in
-    rw (c.clear.ensures, ← c.self.view_is) (omega (arith, used))
-
-pub returns-clause-others : goal.returns-clause-others
-returns-clause-others c i ne = rw (c.clear.ensures, ← c.self.view_is) (get_or-set_other (table c).entries c.args.place i None None ne)
+pub returns : goal.returns
+returns c = record {
+  contents = rw (c.clear.ensures, ← c.self.view_is) (contents-vacated (table c) c.args.place c.args.entry c.self.invariant.0.fits (here c) (company c));
+  sharing = λ pass. rw (c.clear.ensures, ← c.self.view_is) (sharing-vacated (table c) c.args.place c.args.entry c.self.invariant.0.fits (here c) (company c) pass);
+  used = let used = used-vacated (table c) c.args.place c.args.entry c.self.invariant.0.fits (here c) (company c) in
+      rw (c.clear.ensures, ← c.self.view_is) (omega (arith, used));
+  arena = search rules;
+  others = λ i ne. rw (c.clear.ensures, ← c.self.view_is) (get_or-set_other (table c).entries c.args.place i None None ne);
+}

@@ -1,21 +1,23 @@
-use Rattle.page_table.specs.Table.{TableState}
-use Rattle.page_table.proofs.Moving.{IsMove, few, contents-moved, used-moved, sound-moved}
-use Rattle.page_table.proofs.Zeroing.{IsZeroEntry, move-zeroed, sharing-zeroed}
 use Rattle.std.proofs.lemmas.List.{get_or-set_other}
+use Rattle.std.proofs.Common.{rules}
+use Rattle.page_table.specs.Table.{TableState}
+use Rattle.host_types.specs.declared.status.Status.TheVariants.{Zero}
+use Rattle.page_table.proofs.Moving.{IsMove, few, contents-moved, used-moved, sound-moved, IsMerged}
+use Rattle.page_table.proofs.Zeroing.{move-zeroed, sharing-zeroed}
 use Rattle.page_table.proofs.table.Table.zero.Goals as goal
 
 pub share-requires-clause-few : goal.share-requires-clause-few
 share-requires-clause-few c =
     let table : TableState = record { arena = c.self.inside.arena; entries = c.self.inside.entries; groups = c.self.inside.groups.listed } in
-    let to : IsZeroEntry c.page-entry.result c.merged.result = record { state = c.merged.ensures.state; frame = c.merged.ensures.frame; status = c.merged.ensures.status; protected = c.merged.ensures.protected } in
+    let to : IsMerged c.page-entry.result c.merged.result 0 Zero = record { state = c.merged.ensures.state; frame = c.merged.ensures.frame; status_is = c.merged.ensures.status; protected = c.merged.ensures.protected } in
     let move = move-zeroed table c.args.self.now c.args.place c.page-entry.result c.merged.result c.self.view_is c.self.invariant.0.fits c.page-entry.ensures c.requires.own c.requires.zeros to in
     rw c.merged.ensures.frame at (few table c.args.place c.page-entry.result c.merged.result move c.self.inside.counts c.self.invariant.0.counted)
 
 abbrev table : goal.After-release → TableState
 table c = record { arena = c.self.inside.arena; entries = c.self.inside.entries; groups = c.self.inside.groups.listed }
 
-to : (c : goal.After-release) → IsZeroEntry c.page-entry.result c.merged.result
-to c = record { state = c.merged.ensures.state; frame = c.merged.ensures.frame; status = c.merged.ensures.status; protected = c.merged.ensures.protected }
+to : (c : goal.After-release) → IsMerged c.page-entry.result c.merged.result 0 Zero
+to c = record { state = c.merged.ensures.state; frame = c.merged.ensures.frame; status_is = c.merged.ensures.status; protected = c.merged.ensures.protected }
 
 move : (c : goal.After-release) → IsMove (table c) c.args.place c.page-entry.result c.merged.result
 move c =
@@ -29,14 +31,11 @@ invariant_of-self c = (
   c.self.invariant.2,
 )
 
-pub returns-clause-contents : goal.returns-clause-contents
-returns-clause-contents c = rw (c.set.ensures, ← c.self.view_is) (contents-moved (table c) c.args.place c.page-entry.result c.merged.result (move c))
-
-pub returns-clause-sharing : goal.returns-clause-sharing
-returns-clause-sharing c pass = rw (c.set.ensures, ← c.self.view_is) (sharing-zeroed (table c) c.args.place c.page-entry.result c.merged.result (move c) (to c) pass)
-
-pub returns-clause-used : goal.returns-clause-used
-returns-clause-used c = rw (c.set.ensures, ← c.self.view_is) (used-moved (table c) c.args.place c.page-entry.result c.merged.result (move c))
-
-pub returns-clause-others : goal.returns-clause-others
-returns-clause-others c i ne = rw (c.set.ensures, ← c.self.view_is) (get_or-set_other (table c).entries c.args.place i _ _ ne)
+pub returns : goal.returns
+returns c = record {
+  contents = rw (c.set.ensures, ← c.self.view_is) (contents-moved (table c) c.args.place c.page-entry.result c.merged.result (move c));
+  others = λ i ne. rw (c.set.ensures, ← c.self.view_is) (get_or-set_other (table c).entries c.args.place i _ _ ne);
+  sharing = λ pass. rw (c.set.ensures, ← c.self.view_is) (sharing-zeroed (table c) c.args.place c.page-entry.result c.merged.result (move c) (to c) pass);
+  used = rw (c.set.ensures, ← c.self.view_is) (used-moved (table c) c.args.place c.page-entry.result c.merged.result (move c));
+  arena = search rules;
+}

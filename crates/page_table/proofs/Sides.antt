@@ -1,0 +1,11 @@
+-- Which of two numbers is the greater one.
+use Rattle.std.proofs.Common.{◌≡◌, ◌≢◌, ◌⊎◌, ℕ, ◌<◌, ◌≤◌, arith}
+
+pub order : (a b : ℕ) → (a < b) ⊎ (b ≤ a)
+order a b = grind arith
+
+pub apart_order : (a b : ℕ) → a ≢ b → (a < b) ⊎ (b < a)
+apart_order a b ne = grind arith
+
+pub is_same : (a b : ℕ) → (a ≡ b) ⊎ (a ≢ b)
+is_same a b = grind arith
