@@ -1,9 +1,10 @@
 pub mod Low
+pub mod Sided
 pub mod Turning
 pub mod Changing
 pub mod Holding
 pub mod Opening
-pub mod Sides
+pub mod Standing
 pub mod TurningOnce
 pub mod TurningTwice
 pub mod Settling

@@ -6,7 +6,9 @@ use Rattle.tree_shape.specs.Shape.{Tree, fork, levels, Holds, IsLink, IsHung, no
 use Rattle.tree_shape.proofs.Holding.{holds-height, holds-link}
 use Rattle.tree_shape.proofs.Opening.{kept-same}
 use Rattle.tree_shape.proofs.Times.{here, here-same, times}
-use Rattle.tree_shape.proofs.Sides.{sided, far, near, up_by, IsJoinableBy, AreHeld, IsHigher, opened, times-sided, levels-sided, parts, with-sided, joined, stays, joinable-by, wrote, up-once}
+use Rattle.tree_shape.proofs.Sided.{sided, far, near, up_by, levels-sided}
+use Rattle.tree_shape.proofs.Turning.{up-once}
+use Rattle.tree_shape.proofs.Standing.{IsJoinableBy, AreHeld, IsHigher, opened, times-sided, parts, with-sided, joined, stays, joinable-by, wrote}
 
 module _ (s : Bool) (nodes : List Node) (up at other : ℕ) where
   abbrev node : Node

@@ -6,7 +6,9 @@ use Rattle.tree_shape.specs.Shape.{Tree, fork, levels, Holds, IsHung, none, blan
 use Rattle.tree_shape.proofs.Holding.{holds-height}
 use Rattle.tree_shape.proofs.Opening.{kept-same, height-some}
 use Rattle.tree_shape.proofs.Times.{here, here-same, times}
-use Rattle.tree_shape.proofs.Sides.{sided, far, near, up_by, IsJoinableBy, AreHeld, IsHigher, opened-twice, times-sided, levels-sided, parts, with-sided, joined, stays, joinable-by, wrote, up-twice}
+use Rattle.tree_shape.proofs.Sided.{sided, far, near, up_by, levels-sided}
+use Rattle.tree_shape.proofs.Turning.{up-twice}
+use Rattle.tree_shape.proofs.Standing.{IsJoinableBy, AreHeld, IsHigher, opened-twice, times-sided, parts, with-sided, joined, stays, joinable-by, wrote}
 
 module _ (s : Bool) (nodes : List Node) (up at other : ℕ) where
   abbrev node : Node

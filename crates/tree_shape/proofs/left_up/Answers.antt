@@ -1,6 +1,6 @@
-use Rattle.std.proofs.Common.{true, false, arith}
+use Rattle.std.proofs.Common.{true, arith}
 use Rattle.tree_shape.proofs.Opening.{height-some}
-use Rattle.tree_shape.proofs.Sides.{left-held, left-higher}
+use Rattle.tree_shape.proofs.Standing.{left-held, left-higher}
 use Rattle.tree_shape.proofs.TurningOnce.{once-near, once-far, once-first, once-second, hung-once}
 use Rattle.tree_shape.proofs.TurningTwice.{twice-first, twice-second, twice-third, hung-twice}
 use Rattle.tree_shape.proofs.left_up.Goals as goal

@@ -1,6 +1,6 @@
-use Rattle.std.proofs.Common.{true, false, arith}
+use Rattle.std.proofs.Common.{false, arith}
 use Rattle.tree_shape.proofs.Opening.{height-some}
-use Rattle.tree_shape.proofs.Sides.{right-held, right-higher}
+use Rattle.tree_shape.proofs.Standing.{right-held, right-higher}
 use Rattle.tree_shape.proofs.TurningOnce.{once-near, once-far, once-first, once-second, hung-once}
 use Rattle.tree_shape.proofs.TurningTwice.{twice-first, twice-second, twice-third, hung-twice}
 use Rattle.tree_shape.proofs.right_up.Goals as goal

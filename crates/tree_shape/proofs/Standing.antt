@@ -1,29 +1,11 @@
--- What is the same on the left and on the right, told of a node's far and near side: `true` where the left one is far.
-use Rattle.std.proofs.Common.{◌≡◌, ◌≢◌, ℕ, suc, ◌+◌, ◌<◌, ◌≤◌, Bool, true, false, List, length, max, slice_index_or, slice_set, sym, subst, arith}
+-- What stands at two links and between them, told of a far and a near side.
+use Rattle.std.proofs.Common.{◌≡◌, ◌≢◌, ℕ, ◌+◌, ◌<◌, ◌≤◌, Bool, true, false, List, length, slice_index_or, slice_set, sym, subst, arith}
 use Rattle.tree_shape.specs.declared.Node.{Node}
 use Rattle.tree_shape.specs.Shape.{Tree, fork, levels, Holds, AreSides, AreReady, IsJoinable, IsKept, none, blank, height_at, with_sides}
-use Rattle.tree_shape.specs.Turns.{left_up, right_up}
 use Rattle.tree_shape.proofs.Holding.{holds-height, holds-kept, holds-joined}
-use Rattle.tree_shape.proofs.Turning.{levels-fork, left_up-once, left_up-twice, right_up-once, right_up-twice}
+use Rattle.tree_shape.proofs.Sided.{sided, far, near}
 use Rattle.tree_shape.proofs.Opening.{with-node, height-some, joinable, kept-write}
 use Rattle.tree_shape.proofs.Times.{here, times, times-fork, times-away, away-times, once-times}
-
-abbrev pub sided : {A B : Type 0} → Bool → (A → A → B) → A → A → B
-sided true make far near = make far near
-sided false make far near = make near far
-
-abbrev pub far : Bool → Node → ℕ
-far true node = node.left
-far false node = node.right
-
-abbrev pub near : Bool → Node → ℕ
-near true node = node.right
-near false node = node.left
-
--- the far side comes up
-abbrev pub up_by : Bool → ℕ → Tree → Tree → Tree
-up_by true at t o = left_up at t o
-up_by false at t o = right_up at o t
 
 abbrev pub IsJoinableBy : Bool → List Node → ℕ → ℕ → ℕ → Type 0
 IsJoinableBy true nodes x at y = IsJoinable nodes x at y
@@ -79,10 +61,6 @@ pub times-sided : (s : Bool) (i at : ℕ) (t u : Tree) → times i (sided s (for
 times-sided true i at t u = times-fork i at t u
 times-sided false i at t u = let e = times-fork i at u t in omega (arith, e)
 
-pub levels-sided : (s : Bool) (at : ℕ) (t u : Tree) → levels (sided s (fork at) t u) ≡ suc (max (levels t) (levels u))
-levels-sided true at t u = levels-fork at t u
-levels-sided false at t u = let e = levels-fork at u t in omega (arith, e)
-
 -- what hangs at a node
 pub parts : (s : Bool) (nodes : List Node) (link at : ℕ) (t u : Tree) → Holds nodes link (sided s (fork at) t u)
     → (at ≢ none) × (at < length nodes) × Holds nodes (far s (slice_index_or nodes at blank)) t × Holds nodes (near s (slice_index_or nodes at blank)) u
@@ -112,16 +90,6 @@ wrote old new t place node stands kept = kept-write old new t place node kept (�
     let nought = away-times other t away in
     let is : 1 ≤ times other t = subst (λ (n : ℕ). 1 ≤ times n t) (sym e) stands in
     absurd (omega (arith, nought, is)))
-
--- which turn a node takes, as its code tests it
-pub up-once : (s : Bool) (at up : ℕ) (a b o : Tree) → levels b ≤ levels a → up_by s at (sided s (fork up) a b) o ≡ sided s (fork up) a (sided s (fork at) b o)
-up-once true at up a b o few = left_up-once at up a b o few
-up-once false at up a b o few = right_up-once at up o b a few
-
-pub up-twice : (s : Bool) (at up top : ℕ) (a b c o : Tree) → levels a < levels (sided s (fork top) b c)
-    → up_by s at (sided s (fork up) a (sided s (fork top) b c)) o ≡ sided s (fork top) (sided s (fork up) a b) (sided s (fork at) c o)
-up-twice true at up top a b c o more = left_up-twice at up top a b c o more
-up-twice false at up top a b c o more = right_up-twice at up top o c b a more
 
 -- two sides of which the first is a node, and higher
 pub record IsOpened (s : Bool) (nodes : List Node) (up at other : ℕ) : Type 0 where
