@@ -5,7 +5,7 @@ use Rattle.tree_shape.specs.Shape.{Tree, fork, levels, Holds, AreSides, AreReady
 use Rattle.tree_shape.proofs.Holding.{holds-height, holds-kept, holds-joined}
 use Rattle.tree_shape.proofs.Sided.{sided, far, near}
 use Rattle.tree_shape.proofs.Opening.{with-node, height-some, joinable, kept-write}
-use Rattle.tree_shape.proofs.Times.{here, times, times-fork, times-away, away-times, once-times}
+use Rattle.tree_shape.proofs.Times.{here, times, times-fork, times-away, away-times, times-once, once-times}
 
 abbrev pub IsJoinableBy : Bool → List Node → ℕ → ℕ → ℕ → Type 0
 IsJoinableBy true nodes x at y = IsJoinable nodes x at y
@@ -127,3 +127,30 @@ opened-twice s {nodes} {up} {at} {other} high more =
     (parts s nodes up up is.a is.b is.are.held).3 (height-some nodes top (omega (arith, more)))
     (λ b c are low higher. record { a = is.a; b = b; c = c; o = is.o; are = are; low = low; higher = higher })
     is.are is.low is.higher
+
+-- two sides of which each is told by the far one
+abbrev pub AreSidesBy : Bool → List Node → ℕ → ℕ → ℕ → Tree → Tree → Type 0
+AreSidesBy true nodes x at y t u = AreSides nodes x at y t u
+AreSidesBy false nodes x at y t u = AreSides nodes y at x u t
+
+abbrev pub AreReadyBy : Bool → List Node → ℕ → ℕ → ℕ → Type 0
+AreReadyBy true nodes x at y = AreReady nodes x at y
+AreReadyBy false nodes x at y = AreReady nodes y at x
+
+sides : (nodes : List Node) (left at right : ℕ) (l r : Tree) → Holds nodes left l → Holds nodes right r → at < length nodes → at ≢ none → ((i : ℕ) → times i l + here i at + times i r ≤ 1) → AreSides nodes left at right l r
+sides nodes left at right l r lefts rights inside some most = record {
+  lefts = lefts;
+  rights = rights;
+  inside = inside;
+  some = some;
+  once = times-once (fork at l r) (λ i. let sum = times-fork i at l r in let few = most i in omega (arith, sum, few));
+}
+
+pub sides-by : (s : Bool) (nodes : List Node) (x at y : ℕ) (t u : Tree) → Holds nodes x t → Holds nodes y u → at < length nodes → at ≢ none → ((i : ℕ) → times i t + here i at + times i u ≤ 1)
+    → AreSidesBy s nodes x at y t u
+sides-by true nodes x at y t u one two inside some most = sides nodes x at y t u one two inside some most
+sides-by false nodes x at y t u one two inside some most = sides nodes y at x u t two one inside some (λ i. let few = most i in omega (arith, few))
+
+pub ready-by : (s : Bool) (nodes : List Node) (x at y : ℕ) (t u : Tree) → AreSidesBy s nodes x at y t u → levels t < none → levels u < none → AreReadyBy s nodes x at y
+ready-by true nodes x at y t u are low other = record { l = t; r = u; are = are; low_left = low; low_right = other }
+ready-by false nodes x at y t u are low other = record { l = u; r = t; are = are; low_left = other; low_right = low }
