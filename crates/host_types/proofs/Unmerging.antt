@@ -48,25 +48,21 @@ without-none i (j ∷ g) h =
     by_test true e split rest = absurd (let one = ap one_when e in omega (arith, h, split, one))
     by_test false e split rest = ap (λ (l : List ℕ). j ∷ l) (rest (let one = ap one_when e in omega (arith, h, split, one)))
 
-among-none : (i : ℕ) (g : List ℕ) → times i g ≡ 0 → is_among i g ≡ false
-among-none i [] h = refl
-among-none i (j ∷ g) h =
+among-told : (i : ℕ) (g : List ℕ) → is_among i g ≡ nat_lt 0 (times i g)
+among-told i [] = refl
+among-told i (j ∷ g) =
     let split = sum_by-cons (λ (x : ℕ). one_when (x == i)) j g in
-    by_test (j == i) refl split (among-none i g)
+    by_test (j == i) refl split (among-told i g)
   where
-    by_test : (b : Bool) → (j == i) ≡ b → times i (j ∷ g) ≡ one_when (j == i) + times i g → (times i g ≡ 0 → is_among i g ≡ false) → (b || is_among i g) ≡ false
-    by_test true e split rest = absurd (let one = ap one_when e in omega (arith, h, split, one))
-    by_test false e split rest = rest (let one = ap one_when e in omega (arith, h, split, one))
+    by_test : (b : Bool) → (j == i) ≡ b → times i (j ∷ g) ≡ one_when (j == i) + times i g → is_among i g ≡ nat_lt 0 (times i g) → (b || is_among i g) ≡ nat_lt 0 (times i (j ∷ g))
+    by_test true e split rest = let some : nat_lt 0 (times i (j ∷ g)) ≡ true = (let one = ap one_when e in grind (arith, split, one)) in sym some
+    by_test false e split rest = rest ∙ ap (nat_lt 0) (let one = ap one_when e in omega (arith, split, one))
+
+among-none : (i : ℕ) (g : List ℕ) → times i g ≡ 0 → is_among i g ≡ false
+among-none i g none = among-told i g ∙ ap (nat_lt 0) none
 
 among-some : (i : ℕ) (g : List ℕ) → 1 ≤ times i g → is_among i g ≡ true
-among-some i [] h = absurd (omega arith)
-among-some i (j ∷ g) h =
-    let split = sum_by-cons (λ (x : ℕ). one_when (x == i)) j g in
-    by_test (j == i) refl split (among-some i g)
-  where
-    by_test : (b : Bool) → (j == i) ≡ b → times i (j ∷ g) ≡ one_when (j == i) + times i g → (1 ≤ times i g → is_among i g ≡ true) → (b || is_among i g) ≡ true
-    by_test true e split rest = refl
-    by_test false e split rest = rest (let one = ap one_when e in omega (arith, h, split, one))
+among-some i g some = among-told i g ∙ grind (arith, some)
 
 sum-kept : (f : List ℕ → ℕ) (group : List ℕ) (rest : List (List ℕ)) → f [] ≡ 0 → sum_by f (kept_group group rest) ≡ f group + sum_by f rest
 sum-kept f [] rest none = omega (arith, none)
