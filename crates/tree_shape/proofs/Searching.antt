@@ -11,14 +11,19 @@ use Rattle.tree_shape.proofs.Sided.{sided, far, levels-sided}
 use Rattle.tree_shape.proofs.Opening.{with-node}
 use Rattle.tree_shape.proofs.Standing.{parts, with-sided}
 
-pub falls : (s : Bool) (nodes : List Node) (link : ℕ) (t u : Tree) → Holds nodes link (sided s (fork link) t u) → height_at nodes (far s (slice_index_or nodes link blank)) < height_at nodes link
-falls s nodes link t u held =
-    let one = holds-height nodes link (sided s (fork link) t u) held in
-    let two = holds-height nodes (far s (slice_index_or nodes link blank)) t (parts s nodes link link t u held).2 in
-    let all = levels-sided s link t u in
-    omega (arith, one, two, all)
+pub falls : (s : Bool) (nodes : List Node) (link : ℕ) (t : Tree) → link ≢ none → Holds nodes link t → height_at nodes (far s (slice_index_or nodes link blank)) < height_at nodes link
+falls s nodes link t some held =
+    with-sided s nodes link t (λ (t : Tree). Holds nodes link t → height_at nodes (far s (slice_index_or nodes link blank)) < height_at nodes link) held some (λ a b. λ held.
+    let one = holds-height nodes link (sided s (fork link) a b) held in
+    let two = holds-height nodes (far s (slice_index_or nodes link blank)) a (parts s nodes link link a b held).2 in
+    let all = levels-sided s link a b in
+    omega (arith, one, two, all)) held
 
 module _ (nodes : List Node) (link : ℕ) (l r : Tree) (held : Holds nodes link (fork link l r)) where
+  pub node-some : link ≢ none
+  unfolding Holds
+  node-some = held.1
+
   pub node-inside : link < length nodes
   unfolding Holds
   node-inside = held.2

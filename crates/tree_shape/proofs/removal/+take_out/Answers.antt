@@ -30,13 +30,13 @@ order_at-requires-clause-framed t c =
 pub take_out-requires : goal.take_out-requires
 take_out-requires t c =
     let o = taker c.args.nodes.now c.args.frames.now c.args.arena.now.pages c.args.link c.if-link-eq-NONE.false c.requires.tree.0 c.requires.tree.1 in
-    let less = falls false c.args.nodes.now c.args.link o.r o.l o.is.shrinks.sound.holds in
+    let less = falls false c.args.nodes.now c.args.link c.requires.tree.0 c.if-link-eq-NONE.false c.requires.tree.1.shrinks.sound.holds in
     (omega (arith, less, c.decreases), ((o.r, rw c.order_at.ensures.pages (taking-side false c.args.nodes.now c.args.frames.now c.args.arena.now.pages c.args.link o.r o.l o.is)), (rw c.order_at.ensures.pages c.requires.frame, c.requires.sized)))
 
 pub take_out-requires-in-Greater : goal.take_out-requires-in-Greater
 take_out-requires-in-Greater t c =
     let o = taker c.args.nodes.now c.args.frames.now c.args.arena.now.pages c.args.link c.if-link-eq-NONE.false c.requires.tree.0 c.requires.tree.1 in
-    let less = falls true c.args.nodes.now c.args.link o.l o.r o.is.shrinks.sound.holds in
+    let less = falls true c.args.nodes.now c.args.link c.requires.tree.0 c.if-link-eq-NONE.false c.requires.tree.1.shrinks.sound.holds in
     (omega (arith, less, c.decreases), ((o.l, rw c.order_at.ensures.pages (taking-side true c.args.nodes.now c.args.frames.now c.args.arena.now.pages c.args.link o.l o.r o.is)), (rw c.order_at.ensures.pages c.requires.frame, c.requires.sized)))
 
 pub settle-requires : goal.settle-requires
@@ -76,32 +76,27 @@ returns-else-not-is_alone-clause-out t c =
 
 pub returns-in-Nowhere-clause-few : goal.returns-in-Nowhere-clause-few
 returns-in-Nowhere-clause-few t c =
-    let o = taker c.args.nodes.now c.args.frames.now c.args.arena.now.pages c.args.link c.if-link-eq-NONE.false c.requires.tree.0 c.requires.tree.1 in
-    let less = falls false c.args.nodes.now c.args.link o.r o.l o.is.shrinks.sound.holds in
+    let less = falls false c.args.nodes.now c.args.link c.requires.tree.0 c.if-link-eq-NONE.false c.requires.tree.1.shrinks.sound.holds in
     omega (arith, less, c.order_at.ensures.steps, c.take_out.ensures.few)
 
 pub returns-in-Out-clause-few : goal.returns-in-Out-clause-few
 returns-in-Out-clause-few t c =
-    let o = taker c.args.nodes.now c.args.frames.now c.args.arena.now.pages c.args.link c.if-link-eq-NONE.false c.requires.tree.0 c.requires.tree.1 in
-    let less = falls false c.args.nodes.now c.args.link o.r o.l o.is.shrinks.sound.holds in
+    let less = falls false c.args.nodes.now c.args.link c.requires.tree.0 c.if-link-eq-NONE.false c.requires.tree.1.shrinks.sound.holds in
     omega (arith, less, c.order_at.ensures.steps, c.take_out.ensures.few)
 
 pub returns-else-not-is_alone-clause-few : goal.returns-else-not-is_alone-clause-few
 returns-else-not-is_alone-clause-few t c =
-    let o = taker c.args.nodes.now c.args.frames.now c.args.arena.now.pages c.args.link c.if-link-eq-NONE.false c.requires.tree.0 c.requires.tree.1 in
-    let less = falls false c.args.nodes.now c.args.link o.r o.l o.is.shrinks.sound.holds in
+    let less = falls false c.args.nodes.now c.args.link c.requires.tree.0 c.if-link-eq-NONE.false c.requires.tree.1.shrinks.sound.holds in
     omega (arith, less, c.order_at.ensures.steps)
 
 pub returns-in-Nowhere-take_out-clause-few : goal.returns-in-Nowhere-take_out-clause-few
 returns-in-Nowhere-take_out-clause-few t c =
-    let o = taker c.args.nodes.now c.args.frames.now c.args.arena.now.pages c.args.link c.if-link-eq-NONE.false c.requires.tree.0 c.requires.tree.1 in
-    let less = falls true c.args.nodes.now c.args.link o.l o.r o.is.shrinks.sound.holds in
+    let less = falls true c.args.nodes.now c.args.link c.requires.tree.0 c.if-link-eq-NONE.false c.requires.tree.1.shrinks.sound.holds in
     omega (arith, less, c.order_at.ensures.steps, c.take_out-in-Greater.ensures.few)
 
 pub returns-in-Out-take_out-clause-few : goal.returns-in-Out-take_out-clause-few
 returns-in-Out-take_out-clause-few t c =
-    let o = taker c.args.nodes.now c.args.frames.now c.args.arena.now.pages c.args.link c.if-link-eq-NONE.false c.requires.tree.0 c.requires.tree.1 in
-    let less = falls true c.args.nodes.now c.args.link o.l o.r o.is.shrinks.sound.holds in
+    let less = falls true c.args.nodes.now c.args.link c.requires.tree.0 c.if-link-eq-NONE.false c.requires.tree.1.shrinks.sound.holds in
     omega (arith, less, c.order_at.ensures.steps, c.take_out-in-Greater.ensures.few)
 
 pub returns-in-Stays-clause-out : goal.returns-in-Stays-clause-out
@@ -124,18 +119,15 @@ is_alone-requires-clause-inside t c =
 
 pub returns-in-Stays-clause-few : goal.returns-in-Stays-clause-few
 returns-in-Stays-clause-few t c =
-    let o = taker c.args.nodes.now c.args.frames.now c.args.arena.now.pages c.args.link c.if-link-eq-NONE.false c.requires.tree.0 c.requires.tree.1 in
-    let less = falls false c.args.nodes.now c.args.link o.r o.l o.is.shrinks.sound.holds in
+    let less = falls false c.args.nodes.now c.args.link c.requires.tree.0 c.if-link-eq-NONE.false c.requires.tree.1.shrinks.sound.holds in
     omega (arith, less, c.order_at.ensures.steps, c.take_out.ensures.few)
 
 pub returns-in-Stays-take_out-clause-few : goal.returns-in-Stays-take_out-clause-few
 returns-in-Stays-take_out-clause-few t c =
-    let o = taker c.args.nodes.now c.args.frames.now c.args.arena.now.pages c.args.link c.if-link-eq-NONE.false c.requires.tree.0 c.requires.tree.1 in
-    let less = falls true c.args.nodes.now c.args.link o.l o.r o.is.shrinks.sound.holds in
+    let less = falls true c.args.nodes.now c.args.link c.requires.tree.0 c.if-link-eq-NONE.false c.requires.tree.1.shrinks.sound.holds in
     omega (arith, less, c.order_at.ensures.steps, c.take_out-in-Greater.ensures.few)
 
 pub returns-then-not-is_alone-clause-few : goal.returns-then-not-is_alone-clause-few
 returns-then-not-is_alone-clause-few t c =
-    let o = taker c.args.nodes.now c.args.frames.now c.args.arena.now.pages c.args.link c.if-link-eq-NONE.false c.requires.tree.0 c.requires.tree.1 in
-    let less = falls false c.args.nodes.now c.args.link o.r o.l o.is.shrinks.sound.holds in
+    let less = falls false c.args.nodes.now c.args.link c.requires.tree.0 c.if-link-eq-NONE.false c.requires.tree.1.shrinks.sound.holds in
     omega (arith, less, c.order_at.ensures.steps)

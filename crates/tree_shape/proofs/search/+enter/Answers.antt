@@ -30,13 +30,13 @@ order_at-requires-clause-framed t c =
 pub enter-requires : goal.enter-requires
 enter-requires t c =
     let o = grower c.args.nodes.now c.args.frames.now c.args.arena.now.pages c.args.link c.args.new c.if-link-eq-NONE.false c.requires.tree.0 c.requires.tree.1 in
-    let less = falls false c.args.nodes.now c.args.link o.r o.l o.is.sound.holds in
+    let less = falls false c.args.nodes.now c.args.link c.requires.tree.0 c.if-link-eq-NONE.false c.requires.tree.1.sound.holds in
     (omega (arith, less, c.decreases), ((o.r, rw c.order_at.ensures.pages (growing-side false c.args.nodes.now c.args.frames.now c.args.arena.now.pages c.args.link c.args.new o.r o.l o.is)), (c.requires.inside, rw c.order_at.ensures.pages c.requires.framed)))
 
 pub enter-requires-in-Greater : goal.enter-requires-in-Greater
 enter-requires-in-Greater t c =
     let o = grower c.args.nodes.now c.args.frames.now c.args.arena.now.pages c.args.link c.args.new c.if-link-eq-NONE.false c.requires.tree.0 c.requires.tree.1 in
-    let less = falls true c.args.nodes.now c.args.link o.l o.r o.is.sound.holds in
+    let less = falls true c.args.nodes.now c.args.link c.requires.tree.0 c.if-link-eq-NONE.false c.requires.tree.1.sound.holds in
     (omega (arith, less, c.decreases), ((o.l, rw c.order_at.ensures.pages (growing-side true c.args.nodes.now c.args.frames.now c.args.arena.now.pages c.args.link c.args.new o.l o.r o.is)), (c.requires.inside, rw c.order_at.ensures.pages c.requires.framed)))
 
 pub settle-requires : goal.settle-requires
@@ -71,30 +71,25 @@ returns-in-Root-enter-clause-entry t c =
 
 pub returns-in-There-clause-few : goal.returns-in-There-clause-few
 returns-in-There-clause-few t c =
-    let o = grower c.args.nodes.now c.args.frames.now c.args.arena.now.pages c.args.link c.args.new c.if-link-eq-NONE.false c.requires.tree.0 c.requires.tree.1 in
-    let less = falls false c.args.nodes.now c.args.link o.r o.l o.is.sound.holds in
+    let less = falls false c.args.nodes.now c.args.link c.requires.tree.0 c.if-link-eq-NONE.false c.requires.tree.1.sound.holds in
     omega (arith, less, c.order_at.ensures.steps, c.enter.ensures.few)
 
 pub returns-in-Root-clause-few : goal.returns-in-Root-clause-few
 returns-in-Root-clause-few t c =
-    let o = grower c.args.nodes.now c.args.frames.now c.args.arena.now.pages c.args.link c.args.new c.if-link-eq-NONE.false c.requires.tree.0 c.requires.tree.1 in
-    let less = falls false c.args.nodes.now c.args.link o.r o.l o.is.sound.holds in
+    let less = falls false c.args.nodes.now c.args.link c.requires.tree.0 c.if-link-eq-NONE.false c.requires.tree.1.sound.holds in
     omega (arith, less, c.order_at.ensures.steps, c.enter.ensures.few)
 
 pub returns-in-Equal-clause-few : goal.returns-in-Equal-clause-few
 returns-in-Equal-clause-few t c =
-    let o = grower c.args.nodes.now c.args.frames.now c.args.arena.now.pages c.args.link c.args.new c.if-link-eq-NONE.false c.requires.tree.0 c.requires.tree.1 in
-    let less = falls false c.args.nodes.now c.args.link o.r o.l o.is.sound.holds in
+    let less = falls false c.args.nodes.now c.args.link c.requires.tree.0 c.if-link-eq-NONE.false c.requires.tree.1.sound.holds in
     omega (arith, less, c.order_at.ensures.steps)
 
 pub returns-in-There-enter-clause-few : goal.returns-in-There-enter-clause-few
 returns-in-There-enter-clause-few t c =
-    let o = grower c.args.nodes.now c.args.frames.now c.args.arena.now.pages c.args.link c.args.new c.if-link-eq-NONE.false c.requires.tree.0 c.requires.tree.1 in
-    let less = falls true c.args.nodes.now c.args.link o.l o.r o.is.sound.holds in
+    let less = falls true c.args.nodes.now c.args.link c.requires.tree.0 c.if-link-eq-NONE.false c.requires.tree.1.sound.holds in
     omega (arith, less, c.order_at.ensures.steps, c.enter-in-Greater.ensures.few)
 
 pub returns-in-Root-enter-clause-few : goal.returns-in-Root-enter-clause-few
 returns-in-Root-enter-clause-few t c =
-    let o = grower c.args.nodes.now c.args.frames.now c.args.arena.now.pages c.args.link c.args.new c.if-link-eq-NONE.false c.requires.tree.0 c.requires.tree.1 in
-    let less = falls true c.args.nodes.now c.args.link o.l o.r o.is.sound.holds in
+    let less = falls true c.args.nodes.now c.args.link c.requires.tree.0 c.if-link-eq-NONE.false c.requires.tree.1.sound.holds in
     omega (arith, less, c.order_at.ensures.steps, c.enter-in-Greater.ensures.few)

@@ -25,14 +25,14 @@ order_at-requires-clause-framed t c =
 pub find-requires : goal.find-requires
 find-requires t c =
     let o = searched-node c.args.nodes.now c.args.frames.now c.args.arena.now.pages c.args.link c.if-link-eq-NONE.false c.requires.tree.0 c.requires.tree.1 in
-    let less = falls false c.args.nodes.now c.args.link o.r o.l o.is.holds in
+    let less = falls false c.args.nodes.now c.args.link c.requires.tree.0 c.if-link-eq-NONE.false c.requires.tree.1.holds in
     let all = c.order_at.ensures.pages in
     (omega (arith, less, c.decreases), ((o.r, rw c.order_at.ensures.pages (searched-side false c.args.nodes.now c.args.frames.now c.args.arena.now.pages c.args.link o.r o.l o.is)), rw c.order_at.ensures.pages c.requires.frame))
 
 pub find-requires-in-Greater : goal.find-requires-in-Greater
 find-requires-in-Greater t c =
     let o = searched-node c.args.nodes.now c.args.frames.now c.args.arena.now.pages c.args.link c.if-link-eq-NONE.false c.requires.tree.0 c.requires.tree.1 in
-    let less = falls true c.args.nodes.now c.args.link o.l o.r o.is.holds in
+    let less = falls true c.args.nodes.now c.args.link c.requires.tree.0 c.if-link-eq-NONE.false c.requires.tree.1.holds in
     (omega (arith, less, c.decreases), ((o.l, rw c.order_at.ensures.pages (searched-side true c.args.nodes.now c.args.frames.now c.args.arena.now.pages c.args.link o.l o.r o.is)), rw c.order_at.ensures.pages c.requires.frame))
 
 pub returns-in-Less-clause-place : goal.returns-in-Less-clause-place
@@ -42,8 +42,7 @@ returns-in-Less-clause-place t c =
 
 pub returns-in-Less-clause-few : goal.returns-in-Less-clause-few
 returns-in-Less-clause-few t c =
-    let o = searched-node c.args.nodes.now c.args.frames.now c.args.arena.now.pages c.args.link c.if-link-eq-NONE.false c.requires.tree.0 c.requires.tree.1 in
-    let less = falls false c.args.nodes.now c.args.link o.r o.l o.is.holds in
+    let less = falls false c.args.nodes.now c.args.link c.requires.tree.0 c.if-link-eq-NONE.false c.requires.tree.1.holds in
     omega (arith, less, c.find.ensures.few, c.order_at.ensures.steps)
 
 pub returns-in-Equal-clause-place : goal.returns-in-Equal-clause-place
@@ -52,8 +51,7 @@ returns-in-Equal-clause-place t c =
 
 pub returns-in-Equal-clause-few : goal.returns-in-Equal-clause-few
 returns-in-Equal-clause-few t c =
-    let o = searched-node c.args.nodes.now c.args.frames.now c.args.arena.now.pages c.args.link c.if-link-eq-NONE.false c.requires.tree.0 c.requires.tree.1 in
-    let less = falls false c.args.nodes.now c.args.link o.r o.l o.is.holds in
+    let less = falls false c.args.nodes.now c.args.link c.requires.tree.0 c.if-link-eq-NONE.false c.requires.tree.1.holds in
     omega (arith, less, c.order_at.ensures.steps)
 
 pub returns-in-Greater-clause-place : goal.returns-in-Greater-clause-place
@@ -63,6 +61,5 @@ returns-in-Greater-clause-place t c =
 
 pub returns-in-Greater-clause-few : goal.returns-in-Greater-clause-few
 returns-in-Greater-clause-few t c =
-    let o = searched-node c.args.nodes.now c.args.frames.now c.args.arena.now.pages c.args.link c.if-link-eq-NONE.false c.requires.tree.0 c.requires.tree.1 in
-    let less = falls true c.args.nodes.now c.args.link o.l o.r o.is.holds in
+    let less = falls true c.args.nodes.now c.args.link c.requires.tree.0 c.if-link-eq-NONE.false c.requires.tree.1.holds in
     omega (arith, less, c.find-in-Greater.ensures.few, c.order_at.ensures.steps)
