@@ -65,23 +65,25 @@ drop-with_part xs part size at h =
     ∙ ap (λ l. l ++ behind) (drop-append-le size (take (size + at) xs) part long ∙ ap (λ l. l ++ part) (drop-take size at xs))
     ∙ ap (λ l. take at (drop size xs) ++ part ++ l) (sym (drop-drop (at + length part) size xs ∙ ap (λ (n : ℕ). drop n xs) place))
 
--- elements written into the first part
+-- elements written into the first part, before the others
+with_part-first : {X : Type 0} (xs part : List X) (size at : ℕ) → size ≤ length xs → at + length part ≤ size
+    → (with_part xs at part ≡ with_part (take size xs) at part ++ drop size xs) × (length (with_part (take size xs) at part) ≡ size)
+with_part-first xs part size at long fits =
+    let first = length-take-le size xs long in (
+      ap (λ l. with_part l at part) (sym (take-append-drop size xs)) ∙ with_part-append (take size xs) (drop size xs) part at (omega (arith, first, fits)),
+      length-with_part (take size xs) at part (omega (arith, first, fits)) ∙ first,
+    )
+
 pub take-with_part : {X : Type 0} (xs part : List X) (size at : ℕ) → size ≤ length xs → at + length part ≤ size → take size (with_part xs at part) ≡ with_part (take size xs) at part
 take-with_part xs part size at long fits =
-    let first = length-take-le size xs long in
-    let split : with_part xs at part ≡ with_part (take size xs) at part ++ drop size xs =
-    ap (λ l. with_part l at part) (sym (take-append-drop size xs)) ∙ with_part-append (take size xs) (drop size xs) part at (omega (arith, first, fits)) in
-    let kept : length (with_part (take size xs) at part) ≡ size = length-with_part (take size xs) at part (omega (arith, first, fits)) ∙ first in
-    ap (take size) split ∙ take_at (with_part (take size xs) at part) (drop size xs) size kept
+    let is = with_part-first xs part size at long fits in
+    ap (take size) is.0 ∙ take_at (with_part (take size xs) at part) (drop size xs) size is.1
 
 -- the parts behind the one that elements are written into
 pub drop-with_part_before : {X : Type 0} (xs part : List X) (size at : ℕ) → size ≤ length xs → at + length part ≤ size → drop size (with_part xs at part) ≡ drop size xs
 drop-with_part_before xs part size at long fits =
-    let first = length-take-le size xs long in
-    let split : with_part xs at part ≡ with_part (take size xs) at part ++ drop size xs =
-    ap (λ l. with_part l at part) (sym (take-append-drop size xs)) ∙ with_part-append (take size xs) (drop size xs) part at (omega (arith, first, fits)) in
-    let kept : length (with_part (take size xs) at part) ≡ size = length-with_part (take size xs) at part (omega (arith, first, fits)) ∙ first in
-    ap (drop size) split ∙ drop_at (with_part (take size xs) at part) (drop size xs) size kept
+    let is = with_part-first xs part size at long fits in
+    ap (drop size) is.0 ∙ drop_at (with_part (take size xs) at part) (drop size xs) size is.1
 
 -- the first part, where elements are written behind it
 take-with_part_behind : {X : Type 0} (xs part : List X) (size at : ℕ) → size + at ≤ length xs → take size (with_part xs (size + at) part) ≡ take size xs

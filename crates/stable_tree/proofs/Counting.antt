@@ -1,6 +1,6 @@
 -- The numbers of contents with more than one group, where a chain changes.
 use Rattle.std.proofs.Common.{◌≡◌, ◌∙◌, ℕ, zero, suc, ◌+◌, ◌-◌, ◌<◌, ◌≤◌, nat_lt, Bool, true, false, if◌then◌else◌, List, [], ◌∷◌, ◌++◌, length, take, drop, insert, remove, slice_index_or, slice_set, refl, sym, ap, arith}
-use Rattle.std.specs.List.{concat}
+use Rattle.std.specs.List.{concat, sum_by}
 use Rattle.std.proofs.lemmas.List.{length-append}
 use Rattle.std.proofs.lemmas.List.Edits.{length-remove}
 use Rattle.std.proofs.lemmas.List.Sums.{sum_by-cons, sum_by-set, sum_by-insert, sum_by-remove}
@@ -28,25 +28,22 @@ dups-few n = by_test (nat_lt 1 n)
     by_test false = omega arith
 
 -- there are no more such groups than groups
-pub chains-few : (chains : List (List ℕ)) → chains_among chains ≤ length (concat chains)
-unfolding chains_among
-chains-few [] = omega arith
-chains-few (chain ∷ chains) =
-    let split = sum_by-cons (λ (chain : List ℕ). many_in (length chain)) chain chains in
-    let rest = chains-few chains in
-    let one = many-few (length chain) in
+chains-fit : (count : ℕ → ℕ) → ((n : ℕ) → count n ≤ n) → (chains : List (List ℕ)) → sum_by (λ (chain : List ℕ). count (length chain)) chains ≤ length (concat chains)
+chains-fit count few [] = omega arith
+chains-fit count few (chain ∷ chains) =
+    let split = sum_by-cons (λ (chain : List ℕ). count (length chain)) chain chains in
+    let rest = chains-fit count few chains in
+    let one = few (length chain) in
     let long = length-append chain (concat chains) in
     omega (arith, split, rest, one, long)
 
+pub chains-few : (chains : List (List ℕ)) → chains_among chains ≤ length (concat chains)
+unfolding chains_among
+chains-few = chains-fit many_in many-few
+
 pub dups-fit : (chains : List (List ℕ)) → dups_among chains ≤ length (concat chains)
 unfolding dups_among
-dups-fit [] = omega arith
-dups-fit (chain ∷ chains) =
-    let split = sum_by-cons (λ (chain : List ℕ). dups_in (length chain)) chain chains in
-    let rest = dups-fit chains in
-    let one = dups-few (length chain) in
-    let long = length-append chain (concat chains) in
-    omega (arith, split, rest, one, long)
+dups-fit = chains-fit dups_in dups-few
 
 -- one chain changes
 module _ (chains : List (List ℕ)) (k : ℕ) (chain : List ℕ) (inside : k < length chains) where

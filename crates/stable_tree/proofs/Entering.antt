@@ -1,5 +1,5 @@
 -- A place that is put into the tree, and one that is taken out of it.
-use Rattle.std.proofs.Common.{◌≡◌, ℕ, ◌+◌, ◌-◌, ◌≤◌, List, [], ◌∷◌, ◌++◌, length, map, slice_index_or, insert, Option, None, Some, refl, sym, ap, ◌∙◌, arith}
+use Rattle.std.proofs.Common.{◌≡◌, ℕ, ◌+◌, ◌-◌, ◌≤◌, List, [], ◌∷◌, ◌++◌, length, map, slice_index_or, insert, Option, None, Some, refl, sym, subst, ap, ◌∙◌, arith}
 use Rattle.std.specs.List.{remove}
 use Rattle.std.specs.Vec.{with_items}
 use Rattle.std.proofs.lemmas.List.{map-append, length-map}
@@ -64,6 +64,9 @@ renoded store nodes root long room = record {
   same_room = refl;
   room = record { nodes = room.nodes; frames = room.frames; nexts = room.nexts; sizes = room.sizes; free = room.free };
 }
+
+pub unchanged : (store : Store) (nodes : List Node) → nodes ≡ store.nodes.items → HasRoom store → IsRenoded store (renoded_store store nodes store.root) store.nodes.items store.root
+unchanged store nodes same room = subst (λ (new : List Node). IsRenoded store (renoded_store store nodes store.root) new store.root) same (renoded store nodes store.root (ap length same) room)
 
 -- the same nodes
 module _ (old new : Store) (is : IsRenoded old new old.nodes.items old.root) where

@@ -1,5 +1,5 @@
 -- A place that a new group gets.
-use Rattle.std.proofs.Common.{◌≡◌, ℕ, ◌+◌, ◌<◌, ◌≤◌, List, [], ◌∷◌, ◌++◌, length, map, slice_index_or, ⊎_elim, sym, ap, subst, ◌∙◌, arith, length-append}
+use Rattle.std.proofs.Common.{◌≡◌, ℕ, ◌+◌, ◌<◌, ◌≤◌, List, [], ◌∷◌, ◌++◌, length, map, slice_index_or, ⊎_elim, sym, ap, subst, ◌∙◌, arith, length-append, vec_len, vec_capacity}
 use Rattle.std.specs.List.{concat}
 use Rattle.std.proofs.lemmas.Bool.{cases_lt}
 use Rattle.std.proofs.lemmas.List.{get_or_append_left}
@@ -104,12 +104,39 @@ module _ (held free : List ℕ) (bound : ℕ) (shared : AreShared held free boun
   pub more-agree : (old more : List ℕ) → length old ≡ bound → Agree held old (old ++ more)
   more-agree old more long = λ i some. get_or_append_left old more 0 i (let less = place-inside held free bound i shared (omega (arith, some)) in omega (arith, less, long))
 
--- where all places are used, there is memory for one more
-pub room-left : (store : Store) → IsStore store → length (concat (chains_in store)) < store.room → length store.free.items ≡ 0 → length store.nodes.items < store.room
-room-left store whole few none =
+-- a store has no more groups than places
+chains-long : (store : Store) (free : List ℕ) → IsWhole store free → length (concat (chains_in store)) + length free ≡ length store.nodes.items
+chains-long store free whole =
     let all = whole.hung.shared.all in
     let long = length-chains store.frames.items store.nexts.items store.sizes.items (heads_in store) in
-    omega (arith, all, none, few, long)
+    omega (arith, all, long)
+
+pub chains-low : {store : Store} → IsStore store → length (concat (chains_in store)) < 4294967295
+chains-low {store} whole =
+    let long = chains-long store store.free.items whole in
+    let few = whole.few in
+    let low = whole.low in
+    omega (arith, long, few, low)
+
+-- where all places are used, there is memory for one more
+pub record HasMore (store : Store) : Type 0 where
+  pub few : length store.nodes.items < store.room
+  pub nodes : vec_len store.nodes < vec_capacity store.nodes
+  pub frames : vec_len store.frames < vec_capacity store.frames
+  pub nexts : vec_len store.nexts < vec_capacity store.nexts
+  pub sizes : vec_len store.sizes < vec_capacity store.sizes
+
+pub room-left : {store : Store} → IsStore store → length (concat (chains_in store)) < store.room → length store.free.items ≡ 0 → HasMore store
+room-left {store} whole less none =
+    let long = chains-long store store.free.items whole in
+    let few : length store.nodes.items < store.room = omega (arith, long, none, less) in
+    record {
+      few = few;
+      nodes = let room = whole.room.nodes in omega (arith, few, room);
+      frames = let room = whole.room.frames in let size = whole.hung.framed in omega (arith, few, room, size);
+      nexts = let room = whole.room.nexts in let size = whole.hung.linked in omega (arith, few, room, size);
+      sizes = let room = whole.room.sizes in let size = whole.hung.sized in omega (arith, few, room, size);
+    }
 
 -- a spare place is one of the store's
 pub spare-inside : (store : Store) (place : ℕ) (free : List ℕ) → IsWhole store (place ∷ free) → place < length store.nodes.items

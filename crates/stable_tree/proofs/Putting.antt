@@ -1,17 +1,18 @@
 -- What the chains are where a group was put in, by what came of its place in the tree.
 use Rattle.std.proofs.Common.{◌≡◌, ℕ, List, [], ◌∷◌, ◌++◌, length, map, slice_index_or, insert, Some, refl, sym, ap, subst, ◌∙◌, arith}
 use Rattle.tree_shape.specs.declared.Node.{Node}
+use Rattle.tree_shape.specs.declared.search.Entered.TheVariants.{There, Root}
 use Rattle.tree_shape.specs.Shape.{Tree, leaf, fork, in_order, Holds, IsEven, IsHung}
 use Rattle.tree_shape.specs.Changes.{found, entered}
-use Rattle.tree_shape.specs.Searches.{order_to}
+use Rattle.tree_shape.specs.Searches.{order_to, IsGrowing, IsEntry}
 use Rattle.tree_shape.proofs.Changing.{entered-grown}
 use Rattle.stable_tree.specs.declared.store.Store.{Store}
 use Rattle.stable_tree.specs.Groups.{IsSorted}
 use Rattle.stable_tree.specs.Edits.{IsPut, added, lengthened}
-use Rattle.stable_tree.specs.Places.{frames_of, chain_at, AreHung, IsWhole, IsLengthened, tree_in, heads_in, chains_in}
+use Rattle.stable_tree.specs.Places.{frames_of, chain_at, AreHung, IsWhole, IsHead, IsLengthened, tree_in, heads_in, chains_in}
 use Rattle.stable_tree.proofs.Trees.{read-tree}
-use Rattle.stable_tree.proofs.Contents.{found-here, IsNowhere}
-use Rattle.stable_tree.proofs.Entering.{IsRenoded, same-chains, same-heads, hanging-alone, head-in, insert-between}
+use Rattle.stable_tree.proofs.Contents.{found-here, missing-here, IsNowhere}
+use Rattle.stable_tree.proofs.Entering.{IsRenoded, renoded_store, renoded, unchanged, whole-growing, same-whole, same-head, same-chains, same-heads, hanging-alone, head-in, insert-between}
 
 -- the place came into the tree
 module _ (pages : List (List ℕ)) (frame : ℕ) (old new : Store) (place root : ℕ) (nodes : List Node) (whole : IsWhole old (place ∷ old.free.items)) (sorted : IsSorted pages (chains_in old))
@@ -67,3 +68,34 @@ put-lengthened pages frame old mid new place at groups whole sorted framed is ha
     lengthened (length told.head.earlier) told.cut told.there
     (longer.chains ∙ (rw (same, is.frames, framed) refl))
     (longer.counted ∙ ap (λ chains. length (slice_index_or chains (length told.head.earlier) [])) same)
+
+-- What is known where an equal content was there: nothing of the nodes changed.
+pub record IsThere (pages : List (List ℕ)) (frame : ℕ) (mid : Store) (place : ℕ) (nodes : List Node) (at : ℕ) : Type 0 where
+  pub found_is : found (order_to pages mid.frames.items frame) (tree_in mid) ≡ Some at
+  pub same : IsRenoded mid (renoded_store mid nodes mid.root) mid.nodes.items mid.root
+  pub whole : IsWhole (renoded_store mid nodes mid.root) (place ∷ mid.free.items)
+  pub head : IsHead (renoded_store mid nodes mid.root) at
+
+-- what the tree tells of a place that was put in
+module _ {pages : List (List ℕ)} {frame : ℕ} {mid : Store} {place : ℕ} {nodes : List Node} (whole : IsWhole mid (place ∷ mid.free.items)) (sorted : IsSorted pages (chains_in mid)) (framed : slice_index_or mid.frames.items place 0 ≡ frame) where
+  pub put-there : {at : ℕ} → ((t : Tree) → IsGrowing mid.nodes.items mid.frames.items pages mid.root place t → IsEntry mid.nodes.items nodes (order_to pages mid.frames.items (slice_index_or mid.frames.items place 0)) place t (There at))
+      → IsThere pages frame mid place nodes at
+  put-there {at} told =
+      let entry = rw framed at (told (tree_in mid) (whole-growing mid place mid.free.items whole pages sorted)) in
+      let same = unchanged mid nodes entry.1 whole.room in
+      record {
+        found_is = entry.0;
+        same = same;
+        whole = same-whole mid (renoded_store mid nodes mid.root) same (place ∷ mid.free.items) whole;
+        head = same-head mid (renoded_store mid nodes mid.root) same at (found-here pages mid (place ∷ mid.free.items) whole sorted frame at entry.0).head;
+      }
+
+  pub put-new : {root : ℕ} → slice_index_or mid.sizes.items place 0 ≡ 1
+      → ((t : Tree) → IsGrowing mid.nodes.items mid.frames.items pages mid.root place t → IsEntry mid.nodes.items nodes (order_to pages mid.frames.items (slice_index_or mid.frames.items place 0)) place t (Root root))
+      → IsWhole (renoded_store mid nodes root) mid.free.items × IsPut pages frame (chains_in mid) (chains_in (renoded_store mid nodes root)) 0
+  put-new {root} alone told =
+      let entry = rw framed at (told (tree_in mid) (whole-growing mid place mid.free.items whole pages sorted)) in
+      let new = renoded_store mid nodes root in
+      let is = renoded mid nodes root entry.1.kept.size whole.room in
+      let nowhere = missing-here pages mid (place ∷ mid.free.items) whole sorted frame place entry.0 in
+      (put-whole pages frame mid new place root nodes whole sorted framed alone is nowhere entry.1, put-added pages frame mid new place root nodes whole sorted framed alone is nowhere entry.1)

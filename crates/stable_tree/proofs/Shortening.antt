@@ -2,13 +2,13 @@
 use Rattle.std.proofs.Common.{◌≡◌, ℕ, suc, ◌+◌, ◌-◌, ◌<◌, ◌≤◌, List, ◌∷◌, ◌++◌, length, map, slice_index_or, slice_set, refl, sym, ap, subst, ◌∙◌, arith}
 use Rattle.std.specs.List.{remove}
 use Rattle.std.specs.Vec.{with_item}
-use Rattle.std.proofs.lemmas.List.{get_or-set_same, length-set}
+use Rattle.std.proofs.lemmas.List.{get_or-set_same, get_or_read, length-set}
 use Rattle.stable_tree.specs.declared.store.Store.{Store}
 use Rattle.stable_tree.specs.Places.{walk, hanging, frames_of, chain_at, used, times, AreHung, IsWhole, IsHead, IsWithout, heads_in}
 use Rattle.stable_tree.proofs.Walks.{here, times-cons, times-first, apart-set, walk-there, walk-next, IsShorter, walk-shortened, walk-cut, Once}
 use Rattle.stable_tree.proofs.Hanging.{IsChanged, Apart, one-changed, shared-again, times-cut, length-cut}
 use Rattle.stable_tree.proofs.Lengthening.{cut-filled, cut-shared, head-inside, hanging-once, hanging-inside, changed-times, changed-length, changed-filled, changed-chains}
-use Rattle.stable_tree.proofs.Heads.{head-chain}
+use Rattle.stable_tree.proofs.Heads.{head-chain, head-facts}
 
 module _ (frames nexts sizes heads free earlier : List ℕ) (at : ℕ) (later : List ℕ) (bound gone j : ℕ) (given newer : List ℕ) (hung : AreHung frames nexts sizes heads free bound) (is : heads ≡ earlier ++ at ∷ later)
     (more : 2 ≤ slice_index_or sizes at 0) (all_given : length given ≡ bound) (all_newer : length newer ≡ bound)
@@ -175,3 +175,49 @@ module _ (store : Store) (at place j : ℕ) (whole : IsWhole store store.free.it
       (apart-set (hanging store.nexts.items store.sizes.items at) store.frames.items place (slice_index_or store.frames.items (slice_index_or store.nexts.items place 0) 0) place-stands)
       (apart-set (hanging store.nexts.items store.sizes.items at) store.nexts.items place (slice_index_or store.nexts.items (slice_index_or store.nexts.items place 0) 0) place-stands)
       pulled-short))
+
+-- What is read and written where the next group takes a place, and what the store is then.
+pub record IsPulling (store : Store) (at place behind : ℕ) : Type 0 where
+  pub framed : place < length store.frames.items
+  pub linked : place < length store.nexts.items
+  pub next_framed : slice_index_or store.nexts.items place 0 < length store.frames.items
+  pub next_linked : slice_index_or store.nexts.items place 0 < length store.nexts.items
+  pub sized : at < length store.sizes.items
+  pub whole : IsWhole (pulled_store store at place) (slice_index_or store.nexts.items place 0 ∷ store.free.items)
+  pub chains : IsWithout store (pulled_store store at place) at (slice_index_or store.sizes.items at 0 - 1 - behind)
+
+pub pulling : {store : Store} {at place behind : ℕ} → IsWhole store store.free.items → IsHead store at → (1 ≤ behind) × (behind < slice_index_or store.sizes.items at 0)
+    → place ≡ slice_index_or (hanging store.nexts.items store.sizes.items at) (slice_index_or store.sizes.items at 0 - 1 - behind) 0 → IsPulling store at place behind
+pulling {store} {at} {place} {behind} whole head stands placed =
+    let facts = head-facts store store.free.items at whole head in
+    let j : ℕ = slice_index_or store.sizes.items at 0 - 1 - behind in
+    let more : j + 1 < slice_index_or store.sizes.items at 0 = let a = stands.0 in let b = stands.1 in omega (arith, a, b) in
+    let inside = pulled-inside store at place j whole head more placed in
+    let next = next-inside store at place j whole head more placed in
+    record {
+      framed = omega (arith, inside, facts.framed);
+      linked = omega (arith, inside, facts.linked);
+      next_framed = omega (arith, next, facts.framed);
+      next_linked = omega (arith, next, facts.linked);
+      sized = omega (arith, facts.inside, facts.sized);
+      whole = pulled-whole store at place j whole head more placed;
+      chains = pulled-chains store at place j whole head more placed;
+    }
+
+-- what was read there
+pub record IsRead (store : Store) (at place next frame link groups : ℕ) : Type 0 where
+  pub next_is : next ≡ slice_index_or store.nexts.items place 0
+  pub frame_is : frame ≡ slice_index_or store.frames.items next 0
+  pub link_is : link ≡ slice_index_or store.nexts.items next 0
+  pub groups_are : groups ≡ slice_index_or store.sizes.items at 0
+
+pub pulled-read : {store : Store} {at place behind next frame link groups : ℕ} → IsPulling store at place behind → next ≡ slice_index_or store.nexts.items place next → frame ≡ slice_index_or store.frames.items next frame
+    → link ≡ slice_index_or store.nexts.items next link → groups ≡ slice_index_or store.sizes.items at groups → IsRead store at place next frame link groups
+pulled-read {store} {at} {place} {behind} {next} {frame} {link} {groups} is one two three four =
+    let next_is = get_or_read store.nexts.items place next is.linked one 0 in
+    record {
+      next_is = next_is;
+      frame_is = get_or_read store.frames.items next frame (rw next_is is.next_framed) two 0;
+      link_is = get_or_read store.nexts.items next link (rw next_is is.next_linked) three 0;
+      groups_are = get_or_read store.sizes.items at groups is.sized four 0;
+    }

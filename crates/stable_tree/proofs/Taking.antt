@@ -3,25 +3,27 @@ use Rattle.std.proofs.Common.{◌≡◌, ◌≢◌, ℕ, ◌-◌, ◌<◌, ◌�
 use Rattle.std.specs.List.{remove}
 use Rattle.std.proofs.lemmas.Bool.{cases_lt}
 use Rattle.std.proofs.lemmas.Bool.Decides.{nat_tests}
-use Rattle.std.proofs.lemmas.List.{get_or-map}
+use Rattle.std.proofs.lemmas.List.{get_or-map, get_or_read}
 use Rattle.std.proofs.lemmas.List.Elements.{All-nil}
 use Rattle.frame_arena.specs.Pages.{page_at}
 use Rattle.tree_shape.specs.declared.Node.{Node}
+use Rattle.tree_shape.specs.declared.removal.Taken.{Taken}
+use Rattle.tree_shape.specs.declared.removal.Removed.TheVariants.{Nowhere, Stays, Out}
 use Rattle.tree_shape.specs.Shape.{Tree, in_order, Holds, IsEven, IsHung}
 use Rattle.tree_shape.specs.Changes.{found, taken}
 use Rattle.tree_shape.specs.Searches.{order_to}
-use Rattle.tree_shape.specs.Removals.{is_alone}
+use Rattle.tree_shape.specs.Removals.{is_alone, IsTaking, IsOut}
 use Rattle.tree_shape.proofs.Changing.{taken-shrunk}
 use Rattle.stable_tree.specs.declared.store.Store.{Store}
 use Rattle.stable_tree.specs.Groups.{IsSorted, has}
 use Rattle.stable_tree.specs.Edits.{IsTakenOut, nowhere, alone, shortened, IsShortened, missing, shorter}
-use Rattle.stable_tree.specs.Places.{walk, hanging, frames_of, chain_at, AreHung, IsWhole, IsStanding, tree_in, heads_in, chains_in}
+use Rattle.stable_tree.specs.Places.{walk, hanging, frames_of, chain_at, AreHung, IsWhole, IsHead, IsStanding, tree_in, heads_in, chains_in}
 use Rattle.stable_tree.proofs.Sorting.{filter-there, filter-not_there, both}
 use Rattle.stable_tree.proofs.Walks.{length-walk}
 use Rattle.stable_tree.proofs.Trees.{read-tree}
-use Rattle.stable_tree.proofs.Heads.{chain-length}
+use Rattle.stable_tree.proofs.Heads.{chain-length, head-facts}
 use Rattle.stable_tree.proofs.Contents.{IsHere, found-here, missing-here}
-use Rattle.stable_tree.proofs.Entering.{IsRenoded, same-chains, same-heads, hanging-alone, head-out, remove-between}
+use Rattle.stable_tree.proofs.Entering.{IsRenoded, renoded_store, renoded, unchanged, whole-taking, same-whole, same-head, same-chains, same-heads, hanging-alone, head-out, remove-between}
 
 alone-tells : (frames sizes : List ℕ) (frame at : ℕ) → is_alone frames sizes frame at ≡ true → (slice_index_or sizes at 0 ≡ 1) × (slice_index_or frames at 0 ≡ frame)
 alone-tells frames sizes frame at e =
@@ -63,6 +65,36 @@ standing-frame frames nexts sizes at frame place behind standing =
     get_or-map (λ (place : ℕ). slice_index_or frames place 0) (hanging nexts sizes at) (slice_index_or sizes at 0 - 1 - behind) 0 0 (omega (arith, inside, long))
     ∙ ap (λ (p : ℕ). slice_index_or frames p 0) (ap (λ (n : ℕ). slice_index_or (hanging nexts sizes at) n 0) (sym e) ∙ sym standing.place_is)
     ∙ standing.frame_is
+
+-- Where a frame stands among two or more groups.
+pub record IsShortening (store : Store) (at frame place behind groups : ℕ) : Type 0 where
+  pub groups_are : groups ≡ slice_index_or store.sizes.items at 0
+  pub more : 2 ≤ slice_index_or store.sizes.items at 0
+  pub inside : behind < slice_index_or store.sizes.items at 0
+  pub placed : place ≡ slice_index_or (hanging store.nexts.items store.sizes.items at) (slice_index_or store.sizes.items at 0 - 1 - behind) 0
+  pub framed : slice_index_or (chain_at store.frames.items store.nexts.items store.sizes.items at) (slice_index_or store.sizes.items at 0 - 1 - behind) 0 ≡ frame
+
+pub groups-read : {store : Store} {at groups : ℕ} → IsWhole store store.free.items → IsHead store at → groups ≡ slice_index_or store.sizes.items at groups → groups ≡ slice_index_or store.sizes.items at 0
+groups-read {store} {at} {groups} whole head read =
+    let facts = head-facts store store.free.items at whole head in
+    get_or_read store.sizes.items at groups (omega (arith, facts.inside, facts.sized)) read 0
+
+pub shortening : {store : Store} {at frame place behind groups : ℕ} → IsWhole store store.free.items → IsHead store at → is_alone store.frames.items store.sizes.items frame at ≡ false
+    → groups ≡ slice_index_or store.sizes.items at groups → IsStanding (walk groups store.nexts.items at) store.frames.items frame place behind → IsShortening store at frame place behind groups
+shortening {store} {at} {frame} {place} {behind} {groups} whole head shared read stands =
+    let facts = head-facts store store.free.items at whole head in
+    let groups_are = groups-read whole head read in
+    let standing = rw groups_are at stands in
+    let long = length-walk (slice_index_or store.sizes.items at 0) store.nexts.items at in
+    let inside = standing.inside in
+    let e : length (hanging store.nexts.items store.sizes.items at) - 1 - behind ≡ slice_index_or store.sizes.items at 0 - 1 - behind = omega (arith, long) in
+    record {
+      groups_are = groups_are;
+      more = two-groups store.frames.items store.nexts.items store.sizes.items at frame place behind shared facts.some standing;
+      inside = omega (arith, inside, long);
+      placed = standing.place_is ∙ ap (λ (n : ℕ). slice_index_or (hanging store.nexts.items store.sizes.items at) n 0) e;
+      framed = standing-frame store.frames.items store.nexts.items store.sizes.items at frame place behind standing;
+    }
 
 -- no such content
 pub take-nowhere : (pages : List (List ℕ)) (frame : ℕ) (old new : Store) (whole : IsWhole old old.free.items) (sorted : IsSorted pages (chains_in old)) → IsRenoded old new old.nodes.items old.root
@@ -134,3 +166,42 @@ module _ (pages : List (List ℕ)) (frame : ℕ) (old new : Store) (place root :
       (remove-between (chain_at old.frames.items old.nexts.items old.sizes.items) told.head.earlier place told.head.later
       ∙ ap (λ heads. remove (map (chain_at old.frames.items old.nexts.items old.sizes.items) heads) (length told.head.earlier)) (sym told.head.is))))
       refl
+
+-- What is known where the content has other groups: nothing of the nodes changed.
+pub record IsStaying (pages : List (List ℕ)) (frame : ℕ) (old : Store) (nodes : List Node) (at : ℕ) : Type 0 where
+  pub found_is : found (order_to pages old.frames.items frame) (tree_in old) ≡ Some at
+  pub shared : is_alone old.frames.items old.sizes.items frame at ≡ false
+  pub same : IsRenoded old (renoded_store old nodes old.root) old.nodes.items old.root
+  pub whole : IsWhole (renoded_store old nodes old.root) old.free.items
+  pub head : IsHead (renoded_store old nodes old.root) at
+
+-- what the tree tells of a content that is taken out
+module _ {pages : List (List ℕ)} {frame : ℕ} {old : Store} {nodes : List Node} (whole : IsWhole old old.free.items) (sorted : IsSorted pages (chains_in old)) where
+  pub out-nowhere : ((t : Tree) → IsTaking old.nodes.items old.frames.items pages old.root t → IsOut old.nodes.items nodes (order_to pages old.frames.items frame) (is_alone old.frames.items old.sizes.items frame) t Nowhere)
+      → IsWhole (renoded_store old nodes old.root) old.free.items × IsTakenOut pages frame (chains_in old) (chains_in (renoded_store old nodes old.root)) 0
+  out-nowhere told =
+      let out = told (tree_in old) (whole-taking old old.free.items whole pages sorted) in
+      let same = unchanged old nodes out.1 whole.room in
+      (same-whole old (renoded_store old nodes old.root) same old.free.items whole, take-nowhere pages frame old (renoded_store old nodes old.root) whole sorted same out.0)
+
+  pub out-stays : {at : ℕ} → ((t : Tree) → IsTaking old.nodes.items old.frames.items pages old.root t → IsOut old.nodes.items nodes (order_to pages old.frames.items frame) (is_alone old.frames.items old.sizes.items frame) t (Stays at))
+      → IsStaying pages frame old nodes at
+  out-stays {at} told =
+      let out = told (tree_in old) (whole-taking old old.free.items whole pages sorted) in
+      let same = unchanged old nodes out.2 whole.room in
+      record {
+        found_is = out.0;
+        shared = out.1;
+        same = same;
+        whole = same-whole old (renoded_store old nodes old.root) same old.free.items whole;
+        head = same-head old (renoded_store old nodes old.root) same at (found-here pages old old.free.items whole sorted frame at out.0).head;
+      }
+
+  pub out-taken : {gone : Taken} → ((t : Tree) → IsTaking old.nodes.items old.frames.items pages old.root t → IsOut old.nodes.items nodes (order_to pages old.frames.items frame) (is_alone old.frames.items old.sizes.items frame) t (Out gone))
+      → IsWhole (renoded_store old nodes gone.root) (gone.place ∷ old.free.items) × ((last : List (List ℕ)) → last ≡ chains_in (renoded_store old nodes gone.root) → IsTakenOut pages frame (chains_in old) last 1)
+  out-taken {gone} told =
+      let out = told (tree_in old) (whole-taking old old.free.items whole pages sorted) in
+      let new = renoded_store old nodes gone.root in
+      let is = renoded old nodes gone.root out.2.kept.size whole.room in
+      let here = found-here pages old old.free.items whole sorted frame gone.place out.0 in
+      (out-whole pages frame old new gone.place gone.root nodes whole sorted is here out.1 out.2, out-chains pages frame old new gone.place gone.root nodes whole sorted is here out.1 out.2)

@@ -6,7 +6,8 @@ use Rattle.std.proofs.lemmas.List.{append-nil}
 use Rattle.tree_shape.specs.Shape.{Tree, leaf, fork, levels, in_order, IsEven}
 use Rattle.tree_shape.specs.Turns.{left_up, right_up, settled}
 use Rattle.tree_shape.specs.Changes.{by_order, entered, least, without_least, merged, taken}
-use Rattle.tree_shape.proofs.Turning.{levels-fork, levels-none, even-fork, even-sides, in_order-settled, settled-level}
+use Rattle.tree_shape.proofs.Sided.{sided, levels-sided}
+use Rattle.tree_shape.proofs.Turning.{levels-fork, levels-none, even-fork, even-sides, even-sided, in_order-settled, settled-sided}
 
 -- sides that are even already
 pub settled-flat : (at : ℕ) (l r : Tree) → levels l ≤ levels r + 1 → levels r ≤ levels l + 1 → settled at l r ≡ fork at l r
@@ -38,8 +39,8 @@ pub record IsShrunk (old new : Tree) : Type 0 where
   pub most : levels new ≤ levels old
 
 -- numbers alone: what a node with other sides has
-grown-levels : (l r m n k t : ℕ) → l ≤ r + 1 → r ≤ l + 1 → l ≤ m → m ≤ l + 1 → k ≡ suc (max l r) → max m r ≤ n → n ≤ max m r + 1 → (m ≤ r + 1 → r ≤ m + 1 → n ≡ suc (max m r)) → (k ≤ n) × (n ≤ k + 1)
-grown-levels l r m n k t a b c d e f g flat = by_test (nat_lt (r + 1) m) refl
+grown-levels : (l r m n k : ℕ) → l ≤ r + 1 → r ≤ l + 1 → l ≤ m → m ≤ l + 1 → k ≡ suc (max l r) → max m r ≤ n → n ≤ max m r + 1 → (m ≤ r + 1 → r ≤ m + 1 → n ≡ suc (max m r)) → (k ≤ n) × (n ≤ k + 1)
+grown-levels l r m n k a b c d e f g flat = by_test (nat_lt (r + 1) m) refl
   where
     by_test : (t : Bool) → nat_lt (r + 1) m ≡ t → (k ≤ n) × (n ≤ k + 1)
     by_test true test = let more : r + 1 < m = grind (arith, test) in (omega arith, omega arith)
@@ -48,8 +49,8 @@ grown-levels l r m n k t a b c d e f g flat = by_test (nat_lt (r + 1) m) refl
         let same : n ≡ suc (max m r) = flat few (omega (arith, b, c)) in
         (omega (arith, same), omega (arith, same))
 
-shrunk-levels : (l r m n k t : ℕ) → l ≤ r + 1 → r ≤ l + 1 → l ≤ m + 1 → m ≤ l → k ≡ suc (max l r) → max m r ≤ n → n ≤ max m r + 1 → (m ≤ r + 1 → r ≤ m + 1 → n ≡ suc (max m r)) → (k ≤ n + 1) × (n ≤ k)
-shrunk-levels l r m n k t a b c d e f g flat = by_test (nat_lt (m + 1) r) refl
+shrunk-levels : (l r m n k : ℕ) → l ≤ r + 1 → r ≤ l + 1 → l ≤ m + 1 → m ≤ l → k ≡ suc (max l r) → max m r ≤ n → n ≤ max m r + 1 → (m ≤ r + 1 → r ≤ m + 1 → n ≡ suc (max m r)) → (k ≤ n + 1) × (n ≤ k)
+shrunk-levels l r m n k a b c d e f g flat = by_test (nat_lt (m + 1) r) refl
   where
     by_test : (t : Bool) → nat_lt (m + 1) r ≡ t → (k ≤ n + 1) × (n ≤ k)
     by_test true test = let more : m + 1 < r = grind (arith, test) in (omega arith, omega arith)
@@ -58,38 +59,26 @@ shrunk-levels l r m n k t a b c d e f g flat = by_test (nat_lt (m + 1) r) refl
         let same : n ≡ suc (max m r) = flat (omega (arith, a, d)) few in
         (omega (arith, same), omega (arith, same))
 
+flat-sided : (s : Bool) (at : ℕ) (t u : Tree) → levels t ≤ levels u + 1 → levels u ≤ levels t + 1 → sided s (settled at) t u ≡ sided s (fork at) t u
+flat-sided true at t u few less = settled-flat at t u few less
+flat-sided false at t u few less = settled-flat at u t less few
+
 -- a node whose one side grew or shrank
-module _ (at : ℕ) (l r : Tree) (even : IsEven (fork at l r)) where
-  pub grown-left : (new : Tree) → IsGrown l new → IsGrown (fork at l r) (settled at new r)
-  grown-left new is =
-      let sides = even-sides at l r even in
-      let settles = settled-level at new r is.even sides.3 (omega (arith, is.most, sides.0)) (omega (arith, is.least, sides.1)) in
-      let told = grown-levels (levels l) (levels r) (levels new) (levels (settled at new r)) (levels (fork at l r)) 0 sides.0 sides.1 is.least is.most (levels-fork at l r) settles.least settles.low
-      (λ left right. ap levels (settled-flat at new r left right) ∙ levels-fork at new r) in
+module _ (s : Bool) (at : ℕ) (t u : Tree) (even : IsEven (sided s (fork at) t u)) (new : Tree) where
+  grown : IsGrown t new → IsGrown (sided s (fork at) t u) (sided s (settled at) new u)
+  grown is =
+      let sides = even-sided s at t u even in
+      let settles = settled-sided s at new u is.even sides.3 (omega (arith, is.most, sides.0)) (omega (arith, is.least, sides.1)) in
+      let told = grown-levels (levels t) (levels u) (levels new) (levels (sided s (settled at) new u)) (levels (sided s (fork at) t u)) sides.0 sides.1 is.least is.most (levels-sided s at t u) settles.least settles.low
+      (λ few less. ap levels (flat-sided s at new u few less) ∙ levels-sided s at new u) in
       record { even = settles.even; least = told.0; most = told.1 }
 
-  pub shrunk-left : (new : Tree) → IsShrunk l new → IsShrunk (fork at l r) (settled at new r)
-  shrunk-left new is =
-      let sides = even-sides at l r even in
-      let settles = settled-level at new r is.even sides.3 (omega (arith, is.most, sides.0)) (omega (arith, is.least, sides.1)) in
-      let told = shrunk-levels (levels l) (levels r) (levels new) (levels (settled at new r)) (levels (fork at l r)) 0 sides.0 sides.1 is.least is.most (levels-fork at l r) settles.least settles.low
-      (λ left right. ap levels (settled-flat at new r left right) ∙ levels-fork at new r) in
-      record { even = settles.even; least = told.0; most = told.1 }
-
-  pub grown-right : (new : Tree) → IsGrown r new → IsGrown (fork at l r) (settled at l new)
-  grown-right new is =
-      let sides = even-sides at l r even in
-      let settles = settled-level at l new sides.2 is.even (omega (arith, is.least, sides.0)) (omega (arith, is.most, sides.1)) in
-      let told = grown-levels (levels r) (levels l) (levels new) (levels (settled at l new)) (levels (fork at l r)) 0 sides.1 sides.0 is.least is.most (let e = levels-fork at l r in omega (arith, e)) (let e = settles.least in omega (arith, e)) (let e = settles.low in omega (arith, e))
-      (λ left right. let e = ap levels (settled-flat at l new right left) ∙ levels-fork at l new in omega (arith, e)) in
-      record { even = settles.even; least = told.0; most = told.1 }
-
-  pub shrunk-right : (new : Tree) → IsShrunk r new → IsShrunk (fork at l r) (settled at l new)
-  shrunk-right new is =
-      let sides = even-sides at l r even in
-      let settles = settled-level at l new sides.2 is.even (omega (arith, is.least, sides.0)) (omega (arith, is.most, sides.1)) in
-      let told = shrunk-levels (levels r) (levels l) (levels new) (levels (settled at l new)) (levels (fork at l r)) 0 sides.1 sides.0 is.least is.most (let e = levels-fork at l r in omega (arith, e)) (let e = settles.least in omega (arith, e)) (let e = settles.low in omega (arith, e))
-      (λ left right. let e = ap levels (settled-flat at l new right left) ∙ levels-fork at l new in omega (arith, e)) in
+  shrunk : IsShrunk t new → IsShrunk (sided s (fork at) t u) (sided s (settled at) new u)
+  shrunk is =
+      let sides = even-sided s at t u even in
+      let settles = settled-sided s at new u is.even sides.3 (omega (arith, is.most, sides.0)) (omega (arith, is.least, sides.1)) in
+      let told = shrunk-levels (levels t) (levels u) (levels new) (levels (sided s (settled at) new u)) (levels (sided s (fork at) t u)) sides.0 sides.1 is.least is.most (levels-sided s at t u) settles.least settles.low
+      (λ few less. ap levels (flat-sided s at new u few less) ∙ levels-sided s at new u) in
       record { even = settles.even; least = told.0; most = told.1 }
 
 same-grown : (t : Tree) → IsEven t → IsGrown t t
@@ -110,9 +99,9 @@ entered-grown order new (fork at l r) even =
     by_test (order at) (entered-grown order new l sides.2) (entered-grown order new r sides.3)
   where
     by_test : (o : Ordering) → IsGrown l (entered order new l) → IsGrown r (entered order new r) → IsGrown (fork at l r) (by_order o (settled at l (entered order new r)) (fork at l r) (settled at (entered order new l) r))
-    by_test Less left right = grown-right at l r even (entered order new r) right
+    by_test Less left right = grown false at r l even (entered order new r) right
     by_test Equal left right = same-grown (fork at l r) even
-    by_test Greater left right = grown-left at l r even (entered order new l) left
+    by_test Greater left right = grown true at l r even (entered order new l) left
 
 -- the first place that is taken out
 pub without_least-shrunk : (at : ℕ) (l r : Tree) → IsEven (fork at l r) → IsShrunk (fork at l r) (without_least at l r)
@@ -124,7 +113,7 @@ without_least-shrunk at leaf r even =
     record { even = sides.3; least = omega (arith, none, all); most = omega (arith, none, all) }
 without_least-shrunk at (fork top a b) r even =
     let sides = even-sides at (fork top a b) r even in
-    shrunk-left at (fork top a b) r even (without_least top a b) (without_least-shrunk top a b sides.2)
+    shrunk true at (fork top a b) r even (without_least top a b) (without_least-shrunk top a b sides.2)
 
 -- a node goes, and its sides are merged
 pub merged-shrunk : (at : ℕ) (l r : Tree) → IsEven (fork at l r) → IsShrunk (fork at l r) (merged l r)
@@ -137,7 +126,7 @@ merged-shrunk at l leaf even =
 merged-shrunk at l (fork top a b) even =
     let sides = even-sides at l (fork top a b) even in
     let other = even-fork (least top a) l (fork top a b) sides.0 sides.1 sides.2 sides.3 in
-    let is = shrunk-right (least top a) l (fork top a b) other (without_least top a b) (without_least-shrunk top a b sides.3) in
+    let is = shrunk false (least top a) (fork top a b) l other (without_least top a b) (without_least-shrunk top a b sides.3) in
     let one = levels-fork at l (fork top a b) in
     let two = levels-fork (least top a) l (fork top a b) in
     let low = is.least in
@@ -152,9 +141,9 @@ taken-shrunk order (fork at l r) even =
     by_test (order at) (taken-shrunk order l sides.2) (taken-shrunk order r sides.3)
   where
     by_test : (o : Ordering) → IsShrunk l (taken order l) → IsShrunk r (taken order r) → IsShrunk (fork at l r) (by_order o (settled at l (taken order r)) (merged l r) (settled at (taken order l) r))
-    by_test Less left right = shrunk-right at l r even (taken order r) right
+    by_test Less left right = shrunk false at r l even (taken order r) right
     by_test Equal left right = merged-shrunk at l r even
-    by_test Greater left right = shrunk-left at l r even (taken order l) left
+    by_test Greater left right = shrunk true at l r even (taken order l) left
 
 -- the places in order
 pub in_order-least : (at : ℕ) (l r : Tree) → least at l ∷ in_order (without_least at l r) ≡ in_order l ++ at ∷ in_order r

@@ -1,32 +1,30 @@
 -- A place is put in at a node: what may be settled then, and what hangs in the end.
-use Rattle.std.proofs.Common.{◌≡◌, ◌≢◌, ℕ, ◌+◌, ◌<◌, ◌≤◌, List, length, slice_index_or, slice_set, None, refl, sym, arith}
+use Rattle.std.proofs.Common.{◌≡◌, ◌≢◌, ℕ, ◌+◌, ◌<◌, ◌≤◌, List, length, slice_index_or, slice_set, None, refl, sym, arith, Bool, true, false}
 use Rattle.std.specs.declared.cmp.Ordering.{Ordering}
-use Rattle.std.specs.declared.cmp.Ordering.TheVariants.{Less, Greater}
 use Rattle.tree_shape.specs.declared.Node.{Node}
 use Rattle.tree_shape.specs.declared.search.Entered.TheVariants.{Root}
-use Rattle.tree_shape.specs.Shape.{Tree, leaf, fork, Holds, IsAway, IsOnce, AreSides, AreReady, IsJoinable, IsHung, none, blank, with_sides}
+use Rattle.tree_shape.specs.Shape.{Tree, leaf, fork, Holds, IsAway, IsJoinable, IsHung, none, blank, with_sides}
 use Rattle.tree_shape.specs.Turns.{settled}
 use Rattle.tree_shape.specs.Changes.{found, entered}
-use Rattle.tree_shape.specs.Searches.{AreFramed, IsSearched, IsGrowing, IsEntry}
+use Rattle.tree_shape.specs.Searches.{IsSearched, IsGrowing, IsEntry}
 use Rattle.tree_shape.proofs.Holding.{holds-joined}
-use Rattle.tree_shape.proofs.Turning.{levels-fork, levels-none, even-sides}
+use Rattle.tree_shape.proofs.Sided.{sided, far, near, levels-sided}
+use Rattle.tree_shape.proofs.Turning.{levels-none, even-sided}
 use Rattle.tree_shape.proofs.Changing.{entered-grown}
 use Rattle.tree_shape.proofs.Opening.{with-node, joinable, kept-write, kept-same}
 use Rattle.tree_shape.proofs.Times.{here, times, times-leaf, times-fork, times-once, once-times, times-apart, times-entered}
 use Rattle.tree_shape.proofs.Keeping.{holds-frame, away-within, kept-after}
-use Rattle.tree_shape.proofs.Searching.{found-leaf, found-right, found-left}
+use Rattle.tree_shape.proofs.Standing.{AreSidesBy, AreReadyBy, times-sided, parts, sides-by, ready-by}
+use Rattle.tree_shape.proofs.Searching.{toward, found-leaf, found-side, framed-side}
 
 entered-leaf : (order : ℕ → Ordering) (new : ℕ) → entered order new leaf ≡ fork new leaf leaf
 unfolding entered
 entered-leaf order new = refl
 
-entered-right : (order : ℕ → Ordering) (new at : ℕ) (l r : Tree) → order at ≡ Less → entered order new (fork at l r) ≡ settled at l (entered order new r)
+entered-side : (s : Bool) (order : ℕ → Ordering) (new at : ℕ) (t u : Tree) → order at ≡ toward s → entered order new (sided s (fork at) t u) ≡ sided s (settled at) (entered order new t) u
 unfolding entered
-entered-right order new at l r e = rw e refl
-
-entered-left : (order : ℕ → Ordering) (new at : ℕ) (l r : Tree) → order at ≡ Greater → entered order new (fork at l r) ≡ settled at (entered order new l) r
-unfolding entered
-entered-left order new at l r e = rw e refl
+entered-side true order new at t u e = rw e refl
+entered-side false order new at t u e = rw e refl
 
 -- where nothing hangs
 pub enter-joinable : (nodes : List Node) (new : ℕ) → new < length nodes → IsJoinable nodes none new none
@@ -58,116 +56,66 @@ grower nodes frames pages link new some t is =
 pub growing-searched : (nodes : List Node) (frames : List ℕ) (pages : List (List ℕ)) (link new : ℕ) (t : Tree) → IsGrowing nodes frames pages link new t → IsSearched nodes frames pages link t
 growing-searched nodes frames pages link new t is = record { holds = is.sound.holds; framed = is.framed }
 
-module _ (nodes : List Node) (frames : List ℕ) (pages : List (List ℕ)) (link new : ℕ) (l r : Tree) (is : IsGrowing nodes frames pages link new (fork link l r)) where
+module _ (s : Bool) (nodes : List Node) (frames : List ℕ) (pages : List (List ℕ)) (link new : ℕ) (t u : Tree) (is : IsGrowing nodes frames pages link new (sided s (fork link) t u)) where
   abbrev node : Node
   node = slice_index_or nodes link blank
 
-  -- how often a place stands in both sides, at the node and at the new one
-  all-once : (i : ℕ) → here i new + (times i l + here i link + times i r) ≤ 1
+  own : (link ≢ none) × (link < length nodes) × Holds nodes (far s node) t × Holds nodes (near s node) u
+  own = parts s nodes link link t u is.sound.holds
+
+  -- how often a place stands beside the new one
+  sum-new : (i : ℕ) (w : Tree) → times i (fork new w leaf) ≡ times i w + here i new
+  sum-new i w = let one = times-fork i new w leaf in let nought = times-leaf i in omega (arith, one, nought)
+
+  all-once : (i : ℕ) → here i new + (times i t + here i link + times i u) ≤ 1
   all-once i =
-      let one = times-fork i new (fork link l r) leaf in
-      let two = times-fork i link l r in
-      let no = times-leaf i in
-      let most = once-times (fork new (fork link l r) leaf) is.once i in
-      omega (arith, one, two, no, most)
+      let one = sum-new i (sided s (fork link) t u) in
+      let two = times-sided s i link t u in
+      let most = once-times (fork new (sided s (fork link) t u) leaf) is.once i in
+      omega (arith, one, two, most)
 
-  side-once : (t : Tree) → ((i : ℕ) → here i new + times i t ≤ 1) → IsOnce (fork new t leaf)
-  side-once t most = times-once (fork new t leaf) (λ i. let one = times-fork i new t leaf in let no = times-leaf i in let all = most i in omega (arith, one, no, all))
-
-  pub growing-left : IsGrowing nodes frames pages node.left new l
-  unfolding Holds AreFramed
-  growing-left =
-      let all = levels-fork link l r in
+  pub growing-side : IsGrowing nodes frames pages (far s node) new t
+  growing-side =
+      let all = levels-sided s link t u in
       let low = is.sound.low in
       record {
-        sound = record { holds = is.sound.holds.4; even = (even-sides link l r is.sound.even).2; low = omega (arith, all, low) };
-        framed = is.framed.2;
-        once = side-once l (λ i. let most = all-once i in omega (arith, most));
+        sound = record { holds = own.2; even = (even-sided s link t u is.sound.even).2; low = omega (arith, all, low) };
+        framed = framed-side s frames pages link t u is.framed;
+        once = times-once (fork new t leaf) (λ i. let one = sum-new i t in let most = all-once i in omega (arith, one, most));
         inside = is.inside;
         some = is.some;
       }
 
-  pub growing-right : IsGrowing nodes frames pages node.right new r
-  unfolding Holds AreFramed
-  growing-right =
-      let all = levels-fork link l r in
-      let low = is.sound.low in
-      record {
-        sound = record { holds = is.sound.holds.5; even = (even-sides link l r is.sound.even).3; low = omega (arith, all, low) };
-        framed = is.framed.3;
-        once = side-once r (λ i. let most = all-once i in omega (arith, most));
-        inside = is.inside;
-        some = is.some;
-      }
+  -- the new place stands on the far side now
+  module _ (order : ℕ → Ordering) (mid : List Node) (root : ℕ) (hung : IsHung nodes mid root (entered order new t) (fork new t leaf)) where
+    abbrev grown : Tree
+    grown = entered order new t
 
-  -- the new place stands on the right now
-  module _ (order : ℕ → Ordering) (mid : List Node) (root : ℕ) (hung : IsHung nodes mid root (entered order new r) (fork new r leaf)) where
-    pub sides-right : AreSides mid node.left link root l (entered order new r)
-    unfolding Holds
-    sides-right =
+    pub sides-grown : AreSidesBy s mid root link (near s node) grown u
+    sides-grown =
         let size = hung.kept.size in
-        let inside = is.sound.holds.2 in
-        record {
-          lefts = holds-frame nodes mid (fork new r leaf) node.left l hung.kept
-              (times-apart l (fork new r leaf) (λ i. let one = times-fork i new r leaf in let no = times-leaf i in let most = all-once i in omega (arith, one, no, most)))
-              is.sound.holds.4;
-          rights = hung.holds;
-          inside = omega (arith, size, inside);
-          some = is.sound.holds.1;
-          once = times-once (fork link l (entered order new r)) (λ i. let one = times-fork i link l (entered order new r) in let grown = times-entered order new i r in let most = all-once i in omega (arith, one, grown, most));
-        }
+        let inside = own.1 in
+        sides-by s mid root link (near s node) grown u hung.holds
+        (holds-frame nodes mid (fork new t leaf) (near s node) u hung.kept (times-apart u (fork new t leaf) (λ i. let one = sum-new i t in let most = all-once i in omega (arith, one, most))) own.3)
+        (omega (arith, size, inside)) own.0 (λ i. let more = times-entered order new i t in let most = all-once i in omega (arith, more, most))
 
-    pub ready-right : AreReady mid node.left link root
-    ready-right =
-        let all = levels-fork link l r in
+    pub ready-grown : AreReadyBy s mid root link (near s node)
+    ready-grown =
+        let all = levels-sided s link t u in
         let low = is.sound.low in
-        let grown = (entered-grown order new r (even-sides link l r is.sound.even).3).most in
-        record { l = l; r = entered order new r; are = sides-right; low_left = omega (arith, all, low); low_right = omega (arith, all, low, grown) }
+        let more = (entered-grown order new t (even-sided s link t u is.sound.even).2).most in
+        ready-by s mid root link (near s node) grown u sides-grown (omega (arith, all, low, more)) (omega (arith, all, low))
 
-    pub entry-right : (last : List Node) (result : ℕ) → order link ≡ Less → found order r ≡ None → IsHung mid last result (settled link l (entered order new r)) (fork link l (entered order new r))
-        → IsEntry nodes last order new (fork link l r) (Root result)
-    entry-right last result less lacks turned = (
-      (let e = found-right order link l r less in rw e lacks),
+    pub entry-grown : (last : List Node) (result : ℕ) → order link ≡ toward s → found order t ≡ None → IsHung mid last result (sided s (settled link) grown u) (sided s (fork link) grown u)
+        → IsEntry nodes last order new (sided s (fork link) t u) (Root result)
+    entry-grown last result e lacks turned = (
+      (let found_is = found-side s order link t u e in rw found_is lacks),
       record {
-        holds = rw (entered-right order new link l r less) turned.holds;
-        kept = kept-after nodes mid last (fork new r leaf) (fork link l (entered order new r)) (fork new (fork link l r) leaf) hung.kept turned.kept
-            (λ i. away-within i (fork new (fork link l r) leaf) (fork new r leaf) (let one = times-fork i new r leaf in let two = times-fork i new (fork link l r) leaf in let three = times-fork i link l r in omega (arith, one, two, three)))
-            (λ i. away-within i (fork new (fork link l r) leaf) (fork link l (entered order new r)) (let one = times-fork i link l (entered order new r) in let two = times-fork i new (fork link l r) leaf in let three = times-fork i link l r in let grown = times-entered order new i r in omega (arith, one, two, three, grown)));
-      },
-    )
-
-  -- the new place stands on the left now
-  module _ (order : ℕ → Ordering) (mid : List Node) (root : ℕ) (hung : IsHung nodes mid root (entered order new l) (fork new l leaf)) where
-    pub sides-left : AreSides mid root link node.right (entered order new l) r
-    unfolding Holds
-    sides-left =
-        let size = hung.kept.size in
-        let inside = is.sound.holds.2 in
-        record {
-          lefts = hung.holds;
-          rights = holds-frame nodes mid (fork new l leaf) node.right r hung.kept
-              (times-apart r (fork new l leaf) (λ i. let one = times-fork i new l leaf in let no = times-leaf i in let most = all-once i in omega (arith, one, no, most)))
-              is.sound.holds.5;
-          inside = omega (arith, size, inside);
-          some = is.sound.holds.1;
-          once = times-once (fork link (entered order new l) r) (λ i. let one = times-fork i link (entered order new l) r in let grown = times-entered order new i l in let most = all-once i in omega (arith, one, grown, most));
-        }
-
-    pub ready-left : AreReady mid root link node.right
-    ready-left =
-        let all = levels-fork link l r in
-        let low = is.sound.low in
-        let grown = (entered-grown order new l (even-sides link l r is.sound.even).2).most in
-        record { l = entered order new l; r = r; are = sides-left; low_left = omega (arith, all, low, grown); low_right = omega (arith, all, low) }
-
-    pub entry-left : (last : List Node) (result : ℕ) → order link ≡ Greater → found order l ≡ None → IsHung mid last result (settled link (entered order new l) r) (fork link (entered order new l) r)
-        → IsEntry nodes last order new (fork link l r) (Root result)
-    entry-left last result greater lacks turned = (
-      (let e = found-left order link l r greater in rw e lacks),
-      record {
-        holds = rw (entered-left order new link l r greater) turned.holds;
-        kept = kept-after nodes mid last (fork new l leaf) (fork link (entered order new l) r) (fork new (fork link l r) leaf) hung.kept turned.kept
-            (λ i. away-within i (fork new (fork link l r) leaf) (fork new l leaf) (let one = times-fork i new l leaf in let two = times-fork i new (fork link l r) leaf in let three = times-fork i link l r in omega (arith, one, two, three)))
-            (λ i. away-within i (fork new (fork link l r) leaf) (fork link (entered order new l) r) (let one = times-fork i link (entered order new l) r in let two = times-fork i new (fork link l r) leaf in let three = times-fork i link l r in let grown = times-entered order new i l in omega (arith, one, two, three, grown)));
+        holds = rw (entered-side s order new link t u e) turned.holds;
+        kept = kept-after nodes mid last (fork new t leaf) (sided s (fork link) grown u) (fork new (sided s (fork link) t u) leaf) hung.kept turned.kept
+            (λ i. away-within i (fork new (sided s (fork link) t u) leaf) (fork new t leaf)
+            (let one = sum-new i t in let two = sum-new i (sided s (fork link) t u) in let three = times-sided s i link t u in omega (arith, one, two, three)))
+            (λ i. away-within i (fork new (sided s (fork link) t u) leaf) (sided s (fork link) grown u)
+            (let one = times-sided s i link grown u in let two = sum-new i (sided s (fork link) t u) in let three = times-sided s i link t u in let more = times-entered order new i t in omega (arith, one, two, three, more)));
       },
     )

@@ -1,13 +1,12 @@
 pub mod Low
+pub mod Sided
 pub mod Turning
 pub mod Changing
 pub mod Holding
-pub mod Rotating
 pub mod Opening
-pub mod LeftUp
-pub mod LeftHung
-pub mod RightUp
-pub mod RightHung
+pub mod Standing
+pub mod TurningOnce
+pub mod TurningTwice
 pub mod Settling
 pub mod Times
 pub mod Keeping

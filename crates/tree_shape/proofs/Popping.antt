@@ -1,5 +1,5 @@
 -- The first place of a tree is taken out, and two sides are merged by it.
-use Rattle.std.proofs.Common.{◌≡◌, ◌≢◌, ℕ, ◌≤◌, List, slice_index_or, refl, sym, ◌∙◌, subst, arith}
+use Rattle.std.proofs.Common.{true, ◌≡◌, ◌≢◌, ℕ, ◌≤◌, List, slice_index_or, refl, sym, ◌∙◌, subst, arith}
 use Rattle.tree_shape.specs.declared.Node.{Node}
 use Rattle.tree_shape.specs.declared.removal.Popped.{Popped}
 use Rattle.tree_shape.specs.Shape.{Tree, leaf, fork, Holds, AreSides, AreReady, IsHung, none, blank}
@@ -10,7 +10,7 @@ use Rattle.tree_shape.proofs.Changing.{without_least-shrunk}
 use Rattle.tree_shape.proofs.Opening.{with-node, kept-same}
 use Rattle.tree_shape.proofs.Times.{times}
 use Rattle.tree_shape.proofs.Places.{times-without}
-use Rattle.tree_shape.proofs.Shrinking.{shrinking-left, shrunk-sides-left, shrunk-ready-left, shrunk-hung-left}
+use Rattle.tree_shape.proofs.Shrinking.{shrinking, shrunk-sides, shrunk-ready, shrunk-hung}
 
 without-fork : (at top : ℕ) (a b r : Tree) → without_least at (fork top a b) r ≡ settled at (without_least top a b) r
 unfolding without_least
@@ -53,25 +53,25 @@ module _ (nodes : List Node) (link : ℕ) where
 
   -- below the node
   pub popped-inner : (o : IsPopper nodes link) → IsShrinking nodes node.left (fork node.left o.a o.b)
-  popped-inner o = shrinking-left nodes link (fork node.left o.a o.b) o.r o.is
+  popped-inner o = shrinking true nodes link (fork node.left o.a o.b) o.r o.is
 
   module _ (mid : List Node) (popped : Popped) (inner : (l r : Tree) → IsShrinking nodes node.left (fork node.left l r) → IsPopped nodes mid node.left l r popped) where
     pub popped-ready : IsPopper nodes link → AreReady mid popped.root link node.right
     popped-ready o =
         let is = inner o.a o.b (popped-inner o) in
         let shrunk = without_least-shrunk node.left o.a o.b (popped-inner o).sound.even in
-        shrunk-ready-left nodes link (fork node.left o.a o.b) o.r o.is mid popped.root (without_least node.left o.a o.b) is.1 (without-few node.left o.a o.b) shrunk.most
+        shrunk-ready true nodes link (fork node.left o.a o.b) o.r o.is mid popped.root (without_least node.left o.a o.b) is.1 (without-few node.left o.a o.b) shrunk.most
 
     popped-node : (last : List Node) (root : ℕ) → ((l r : Tree) → AreSides mid popped.root link node.right l r → IsHung mid last root (settled link l r) (fork link l r))
         → (a b r : Tree) → IsShrinking nodes link (fork link (fork node.left a b) r) → IsPopped nodes last link (fork node.left a b) r (record { first = popped.first; root = root })
     popped-node last root turn a b r is =
-        let under = shrinking-left nodes link (fork node.left a b) r is in
+        let under = shrinking true nodes link (fork node.left a b) r is in
         let was = inner a b under in
         let less = (without_least-shrunk node.left a b under.sound.even).most in
         let few = without-few node.left a b in
         let m = without_least node.left a b in
-        let sides = shrunk-sides-left nodes link (fork node.left a b) r is mid popped.root m was.1 few less in
-        let hung = shrunk-hung-left nodes link (fork node.left a b) r is mid popped.root m was.1 few less last root (turn m r sides) in
+        let sides = shrunk-sides true nodes link (fork node.left a b) r is mid popped.root m was.1 few less in
+        let hung = shrunk-hung true nodes link (fork node.left a b) r is mid popped.root m was.1 few less last root (turn m r sides) in
         (was.0 ∙ sym (least-fork link node.left a b), subst (λ (t : Tree). IsHung nodes last root t (fork link (fork node.left a b) r)) (sym (without-fork link node.left a b r)) hung)
 
     pub popped-all : node.left ≢ none → (last : List Node) (root : ℕ) → ((l r : Tree) → AreSides mid popped.root link node.right l r → IsHung mid last root (settled link l r) (fork link l r))

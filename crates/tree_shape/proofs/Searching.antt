@@ -1,5 +1,5 @@
 -- A look at a node leads to one side, and that side is lower.
-use Rattle.std.proofs.Common.{◌≡◌, ◌≢◌, ℕ, ◌<◌, List, length, slice_index_or, Option, None, Some, refl, sym, arith}
+use Rattle.std.proofs.Common.{◌≡◌, ◌≢◌, ℕ, ◌<◌, Bool, true, false, List, length, slice_index_or, Option, None, Some, refl, sym, arith}
 use Rattle.std.specs.declared.cmp.Ordering.{Ordering}
 use Rattle.std.specs.declared.cmp.Ordering.TheVariants.{Less, Equal, Greater}
 use Rattle.tree_shape.specs.declared.Node.{Node}
@@ -7,28 +7,22 @@ use Rattle.tree_shape.specs.Shape.{Tree, leaf, fork, Holds, none, blank, height_
 use Rattle.tree_shape.specs.Changes.{found}
 use Rattle.tree_shape.specs.Searches.{AreFramed, IsSearched}
 use Rattle.tree_shape.proofs.Holding.{holds-height}
-use Rattle.tree_shape.proofs.Turning.{levels-fork}
+use Rattle.tree_shape.proofs.Sided.{sided, far, levels-sided}
 use Rattle.tree_shape.proofs.Opening.{with-node}
+use Rattle.tree_shape.proofs.Standing.{parts, with-sided}
+
+pub falls : (s : Bool) (nodes : List Node) (link : ℕ) (t : Tree) → link ≢ none → Holds nodes link t → height_at nodes (far s (slice_index_or nodes link blank)) < height_at nodes link
+falls s nodes link t some held =
+    with-sided s nodes link t (λ (t : Tree). Holds nodes link t → height_at nodes (far s (slice_index_or nodes link blank)) < height_at nodes link) held some (λ a b. λ held.
+    let one = holds-height nodes link (sided s (fork link) a b) held in
+    let two = holds-height nodes (far s (slice_index_or nodes link blank)) a (parts s nodes link link a b held).2 in
+    let all = levels-sided s link a b in
+    omega (arith, one, two, all)) held
 
 module _ (nodes : List Node) (link : ℕ) (l r : Tree) (held : Holds nodes link (fork link l r)) where
-  abbrev node : Node
-  node = slice_index_or nodes link blank
-
-  pub falls-left : height_at nodes node.left < height_at nodes link
+  pub node-some : link ≢ none
   unfolding Holds
-  falls-left =
-      let one = holds-height nodes link (fork link l r) held in
-      let two = holds-height nodes node.left l held.4 in
-      let all = levels-fork link l r in
-      omega (arith, one, two, all)
-
-  pub falls-right : height_at nodes node.right < height_at nodes link
-  unfolding Holds
-  falls-right =
-      let one = holds-height nodes link (fork link l r) held in
-      let two = holds-height nodes node.right r held.5 in
-      let all = levels-fork link l r in
-      omega (arith, one, two, all)
+  node-some = held.1
 
   pub node-inside : link < length nodes
   unfolding Holds
@@ -38,17 +32,19 @@ pub found-leaf : (order : ℕ → Ordering) → found order leaf ≡ None
 unfolding found
 found-leaf order = refl
 
-pub found-right : (order : ℕ → Ordering) (at : ℕ) (l r : Tree) → order at ≡ Less → found order (fork at l r) ≡ found order r
+-- how a place stands to what is on a node's far side
+abbrev pub toward : Bool → Ordering
+toward true = Greater
+toward false = Less
+
+pub found-side : (s : Bool) (order : ℕ → Ordering) (at : ℕ) (t u : Tree) → order at ≡ toward s → found order (sided s (fork at) t u) ≡ found order t
 unfolding found
-found-right order at l r e = rw e refl
+found-side true order at t u e = rw e refl
+found-side false order at t u e = rw e refl
 
 pub found-here : (order : ℕ → Ordering) (at : ℕ) (l r : Tree) → order at ≡ Equal → found order (fork at l r) ≡ Some at
 unfolding found
 found-here order at l r e = rw e refl
-
-pub found-left : (order : ℕ → Ordering) (at : ℕ) (l r : Tree) → order at ≡ Greater → found order (fork at l r) ≡ found order l
-unfolding found
-found-left order at l r e = rw e refl
 
 -- what can be looked through at a node
 pub record IsNode (nodes : List Node) (frames : List ℕ) (pages : List (List ℕ)) (link : ℕ) : Type 0 where
@@ -69,13 +65,14 @@ module _ (nodes : List Node) (frames : List ℕ) (pages : List (List ℕ)) (link
   unfolding AreFramed
   framed-page = is.framed.1
 
-  pub searched-left : IsSearched nodes frames pages (slice_index_or nodes link blank).left l
-  unfolding Holds AreFramed
-  searched-left = record { holds = is.holds.4; framed = is.framed.2 }
+pub framed-side : (s : Bool) (frames : List ℕ) (pages : List (List ℕ)) (at : ℕ) (t u : Tree) → AreFramed pages frames (sided s (fork at) t u) → AreFramed pages frames t
+unfolding AreFramed
+framed-side true frames pages at t u framed = framed.2
+framed-side false frames pages at t u framed = framed.3
 
-  pub searched-right : IsSearched nodes frames pages (slice_index_or nodes link blank).right r
-  unfolding Holds AreFramed
-  searched-right = record { holds = is.holds.5; framed = is.framed.3 }
+pub searched-side : (s : Bool) (nodes : List Node) (frames : List ℕ) (pages : List (List ℕ)) (link : ℕ) (t u : Tree) → IsSearched nodes frames pages link (sided s (fork link) t u)
+    → IsSearched nodes frames pages (far s (slice_index_or nodes link blank)) t
+searched-side s nodes frames pages link t u is = record { holds = (parts s nodes link link t u is.holds).2; framed = framed-side s frames pages link t u is.framed }
 
 -- what is found
 module _ (nodes : List Node) (frames : List ℕ) (pages : List (List ℕ)) (link : ℕ) (order : ℕ → Ordering) where
@@ -84,19 +81,13 @@ module _ (nodes : List Node) (frames : List ℕ) (pages : List (List ℕ)) (link
   find-none e leaf is = sym (found-leaf order)
   find-none e (fork at l r) is = let same = is.holds.0 in let some = is.holds.1 in absurd (some (omega (arith, e, same)))
 
-  pub find-right : link ≢ none → order link ≡ Less → (result : Option ℕ) → ((t : Tree) → IsSearched nodes frames pages (slice_index_or nodes link blank).right t → result ≡ found order t)
+  pub find-side : (s : Bool) → link ≢ none → order link ≡ toward s → (result : Option ℕ) → ((t : Tree) → IsSearched nodes frames pages (far s (slice_index_or nodes link blank)) t → result ≡ found order t)
       → (t : Tree) → IsSearched nodes frames pages link t → result ≡ found order t
-  find-right some less result inner t is =
-      with-node nodes link t (λ (t : Tree). IsSearched nodes frames pages link t → result ≡ found order t) is.holds some
-      (λ l r held. λ here. rw (found-right order link l r less) (inner r (searched-right nodes frames pages link l r here))) is
+  find-side s some e result inner t is =
+      with-sided s nodes link t (λ (t : Tree). IsSearched nodes frames pages link t → result ≡ found order t) is.holds some
+      (λ a b. λ here. rw (found-side s order link a b e) (inner a (searched-side s nodes frames pages link a b here))) is
 
   pub find-here : link ≢ none → order link ≡ Equal → (t : Tree) → IsSearched nodes frames pages link t → Some link ≡ found order t
   find-here some equal t is =
       with-node nodes link t (λ (t : Tree). IsSearched nodes frames pages link t → Some link ≡ found order t) is.holds some
       (λ l r held. λ here. sym (found-here order link l r equal)) is
-
-  pub find-left : link ≢ none → order link ≡ Greater → (result : Option ℕ) → ((t : Tree) → IsSearched nodes frames pages (slice_index_or nodes link blank).left t → result ≡ found order t)
-      → (t : Tree) → IsSearched nodes frames pages link t → result ≡ found order t
-  find-left some greater result inner t is =
-      with-node nodes link t (λ (t : Tree). IsSearched nodes frames pages link t → result ≡ found order t) is.holds some
-      (λ l r held. λ here. rw (found-left order link l r greater) (inner l (searched-left nodes frames pages link l r here))) is

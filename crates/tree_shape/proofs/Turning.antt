@@ -2,6 +2,7 @@
 use Rattle.std.proofs.Common.{◌≡◌, ℕ, suc, ◌+◌, ◌<◌, ◌≤◌, nat_lt, Bool, true, false, if◌then◌else◌, List, [], ◌∷◌, ◌++◌, max, refl, sym, ap, ◌∙◌, arith, append_assoc}
 use Rattle.tree_shape.specs.Shape.{Tree, leaf, fork, levels, in_order, IsEven}
 use Rattle.tree_shape.specs.Turns.{left_up, right_up, settled}
+use Rattle.tree_shape.proofs.Sided.{sided, up_by, levels-sided}
 
 pub levels-fork : (at : ℕ) (l r : Tree) → levels (fork at l r) ≡ suc (max (levels l) (levels r))
 unfolding levels
@@ -19,6 +20,14 @@ even-fork at l r left right evenl evenr = (left, right, evenl, evenr)
 pub even-sides : (at : ℕ) (l r : Tree) → IsEven (fork at l r) → (levels l ≤ levels r + 1) × (levels r ≤ levels l + 1) × IsEven l × IsEven r
 unfolding IsEven
 even-sides at l r even = even
+
+pub sided-even : (s : Bool) (at : ℕ) (t u : Tree) → levels t ≤ levels u + 1 → levels u ≤ levels t + 1 → IsEven t → IsEven u → IsEven (sided s (fork at) t u)
+sided-even true at t u few less event evenu = even-fork at t u few less event evenu
+sided-even false at t u few less event evenu = even-fork at u t less few evenu event
+
+pub even-sided : (s : Bool) (at : ℕ) (t u : Tree) → IsEven (sided s (fork at) t u) → (levels t ≤ levels u + 1) × (levels u ≤ levels t + 1) × IsEven t × IsEven u
+even-sided true at t u even = even-sides at t u even
+even-sided false at t u even = let is = even-sides at u t even in (is.1, is.0, is.3, is.2)
 
 -- the places stay in order
 turn-once : (a b r : List ℕ) (side at : ℕ) → a ++ side ∷ (b ++ at ∷ r) ≡ (a ++ side ∷ b) ++ at ∷ r
@@ -70,103 +79,76 @@ pub record IsLevel (most : ℕ) (t : Tree) : Type 0 where
   pub least : most ≤ levels t
   pub low : levels t ≤ most + 1
 
--- a fork of sides whose levels are known
-fork-level : (most at : ℕ) (l r : Tree) → levels l ≤ levels r + 1 → levels r ≤ levels l + 1 → IsEven l → IsEven r → most ≤ suc (max (levels l) (levels r)) → suc (max (levels l) (levels r)) ≤ most + 1 → IsLevel most (fork at l r)
-fork-level most at l r left right evenl evenr least low =
-    let told = levels-fork at l r in
-    record { even = even-fork at l r left right evenl evenr; least = omega (arith, told, least); low = omega (arith, told, low) }
+-- a node of sides whose levels are known
+sided-level : (s : Bool) (most at : ℕ) (t u : Tree) → levels t ≤ levels u + 1 → levels u ≤ levels t + 1 → IsEven t → IsEven u → most ≤ suc (max (levels t) (levels u)) → suc (max (levels t) (levels u)) ≤ most + 1
+    → IsLevel most (sided s (fork at) t u)
+sided-level s most at t u few less event evenu least low =
+    let told = levels-sided s at t u in
+    record { even = sided-even s at t u few less event evenu; least = omega (arith, told, least); low = omega (arith, told, low) }
 
-left_up-level : (at : ℕ) (l r : Tree) → IsEven l → IsEven r → levels l ≡ levels r + 2 → IsLevel (levels l) (left_up at l r)
-unfolding left_up
-left_up-level at leaf r evenl evenr e = let none = levels-none in absurd (omega (arith, none, e))
-left_up-level at (fork side a leaf) r evenl evenr e =
-    let sides = even-sides side a leaf evenl in
-    let none = levels-none in
-    let all = levels-fork side a leaf in
-    let inner = levels-fork at leaf r in
-    let here : levels r ≡ 0 = grind (arith, none, all, sides.0, sides.1, e) in
-    let there : levels a ≡ 1 = grind (arith, none, all, sides.0, sides.1, e) in
-    let low : levels (fork at leaf r) ≡ 1 = grind (arith, none, inner, here) in
-    fork-level (levels (fork side a leaf)) side a (fork at leaf r) (omega (arith, low, there)) (omega (arith, low, there)) sides.2
-    (even-fork at leaf r (omega (arith, none)) (omega (arith, here)) sides.3 evenr)
-    (grind (arith, low, there, here, e)) (grind (arith, low, there, here, e))
-left_up-level at (fork side a (fork top b c)) r evenl evenr e = by_test (nat_lt (levels a) (levels (fork top b c))) refl
-  where
-    by_test : (t : Bool) → nat_lt (levels a) (levels (fork top b c)) ≡ t → IsLevel (levels (fork side a (fork top b c))) (if t then fork top (fork side a b) (fork at c r) else fork side a (fork at (fork top b c) r))
-    by_test true test =
-        let sides = even-sides side a (fork top b c) evenl in
-        let under = even-sides top b c sides.3 in
-        let all = levels-fork side a (fork top b c) in
-        let middle = levels-fork top b c in
-        let less : levels a < levels (fork top b c) = grind (arith, test) in
-        let one : levels a ≡ levels r = grind (arith, all, sides.1, less, e) in
-        let two : max (levels b) (levels c) ≡ levels r = grind (arith, all, middle, sides.1, less, e) in
-        let left = levels-fork side a b in
-        let right = levels-fork at c r in
-        let lefts : levels (fork side a b) ≡ levels r + 1 = grind (arith, left, one, two) in
-        let rights : levels (fork at c r) ≡ levels r + 1 = grind (arith, right, two) in
-        fork-level (levels (fork side a (fork top b c))) top (fork side a b) (fork at c r) (omega (arith, lefts, rights)) (omega (arith, lefts, rights))
-        (even-fork side a b (grind (arith, one, two, under.0, under.1)) (grind (arith, one, two)) sides.2 under.2)
-        (even-fork at c r (grind (arith, two)) (grind (arith, two, under.0, under.1)) under.3 evenr)
-        (grind (arith, lefts, rights, e)) (grind (arith, lefts, rights, e))
-    by_test false test =
-        let sides = even-sides side a (fork top b c) evenl in
-        let all = levels-fork side a (fork top b c) in
-        let more : levels (fork top b c) ≤ levels a = grind (arith, test) in
-        let one : levels a ≡ levels r + 1 = grind (arith, all, more, e) in
-        let inner = levels-fork at (fork top b c) r in
-        let low : levels r ≤ levels (fork top b c) = omega (arith, sides.0, one) in
-        let inners : levels (fork at (fork top b c) r) ≡ levels (fork top b c) + 1 = grind (arith, inner, low) in
-        fork-level (levels (fork side a (fork top b c))) side a (fork at (fork top b c) r) (omega (arith, inners, one, low)) (omega (arith, inners, more))
-        sides.2
-        (even-fork at (fork top b c) r (omega (arith, more, one)) (omega (arith, low)) sides.3 evenr)
-        (grind (arith, inners, one, low, more, e)) (grind (arith, inners, one, low, more, e))
+-- which turn a node takes, as its code tests it
+pub up-once : (s : Bool) (at side : ℕ) (a b o : Tree) → levels b ≤ levels a → up_by s at (sided s (fork side) a b) o ≡ sided s (fork side) a (sided s (fork at) b o)
+unfolding left_up right_up
+up-once true at side a leaf o few = refl
+up-once true at side a (fork top b c) o few = let test : nat_lt (levels a) (levels (fork top b c)) ≡ false = grind (arith, few) in rw test refl
+up-once false at side a leaf o few = refl
+up-once false at side a (fork top b c) o few = let test : nat_lt (levels a) (levels (fork top b c)) ≡ false = grind (arith, few) in rw test refl
 
-right_up-level : (at : ℕ) (l r : Tree) → IsEven l → IsEven r → levels r ≡ levels l + 2 → IsLevel (levels r) (right_up at l r)
-unfolding right_up
-right_up-level at l leaf evenl evenr e = let none = levels-none in absurd (omega (arith, none, e))
-right_up-level at l (fork side leaf d) evenl evenr e =
-    let sides = even-sides side leaf d evenr in
-    let none = levels-none in
-    let all = levels-fork side leaf d in
-    let inner = levels-fork at l leaf in
-    let here : levels l ≡ 0 = grind (arith, none, all, sides.0, sides.1, e) in
-    let there : levels d ≡ 1 = grind (arith, none, all, sides.0, sides.1, e) in
-    let low : levels (fork at l leaf) ≡ 1 = grind (arith, none, inner, here) in
-    fork-level (levels (fork side leaf d)) side (fork at l leaf) d (omega (arith, low, there)) (omega (arith, low, there))
-    (even-fork at l leaf (omega (arith, here)) (omega (arith, none)) evenl sides.2) sides.3
-    (grind (arith, low, there, here, e)) (grind (arith, low, there, here, e))
-right_up-level at l (fork side (fork top b c) d) evenl evenr e = by_test (nat_lt (levels d) (levels (fork top b c))) refl
+pub up-twice : (s : Bool) (at side top : ℕ) (a b c o : Tree) → levels a < levels (sided s (fork top) b c)
+    → up_by s at (sided s (fork side) a (sided s (fork top) b c)) o ≡ sided s (fork top) (sided s (fork side) a b) (sided s (fork at) c o)
+unfolding left_up right_up
+up-twice true at side top a b c o more = let test : nat_lt (levels a) (levels (fork top b c)) ≡ true = grind (arith, more) in rw test refl
+up-twice false at side top a b c o more = let test : nat_lt (levels a) (levels (fork top c b)) ≡ true = grind (arith, more) in rw test refl
+
+-- what comes up is even
+module _ (s : Bool) (at side : ℕ) (a o : Tree) (eveno : IsEven o) where
+  once-level : (b : Tree) → IsEven (sided s (fork side) a b) → levels (sided s (fork side) a b) ≡ levels o + 2 → levels b ≤ levels a → IsLevel (levels (sided s (fork side) a b)) (up_by s at (sided s (fork side) a b) o)
+  once-level b even e few =
+      let sides = even-sided s side a b even in
+      let all = levels-sided s side a b in
+      let one : levels a ≡ levels o + 1 = grind (arith, all, few, e) in
+      let inner = levels-sided s at b o in
+      let low : levels o ≤ levels b = omega (arith, sides.0, one) in
+      let inners : levels (sided s (fork at) b o) ≡ levels b + 1 = grind (arith, inner, low) in
+      rw (up-once s at side a b o few)
+      (sided-level s (levels (sided s (fork side) a b)) side a (sided s (fork at) b o) (omega (arith, inners, one, low)) (omega (arith, inners, few)) sides.2
+      (sided-even s at b o (omega (arith, few, one)) (omega (arith, low)) sides.3 eveno) (grind (arith, inners, one, low, few, e)) (grind (arith, inners, one, low, few, e)))
+
+  twice-level : (top : ℕ) (b c : Tree) → IsEven (sided s (fork side) a (sided s (fork top) b c)) → levels (sided s (fork side) a (sided s (fork top) b c)) ≡ levels o + 2 → levels a < levels (sided s (fork top) b c)
+      → IsLevel (levels (sided s (fork side) a (sided s (fork top) b c))) (up_by s at (sided s (fork side) a (sided s (fork top) b c)) o)
+  twice-level top b c even e less =
+      let sides = even-sided s side a (sided s (fork top) b c) even in
+      let under = even-sided s top b c sides.3 in
+      let all = levels-sided s side a (sided s (fork top) b c) in
+      let middle = levels-sided s top b c in
+      let one : levels a ≡ levels o = grind (arith, all, sides.1, less, e) in
+      let two : max (levels b) (levels c) ≡ levels o = grind (arith, all, middle, sides.1, less, e) in
+      let outer = levels-sided s side a b in
+      let inner = levels-sided s at c o in
+      let outers : levels (sided s (fork side) a b) ≡ levels o + 1 = grind (arith, outer, one, two) in
+      let inners : levels (sided s (fork at) c o) ≡ levels o + 1 = grind (arith, inner, two) in
+      rw (up-twice s at side top a b c o less)
+      (sided-level s (levels (sided s (fork side) a (sided s (fork top) b c))) top (sided s (fork side) a b) (sided s (fork at) c o) (omega (arith, outers, inners)) (omega (arith, outers, inners))
+      (sided-even s side a b (grind (arith, one, two, under.0, under.1)) (grind (arith, one, two)) sides.2 under.2)
+      (sided-even s at c o (grind (arith, two)) (grind (arith, two, under.0, under.1)) under.3 eveno) (grind (arith, outers, inners, e)) (grind (arith, outers, inners, e)))
+
+-- a tree with levels is a node
+by-node : (s : Bool) (t : Tree) (P : Tree → Type 0) → 0 < levels t → ((at : ℕ) (a b : Tree) → P (sided s (fork at) a b)) → P t
+by-node s leaf P some each = let none = levels-none in absurd (omega (arith, none, some))
+by-node true (fork at l r) P some each = each at l r
+by-node false (fork at l r) P some each = each at r l
+
+up-level : (s : Bool) (at : ℕ) (t o : Tree) → IsEven t → IsEven o → levels t ≡ levels o + 2 → IsLevel (levels t) (up_by s at t o)
+up-level s at t o event eveno e =
+    by-node s t (λ (t : Tree). IsEven t → levels t ≡ levels o + 2 → IsLevel (levels t) (up_by s at t o)) (omega (arith, e)) (λ side a b. by_test side a b (nat_lt (levels a) (levels b)) refl) event e
   where
-    by_test : (t : Bool) → nat_lt (levels d) (levels (fork top b c)) ≡ t → IsLevel (levels (fork side (fork top b c) d)) (if t then fork top (fork at l b) (fork side c d) else fork side (fork at l (fork top b c)) d)
-    by_test true test =
-        let sides = even-sides side (fork top b c) d evenr in
-        let under = even-sides top b c sides.2 in
-        let all = levels-fork side (fork top b c) d in
-        let middle = levels-fork top b c in
-        let less : levels d < levels (fork top b c) = grind (arith, test) in
-        let one : levels d ≡ levels l = grind (arith, all, sides.0, less, e) in
-        let two : max (levels b) (levels c) ≡ levels l = grind (arith, all, middle, sides.0, less, e) in
-        let left = levels-fork at l b in
-        let right = levels-fork side c d in
-        let lefts : levels (fork at l b) ≡ levels l + 1 = grind (arith, left, two) in
-        let rights : levels (fork side c d) ≡ levels l + 1 = grind (arith, right, one, two) in
-        fork-level (levels (fork side (fork top b c) d)) top (fork at l b) (fork side c d) (omega (arith, lefts, rights)) (omega (arith, lefts, rights))
-        (even-fork at l b (grind (arith, two, under.0, under.1)) (grind (arith, two)) evenl under.2)
-        (even-fork side c d (grind (arith, one, two)) (grind (arith, one, two, under.0, under.1)) under.3 sides.3)
-        (grind (arith, lefts, rights, e)) (grind (arith, lefts, rights, e))
-    by_test false test =
-        let sides = even-sides side (fork top b c) d evenr in
-        let all = levels-fork side (fork top b c) d in
-        let more : levels (fork top b c) ≤ levels d = grind (arith, test) in
-        let one : levels d ≡ levels l + 1 = grind (arith, all, more, e) in
-        let inner = levels-fork at l (fork top b c) in
-        let low : levels l ≤ levels (fork top b c) = omega (arith, sides.1, one) in
-        let inners : levels (fork at l (fork top b c)) ≡ levels (fork top b c) + 1 = grind (arith, inner, low) in
-        fork-level (levels (fork side (fork top b c) d)) side (fork at l (fork top b c)) d (omega (arith, inners, more)) (omega (arith, inners, one, low))
-        (even-fork at l (fork top b c) (omega (arith, low)) (omega (arith, more, one)) evenl sides.2)
-        sides.3
-        (grind (arith, inners, one, low, more, e)) (grind (arith, inners, one, low, more, e))
+    by_test : (side : ℕ) (a b : Tree) (t : Bool) → nat_lt (levels a) (levels b) ≡ t → IsEven (sided s (fork side) a b) → levels (sided s (fork side) a b) ≡ levels o + 2
+        → IsLevel (levels (sided s (fork side) a b)) (up_by s at (sided s (fork side) a b) o)
+    by_test side a b true test even e =
+        let more : levels a < levels b = grind (arith, test) in
+        by-node s b (λ (t : Tree). IsEven (sided s (fork side) a t) → levels (sided s (fork side) a t) ≡ levels o + 2 → levels a < levels t → IsLevel (levels (sided s (fork side) a t)) (up_by s at (sided s (fork side) a t) o))
+        (omega (arith, more)) (λ top b c. twice-level s at side a o eveno top b c) even e more
+    by_test side a b false test even e = once-level s at side a o eveno b even e (grind (arith, test))
 
 -- a node between two even sides that differ by two levels at most
 pub settled-level : (at : ℕ) (l r : Tree) → IsEven l → IsEven r → levels l ≤ levels r + 2 → levels r ≤ levels l + 2 → IsLevel (max (levels l) (levels r)) (settled at l r)
@@ -177,31 +159,21 @@ settled-level at l r evenl evenr left right = by_test (nat_lt (levels r + 1) (le
     by_test true u test other =
         let more : levels l ≡ levels r + 2 = grind (arith, test, left) in
         let most : max (levels l) (levels r) ≡ levels l = grind (arith, more) in
-        rw most (left_up-level at l r evenl evenr more)
+        rw most (up-level true at l r evenl evenr more)
     by_test false true test other =
         let more : levels r ≡ levels l + 2 = grind (arith, other, right) in
         let most : max (levels l) (levels r) ≡ levels r = grind (arith, more) in
-        rw most (right_up-level at l r evenl evenr more)
+        rw most (up-level false at r l evenr evenl more)
     by_test false false test other =
         let few : levels l ≤ levels r + 1 = grind (arith, test) in
         let less : levels r ≤ levels l + 1 = grind (arith, other) in
-        fork-level (max (levels l) (levels r)) at l r few less evenl evenr (omega arith) (omega arith)
+        sided-level true (max (levels l) (levels r)) at l r few less evenl evenr (omega arith) (omega arith)
 
--- which turn a node takes, as its code tests it
-pub left_up-once : (at side : ℕ) (a b r : Tree) → levels b ≤ levels a → left_up at (fork side a b) r ≡ fork side a (fork at b r)
-unfolding left_up
-left_up-once at side a leaf r few = refl
-left_up-once at side a (fork top b c) r few = let test : nat_lt (levels a) (levels (fork top b c)) ≡ false = grind (arith, few) in rw test refl
-
-pub left_up-twice : (at side top : ℕ) (a b c r : Tree) → levels a < levels (fork top b c) → left_up at (fork side a (fork top b c)) r ≡ fork top (fork side a b) (fork at c r)
-unfolding left_up
-left_up-twice at side top a b c r more = let test : nat_lt (levels a) (levels (fork top b c)) ≡ true = grind (arith, more) in rw test refl
-
-pub right_up-once : (at side : ℕ) (l b d : Tree) → levels b ≤ levels d → right_up at l (fork side b d) ≡ fork side (fork at l b) d
-unfolding right_up
-right_up-once at side l leaf d few = refl
-right_up-once at side l (fork top b c) d few = let test : nat_lt (levels d) (levels (fork top b c)) ≡ false = grind (arith, few) in rw test refl
-
-pub right_up-twice : (at side top : ℕ) (l b c d : Tree) → levels d < levels (fork top b c) → right_up at l (fork side (fork top b c) d) ≡ fork top (fork at l b) (fork side c d)
-unfolding right_up
-right_up-twice at side top l b c d more = let test : nat_lt (levels d) (levels (fork top b c)) ≡ true = grind (arith, more) in rw test refl
+-- the same told of either side
+pub settled-sided : (s : Bool) (at : ℕ) (t u : Tree) → IsEven t → IsEven u → levels t ≤ levels u + 2 → levels u ≤ levels t + 2 → IsLevel (max (levels t) (levels u)) (sided s (settled at) t u)
+settled-sided true at t u event evenu few less = settled-level at t u event evenu few less
+settled-sided false at t u event evenu few less =
+    let is = settled-level at u t evenu event less few in
+    let least = is.least in
+    let low = is.low in
+    record { even = is.even; least = omega (arith, least); low = omega (arith, low) }

@@ -1,4 +1,4 @@
-use Rattle.std.proofs.Common.{◌≡◌, ◌<◌, [], ◌∷◌, ◌++◌, ℕ, length, refl, ap, ◌∙◌, arith, rules, length-append, vec_len, vec_capacity}
+use Rattle.std.proofs.Common.{◌≡◌, [], ◌∷◌, ◌++◌, ℕ, length, refl, ap, ◌∙◌, arith, rules, length-append}
 use Rattle.std.proofs.lemmas.List.{get_or-set_same, length-set, get_or_append_left}
 use Rattle.std.proofs.Math.Seq.{get_or-append_seam}
 use Rattle.tree_shape.specs.declared.Node.{Node}
@@ -22,36 +22,25 @@ index_mut-requires-in-Some c =
 pub prove-unreachable-requires : goal.prove-unreachable-requires
 prove-unreachable-requires c =
     let none : length c.args.store.now.free.items ≡ 0 = search rules in
-    let fits = room-left c.args.store.now c.requires.whole c.requires.room none in
-    let room = c.requires.whole.room.nodes in
-    let less : vec_len c.args.store.now.nodes < vec_capacity c.args.store.now.nodes = omega (arith, fits, room) in
+    let less = (room-left c.requires.whole c.requires.room none).nodes in
     search (rules, less)
 
 pub prove-unreachable-requires-in-None : goal.prove-unreachable-requires-in-None
 prove-unreachable-requires-in-None c =
     let none : length c.args.store.now.free.items ≡ 0 = search rules in
-    let fits = room-left c.args.store.now c.requires.whole c.requires.room none in
-    let room = c.requires.whole.room.frames in
-    let size = c.requires.whole.hung.framed in
-    let less : vec_len c.args.store.now.frames < vec_capacity c.args.store.now.frames = omega (arith, fits, room, size) in
+    let less = (room-left c.requires.whole c.requires.room none).frames in
     search (rules, less)
 
 pub prove-unreachable-requires-in-None-2 : goal.prove-unreachable-requires-in-None-2
 prove-unreachable-requires-in-None-2 c =
     let none : length c.args.store.now.free.items ≡ 0 = search rules in
-    let fits = room-left c.args.store.now c.requires.whole c.requires.room none in
-    let room = c.requires.whole.room.nexts in
-    let size = c.requires.whole.hung.linked in
-    let less : vec_len c.args.store.now.nexts < vec_capacity c.args.store.now.nexts = omega (arith, fits, room, size) in
+    let less = (room-left c.requires.whole c.requires.room none).nexts in
     search (rules, less)
 
 pub prove-unreachable-requires-in-None-3 : goal.prove-unreachable-requires-in-None-3
 prove-unreachable-requires-in-None-3 c =
     let none : length c.args.store.now.free.items ≡ 0 = search rules in
-    let fits = room-left c.args.store.now c.requires.whole c.requires.room none in
-    let room = c.requires.whole.room.sizes in
-    let size = c.requires.whole.hung.sized in
-    let less : vec_len c.args.store.now.sizes < vec_capacity c.args.store.now.sizes = omega (arith, fits, room, size) in
+    let less = (room-left c.requires.whole c.requires.room none).sizes in
     search (rules, less)
 
 pub returns-in-Some : goal.returns-in-Some
@@ -86,7 +75,7 @@ returns-in-None c =
     let none : length c.args.store.now.free.items ≡ 0 = search rules in
     let empty : c.args.store.now.free.items ≡ [] = search (rules, none) in
     let left : c.pop.new.self.items ≡ [] = search (rules, empty) in
-    let fits = room-left c.args.store.now whole c.requires.room none in
+    let fits = (room-left whole c.requires.room none).few in
     let at : c.len-place.result ≡ length c.args.store.now.nodes.items = search rules in
     let node : Node = record { left = 4294967295; right = 4294967295; height = 0 } in
     let nodes : c.push.new.self.items ≡ c.args.store.now.nodes.items ++ node ∷ [] = search rules in

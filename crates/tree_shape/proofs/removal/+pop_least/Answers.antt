@@ -1,5 +1,6 @@
-use Rattle.std.proofs.Common.{arith}
-use Rattle.tree_shape.proofs.Searching.{falls-left, node-inside}
+use Rattle.std.proofs.Common.{true, arith}
+use Rattle.tree_shape.specs.Shape.{fork}
+use Rattle.tree_shape.proofs.Searching.{falls, node-some, node-inside}
 use Rattle.tree_shape.proofs.Popping.{pop-here, popper, popped-inner, popped-ready, popped-all}
 use Rattle.tree_shape.proofs.removal.+pop_least.Goals as goal
 
@@ -12,7 +13,7 @@ returns-then-node t c = pop-here c.args.nodes.now c.args.link c.if-node.true
 pub pop_least-popped-requires : goal.pop_least-popped-requires
 pop_least-popped-requires t c =
     let o = popper c.args.nodes.now c.args.link c.requires.0 c.requires.1.0 c.if-node.false c.requires.1.1 in
-    let less = falls-left c.args.nodes.now c.args.link c.requires.0 c.requires.1.0 c.requires.1.1.sound.holds in
+    let less = falls true c.args.nodes.now c.args.link (fork c.args.link c.requires.0 c.requires.1.0) (node-some c.args.nodes.now c.args.link c.requires.0 c.requires.1.0 c.requires.1.1.sound.holds) c.requires.1.1.sound.holds in
     (omega (arith, less, c.decreases), (o.a, (o.b, popped-inner c.args.nodes.now c.args.link o)))
 
 pub settle-root-requires : goal.settle-root-requires
