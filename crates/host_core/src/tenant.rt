@@ -381,7 +381,10 @@ impl OpenRun {
         match self.run.next(program) {
             Need::Private => {
                 let left = needed(program, memory, tenant, self.run.slot());
-                memory.record(tenant, left);
+                // Most steps leave it.
+                if left < memory.reserve(tenant) {
+                    memory.record(tenant, left);
+                }
                 None
             }
             Need::Ended(ret) => {
