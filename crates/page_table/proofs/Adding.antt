@@ -1,13 +1,6 @@
 -- A page table stays sound where a page is added.
-use Rattle.std.proofs.Common.{◌≡◌, ◌≢◌, ◌∙◌, ⊎_elim, ℕ, zero, suc, ◌+◌, ◌<◌, ◌≤◌, ◌==◌, Bool, false, if◌then◌else◌, List, [], ◌∷◌, length, slice_index_or, slice_set, Some, None, option_map, refl, sym, ap, subst, arith}
-use Rattle.std.proofs.lemmas.List.{get_or-set_same, get_or-set_other, length-set, get_or_default, map-set}
-use Rattle.std.proofs.lemmas.Bool.Decides.{nat_tests}
-use Rattle.host_types.specs.Sharing.{new_page}
-use Rattle.host_types.specs.declared.status.Status.TheVariants.{New}
-use Rattle.host_types.specs.Pages.{zero_page}
-use Rattle.frame_arena.proofs.Pages.{length-zero_page}
-use Rattle.page_table.specs.declared.entry.Entry.{Entry}
-use Rattle.page_table.specs.Table.{TableState, CountsState, IsTable, IsGroup, IsSound, AreCountsOf, times, one_if_zero, entry_at, state_of, states_of, contents_of, groups_of, is_on, pages_on, used_by}
+use Rattle.page_table.proofs.Base.{◌≡◌, ◌≢◌, ◌∙◌, ⊎_elim, ℕ, zero, suc, ◌+◌, ◌<◌, ◌≤◌, ◌==◌, Bool, false, if◌then◌else◌, List, [], ◌∷◌, length, slice_index_or, slice_set, Some, None, option_map, refl, sym, ap, subst, arith, get_or-set_same, get_or-set_other, length-set, get_or_default, map-set, nat_tests}
+use Rattle.page_table.proofs.Words.{new_page, New, zero_page, length-zero_page, Entry, TableState, CountsState, IsTable, IsGroup, IsSound, AreCountsOf, times, one_if_zero, entry_at, state_of, states_of, contents_of, groups_of, is_on, pages_on, used_by}
 use Rattle.page_table.proofs.Changing.{table-changed, counted-changed, own_one, own_pages-set}
 use Rattle.page_table.proofs.Entries.{on_one, elsewhere, not_equal, pages_on-set, none_on, entry_content-kept, contents-set, places_on-set, groups-kept, pages-set, one_if_zero-above, counts-set}
 

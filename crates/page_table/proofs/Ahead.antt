@@ -1,14 +1,6 @@
 -- Unless a pass begins, a page behind the cursor may be merged: what keeps that.
-use Rattle.std.proofs.Common.{◌≡◌, ◌≢◌, ◌∙◌, ℕ, zero, suc, ◌+◌, ◌-◌, Bool, true, false, if◌then◌else◌, List, [], ◌∷◌, drop, slice_index_or, slice_set, Option, Some, None, IsSome, IfSome, is_some, option_map, refl, sym, ap, subst, arith}
-use Rattle.std.proofs.lemmas.List.{get_or-drop, get_or-set_other}
-use Rattle.host_types.specs.declared.status.Status.{Status}
-use Rattle.host_types.specs.declared.status.Status.TheVariants.{Grouped, Zero}
-use Rattle.host_types.specs.Sharing.{Sharing, PageState, state_at, is_shared_page, broken_page, with_status, broken, broken_from, left_by, paired, zeroed}
-use Rattle.host_types.specs.Visits.{is_mergeable, first_mergeable, with_page}
-use Rattle.page_table.specs.declared.entry.Entry.{Entry}
-use Rattle.page_table.specs.declared.pass.Pass.{Pass}
-use Rattle.page_table.specs.Table.{TableState, entry_at, state_of, states_of, sharing_of, marked}
-use Rattle.page_table.specs.View.{IsAhead}
+use Rattle.page_table.proofs.Base.{◌≡◌, ◌≢◌, ◌∙◌, ℕ, zero, suc, ◌+◌, ◌-◌, Bool, true, false, if◌then◌else◌, List, [], ◌∷◌, drop, slice_index_or, slice_set, Option, Some, None, IsSome, IfSome, is_some, option_map, refl, sym, ap, subst, arith, get_or-drop, get_or-set_other}
+use Rattle.page_table.proofs.Words.{Status, Grouped, Zero, Sharing, PageState, state_at, is_shared_page, broken_page, with_status, broken, broken_from, left_by, paired, zeroed, is_mergeable, first_mergeable, with_page, Entry, Pass, TableState, entry_at, state_of, states_of, sharing_of, marked, IsAhead}
 use Rattle.page_table.proofs.Next.{next-is}
 use Rattle.page_table.proofs.Partners.{entry-may}
 use Rattle.page_table.proofs.Entries.{told_at}

@@ -1,15 +1,6 @@
 -- What the breaks of several pages take, each after the breaks before it.
-use Rattle.std.proofs.Common.{◌≡◌, ◌∙◌, ℕ, zero, suc, ◌+◌, ◌-◌, ◌<◌, ◌≤◌, ◌&&◌, nat_lt, Bool, true, false, if◌then◌else◌, List, [], ◌∷◌, length, map, filter, take, drop, slice_index_or, slice_set, Option, Some, None, option_map, unwrap_or, refl, sym, ap, subst, arith}
-use Rattle.std.specs.List.{list_any}
-use Rattle.std.proofs.lemmas.List.{get_or-set_other, length-set, get_or-drop, length-drop}
-use Rattle.std.proofs.lemmas.List.Sums.{sum_by_more}
-use Rattle.std.proofs.lemmas.Bool.Decides.{nat_tests}
-use Rattle.std.proofs.lemmas.Map.Views.{any-filter_same}
-use Rattle.page_table.specs.declared.pass.Pass.{Pass}
-use Rattle.host_types.specs.Bytes.{part_of}
-use Rattle.host_types.specs.Sharing.{Sharing, PageState, state_at, is_shared, is_shared_page, is_in_company, is_among, without, broken, broken_page, break_cost, broken_from, cost_from, cost_of}
-use Rattle.page_table.specs.declared.entry.Entry.{Entry}
-use Rattle.page_table.specs.Table.{TableState, CountsState, IsTable, IsSound, times, one_if_zero, entry_at, state_of, groups_of, sharing_of, is_on, places_on, pages_on}
+use Rattle.page_table.proofs.Base.{◌≡◌, ◌∙◌, ℕ, zero, suc, ◌+◌, ◌-◌, ◌<◌, ◌≤◌, ◌&&◌, nat_lt, Bool, true, false, if◌then◌else◌, List, [], ◌∷◌, length, map, filter, take, drop, slice_index_or, slice_set, Option, Some, None, option_map, unwrap_or, refl, sym, ap, subst, arith, list_any, get_or-set_other, length-set, get_or-drop, length-drop, sum_by_more, nat_tests, any-filter_same}
+use Rattle.page_table.proofs.Words.{Pass, part_of, Sharing, PageState, state_at, is_shared, is_shared_page, is_in_company, is_among, without, broken, broken_page, break_cost, broken_from, cost_from, cost_of, Entry, TableState, CountsState, IsTable, IsSound, times, one_if_zero, entry_at, state_of, groups_of, sharing_of, is_on, places_on, pages_on}
 use Rattle.page_table.proofs.Changing.{is_alone, entry_fits}
 use Rattle.page_table.proofs.Entries.{one_when, on_one, not_equal, equal, pages_on-set, some_on, places_on-set, groups-kept}
 use Rattle.page_table.proofs.Groups.{company-places, without-here}

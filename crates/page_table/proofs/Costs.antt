@@ -1,12 +1,6 @@
 -- What the break of a page costs, told by its group and by its frame.
-use Rattle.std.proofs.Common.{◌≡◌, ◌∙◌, ◌⊎◌, inl, inr, ⊎_elim, ℕ, ◌+◌, ◌≤◌, nat_lt, Bool, true, false, slice_index_or, Option, Some, None, option_map, unwrap_or, refl, sym, ap, arith, ◌&&◌, List}
-use Rattle.std.proofs.lemmas.Bool.Decides.{nat_tests, leb_tells}
-use Rattle.page_table.specs.declared.pass.Pass.{Pass}
-use Rattle.host_types.specs.declared.status.Status.{Status}
-use Rattle.host_types.specs.declared.status.Status.TheVariants.{New, Volatile, Waiting, Grouped, Zero}
-use Rattle.host_types.specs.Sharing.{PageState, state_at, is_in_company, cost_of, break_cost, is_shared}
-use Rattle.page_table.specs.declared.entry.Entry.{Entry}
-use Rattle.page_table.specs.Table.{TableState, CountsState, IsTable, IsSound, IsGroup, LiesRight, times, one_if_zero, entry_at, is_on, state_of, groups_of, sharing_of, pages_on, break_frames}
+use Rattle.page_table.proofs.Base.{◌≡◌, ◌∙◌, ◌⊎◌, inl, inr, ⊎_elim, ℕ, ◌+◌, ◌≤◌, nat_lt, Bool, true, false, slice_index_or, Option, Some, None, option_map, unwrap_or, refl, sym, ap, arith, ◌&&◌, List, nat_tests, leb_tells}
+use Rattle.page_table.proofs.Words.{Pass, Status, New, Volatile, Waiting, Grouped, Zero, PageState, state_at, is_in_company, cost_of, break_cost, is_shared, Entry, TableState, CountsState, IsTable, IsSound, IsGroup, LiesRight, times, one_if_zero, entry_at, is_on, state_of, groups_of, sharing_of, pages_on, break_frames}
 use Rattle.page_table.proofs.Changing.{entry_fits}
 use Rattle.page_table.proofs.Entries.{one_when, equal, some_on, one_if_zero-above, told_at}
 use Rattle.page_table.proofs.Groups.{company-places}

@@ -1,11 +1,6 @@
 -- A list that has each frame of count 0 once is as long as there are such frames.
-use Rattle.std.proofs.Common.{◌≡◌, ◌∙◌, ℕ, zero, suc, ◌+◌, ◌-◌, ◌<◌, ◌≤◌, Bool, not, List, [], ◌∷◌, length, sum_by, filter, slice_index_or, Option, Some, None, refl, sym, arith}
-use Rattle.std.specs.List.{list_any, range_with_len}
-use Rattle.std.proofs.lemmas.List.Sums.{sum_by-cons, length-filter}
-use Rattle.std.proofs.lemmas.Bool.Decides.{nat_tests}
-use Rattle.page_table.specs.declared.entry.Entry.{Entry}
-use Rattle.page_table.specs.Table.{AreCounts, times, one_if_zero, frames_of, pages_on}
-use Rattle.page_table.specs.Reads.{is_frame}
+use Rattle.page_table.proofs.Base.{◌≡◌, ◌∙◌, ℕ, zero, suc, ◌+◌, ◌-◌, ◌<◌, ◌≤◌, Bool, not, List, [], ◌∷◌, length, sum_by, filter, slice_index_or, Option, Some, None, refl, sym, arith, list_any, range_with_len, sum_by-cons, length-filter, nat_tests}
+use Rattle.page_table.proofs.Words.{Entry, AreCounts, times, one_if_zero, frames_of, pages_on, is_frame}
 use Rattle.page_table.proofs.Entries.{one_when, times-head, times-tail, one_if_zero-above, times-cons, pages_on-cons}
 use Rattle.page_table.proofs.Unused.{unused_default}
 

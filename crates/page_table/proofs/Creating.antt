@@ -1,25 +1,7 @@
 -- New pages at places one after another, and what a memory tells of a new map.
-use Rattle.std.proofs.Common.{◌≡◌, ◌≢◌, ◌∙◌, ⊎_elim, ℕ, zero, suc, ◌+◌, ◌-◌, ◌*◌, ◌<◌, ◌≤◌, List, [], ◌∷◌, ◌++◌, length, take, drop, replicate, slice_index_or, slice_set, Option, Some, None, Bool, option_map, refl, sym, ap, subst, arith, length-set, append_assoc, nat_le, nat_lt, ◌&&◌, if◌then◌else◌}
-use Rattle.std.specs.List.{concat}
-use Rattle.std.proofs.lemmas.List.{get_or-set_same, get_or-set_other, get_or_past, length-take-le, length-take, length-append, length-replicate, set-append_right, append-nil, take-append-drop, replicate-append-replicate, take-replicate, drop-replicate, length-map}
-use Rattle.std.proofs.lemmas.Bool.Decides.{nat_tests}
-use Rattle.page_table.specs.declared.pass.Pass.{Pass}
-use Rattle.host_types.specs.declared.shape.Shape.{Shape}
-use Rattle.host_types.specs.Bytes.{part_of, with_part}
-use Rattle.host_types.specs.Memory.{map_at}
-use Rattle.host_types.specs.Pages.{map_place, zero_page}
-use Rattle.host_types.specs.Shapes.{IsShape, byte_len_of}
-use Rattle.host_types.specs.Sharing.{new_page}
-use Rattle.host_types.proofs.Lists.{length-with_part}
-use Rattle.host_types.proofs.Pages.{replicate-zero_page}
-use Rattle.frame_arena.proofs.Pages.{length-zero_page}
-use Rattle.page_table.specs.declared.entry.Entry.{Entry}
-use Rattle.page_table.specs.declared.tenant.Tenant.{Tenant}
-use Rattle.page_table.specs.Limits.{page_count}
-use Rattle.page_table.specs.State.{MemoryState, part, free_of, have_of}
-use Rattle.page_table.specs.Changes.{zero_map, part_created, IsKeptBut, AreMapsKeptBut, KeepsSettings, with_new_pages}
-use Rattle.page_table.specs.View.{view_of, IsMemory}
-use Rattle.page_table.specs.Table.{TableState, groups_of, used_by, state_of, states_of, maps_of, flat_of, ArePages, ArePagesOf, contents_of, entry_content}
+use Rattle.page_table.proofs.Base.{◌≡◌, ◌≢◌, ◌∙◌, ⊎_elim, ℕ, zero, suc, ◌+◌, ◌-◌, ◌*◌, ◌<◌, ◌≤◌, List, [], ◌∷◌, ◌++◌, length, take, drop, replicate, slice_index_or, slice_set, Option, Some, None, Bool, option_map, refl, sym, ap, subst, arith, append_assoc, nat_le, nat_lt, ◌&&◌, if◌then◌else◌, concat, get_or-set_same, get_or-set_other, get_or_past, length-take-le, length-take, length-append, length-replicate, set-append_right, append-nil, take-append-drop, replicate-append-replicate, take-replicate, drop-replicate, length-map, nat_tests}
+use Rattle.page_table.proofs.Words.{Pass, Shape, part_of, with_part, map_at, map_place, zero_page, IsShape, byte_len_of, new_page, length-with_part, replicate-zero_page, length-zero_page, Entry, Tenant, page_count, MemoryState, part, free_of, have_of, zero_map, part_created, IsKeptBut, AreMapsKeptBut, KeepsSettings, with_new_pages, view_of, IsMemory, TableState, groups_of, used_by, state_of, states_of, maps_of, flat_of, ArePages, ArePagesOf, contents_of, entry_content}
+use Rattle.std.proofs.Common.{length-set}
 use Rattle.page_table.proofs.Sides.{order}
 use Rattle.page_table.proofs.Maps.{map_at-maps_of, part_of-set_other}
 use Rattle.page_table.proofs.Reading.{content_in, few_pages, map_at-part}

@@ -1,26 +1,6 @@
 -- What a memory tells of a map that was taken away.
-use Rattle.std.proofs.Common.{◌≡◌, ◌≢◌, ◌∙◌, ◌⊎◌, inl, inr, ⊎_elim, ℕ, zero, suc, ◌+◌, ◌-◌, ◌*◌, ◌<◌, ◌≤◌, ◌&&◌, nat_le, nat_lt, not, Bool, true, false, if◌then◌else◌, List, [], ◌∷◌, length, map, filter, replicate, slice_index_or, slice_set, Option, Some, None, IsSomeAnd, option_map, refl, sym, ap, subst, arith}
-use Rattle.std.proofs.lemmas.List.{get_or-set_same, get_or-set_other, length-map, length-replicate, length-set, ext_get_or}
-use Rattle.std.proofs.lemmas.Bool.Decides.{nat_tests}
-use Rattle.page_table.specs.declared.pass.Pass.{Pass}
-use Rattle.host_types.specs.declared.shape.Shape.{Shape}
-use Rattle.host_types.specs.Bytes.{part_of, with_part}
-use Rattle.host_types.specs.Memory.{FlatMap, map_at}
-use Rattle.host_types.specs.Pages.{map_place}
-use Rattle.host_types.specs.declared.status.Status.TheVariants.{Volatile}
-use Rattle.host_types.specs.Pins.{PinsFit}
-use Rattle.host_types.specs.Sharing.{Sharing, is_shared, broken, gone, gone_from}
-use Rattle.host_types.specs.Tenant.{part_dropped}
-use Rattle.host_types.specs.Visits.{waiting_outside, ended_at, dropped, moved_on}
-use Rattle.host_types.proofs.Lists.{length-with_part}
-use Rattle.unstable_tree.specs.declared.tree.Waiter.{Waiter}
-use Rattle.page_table.specs.declared.entry.Entry.{Entry}
-use Rattle.page_table.specs.declared.tenant.Tenant.{Tenant}
-use Rattle.page_table.specs.Limits.{page_count}
-use Rattle.page_table.specs.State.{MemoryState, part, free_of, have_of}
-use Rattle.page_table.specs.Changes.{IsKeptBut, AreMapsKeptBut, KeepsSettings}
-use Rattle.page_table.specs.Table.{TableState, IsTable, AreOwnKeptOutside, ArePagesOf, ArePages, IsPageAt, entry_at, state_of, states_of, contents_of, sharing_of, waiting_of, used_by, flat_of}
-use Rattle.page_table.specs.View.{view_of, is_listed, AreWaiters, IsMemory, IsPass}
+use Rattle.page_table.proofs.Base.{◌≡◌, ◌≢◌, ◌∙◌, ◌⊎◌, inl, inr, ⊎_elim, ℕ, zero, suc, ◌+◌, ◌-◌, ◌*◌, ◌<◌, ◌≤◌, ◌&&◌, nat_le, nat_lt, not, Bool, true, false, if◌then◌else◌, List, [], ◌∷◌, length, map, filter, replicate, slice_index_or, slice_set, Option, Some, None, IsSomeAnd, option_map, refl, sym, ap, subst, arith, get_or-set_same, get_or-set_other, length-map, length-replicate, length-set, ext_get_or, nat_tests}
+use Rattle.page_table.proofs.Words.{Pass, Shape, part_of, with_part, FlatMap, map_at, map_place, Volatile, PinsFit, Sharing, is_shared, broken, gone, gone_from, part_dropped, waiting_outside, ended_at, dropped, moved_on, length-with_part, Waiter, Entry, Tenant, page_count, MemoryState, part, free_of, have_of, IsKeptBut, AreMapsKeptBut, KeepsSettings, TableState, IsTable, AreOwnKeptOutside, ArePagesOf, ArePages, IsPageAt, entry_at, state_of, states_of, contents_of, sharing_of, waiting_of, used_by, flat_of, view_of, is_listed, AreWaiters, IsMemory, IsPass}
 use Rattle.page_table.proofs.Sides.{order}
 use Rattle.page_table.proofs.Creating.{filled_more, with_part-none, length-contents, others-filled, filled_at, filled_part}
 use Rattle.page_table.proofs.Costs.{state-at}

@@ -1,18 +1,6 @@
 -- A memory without maps.
-use Rattle.std.proofs.Common.{◌≡◌, ◌∙◌, ℕ, zero, suc, ◌+◌, ◌*◌, List, [], ◌∷◌, length, take, drop, replicate, slice_index_or, sum_by, false, Option, None, option_map, refl, sym, ap, arith, ⊎_elim}
-use Rattle.std.proofs.lemmas.List.{length-map, length-replicate, length-take, get_or-take, get_or-drop, get_or_past}
-use Rattle.std.proofs.lemmas.List.Folds.{sum_by-replicate}
-use Rattle.host_types.specs.declared.options.Options.{Options}
-use Rattle.host_types.specs.declared.shape.Shape.{Shape}
-use Rattle.host_types.specs.Bytes.{part_of}
-use Rattle.host_types.specs.Pages.{zero_page}
-use Rattle.host_types.proofs.Lists.{map-replicate}
-use Rattle.page_table.specs.declared.entry.Entry.{Entry}
-use Rattle.page_table.specs.declared.tenant.Tenant.{Tenant}
-use Rattle.page_table.specs.Limits.{AreLimits}
-use Rattle.page_table.specs.State.{new_memory, unreserved_tenant}
-use Rattle.page_table.specs.Table.{TableState, ArePages, entry_content, contents_of, groups_of, own_pages, state_of, maps_of, used_by, new_pass}
-use Rattle.page_table.specs.View.{view_of, IsMemory, IsPass}
+use Rattle.page_table.proofs.Base.{◌≡◌, ◌∙◌, ℕ, zero, suc, ◌+◌, ◌*◌, List, [], ◌∷◌, length, take, drop, replicate, slice_index_or, sum_by, false, Option, None, option_map, refl, sym, ap, arith, ⊎_elim, length-map, length-replicate, length-take, get_or-take, get_or-drop, get_or_past, sum_by-replicate}
+use Rattle.page_table.proofs.Words.{Options, Shape, part_of, zero_page, map-replicate, Entry, Tenant, AreLimits, new_memory, unreserved_tenant, TableState, ArePages, entry_content, contents_of, groups_of, own_pages, state_of, maps_of, used_by, new_pass, view_of, IsMemory, IsPass}
 use Rattle.page_table.proofs.Changing.{own_one}
 use Rattle.page_table.proofs.Sides.{order}
 use Rattle.page_table.proofs.Putting.{empty_table, all_same}

@@ -1,14 +1,6 @@
 -- A page table stays sound where the last page leaves its group and keeps the frame.
-use Rattle.std.proofs.Common.{◌≡◌, ◌≢◌, ◌∙◌, inl, inr, ◌⊎◌, ⊎_elim, ℕ, ◌+◌, ◌<◌, ◌≤◌, ◌==◌, not, true, false, List, [], ◌∷◌, length, map, filter, slice_index_or, slice_set, Option, Some, None, option_map, refl, sym, ap, subst, arith}
-use Rattle.std.proofs.lemmas.List.{map-set, set-get_or, nil_from_length}
-use Rattle.std.proofs.lemmas.Bool.Decides.{eqb_tells, nat_tests}
-use Rattle.page_table.specs.declared.pass.Pass.{Pass}
-use Rattle.host_types.specs.declared.status.Status.TheVariants.{Volatile}
-use Rattle.host_types.specs.Sharing.{PageState, state_at, is_shared, broken, broken_page, without, left_by}
-use Rattle.host_types.proofs.Without.{without-length, times-gone, times-kept, some_kept}
-use Rattle.frame_arena.specs.Pages.{page_at}
-use Rattle.page_table.specs.declared.entry.Entry.{Entry}
-use Rattle.page_table.specs.Table.{TableState, CountsState, IsTable, IsEntry, IsAlone, IsGroup, IsSound, AreCountsOf, times, one_if_zero, entry_at, state_of, states_of, contents_of, groups_of, sharing_of, is_on, places_on, pages_on, used_by}
+use Rattle.page_table.proofs.Base.{◌≡◌, ◌≢◌, ◌∙◌, inl, inr, ◌⊎◌, ⊎_elim, ℕ, ◌+◌, ◌<◌, ◌≤◌, ◌==◌, not, true, false, List, [], ◌∷◌, length, map, filter, slice_index_or, slice_set, Option, Some, None, option_map, refl, sym, ap, subst, arith, map-set, set-get_or, nil_from_length, eqb_tells, nat_tests}
+use Rattle.page_table.proofs.Words.{Pass, Volatile, PageState, state_at, is_shared, broken, broken_page, without, left_by, without-length, times-gone, times-kept, some_kept, page_at, Entry, TableState, CountsState, IsTable, IsEntry, IsAlone, IsGroup, IsSound, AreCountsOf, times, one_if_zero, entry_at, state_of, states_of, contents_of, groups_of, sharing_of, is_on, places_on, pages_on, used_by}
 use Rattle.page_table.proofs.Changing.{entry_fits, table-set, counted-changed, lies_alone, apart_alone, pages_on-changed, own_pages-changed, lies_shared}
 use Rattle.page_table.proofs.Costs.{state-at, group-frame}
 use Rattle.page_table.proofs.Entries.{times-head, times-tail, one_when, on_one, not_equal, equal, pages_on-set, some_on, inside, contents-set, group_of}

@@ -1,13 +1,6 @@
 -- Entries by place: what a change of one of them changes.
-use Rattle.std.proofs.Common.{◌≡◌, ◌≢◌, ◌∙◌, ⊎_elim, ℕ, zero, suc, ◌+◌, ◌<◌, ◌≤◌, ◌==◌, Bool, true, false, if◌then◌else◌, List, [], ◌∷◌, length, map, option_map, slice_set, Option, Some, None, refl, sym, ap, arith, slice_index_or}
-use Rattle.std.proofs.lemmas.List.{get_or-set_same, get_or-set_other, length-set, map-set}
-use Rattle.std.proofs.lemmas.List.Sums.{sum_by-set, sum_by-cons}
-use Rattle.std.proofs.lemmas.Bool.Decides.{nat_tests}
-use Rattle.std.proofs.Math.Seq.{map-set_same}
-use Rattle.host_types.specs.Sharing.{is_shared, PageState}
-use Rattle.frame_arena.specs.Pages.{page_at}
-use Rattle.page_table.specs.declared.entry.Entry.{Entry}
-use Rattle.page_table.specs.Table.{times, entry_at, frames_of, entry_content, is_on, places_on, pages_on, one_if_zero, TableState, IsTable, IsGroup, state_of, states_of}
+use Rattle.page_table.proofs.Base.{◌≡◌, ◌≢◌, ◌∙◌, ⊎_elim, ℕ, zero, suc, ◌+◌, ◌<◌, ◌≤◌, ◌==◌, Bool, true, false, if◌then◌else◌, List, [], ◌∷◌, length, map, option_map, slice_set, Option, Some, None, refl, sym, ap, arith, slice_index_or, get_or-set_same, get_or-set_other, length-set, map-set, sum_by-set, sum_by-cons, nat_tests, map-set_same}
+use Rattle.page_table.proofs.Words.{is_shared, PageState, page_at, Entry, times, entry_at, frames_of, entry_content, is_on, places_on, pages_on, one_if_zero, TableState, IsTable, IsGroup, state_of, states_of}
 
 abbrev pub one_when : Bool → ℕ
 one_when b = if b then 1 else 0

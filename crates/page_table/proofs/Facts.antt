@@ -1,28 +1,6 @@
 -- The law of every memory, from what holds of its table.
-use Rattle.std.proofs.Common.{◌≡◌, ◌≢◌, ◌∙◌, ◌⊎◌, ◌↔◌, inl, inr, ⊎_elim, ℕ, zero, suc, ◌+◌, ◌-◌, ◌*◌, ◌/◌, ◌%◌, ◌<◌, ◌≤◌, ◌==◌, Bool, true, false, not, if◌then◌else◌, List, [], ◌∷◌, length, map, sum_by, filter, All, AllPairs, slice_index_or, Option, Some, None, IsSome, IfSome, is_some, option_map, refl, sym, ap, subst, arith}
-use Rattle.std.specs.List.{list_any, range_with_len}
-use Rattle.std.proofs.lemmas.List.{get_or_default, length-map}
-use Rattle.std.proofs.lemmas.List.Sums.{sum_by-cons, length-filter}
-use Rattle.std.proofs.lemmas.List.Kept.{AllPairs-cons}
-use Rattle.std.proofs.lemmas.Bool.Decides.{nat_tests}
-use Rattle.page_table.specs.declared.pass.Pass.{Pass}
-use Rattle.host_types.specs.declared.shape.Shape.{Shape}
-use Rattle.host_types.specs.declared.status.Status.{Status}
-use Rattle.host_types.specs.declared.status.Status.TheVariants.{New, Volatile, Waiting, Grouped, Zero}
-use Rattle.host_types.specs.declared.shape.Page.{Page}
-use Rattle.host_types.specs.Memory.{map_at}
-use Rattle.host_types.specs.Pages.{map_place, page_place}
-use Rattle.host_types.specs.Pins.{PinsFit}
-use Rattle.host_types.specs.Sharing.{PageState, is_among}
-use Rattle.host_types.proofs.Pinned.{fit-own}
-use Rattle.host_types.specs.Visits.{contents_in, next_from}
-use Rattle.frame_arena.specs.Pages.{page_at}
-use Rattle.page_table.specs.declared.entry.Entry.{Entry}
-use Rattle.page_table.specs.declared.tenant.Tenant.{Tenant}
-use Rattle.page_table.specs.State.{MemoryState, free_of, part, bytes_of_map}
-use Rattle.page_table.specs.Table.{TableState, CountsState, IsTable, IsEntry, IsAlone, IsGroup, IsSound, IsPageAt, AreCounts, LiesRight, maps_of, contents_of, times, one_if_zero, entry_at, state_of, states_of, frames_of, groups_of, sharing_of, is_on, pages_on, places_on}
-use Rattle.page_table.specs.View.{view_of, IsMemory}
-use Rattle.page_table.specs.Reads.{ReadsAs, AreGroups, AreMerged, HasPage, status_at, has_both, is_frame, free_frames}
+use Rattle.page_table.proofs.Base.{◌≡◌, ◌≢◌, ◌∙◌, ◌⊎◌, ◌↔◌, inl, inr, ⊎_elim, ℕ, zero, suc, ◌+◌, ◌-◌, ◌*◌, ◌/◌, ◌%◌, ◌<◌, ◌≤◌, ◌==◌, Bool, true, false, not, if◌then◌else◌, List, [], ◌∷◌, length, map, sum_by, filter, All, AllPairs, slice_index_or, Option, Some, None, IsSome, IfSome, is_some, option_map, refl, sym, ap, subst, arith, list_any, range_with_len, get_or_default, length-map, sum_by-cons, length-filter, AllPairs-cons, nat_tests}
+use Rattle.page_table.proofs.Words.{Pass, Shape, Status, New, Volatile, Waiting, Grouped, Zero, Page, map_at, map_place, page_place, PinsFit, PageState, is_among, fit-own, contents_in, next_from, page_at, Entry, Tenant, MemoryState, free_of, part, bytes_of_map, TableState, CountsState, IsTable, IsEntry, IsAlone, IsGroup, IsSound, IsPageAt, AreCounts, LiesRight, maps_of, contents_of, times, one_if_zero, entry_at, state_of, states_of, frames_of, groups_of, sharing_of, is_on, pages_on, places_on, view_of, IsMemory, ReadsAs, AreGroups, AreMerged, HasPage, status_at, has_both, is_frame, free_frames}
 use Rattle.page_table.proofs.Changing.{entry_fits}
 use Rattle.page_table.proofs.Entries.{one_when, alone, inside, equal, times-head, times-tail, one_if_zero-above, times-cons, told_at, group_of, entry_told}
 use Rattle.page_table.proofs.Putting.{page_there as no_page, page_of_entry}

@@ -1,13 +1,6 @@
 -- The pins fit the pages after each change of the table.
-use Rattle.std.proofs.Common.{◌≡◌, ◌≢◌, ◌∙◌, ℕ, zero, suc, ◌<◌, ◌&&◌, Bool, true, false, if◌then◌else◌, List, [], ◌∷◌, length, slice_index_or, slice_set, Option, Some, None, IsSomeAnd, option_map, refl, sym, ap, subst, arith}
-use Rattle.std.proofs.lemmas.List.{get_or_default, length-map}
-use Rattle.host_types.specs.declared.status.Status.TheVariants.{Volatile, Waiting}
-use Rattle.host_types.specs.Pins.{is_pinned, pinned, broken_by, PinsFit}
-use Rattle.host_types.specs.Sharing.{Sharing, PageState, state_at, is_shared_page, broken}
-use Rattle.host_types.proofs.Pinned.{fit-by}
-use Rattle.page_table.specs.declared.entry.Entry.{Entry}
-use Rattle.page_table.specs.declared.pass.Pass.{Pass}
-use Rattle.page_table.specs.Table.{TableState, entry_at, entry_content, contents_of, state_of, states_of, sharing_of}
+use Rattle.page_table.proofs.Base.{◌≡◌, ◌≢◌, ◌∙◌, ℕ, zero, suc, ◌<◌, ◌&&◌, Bool, true, false, if◌then◌else◌, List, [], ◌∷◌, length, slice_index_or, slice_set, Option, Some, None, IsSomeAnd, option_map, refl, sym, ap, subst, arith, get_or_default, length-map}
+use Rattle.page_table.proofs.Words.{Volatile, Waiting, is_pinned, pinned, broken_by, PinsFit, Sharing, PageState, state_at, is_shared_page, broken, fit-by, Entry, Pass, TableState, entry_at, entry_content, contents_of, state_of, states_of, sharing_of}
 use Rattle.page_table.proofs.Costs.{state-at}
 use Rattle.page_table.proofs.Entries.{inside}
 

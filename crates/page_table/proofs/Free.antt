@@ -1,15 +1,6 @@
 -- The frames that are free, by the formula of the counters.
-use Rattle.std.proofs.Common.{◌≡◌, ◌+◌, ◌≤◌, List, [], ◌∷◌, length, sum_by, Option, option_map, refl, arith}
-use Rattle.std.proofs.lemmas.List.{length-map}
-use Rattle.std.proofs.lemmas.List.Sums.{sum_by-cons}
-use Rattle.page_table.specs.declared.pass.Pass.{Pass}
-use Rattle.host_types.specs.declared.shape.Shape.{Shape}
-use Rattle.host_types.specs.Sharing.{own_frame, frames_free}
-use Rattle.page_table.specs.declared.entry.Entry.{Entry}
-use Rattle.page_table.specs.declared.tenant.Tenant.{Tenant}
-use Rattle.page_table.specs.State.{free_of}
-use Rattle.page_table.specs.Table.{TableState, states_of, state_of, groups_of, own_pages, places_on, used_by}
-use Rattle.page_table.specs.View.{view_of}
+use Rattle.page_table.proofs.Base.{◌≡◌, ◌+◌, ◌≤◌, List, [], ◌∷◌, length, sum_by, Option, option_map, refl, arith, length-map, sum_by-cons}
+use Rattle.page_table.proofs.Words.{Pass, Shape, own_frame, frames_free, Entry, Tenant, free_of, TableState, states_of, state_of, groups_of, own_pages, places_on, used_by, view_of}
 use Rattle.page_table.proofs.Changing.{own_one}
 
 own_of_states : (entries : List (Option Entry)) → sum_by own_frame (states_of entries) ≡ sum_by own_one entries

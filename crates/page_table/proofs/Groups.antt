@@ -1,11 +1,6 @@
 -- Groups as lists of places: who is among those on a frame, and who has company there.
-use Rattle.std.proofs.Common.{◌≡◌, ◌∙◌, ℕ, zero, suc, ◌+◌, ◌<◌, ◌==◌, ◌&&◌, nat_lt, Bool, false, List, [], ◌∷◌, length, map, slice_set, Option, Some, refl, ap, arith}
-use Rattle.std.specs.List.{list_any}
-use Rattle.std.proofs.lemmas.List.Sums.{sum_by-cons}
-use Rattle.std.proofs.lemmas.Bool.Decides.{nat_tests}
-use Rattle.host_types.specs.Sharing.{is_among, without}
-use Rattle.page_table.specs.declared.entry.Entry.{Entry}
-use Rattle.page_table.specs.Table.{times, entry_at, is_on, places_on, pages_on}
+use Rattle.page_table.proofs.Base.{◌≡◌, ◌∙◌, ℕ, zero, suc, ◌+◌, ◌<◌, ◌==◌, ◌&&◌, nat_lt, Bool, false, List, [], ◌∷◌, length, map, slice_set, Option, Some, refl, ap, arith, list_any, sum_by-cons, nat_tests}
+use Rattle.page_table.proofs.Words.{is_among, without, Entry, times, entry_at, is_on, places_on, pages_on}
 use Rattle.page_table.proofs.Entries.{on_one, times-cons}
 
 -- a place before the first one isn't among them

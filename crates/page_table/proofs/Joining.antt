@@ -1,12 +1,6 @@
 -- A page moves to the frame of a group of its bytes.
-use Rattle.std.proofs.Common.{◌≡◌, ◌∙◌, ℕ, suc, ◌<◌, ◌≤◌, ◌==◌, Bool, true, false, List, [], ◌∷◌, length, map, slice_index_or, slice_set, Option, Some, None, IfSome, option_map, refl, sym, ap, arith}
-use Rattle.std.proofs.lemmas.List.Sums.{sum_by-cons}
-use Rattle.std.proofs.lemmas.Bool.Decides.{nat_tests}
-use Rattle.host_types.specs.declared.status.Status.TheVariants.{Grouped}
-use Rattle.host_types.specs.Sharing.{with_status}
-use Rattle.frame_arena.specs.Pages.{page_at}
-use Rattle.page_table.specs.declared.entry.Entry.{Entry}
-use Rattle.page_table.specs.Table.{TableState, IsOwnAt, IsTable, IsEntry, times, entry_at, contents_of, groups_of, states_of, is_on, places_on, pages_on, joined_on}
+use Rattle.page_table.proofs.Base.{◌≡◌, ◌∙◌, ℕ, suc, ◌<◌, ◌≤◌, ◌==◌, Bool, true, false, List, [], ◌∷◌, length, map, slice_index_or, slice_set, Option, Some, None, IfSome, option_map, refl, sym, ap, arith, sum_by-cons, nat_tests}
+use Rattle.page_table.proofs.Words.{Grouped, with_status, page_at, Entry, TableState, IsOwnAt, IsTable, IsEntry, times, entry_at, contents_of, groups_of, states_of, is_on, places_on, pages_on, joined_on}
 use Rattle.page_table.proofs.Entries.{on_one, not_equal, inside, places_on-set, groups-each, group_of, states-set}
 use Rattle.page_table.proofs.Pairing.{IsGroupEntry, joined-here}
 use Rattle.page_table.proofs.Moving.{IsMove, with_entry, lone, move-merged}

@@ -1,12 +1,6 @@
 -- A page table stays sound where a page leaves a frame on which others lie.
-use Rattle.std.proofs.Common.{◌≡◌, ◌≢◌, ◌∙◌, ℕ, ◌+◌, ◌-◌, ◌<◌, ◌≤◌, ◌==◌, true, false, if◌then◌else◌, List, [], ◌∷◌, length, map, slice_index_or, slice_set, Option, Some, option_map, refl, sym, ap, subst, arith}
-use Rattle.std.proofs.lemmas.List.{get_or-set_same, get_or-set_other, set-get_or, length-set, map-set}
-use Rattle.std.proofs.lemmas.Bool.Decides.{nat_tests}
-use Rattle.page_table.specs.declared.pass.Pass.{Pass}
-use Rattle.host_types.specs.Sharing.{broken, broken_page, is_shared, left_by, without, state_at}
-use Rattle.frame_arena.specs.Pages.{page_at}
-use Rattle.page_table.specs.declared.entry.Entry.{Entry}
-use Rattle.page_table.specs.Table.{TableState, CountsState, IsTable, IsEntry, IsGroup, IsSound, AreCountsOf, times, one_if_zero, entry_at, state_of, states_of, contents_of, groups_of, sharing_of, is_on, places_on, pages_on, used_by}
+use Rattle.page_table.proofs.Base.{◌≡◌, ◌≢◌, ◌∙◌, ℕ, ◌+◌, ◌-◌, ◌<◌, ◌≤◌, ◌==◌, true, false, if◌then◌else◌, List, [], ◌∷◌, length, map, slice_index_or, slice_set, Option, Some, option_map, refl, sym, ap, subst, arith, get_or-set_same, get_or-set_other, set-get_or, length-set, map-set, nat_tests}
+use Rattle.page_table.proofs.Words.{Pass, broken, broken_page, is_shared, left_by, without, state_at, page_at, Entry, TableState, CountsState, IsTable, IsEntry, IsGroup, IsSound, AreCountsOf, times, one_if_zero, entry_at, state_of, states_of, contents_of, groups_of, sharing_of, is_on, places_on, pages_on, used_by}
 use Rattle.page_table.proofs.Changing.{entry_fits, table-changed, counted-changed, lies_alone, apart_alone, pages_on-changed, own_pages-changed}
 use Rattle.page_table.proofs.Entries.{not_equal, equal, none_on, inside, entry_content-kept, contents-set, pages-set, times-head, times-tail, one_if_zero-above, group_of, told_here, counts-set}
 use Rattle.page_table.proofs.Adding.{IsUnused, unused_apart}

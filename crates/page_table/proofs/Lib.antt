@@ -1,3 +1,5 @@
+pub mod Base
+pub mod Words
 pub mod Sides
 pub mod Entries
 pub mod Changing

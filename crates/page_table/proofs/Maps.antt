@@ -1,17 +1,7 @@
 -- Maps as flat bytes, out of the contents of their pages.
-use Rattle.std.proofs.Common.{◌≡◌, ◌≢◌, ◌∙◌, ⊎_elim, ℕ, zero, suc, ◌+◌, ◌-◌, ◌*◌, ◌<◌, ◌≤◌, List, [], ◌∷◌, ◌++◌, length, take, drop, replicate, slice_index_or, slice_set, Option, None, option_map, refl, sym, ap, subst, arith, append_assoc, length-append, length-drop}
-use Rattle.std.specs.List.{concat}
-use Rattle.std.proofs.lemmas.List.{get_or-set_same, get_or-set_other, length-set, ext_get_or, length-take-le, drop_at, take_at, append-nil, drop-append-le, take-append-le, drop-drop, take-append-drop, take-replicate, drop-set-lt, drop-set-add, take-set-le}
-use Rattle.std.proofs.Math.Seq.{take-set-lt, take-append-add}
-use Rattle.std.proofs.lemmas.Bool.Decides.{eqb_tells, nat_tests}
-use Rattle.host_types.specs.declared.shape.Shape.{Shape}
-use Rattle.host_types.specs.Bytes.{part_of, with_part}
-use Rattle.host_types.specs.Memory.{FlatMap}
-use Rattle.host_types.specs.Pages.{page_bytes}
-use Rattle.host_types.specs.Shapes.{byte_len_of}
-use Rattle.frame_arena.proofs.Parts.{part_of-drop, part_of-first, with_part-append}
-use Rattle.page_table.specs.Limits.{page_count}
-use Rattle.page_table.specs.Table.{maps_of, flat_of, ArePages, ArePagesOf, AreMaps}
+use Rattle.page_table.proofs.Base.{◌≡◌, ◌≢◌, ◌∙◌, ⊎_elim, ℕ, zero, suc, ◌+◌, ◌-◌, ◌*◌, ◌<◌, ◌≤◌, List, [], ◌∷◌, ◌++◌, length, take, drop, replicate, slice_index_or, slice_set, Option, None, option_map, refl, sym, ap, subst, arith, append_assoc, concat, get_or-set_same, get_or-set_other, length-set, ext_get_or, length-take-le, drop_at, take_at, append-nil, drop-append-le, take-append-le, drop-drop, take-append-drop, take-replicate, drop-set-lt, drop-set-add, take-set-le, take-set-lt, take-append-add, eqb_tells, nat_tests}
+use Rattle.page_table.proofs.Words.{Shape, part_of, with_part, FlatMap, page_bytes, byte_len_of, part_of-drop, part_of-first, with_part-append, page_count, maps_of, flat_of, ArePages, ArePagesOf, AreMaps}
+use Rattle.std.proofs.Common.{length-append, length-drop}
 use Rattle.page_table.proofs.Sides.{apart_order}
 
 -- parts of lists

@@ -1,11 +1,6 @@
 -- A page that keeps its own frame gets another status and fingerprint.
-use Rattle.std.proofs.Common.{◌≡◌, ◌∙◌, ℕ, ◌<◌, false, length, slice_set, Some, refl, sym, ap, arith}
-use Rattle.host_types.specs.declared.status.Status.{Status}
-use Rattle.host_types.specs.Sharing.{is_shared}
-use Rattle.host_types.specs.Visits.{with_page}
-use Rattle.page_table.specs.declared.entry.Entry.{Entry}
-use Rattle.page_table.specs.declared.pass.Pass.{Pass}
-use Rattle.page_table.specs.Table.{TableState, CountsState, IsOwnAt, IsTable, IsSound, AreCountsOf, entry_at, contents_of, groups_of, sharing_of, is_on, pages_on, used_by, marked}
+use Rattle.page_table.proofs.Base.{◌≡◌, ◌∙◌, ℕ, ◌<◌, false, length, slice_set, Some, refl, sym, ap, arith}
+use Rattle.page_table.proofs.Words.{Status, is_shared, with_page, Entry, Pass, TableState, CountsState, IsOwnAt, IsTable, IsSound, AreCountsOf, entry_at, contents_of, groups_of, sharing_of, is_on, pages_on, used_by, marked}
 use Rattle.page_table.proofs.Changing.{is_alone, entry_fits, table-changed, counted-changed, lies_alone, own_seen, pages_on-changed, own_pages-changed}
 use Rattle.page_table.proofs.Entries.{inside, places_on-set, groups-kept, states-set}
 use Rattle.page_table.proofs.Moving.{with_entry, contents-entry}

@@ -1,17 +1,6 @@
 -- What a memory tells after pages came to share frames, or left shared ones: the bytes of each page stay.
-use Rattle.std.proofs.Common.{◌≡◌, ◌≢◌, ℕ, zero, suc, ◌+◌, ◌*◌, ◌<◌, ◌≤◌, List, [], ◌∷◌, length, slice_index_or, Option, Some, None, IfSome, true, false, refl, sym, ap, subst, arith, Bool}
-use Rattle.page_table.specs.declared.pass.Pass.{Pass}
-use Rattle.host_types.specs.declared.shape.Shape.{Shape}
-use Rattle.host_types.specs.declared.shape.Page.{Page}
-use Rattle.host_types.specs.Bytes.{part_of}
-use Rattle.host_types.specs.Pages.{map_place, page_place}
-use Rattle.host_types.specs.Sharing.{PageState, state_at, is_shared, break_cost, Sharing}
-use Rattle.page_table.specs.declared.entry.Entry.{Entry}
-use Rattle.page_table.specs.declared.tenant.Tenant.{Tenant}
-use Rattle.page_table.specs.State.{MemoryState, part, free_of, have_of}
-use Rattle.page_table.specs.Changes.{IsPageOf, IsOwn, MayMerge, AreKept, IsKeptBut, KeepsSettings, with_pins}
-use Rattle.page_table.specs.Table.{TableState, IsOwnAt, AreMaps, entry_at, state_of, states_of, contents_of, maps_of, sharing_of, used_by, break_frames}
-use Rattle.page_table.specs.View.{view_of, IsMemory}
+use Rattle.page_table.proofs.Base.{◌≡◌, ◌≢◌, ℕ, zero, suc, ◌+◌, ◌*◌, ◌<◌, ◌≤◌, List, [], ◌∷◌, length, slice_index_or, Option, Some, None, IfSome, true, false, refl, sym, ap, subst, arith, Bool}
+use Rattle.page_table.proofs.Words.{Pass, Shape, Page, part_of, map_place, page_place, PageState, state_at, is_shared, break_cost, Sharing, Entry, Tenant, MemoryState, part, free_of, have_of, IsPageOf, IsOwn, MayMerge, AreKept, IsKeptBut, KeepsSettings, with_pins, TableState, IsOwnAt, AreMaps, entry_at, state_of, states_of, contents_of, maps_of, sharing_of, used_by, break_frames, view_of, IsMemory}
 use Rattle.page_table.proofs.Reading.{page_located, page_number, few_pages}
 use Rattle.page_table.proofs.Free.{free_is}
 

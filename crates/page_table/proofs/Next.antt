@@ -1,9 +1,6 @@
 -- The next page that may be merged: pages are passed over, and one is found.
-use Rattle.std.proofs.Common.{◌≡◌, ◌∙◌, inl, inr, ◌⊎◌, ℕ, zero, suc, ◌+◌, ◌-◌, ◌<◌, ◌≤◌, Bool, true, false, if◌then◌else◌, List, [], ◌∷◌, drop, length, slice_index_or, Option, Some, None, refl, sym, ap, arith}
-use Rattle.std.proofs.lemmas.List.{get_or-drop, length-drop}
-use Rattle.host_types.specs.Sharing.{PageState}
-use Rattle.host_types.specs.Visits.{is_mergeable, first_mergeable}
-use Rattle.host_types.proofs.Next.{next-after, next-none}
+use Rattle.page_table.proofs.Base.{◌≡◌, ◌∙◌, inl, inr, ◌⊎◌, ℕ, zero, suc, ◌+◌, ◌-◌, ◌<◌, ◌≤◌, Bool, true, false, if◌then◌else◌, List, [], ◌∷◌, drop, length, slice_index_or, Option, Some, None, refl, sym, ap, arith, get_or-drop, length-drop}
+use Rattle.page_table.proofs.Words.{PageState, is_mergeable, first_mergeable, next-after, next-none}
 use Rattle.page_table.proofs.Sides.{order}
 
 over : (pages : List (Option PageState)) (n d : ℕ) → ((i : ℕ) → n ≤ i → i < n + d → is_mergeable (slice_index_or pages i None) ≡ false)

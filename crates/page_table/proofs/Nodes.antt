@@ -1,20 +1,7 @@
 -- How many contents have more than one group, told by the chains of the tree: of all contents one is taken out
 -- after another, and how often it occurs is the length of its chain.
-use Rattle.std.proofs.Common.{◌≡◌, ◌≢◌, ◌∙◌, ◌⊎◌, inl, inr, ⊎_elim, ℕ, suc, ◌+◌, ◌==◌, nat_lt, not, bytes_eq, Bool, true, false, if◌then◌else◌, List, [], ◌∷◌, ◌++◌, length, map, filter, slice_index_or, All, AllPairs, refl, sym, ap, arith}
-use Rattle.std.specs.List.{concat}
-use Rattle.std.specs.Ordering.{is_eq}
-use Rattle.std.specs.declared.cmp.Ordering.TheVariants.{Less}
-use Rattle.std.proofs.lemmas.List.{length-append, append-nil}
-use Rattle.std.proofs.lemmas.List.Elements.{All-tail, filter-append}
-use Rattle.std.proofs.lemmas.List.Sums.{sum_by-cons, sum_by-append}
-use Rattle.std.proofs.lemmas.Map.Text.{is_eq-slice_cmp}
-use Rattle.std.proofs.lemmas.Slice.Eq.{bytes_eq-Decides}
-use Rattle.std.proofs.lemmas.Bool.Decides.{nat_tests}
-use Rattle.host_types.specs.Counters.{times_among, repeated_among, seconds_behind}
-use Rattle.frame_arena.specs.Pages.{page_at}
-use Rattle.stable_tree.specs.Groups.{Groups, IsChain, has, content, order, many_in, dups_in, chains_among, dups_among}
-use Rattle.stable_tree.proofs.Sorting.{filter-chain, filter-no_chain}
-use Rattle.page_table.specs.Table.{IsTreeOf}
+use Rattle.page_table.proofs.Base.{◌≡◌, ◌≢◌, ◌∙◌, ◌⊎◌, inl, inr, ⊎_elim, ℕ, suc, ◌+◌, ◌==◌, nat_lt, not, bytes_eq, Bool, true, false, if◌then◌else◌, List, [], ◌∷◌, ◌++◌, length, map, filter, slice_index_or, All, AllPairs, refl, sym, ap, arith, concat, is_eq, Less, length-append, append-nil, All-tail, filter-append, sum_by-cons, sum_by-append, is_eq-slice_cmp, bytes_eq-Decides, nat_tests}
+use Rattle.page_table.proofs.Words.{times_among, repeated_among, seconds_behind, page_at, Groups, IsChain, has, content, order, many_in, dups_in, chains_among, dups_among, filter-chain, filter-no_chain, IsTreeOf}
 use Rattle.page_table.proofs.Entries.{one_when}
 
 -- all contents but one

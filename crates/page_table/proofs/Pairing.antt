@@ -1,13 +1,6 @@
 -- Two pages of the same bytes become a new last group: the first one founds the group, and the second one moves to its frame.
-use Rattle.std.proofs.Common.{◌≡◌, ◌≢◌, ◌∙◌, ◌⊎◌, inl, inr, ⊎_elim, ℕ, zero, suc, ◌+◌, ◌-◌, ◌<◌, ◌≤◌, ◌==◌, true, false, List, [], ◌∷◌, ◌++◌, length, slice_index_or, slice_set, Option, Some, None, option_map, refl, sym, ap, subst, arith}
-use Rattle.std.proofs.lemmas.List.{get_or-set_other, length-append, map-append}
-use Rattle.std.proofs.lemmas.Bool.Decides.{nat_tests, eqb_tells}
-use Rattle.page_table.specs.declared.pass.Pass.{Pass}
-use Rattle.host_types.specs.declared.status.Status.TheVariants.{Grouped}
-use Rattle.host_types.specs.Sharing.{PageState, is_shared, with_status, state_at, joined_by, paired, waiting_without}
-use Rattle.frame_arena.specs.Pages.{page_at}
-use Rattle.page_table.specs.declared.entry.Entry.{Entry}
-use Rattle.page_table.specs.Table.{TableState, CountsState, IsOwnAt, IsTable, IsAlone, IsGroup, IsSound, AreCountsOf, LiesRight, times, one_if_zero, entry_at, contents_of, groups_of, state_of, states_of, sharing_of, forgets, is_on, places_on, pages_on, used_by}
+use Rattle.page_table.proofs.Base.{◌≡◌, ◌≢◌, ◌∙◌, ◌⊎◌, inl, inr, ⊎_elim, ℕ, zero, suc, ◌+◌, ◌-◌, ◌<◌, ◌≤◌, ◌==◌, true, false, List, [], ◌∷◌, ◌++◌, length, slice_index_or, slice_set, Option, Some, None, option_map, refl, sym, ap, subst, arith, get_or-set_other, length-append, map-append, nat_tests, eqb_tells}
+use Rattle.page_table.proofs.Words.{Pass, Grouped, PageState, is_shared, with_status, state_at, joined_by, paired, waiting_without, page_at, Entry, TableState, CountsState, IsOwnAt, IsTable, IsAlone, IsGroup, IsSound, AreCountsOf, LiesRight, times, one_if_zero, entry_at, contents_of, groups_of, state_of, states_of, sharing_of, forgets, is_on, places_on, pages_on, used_by}
 use Rattle.page_table.proofs.Changing.{is_alone, entry_fits, table-set, counted-changed, apart_alone, own_seen, own_alone, pages_on-changed, own_pages-changed}
 use Rattle.page_table.proofs.Entries.{one_when, not_equal, equal, inside, alone, places_on-set, groups-kept, pages_on-cons, none_on, states-set, told_here}
 use Rattle.page_table.proofs.Putting.{content_at}

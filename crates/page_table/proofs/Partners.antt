@@ -1,25 +1,6 @@
 -- Waiting pages as callers see them.
-use Rattle.std.proofs.Common.{◌≡◌, ◌∙◌, ℕ, ◌+◌, ◌<◌, ◌≤◌, ◌==◌, ◌&&◌, bytes_eq, Bool, true, false, if◌then◌else◌, All, is_some, drop, slice_index_or, slice_set, List, [], ◌∷◌, ◌++◌, length, map, find, Option, Some, None, IfSome, option_map, refl, sym, ap, subst, arith}
-use Rattle.std.proofs.lemmas.List.{map-append}
-use Rattle.std.proofs.lemmas.List.Elements.{All-nil, All-cons}
-use Rattle.std.proofs.lemmas.Slice.Eq.{bytes_eq-Decides}
-use Rattle.std.proofs.lemmas.Bool.Decides.{nat_tests}
-use Rattle.host_types.specs.declared.shape.Page.{Page}
-use Rattle.host_types.specs.declared.shape.Shape.{Shape}
-use Rattle.host_types.specs.declared.status.Status.TheVariants.{Waiting}
-use Rattle.host_types.specs.Pages.{page_place}
-use Rattle.host_types.specs.Pins.{is_pinned}
-use Rattle.host_types.specs.Sharing.{Sharing, PageState, state_at, is_shared, with_status}
-use Rattle.host_types.specs.Visits.{contents_in, is_partner, is_mergeable, first_mergeable, look_from, moved_on, one_more, with_page, waits}
-use Rattle.frame_arena.specs.Pages.{page_at}
-use Rattle.unstable_tree.specs.declared.tree.Waiter.{Waiter}
-use Rattle.unstable_tree.specs.WaitingList.{is_match}
-use Rattle.page_table.specs.declared.entry.Entry.{Entry}
-use Rattle.page_table.specs.declared.pass.Pass.{Pass}
-use Rattle.page_table.specs.declared.tenant.Tenant.{Tenant}
-use Rattle.page_table.specs.Changes.{IsNotWaiting, MayMerge}
-use Rattle.page_table.specs.Table.{TableState, IsTable, AreOthersKept, entry_at, waiting_of, states_of, state_of, groups_of, sharing_of, marked}
-use Rattle.page_table.specs.View.{view_of, IsMemory, IsPass, IsWaiter, AreWaiters, is_listed, is_behind}
+use Rattle.page_table.proofs.Base.{◌≡◌, ◌∙◌, ℕ, ◌+◌, ◌<◌, ◌≤◌, ◌==◌, ◌&&◌, bytes_eq, Bool, true, false, if◌then◌else◌, All, is_some, drop, slice_index_or, slice_set, List, [], ◌∷◌, ◌++◌, length, map, find, Option, Some, None, IfSome, option_map, refl, sym, ap, subst, arith, map-append, All-nil, All-cons, bytes_eq-Decides, nat_tests}
+use Rattle.page_table.proofs.Words.{Page, Shape, Waiting, page_place, is_pinned, Sharing, PageState, state_at, is_shared, with_status, contents_in, is_partner, is_mergeable, first_mergeable, look_from, moved_on, one_more, with_page, waits, page_at, Waiter, is_match, Entry, Pass, Tenant, IsNotWaiting, MayMerge, TableState, IsTable, AreOthersKept, entry_at, waiting_of, states_of, state_of, groups_of, sharing_of, marked, view_of, IsMemory, IsPass, IsWaiter, AreWaiters, is_listed, is_behind}
 use Rattle.page_table.proofs.Changing.{entry_fits}
 use Rattle.page_table.proofs.Fitting.{not-pinned}
 use Rattle.page_table.proofs.Scanning.{frame_told}

@@ -1,22 +1,7 @@
 -- What a memory tells of a page that is there.
-use Rattle.std.proofs.Common.{◌≡◌, ◌∙◌, ⊎_elim, ℕ, zero, suc, ◌+◌, ◌*◌, ◌<◌, ◌≤◌, List, [], ◌∷◌, length, take, drop, slice_index_or, Option, Some, None, option_map, unwrap_or, refl, sym, ap, subst, arith, length-take}
-use Rattle.std.specs.List.{concat}
-use Rattle.std.proofs.lemmas.List.{get_or_past, get_or-take, get_or-drop}
-use Rattle.page_table.specs.declared.pass.Pass.{Pass}
-use Rattle.host_types.specs.declared.shape.Shape.{Shape}
-use Rattle.host_types.specs.declared.shape.Page.{Page}
-use Rattle.host_types.specs.Bytes.{part_of}
-use Rattle.host_types.specs.Memory.{FlatMap, FlatMaps, map_at}
-use Rattle.host_types.specs.Pages.{map_place, page_place, page_bytes}
-use Rattle.host_types.specs.Shapes.{IsShape, byte_len_of}
-use Rattle.host_types.specs.Sharing.{state_at}
-use Rattle.page_table.specs.declared.entry.Entry.{Entry}
-use Rattle.page_table.specs.declared.tenant.Tenant.{Tenant}
-use Rattle.page_table.specs.Limits.{page_count}
-use Rattle.page_table.specs.State.{part, bytes_of_map, frame_at}
-use Rattle.page_table.specs.Changes.{IsPageOf}
-use Rattle.page_table.specs.Table.{TableState, IsPageAt, maps_of, flat_of, ArePages, ArePagesOf, AreMaps, contents_of, entry_at, state_of}
-use Rattle.page_table.specs.View.{view_of, IsMemory}
+use Rattle.page_table.proofs.Base.{◌≡◌, ◌∙◌, ⊎_elim, ℕ, zero, suc, ◌+◌, ◌*◌, ◌<◌, ◌≤◌, List, [], ◌∷◌, length, take, drop, slice_index_or, Option, Some, None, option_map, unwrap_or, refl, sym, ap, subst, arith, concat, get_or_past, get_or-take, get_or-drop}
+use Rattle.page_table.proofs.Words.{Pass, Shape, Page, part_of, FlatMap, FlatMaps, map_at, map_place, page_place, page_bytes, IsShape, byte_len_of, state_at, Entry, Tenant, page_count, part, bytes_of_map, frame_at, IsPageOf, TableState, IsPageAt, maps_of, flat_of, ArePages, ArePagesOf, AreMaps, contents_of, entry_at, state_of, view_of, IsMemory}
+use Rattle.std.proofs.Common.{length-take}
 use Rattle.page_table.proofs.Sides.{order}
 use Rattle.page_table.proofs.Maps.{map_at-maps_of, page_bytes-page}
 use Rattle.page_table.proofs.Entries.{told_here}

@@ -1,17 +1,7 @@
 -- Frames reserved for open runs, and what the maps of a memory meet.
-use Rattle.std.proofs.Common.{◌≡◌, ◌∙◌, ⊎_elim, ℕ, ◌+◌, ◌-◌, ◌*◌, ◌<◌, ◌≤◌, List, length, sum_by, slice_index_or, slice_set, Option, IfSome, refl, sym, ap, subst, arith, All, length-set}
-use Rattle.std.proofs.lemmas.List.{get_or-set_same, get_or-set_other}
-use Rattle.std.proofs.lemmas.List.Sums.{sum_by-set}
-use Rattle.host_types.specs.declared.shape.Shape.{Shape}
-use Rattle.host_types.specs.Memory.{FlatMap, map_at}
-use Rattle.host_types.specs.Tenant.{IsFlatMap, AreFlatMaps}
-use Rattle.frame_arena.specs.Pages.{IsPage}
-use Rattle.page_table.specs.declared.pass.Pass.{Pass}
-use Rattle.page_table.specs.declared.tenant.Tenant.{Tenant}
-use Rattle.page_table.specs.State.{MemoryState, part, unreserved_tenant, free_of, have_of}
-use Rattle.page_table.specs.Changes.{IsKeptBut}
-use Rattle.page_table.specs.Table.{TableState, contents_of, maps_of, used_by}
-use Rattle.page_table.specs.View.{view_of, IsMemory}
+use Rattle.page_table.proofs.Base.{◌≡◌, ◌∙◌, ⊎_elim, ℕ, ◌+◌, ◌-◌, ◌*◌, ◌<◌, ◌≤◌, List, length, sum_by, slice_index_or, slice_set, Option, IfSome, refl, sym, ap, subst, arith, All, get_or-set_same, get_or-set_other, sum_by-set}
+use Rattle.page_table.proofs.Words.{Shape, FlatMap, map_at, IsFlatMap, AreFlatMaps, IsPage, Pass, Tenant, MemoryState, part, unreserved_tenant, free_of, have_of, IsKeptBut, TableState, contents_of, maps_of, used_by, view_of, IsMemory}
+use Rattle.std.proofs.Common.{length-set}
 use Rattle.page_table.proofs.Sides.{order}
 use Rattle.page_table.proofs.Maps.{length-maps_of}
 use Rattle.page_table.proofs.Free.{free_is}

@@ -1,28 +1,6 @@
 -- What a memory tells of pages by their places, of open groups and of waiting pages.
-use Rattle.std.proofs.Common.{◌≡◌, ◌∙◌, ⊎_elim, ℕ, suc, ◌+◌, ◌*◌, ◌/◌, ◌%◌, ◌<◌, ◌≤◌, ◌==◌, ◌&&◌, nat_lt, bytes_eq, Bool, true, if◌then◌else◌, List, [], ◌∷◌, length, map, find, slice_index_or, slice_set, Option, Some, None, option_map, is_some, refl, sym, ap, subst, arith}
-use Rattle.std.specs.List.{concat, list_any}
-use Rattle.std.proofs.lemmas.List.{length-take-le}
-use Rattle.std.proofs.lemmas.List.Sums.{sum_by-cons}
-use Rattle.std.proofs.lemmas.Slice.Eq.{bytes_eq-Decides}
-use Rattle.std.proofs.lemmas.Bool.Decides.{nat_tests}
-use Rattle.host_types.specs.declared.shape.Page.{Page}
-use Rattle.host_types.specs.declared.status.Status.TheVariants.{Grouped}
-use Rattle.host_types.specs.declared.shape.Shape.{Shape}
-use Rattle.host_types.specs.Bytes.{part_of}
-use Rattle.host_types.specs.Memory.{map_at}
-use Rattle.host_types.specs.Pages.{map_place, page_place, page_bytes}
-use Rattle.host_types.specs.Shapes.{byte_len_of}
-use Rattle.host_types.specs.Sharing.{joined_by, with_status}
-use Rattle.host_types.specs.Visits.{contents_in, group_bytes, is_open, has_open, join_first, joined}
-use Rattle.frame_arena.specs.Pages.{page_at}
-use Rattle.page_table.specs.declared.entry.Entry.{Entry}
-use Rattle.page_table.specs.declared.pass.Pass.{Pass}
-use Rattle.page_table.specs.declared.tenant.Tenant.{Tenant}
-use Rattle.page_table.specs.Limits.{page_count}
-use Rattle.page_table.specs.State.{MemoryState, part, bytes_of_map, frame_at}
-use Rattle.page_table.specs.Changes.{IsPageOf, frame_of_group, open_frame}
-use Rattle.page_table.specs.Table.{TableState, IsTable, IsPageAt, ArePages, ArePagesOf, maps_of, flat_of, contents_of, entry_at, groups_of, sharing_of, states_of, frames_of, times, is_on, places_on, pages_on, is_open_frame, joined_on}
-use Rattle.page_table.specs.View.{view_of, IsMemory}
+use Rattle.page_table.proofs.Base.{◌≡◌, ◌∙◌, ⊎_elim, ℕ, suc, ◌+◌, ◌*◌, ◌/◌, ◌%◌, ◌<◌, ◌≤◌, ◌==◌, ◌&&◌, nat_lt, bytes_eq, Bool, true, if◌then◌else◌, List, [], ◌∷◌, length, map, find, slice_index_or, slice_set, Option, Some, None, option_map, is_some, refl, sym, ap, subst, arith, concat, list_any, length-take-le, sum_by-cons, bytes_eq-Decides, nat_tests}
+use Rattle.page_table.proofs.Words.{Page, Grouped, Shape, part_of, map_at, map_place, page_place, page_bytes, byte_len_of, joined_by, with_status, contents_in, group_bytes, is_open, has_open, join_first, joined, page_at, Entry, Pass, Tenant, page_count, MemoryState, part, bytes_of_map, frame_at, IsPageOf, frame_of_group, open_frame, TableState, IsTable, IsPageAt, ArePages, ArePagesOf, maps_of, flat_of, contents_of, entry_at, groups_of, sharing_of, states_of, frames_of, times, is_on, places_on, pages_on, is_open_frame, joined_on, view_of, IsMemory}
 use Rattle.page_table.proofs.Sides.{order}
 use Rattle.page_table.proofs.Maps.{map_at-maps_of, length-concat}
 use Rattle.page_table.proofs.Reading.{map_at-part, bytes_in, content_in, content_is}

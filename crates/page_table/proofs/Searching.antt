@@ -1,11 +1,6 @@
 -- No page may be merged where no map is, or behind a map's pages.
-use Rattle.std.proofs.Common.{◌≡◌, ◌∙◌, ℕ, zero, suc, ◌+◌, ◌-◌, ◌*◌, ◌<◌, ◌≤◌, false, List, [], ◌∷◌, refl, length, slice_index_or, Option, Some, None, option_map, sym, ap, subst, arith}
-use Rattle.host_types.specs.declared.shape.Shape.{Shape}
-use Rattle.host_types.specs.Bytes.{part_of}
-use Rattle.host_types.specs.Visits.{is_mergeable}
-use Rattle.page_table.specs.declared.entry.Entry.{Entry}
-use Rattle.page_table.specs.Limits.{page_count}
-use Rattle.page_table.specs.Table.{TableState, IsTable, ArePages, ArePagesOf, AreMaps, contents_of, entry_at, state_of, states_of}
+use Rattle.page_table.proofs.Base.{◌≡◌, ◌∙◌, ℕ, zero, suc, ◌+◌, ◌-◌, ◌*◌, ◌<◌, ◌≤◌, false, List, [], ◌∷◌, refl, length, slice_index_or, Option, Some, None, option_map, sym, ap, subst, arith}
+use Rattle.page_table.proofs.Words.{Shape, part_of, is_mergeable, Entry, page_count, TableState, IsTable, ArePages, ArePagesOf, AreMaps, contents_of, entry_at, state_of, states_of}
 use Rattle.page_table.proofs.Putting.{no_entry_of_content}
 use Rattle.page_table.proofs.Reading.{content_in}
 

@@ -1,17 +1,6 @@
 -- What callers say of a page, told of the page's place in the table: the bridge from a memory's view to its parts.
-use Rattle.std.proofs.Common.{◌≡◌, ℕ, List, [], false, slice_index_or, Option, ◌<◌, ◌∙◌, length, Some, sym}
-use Rattle.host_types.specs.Sharing.{state_at}
-use Rattle.frame_arena.specs.Pages.{page_at}
-use Rattle.page_table.specs.declared.entry.Entry.{Entry}
-use Rattle.host_types.specs.declared.shape.Shape.{Shape}
-use Rattle.host_types.specs.declared.shape.Page.{Page}
-use Rattle.host_types.specs.Pages.{page_place, page_bytes}
-use Rattle.page_table.specs.declared.pass.Pass.{Pass}
-use Rattle.page_table.specs.declared.tenant.Tenant.{Tenant}
-use Rattle.page_table.specs.State.{MemoryState, bytes_of_map, frame_at}
-use Rattle.page_table.specs.Changes.{IsPageOf, IsOwn, MayMerge, IsNotWaiting, contents_now}
-use Rattle.page_table.specs.Table.{TableState, IsPageAt, IsOwnAt, contents_of, IsEntry, entry_at, state_of}
-use Rattle.page_table.specs.View.{view_of, IsMemory, is_listed}
+use Rattle.page_table.proofs.Base.{◌≡◌, ℕ, List, [], false, slice_index_or, Option, ◌<◌, ◌∙◌, length, Some, sym}
+use Rattle.page_table.proofs.Words.{state_at, page_at, Entry, Shape, Page, page_place, page_bytes, Pass, Tenant, MemoryState, bytes_of_map, frame_at, IsPageOf, IsOwn, MayMerge, IsNotWaiting, contents_now, TableState, IsPageAt, IsOwnAt, contents_of, IsEntry, entry_at, state_of, view_of, IsMemory, is_listed}
 use Rattle.page_table.proofs.Scanning.{bytes_here}
 use Rattle.page_table.proofs.Putting.{content_at}
 use Rattle.page_table.proofs.Reading.{is_page_at, content_is, state_is, frame_is}

@@ -1,24 +1,6 @@
 -- What a memory tells of a tenant's maps by their numbers.
-use Rattle.std.proofs.Common.{◌≡◌, ◌∙◌, ⊎_elim, ℕ, zero, suc, ◌+◌, ◌*◌, ◌<◌, ◌≤◌, List, [], ◌∷◌, length, map, take, drop, slice_index_or, Option, Some, None, IfSome, option_map, is_none, position, refl, sym, ap, subst, arith, All, min, ◌-◌}
-use Rattle.std.specs.List.{position_or_len}
-use Rattle.std.proofs.lemmas.List.{get_or_past, get_or-take, get_or-drop, length-take, length-drop}
-use Rattle.std.specs.List.{concat}
-use Rattle.std.proofs.lemmas.List.{length-take-le}
-use Rattle.std.proofs.lemmas.List.Elements.{All-nil, All-cons, All-head, All-tail, All-append, All-take, All-drop}
-use Rattle.page_table.specs.declared.pass.Pass.{Pass}
-use Rattle.host_types.specs.declared.shape.Shape.{Shape}
-use Rattle.host_types.specs.Bytes.{part_of}
-use Rattle.host_types.specs.Memory.{FlatMap, FlatMaps, map_at}
-use Rattle.host_types.specs.Pages.{map_place}
-use Rattle.host_types.specs.Shapes.{byte_len_of}
-use Rattle.host_types.specs.Tenant.{IsFlatMap}
-use Rattle.frame_arena.specs.Pages.{IsPage, page_at}
-use Rattle.page_table.specs.Limits.{page_count}
-use Rattle.page_table.specs.declared.entry.Entry.{Entry}
-use Rattle.page_table.specs.declared.tenant.Tenant.{Tenant}
-use Rattle.page_table.specs.State.{MemoryState, part, free_number}
-use Rattle.page_table.specs.Table.{TableState, maps_of, flat_of, entry_content, contents_of, ArePages, ArePagesOf, AreMaps}
-use Rattle.page_table.specs.View.{view_of}
+use Rattle.page_table.proofs.Base.{◌≡◌, ◌∙◌, ⊎_elim, ℕ, zero, suc, ◌+◌, ◌*◌, ◌<◌, ◌≤◌, List, [], ◌∷◌, length, map, take, drop, slice_index_or, Option, Some, None, IfSome, option_map, is_none, position, refl, sym, ap, subst, arith, All, min, ◌-◌, position_or_len, get_or_past, get_or-take, get_or-drop, length-take, length-drop, concat, length-take-le, All-nil, All-cons, All-head, All-tail, All-append, All-take, All-drop}
+use Rattle.page_table.proofs.Words.{Pass, Shape, part_of, FlatMap, FlatMaps, map_at, map_place, byte_len_of, IsFlatMap, IsPage, page_at, page_count, Entry, Tenant, MemoryState, part, free_number, TableState, maps_of, flat_of, entry_content, contents_of, ArePages, ArePagesOf, AreMaps, view_of}
 use Rattle.page_table.proofs.Sides.{order}
 use Rattle.page_table.proofs.Maps.{map_at-maps_of, length-maps_of, length-concat}
 use Rattle.page_table.proofs.Reading.{map_at-part, map_at-past}

@@ -1,5 +1,5 @@
 -- Which of two numbers is the greater one.
-use Rattle.std.proofs.Common.{◌≡◌, ◌≢◌, ◌⊎◌, ℕ, ◌<◌, ◌≤◌, arith}
+use Rattle.page_table.proofs.Base.{◌≡◌, ◌≢◌, ◌⊎◌, ℕ, ◌<◌, ◌≤◌, arith}
 
 pub order : (a b : ℕ) → (a < b) ⊎ (b ≤ a)
 order a b = grind arith

@@ -1,12 +1,7 @@
 -- The slots of the groups in order of creation.
-use Rattle.std.proofs.Common.{◌≡◌, ◌≢◌, ◌∙◌, ◌⊎◌, ⊎_elim, ℕ, zero, suc, ◌+◌, ◌<◌, ◌≤◌, ◌==◌, not, Bool, true, false, if◌then◌else◌, List, [], ◌∷◌, ◌++◌, length, take, drop, slice_index_or, slice_set, All, AllPairs, refl, sym, ap, subst, arith, length-append, inl, inr}
-use Rattle.std.proofs.lemmas.List.{get_or-set_same, get_or-set_other, length-set, get_or_append_left, get_or-append-add, get_or_default, take_at}
-use Rattle.std.proofs.lemmas.List.Elements.{All-filter, filter-append, filter_passes}
-use Rattle.std.proofs.lemmas.List.Kept.{AllPairs-filter}
-use Rattle.std.proofs.lemmas.List.Sums.{sum_by-cons}
-use Rattle.std.proofs.lemmas.Bool.Decides.{nat_tests, eqb_tells}
-use Rattle.stable_tree.proofs.Removing.{filter-absent}
-use Rattle.page_table.specs.Table.{ArePlaced, groups_in, times}
+use Rattle.page_table.proofs.Base.{◌≡◌, ◌≢◌, ◌∙◌, ◌⊎◌, ⊎_elim, ℕ, zero, suc, ◌+◌, ◌<◌, ◌≤◌, ◌==◌, not, Bool, true, false, if◌then◌else◌, List, [], ◌∷◌, ◌++◌, length, take, drop, slice_index_or, slice_set, All, AllPairs, refl, sym, ap, subst, arith, inl, inr, get_or-set_same, get_or-set_other, length-set, get_or_append_left, get_or-append-add, get_or_default, take_at, All-filter, filter-append, filter_passes, AllPairs-filter, sum_by-cons, nat_tests, eqb_tells}
+use Rattle.page_table.proofs.Words.{filter-absent, ArePlaced, groups_in, times}
+use Rattle.std.proofs.Common.{length-append}
 use Rattle.page_table.proofs.Ending.{but}
 use Rattle.page_table.proofs.Entries.{one_when, times-head, times-tail}
 use Rattle.page_table.proofs.Sides.{is_same}

@@ -1,19 +1,6 @@
 -- What is counted of pages, and the contents of the groups.
-use Rattle.std.proofs.Common.{◌≡◌, ℕ, zero, suc, ◌+◌, ◌-◌, ◌<◌, ◌≤◌, replicate, List, [], ◌∷◌, length, map, sum_by, slice_set, Option, None, option_map, refl, ap, arith}
-use Rattle.std.proofs.lemmas.List.{length-map, map-set}
-use Rattle.std.proofs.lemmas.List.Sums.{sum_by-cons, sum_by-set, sum_by-le, get_or-le-sum_by}
-use Rattle.host_types.specs.Counters.{group_contents, unshared_at, volatile_at}
-use Rattle.host_types.specs.Sharing.{PageState}
-use Rattle.host_types.specs.declared.shape.Shape.{Shape}
-use Rattle.host_types.specs.Visits.{group_bytes}
-use Rattle.frame_arena.specs.Pages.{page_at}
-use Rattle.page_table.specs.declared.entry.Entry.{Entry}
-use Rattle.page_table.specs.declared.pass.Pass.{Pass}
-use Rattle.page_table.specs.declared.tenant.Tenant.{Tenant}
-use Rattle.page_table.specs.Changes.{contents_now}
-use Rattle.page_table.specs.Table.{TableState, IsTable, entry_at, states_of, state_of, groups_of, places_on, times}
-use Rattle.page_table.specs.Tallies.{IsTally, shared_at}
-use Rattle.page_table.specs.View.{view_of, IsMemory}
+use Rattle.page_table.proofs.Base.{◌≡◌, ℕ, zero, suc, ◌+◌, ◌-◌, ◌<◌, ◌≤◌, replicate, List, [], ◌∷◌, length, map, sum_by, slice_set, Option, None, option_map, refl, ap, arith, length-map, map-set, sum_by-cons, sum_by-set, sum_by-le, get_or-le-sum_by}
+use Rattle.page_table.proofs.Words.{group_contents, unshared_at, volatile_at, PageState, Shape, group_bytes, page_at, Entry, Pass, Tenant, contents_now, TableState, IsTable, entry_at, states_of, state_of, groups_of, places_on, times, IsTally, shared_at, view_of, IsMemory}
 use Rattle.page_table.proofs.Entries.{times-head, times-tail, told_at}
 use Rattle.page_table.proofs.Scanning.{bytes-of_group}
 

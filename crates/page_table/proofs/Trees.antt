@@ -1,15 +1,6 @@
 -- The tree of groups has the groups of each content in order of creation, whatever happens to the table.
-use Rattle.std.proofs.Common.{◌≡◌, ◌≢◌, ◌∙◌, ℕ, zero, suc, ◌<◌, ◌≤◌, ◌==◌, nat_lt, not, Bool, true, List, [], ◌∷◌, ◌++◌, length, filter, find, slice_index_or, slice_set, All, refl, sym, ap, arith}
-use Rattle.std.specs.List.{concat}
-use Rattle.std.proofs.lemmas.List.{get_or-set_other, length-set}
-use Rattle.std.proofs.lemmas.List.Elements.{All-nil, All-cons, filter-append}
-use Rattle.std.proofs.lemmas.List.Sums.{sum_by-cons, sum_by-append}
-use Rattle.std.proofs.lemmas.Bool.Decides.{nat_tests}
-use Rattle.frame_arena.specs.Pages.{page_at}
-use Rattle.stable_tree.specs.Groups.{Groups, IsSorted, IsChain, has, content}
-use Rattle.stable_tree.proofs.Removing.{has-itself}
-use Rattle.page_table.specs.Table.{TableState, CountsState, IsSound, IsGroup, IsTreeOf, times, pages_on, is_open_frame}
-use Rattle.host_types.proofs.Without.{without-length, times-gone, times-kept}
+use Rattle.page_table.proofs.Base.{◌≡◌, ◌≢◌, ◌∙◌, ℕ, zero, suc, ◌<◌, ◌≤◌, ◌==◌, nat_lt, not, Bool, true, List, [], ◌∷◌, ◌++◌, length, filter, find, slice_index_or, slice_set, All, refl, sym, ap, arith, concat, get_or-set_other, length-set, All-nil, All-cons, filter-append, sum_by-cons, sum_by-append, nat_tests}
+use Rattle.page_table.proofs.Words.{page_at, Groups, IsSorted, IsChain, has, content, has-itself, TableState, CountsState, IsSound, IsGroup, IsTreeOf, times, pages_on, is_open_frame, without-length, times-gone, times-kept}
 use Rattle.page_table.proofs.Ending.{but}
 use Rattle.page_table.proofs.Entries.{one_when, times-head, times-tail, one_if_zero-above, group_of, times-cons}
 use Rattle.page_table.proofs.Joining.{group-inside}

@@ -1,22 +1,8 @@
 -- What unmerging takes, told by the pages on the groups' frames.
-use Rattle.std.proofs.Common.{◌≡◌, ◌∙◌, ⊎_elim, ℕ, zero, suc, ◌+◌, ◌-◌, ◌<◌, ◌≤◌, ◌==◌, Bool, true, false, List, [], ◌∷◌, length, map, sum_by, slice_index_or, Option, Some, None, option_map, is_some, refl, sym, ap, subst, arith}
-use Rattle.std.proofs.lemmas.List.Sums.{sum_by-cons}
-use Rattle.std.proofs.lemmas.List.{length-map}
-use Rattle.std.proofs.lemmas.Bool.Decides.{nat_tests}
-use Rattle.host_types.specs.declared.status.Status.{Status}
-use Rattle.host_types.specs.declared.status.Status.TheVariants.{New, Volatile, Waiting, Grouped, Zero}
-use Rattle.host_types.specs.Sharing.{Sharing, PageState, state_at, is_shared_page, broken, break_cost, broken_from, cost_from}
-use Rattle.host_types.specs.Unmerging.{unmerged, members, zeros_at, one_if_zeros, zero_pages, unmerge_need, SharesNothing}
+use Rattle.page_table.proofs.Base.{◌≡◌, ◌∙◌, ⊎_elim, ℕ, zero, suc, ◌+◌, ◌-◌, ◌<◌, ◌≤◌, ◌==◌, Bool, true, false, List, [], ◌∷◌, length, map, sum_by, slice_index_or, Option, Some, None, option_map, is_some, refl, sym, ap, subst, arith, sum_by-cons, length-map, nat_tests}
+use Rattle.page_table.proofs.Words.{Status, New, Volatile, Waiting, Grouped, Zero, Sharing, PageState, state_at, is_shared_page, broken, break_cost, broken_from, cost_from, unmerged, members, zeros_at, one_if_zeros, zero_pages, unmerge_need, SharesNothing, Entry, Pass, Tenant, have_of, view_of, IsMemory, IsPass, Shape, TableState, CountsState, IsTable, IsSound, IsEntry, IsGroup, IsPageAt, LiesRight, times, entry_at, state_of, states_of, groups_of, sharing_of, used_by, new_pass, pages_on, places_on, shared_at}
 use Rattle.host_types.proofs.Without as without
 use Rattle.host_types.proofs.Unmerging as law
-use Rattle.page_table.specs.declared.entry.Entry.{Entry}
-use Rattle.page_table.specs.declared.pass.Pass.{Pass}
-use Rattle.page_table.specs.declared.tenant.Tenant.{Tenant}
-use Rattle.page_table.specs.State.{have_of}
-use Rattle.page_table.specs.View.{view_of, IsMemory, IsPass}
-use Rattle.host_types.specs.declared.shape.Shape.{Shape}
-use Rattle.page_table.specs.Table.{TableState, CountsState, IsTable, IsSound, IsEntry, IsGroup, IsPageAt, LiesRight, times, entry_at, state_of, states_of, groups_of, sharing_of, used_by, new_pass, pages_on, places_on}
-use Rattle.page_table.specs.Tallies.{shared_at}
 use Rattle.page_table.proofs.Changing.{entry_fits}
 use Rattle.page_table.proofs.Free.{free_is}
 use Rattle.page_table.proofs.Breaks.{cost_from-last, broken_from-last}

@@ -1,20 +1,6 @@
 -- How many pages of a map aren't pinned, told by how many are.
-use Rattle.std.proofs.Common.{◌≡◌, ◌∙◌, ⊎_elim, ℕ, zero, suc, ◌+◌, ◌-◌, ◌*◌, ◌<◌, ◌≤◌, Bool, true, false, if◌then◌else◌, List, [], ◌∷◌, length, take, drop, slice_index_or, Option, Some, None, option_map, unwrap_or, refl, sym, ap, arith}
-use Rattle.std.proofs.lemmas.List.{get_or_default, get_or_past, get_or-take, get_or-drop}
-use Rattle.std.proofs.lemmas.List.Sums.{sum_by-cons}
-use Rattle.host_types.specs.declared.shape.Shape.{Shape}
-use Rattle.host_types.specs.Bytes.{part_of}
-use Rattle.host_types.specs.Memory.{FlatMap, map_at}
-use Rattle.host_types.specs.Pages.{map_place}
-use Rattle.host_types.specs.Pins.{unpinned_from, PinsFit}
-use Rattle.page_table.specs.declared.pass.Pass.{Pass}
-use Rattle.page_table.specs.declared.tenant.Tenant.{Tenant}
-use Rattle.page_table.specs.Limits.{page_count}
-use Rattle.page_table.specs.Pins.{pinned_among}
-use Rattle.page_table.specs.State.{MemoryState, part}
-use Rattle.page_table.specs.Changes.{pages_of_map}
-use Rattle.page_table.specs.Table.{TableState, IsTable, states_of}
-use Rattle.page_table.specs.View.{view_of, IsMemory}
+use Rattle.page_table.proofs.Base.{◌≡◌, ◌∙◌, ⊎_elim, ℕ, zero, suc, ◌+◌, ◌-◌, ◌*◌, ◌<◌, ◌≤◌, Bool, true, false, if◌then◌else◌, List, [], ◌∷◌, length, take, drop, slice_index_or, Option, Some, None, option_map, unwrap_or, refl, sym, ap, arith, get_or_default, get_or_past, get_or-take, get_or-drop, sum_by-cons}
+use Rattle.page_table.proofs.Words.{Shape, part_of, FlatMap, map_at, map_place, unpinned_from, PinsFit, Pass, Tenant, page_count, pinned_among, MemoryState, part, pages_of_map, TableState, IsTable, states_of, view_of, IsMemory}
 use Rattle.page_table.proofs.Sides.{order}
 use Rattle.page_table.proofs.Dropping.{number_small, few, map_pins, unpinned_behind}
 use Rattle.page_table.proofs.Shapes.{shape_told}

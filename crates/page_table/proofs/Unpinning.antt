@@ -1,20 +1,6 @@
 -- What a memory tells where the pins of one tenant changed.
-use Rattle.std.proofs.Common.{◌≡◌, ◌≢◌, ◌∙◌, ◌⊎◌, inl, inr, ⊎_elim, ℕ, zero, suc, ◌+◌, ◌*◌, ◌<◌, ◌≤◌, Bool, true, false, List, [], ◌∷◌, ◌++◌, length, take, drop, replicate, slice_index_or, slice_set, Option, option_map, refl, sym, ap, arith}
-use Rattle.std.proofs.lemmas.List.{length-drop, length-replicate, length-map, get_or_past}
-use Rattle.std.proofs.lemmas.Bool.Decides.{nat_tests}
-use Rattle.host_types.specs.declared.shape.Shape.{Shape}
-use Rattle.host_types.specs.Bytes.{part_of, with_part}
-use Rattle.host_types.specs.Pages.{map_place}
-use Rattle.host_types.specs.Pins.{PinsFit, released}
-use Rattle.host_types.specs.Sharing.{PageState}
-use Rattle.host_types.proofs.Lists.{length-part_of, length-with_part}
-use Rattle.frame_arena.proofs.Parts.{take-with_part, with_part-whole}
-use Rattle.page_table.specs.declared.pass.Pass.{Pass}
-use Rattle.page_table.specs.declared.tenant.Tenant.{Tenant}
-use Rattle.page_table.specs.Changes.{IsKeptBut, with_pins}
-use Rattle.page_table.specs.State.{part}
-use Rattle.page_table.specs.Table.{TableState, IsPageAt, contents_of, state_of, states_of}
-use Rattle.page_table.specs.View.{view_of, IsMemory}
+use Rattle.page_table.proofs.Base.{◌≡◌, ◌≢◌, ◌∙◌, ◌⊎◌, inl, inr, ⊎_elim, ℕ, zero, suc, ◌+◌, ◌*◌, ◌<◌, ◌≤◌, Bool, true, false, List, [], ◌∷◌, ◌++◌, length, take, drop, replicate, slice_index_or, slice_set, Option, option_map, refl, sym, ap, arith, length-drop, length-replicate, length-map, get_or_past, nat_tests}
+use Rattle.page_table.proofs.Words.{Shape, part_of, with_part, map_place, PinsFit, released, PageState, length-part_of, length-with_part, take-with_part, with_part-whole, Pass, Tenant, IsKeptBut, with_pins, part, TableState, IsPageAt, contents_of, state_of, states_of, view_of, IsMemory}
 use Rattle.page_table.proofs.Sides.{order}
 use Rattle.page_table.proofs.Creating.{length-contents, filled_at, others-filled}
 use Rattle.page_table.proofs.Fitting.{pinned_if}

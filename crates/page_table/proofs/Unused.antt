@@ -1,7 +1,6 @@
 -- Counts of frames, and the list of the unused ones.
-use Rattle.std.proofs.Common.{◌≡◌, ◌∙◌, ℕ, zero, suc, ◌+◌, ◌<◌, ◌≤◌, ◌==◌, ◌&&◌, nat_lt, Bool, List, [], ◌∷◌, ◌++◌, length, slice_index_or, refl, ap, arith}
-use Rattle.std.proofs.lemmas.List.Sums.{sum_by_push}
-use Rattle.page_table.specs.Table.{AreCounts, times, one_if_zero}
+use Rattle.page_table.proofs.Base.{◌≡◌, ◌∙◌, ℕ, zero, suc, ◌+◌, ◌<◌, ◌≤◌, ◌==◌, ◌&&◌, nat_lt, Bool, List, [], ◌∷◌, ◌++◌, length, slice_index_or, refl, ap, arith, sum_by_push}
+use Rattle.page_table.proofs.Words.{AreCounts, times, one_if_zero}
 use Rattle.page_table.proofs.Entries.{one_when, equal}
 
 -- a number occurs once more after it is pushed

@@ -1,14 +1,6 @@
 -- The pages that wait: what keeps them, and how many there are.
-use Rattle.std.proofs.Common.{◌≡◌, ◌≢◌, ◌∙◌, ℕ, ◌<◌, ◌≤◌, ◌==◌, ◌||◌, nat_le, not, Bool, true, false, if◌then◌else◌, List, [], ◌∷◌, ◌++◌, length, map, filter, slice_index_or, slice_set, Option, Some, None, refl, ap, arith}
-use Rattle.std.specs.List.{list_any}
-use Rattle.std.proofs.lemmas.List.{get_or-set_other}
-use Rattle.std.proofs.lemmas.Bool.Decides.{nat_tests}
-use Rattle.host_types.specs.Sharing.{is_shared, waiting_without}
-use Rattle.unstable_tree.specs.declared.tree.Waiter.{Waiter}
-use Rattle.page_table.specs.declared.entry.Entry.{Entry}
-use Rattle.page_table.specs.declared.pass.Pass.{Pass}
-use Rattle.page_table.specs.Table.{TableState, AreOwnKept, AreOthersKept, entry_at, own_pages, waiting_of, forgets}
-use Rattle.page_table.specs.View.{is_listed, IsWaiter, AreWaiters, IsPass}
+use Rattle.page_table.proofs.Base.{◌≡◌, ◌≢◌, ◌∙◌, ℕ, ◌<◌, ◌≤◌, ◌==◌, ◌||◌, nat_le, not, Bool, true, false, if◌then◌else◌, List, [], ◌∷◌, ◌++◌, length, map, filter, slice_index_or, slice_set, Option, Some, None, refl, ap, arith, list_any, get_or-set_other, nat_tests}
+use Rattle.page_table.proofs.Words.{is_shared, waiting_without, Waiter, Entry, Pass, TableState, AreOwnKept, AreOthersKept, entry_at, own_pages, waiting_of, forgets, is_listed, IsWaiter, AreWaiters, IsPass}
 use Rattle.page_table.proofs.Changing.{own_one, own_pages-set}
 use Rattle.page_table.proofs.Entries.{inside}
 use Rattle.page_table.proofs.Fitting.{pins-kept, apart-pinned}

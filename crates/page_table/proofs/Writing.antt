@@ -1,25 +1,7 @@
 -- What a memory tells after bytes of a page were written.
-use Rattle.std.proofs.Common.{◌≡◌, ◌≢◌, ◌∙◌, Bool, ℕ, zero, suc, ◌+◌, ◌*◌, ◌<◌, ◌≤◌, List, [], ◌∷◌, length, take, drop, slice_index_or, slice_set, Option, Some, None, IfSome, false, option_map, refl, sym, ap, subst, arith, length-set}
-use Rattle.std.specs.List.{concat}
-use Rattle.std.proofs.lemmas.List.{get_or-set_same, get_or-set_other, get_or_past, length-take-le}
-use Rattle.page_table.specs.declared.pass.Pass.{Pass}
-use Rattle.host_types.specs.declared.shape.Shape.{Shape}
-use Rattle.host_types.specs.declared.shape.Page.{Page}
-use Rattle.host_types.specs.Bytes.{part_of, with_part}
-use Rattle.host_types.specs.Memory.{FlatMap, FlatMaps, map_at}
-use Rattle.host_types.specs.Pages.{map_place, page_place}
-use Rattle.host_types.specs.Shapes.{byte_len_of}
-use Rattle.host_types.specs.Sharing.{PageState, is_shared}
-use Rattle.host_types.specs.Tenant.{TenantPart}
-use Rattle.host_types.proofs.Lists.{length-with_part}
-use Rattle.page_table.specs.declared.entry.Entry.{Entry}
-use Rattle.page_table.specs.declared.tenant.Tenant.{Tenant}
-use Rattle.page_table.specs.Limits.{page_count}
-use Rattle.page_table.specs.State.{MemoryState, part, bytes_of_map}
-use Rattle.page_table.specs.Changes.{IsPageOf, IsOwn, map_written, part_written, IsKeptBut, AreMapsKeptBut, KeepsSettings}
-use Rattle.page_table.specs.Table.{TableState, entry_at, state_of, maps_of, flat_of, ArePages, ArePagesOf, contents_of, groups_of, states_of, frames_of, used_by}
-use Rattle.page_table.specs.View.{view_of, IsMemory}
-use Rattle.frame_arena.proofs.Parts.{take-with_part, drop-with_part_before}
+use Rattle.page_table.proofs.Base.{◌≡◌, ◌≢◌, ◌∙◌, Bool, ℕ, zero, suc, ◌+◌, ◌*◌, ◌<◌, ◌≤◌, List, [], ◌∷◌, length, take, drop, slice_index_or, slice_set, Option, Some, None, IfSome, false, option_map, refl, sym, ap, subst, arith, concat, get_or-set_same, get_or-set_other, get_or_past, length-take-le}
+use Rattle.page_table.proofs.Words.{Pass, Shape, Page, part_of, with_part, FlatMap, FlatMaps, map_at, map_place, page_place, byte_len_of, PageState, is_shared, TenantPart, length-with_part, Entry, Tenant, page_count, MemoryState, part, bytes_of_map, IsPageOf, IsOwn, map_written, part_written, IsKeptBut, AreMapsKeptBut, KeepsSettings, TableState, entry_at, state_of, maps_of, flat_of, ArePages, ArePagesOf, contents_of, groups_of, states_of, frames_of, used_by, view_of, IsMemory, take-with_part, drop-with_part_before}
+use Rattle.std.proofs.Common.{length-set}
 use Rattle.page_table.proofs.Maps.{maps_of-changed, AreMaps-changed, length-maps_of, part_of-set_same, part_of-set_other, concat-written, length-concat}
 use Rattle.page_table.proofs.Reading.{IsLocated, page_located, page_number, few_pages, content_in, bytes_in, map_at-part}
 

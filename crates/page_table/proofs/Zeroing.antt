@@ -1,11 +1,6 @@
 -- A page of zeros moves to the zero frame.
-use Rattle.std.proofs.Common.{◌≡◌, ◌∙◌, ⊎_elim, ℕ, ◌<◌, ◌≤◌, ◌==◌, false, [], slice_index_or, Some, sym, ap, arith, refl}
-use Rattle.page_table.specs.declared.pass.Pass.{Pass}
-use Rattle.host_types.specs.declared.status.Status.TheVariants.{Zero}
-use Rattle.host_types.specs.Sharing.{with_status, zeroed}
-use Rattle.host_types.specs.Pages.{zero_page}
-use Rattle.page_table.specs.declared.entry.Entry.{Entry}
-use Rattle.page_table.specs.Table.{TableState, IsOwnAt, IsTable, IsGroup, times, entry_at, contents_of, groups_of, sharing_of, forgets, is_on}
+use Rattle.page_table.proofs.Base.{◌≡◌, ◌∙◌, ⊎_elim, ℕ, ◌<◌, ◌≤◌, ◌==◌, false, [], slice_index_or, Some, sym, ap, arith, refl}
+use Rattle.page_table.proofs.Words.{Pass, Zero, with_status, zeroed, zero_page, Entry, TableState, IsOwnAt, IsTable, IsGroup, times, entry_at, contents_of, groups_of, sharing_of, forgets, is_on}
 use Rattle.page_table.proofs.Entries.{not_equal, places_on-set, groups-kept, states-set}
 use Rattle.page_table.proofs.Waiters.{waiting-forgets}
 use Rattle.page_table.proofs.Moving.{IsMove, with_entry, lone, IsMerged, move-merged}

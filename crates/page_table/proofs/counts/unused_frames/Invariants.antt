@@ -1,5 +1,5 @@
-use Rattle.std.proofs.Common.{◌≡◌, ◌≤◌, ◌+◌, ℕ, length, vec_capacity}
-use Rattle.page_table.specs.Table.{times}
+use Rattle.page_table.proofs.Base.{◌≡◌, ◌≤◌, ◌+◌, ℕ, length, vec_capacity}
+use Rattle.page_table.proofs.Words.{times}
 use Rattle.page_table.proofs.Entries.{one_when}
 use Rattle.page_table.proofs.Unused.{is_between}
 use Rattle.page_table.proofs.counts.unused_frames.Given as goal

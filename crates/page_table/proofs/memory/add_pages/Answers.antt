@@ -1,7 +1,5 @@
-use Rattle.std.proofs.Common.{◌∙◌, ℕ, List, [], slice_index_or, refl, ◌+◌, Option, Some, ap, arith, slice_set}
-use Rattle.host_types.specs.Sharing.{new_page, PageState}
-use Rattle.host_types.specs.Pages.{zero_page}
-use Rattle.page_table.specs.Table.{contents_of, states_of}
+use Rattle.page_table.proofs.Base.{◌∙◌, ℕ, List, [], slice_index_or, refl, ◌+◌, Option, Some, ap, arith, slice_set}
+use Rattle.page_table.proofs.Words.{new_page, PageState, zero_page, contents_of, states_of}
 use Rattle.page_table.proofs.Creating.{filled_more, behind_filled, with_part-none, length-contents, length-states}
 use Rattle.page_table.proofs.memory.add_pages.Goals as goal
 

@@ -1,9 +1,5 @@
-use Rattle.std.proofs.Common.{◌≡◌, ℕ, ◌+◌, length, replicate, Some}
-use Rattle.host_types.specs.Bytes.{with_part}
-use Rattle.host_types.specs.Sharing.{new_page}
-use Rattle.host_types.specs.Pages.{zero_page}
-use Rattle.page_table.specs.declared.entry.Entry.{Entry}
-use Rattle.page_table.specs.Table.{contents_of, states_of, groups_of, used_by, entry_at}
+use Rattle.page_table.proofs.Base.{◌≡◌, ℕ, ◌+◌, length, replicate, Some}
+use Rattle.page_table.proofs.Words.{with_part, new_page, zero_page, Entry, contents_of, states_of, groups_of, used_by, entry_at}
 use Rattle.page_table.proofs.memory.add_pages.Given as goal
 
 abbrev pub invariant-loop-number : goal.invariant-loop-number

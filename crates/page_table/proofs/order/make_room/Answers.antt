@@ -1,6 +1,5 @@
-use Rattle.std.proofs.Common.{◌≡◌, ◌≢◌, ◌∙◌, ◌<◌, ℕ, List, All, AllPairs, length, slice_index_or, sym, ap, subst, arith, rules}
-use Rattle.std.proofs.lemmas.Fn.{filter_same}
-use Rattle.page_table.specs.Table.{groups_in}
+use Rattle.page_table.proofs.Base.{◌≡◌, ◌≢◌, ◌∙◌, ◌<◌, ℕ, List, All, AllPairs, length, slice_index_or, sym, ap, subst, arith, rules, filter_same}
+use Rattle.page_table.proofs.Words.{groups_in}
 use Rattle.page_table.proofs.Slots.{groups-below, groups-apart, groups-again}
 use Rattle.page_table.proofs.order.make_room.Goals as goal
 use Rattle.page_table.proofs.order.make_room.Goals.{After-deref}

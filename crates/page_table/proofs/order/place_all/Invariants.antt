@@ -1,4 +1,4 @@
-use Rattle.std.proofs.Common.{◌≡◌, ◌<◌, ℕ, length, slice_index_or}
+use Rattle.page_table.proofs.Base.{◌≡◌, ◌<◌, ℕ, length, slice_index_or}
 use Rattle.page_table.proofs.order.place_all.Given as goal
 
 -- the slots before are noted

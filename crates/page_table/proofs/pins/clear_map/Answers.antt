@@ -1,6 +1,5 @@
-use Rattle.std.proofs.Common.{◌≡◌, ◌∙◌, ◌+◌, ◌-◌, ◌≤◌, ℕ, List, Bool, false, length, take, drop, replicate, ap, arith}
-use Rattle.std.proofs.lemmas.List.{length-take-le, length-drop, length-replicate}
-use Rattle.frame_arena.proofs.Parts.{put_mid-with_part}
+use Rattle.page_table.proofs.Base.{◌≡◌, ◌∙◌, ◌+◌, ◌-◌, ◌≤◌, ℕ, List, Bool, false, length, take, drop, replicate, ap, arith, length-take-le, length-drop, length-replicate}
+use Rattle.page_table.proofs.Words.{put_mid-with_part}
 use Rattle.page_table.proofs.pins.clear_map.Goals as goal
 
 long : (xs : List Bool) (first : ℕ) → first + 256 ≤ length xs → length (take (first + 256 - first) (drop first xs)) ≡ 256

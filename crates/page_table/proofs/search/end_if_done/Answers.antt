@@ -1,8 +1,5 @@
-use Rattle.std.proofs.Common.{◌≡◌, ◌∙◌, ◌+◌, ℕ, Bool, true, false, drop, Option, None, Some, is_some, refl, sym, ap, subst}
-use Rattle.host_types.specs.Visits.{first_mergeable, ended_at, moved_on, one_more}
-use Rattle.page_table.specs.declared.pass.Pass.{Pass}
-use Rattle.page_table.specs.Table.{TableState, states_of, sharing_of}
-use Rattle.page_table.specs.View.{IsAhead}
+use Rattle.page_table.proofs.Base.{◌≡◌, ◌∙◌, ◌+◌, ℕ, Bool, true, false, drop, Option, None, Some, is_some, refl, sym, ap, subst}
+use Rattle.page_table.proofs.Words.{first_mergeable, ended_at, moved_on, one_more, Pass, TableState, states_of, sharing_of, IsAhead}
 use Rattle.page_table.proofs.Ahead.{ahead-next}
 use Rattle.page_table.proofs.Partners.{pass-ended}
 use Rattle.page_table.proofs.search.end_if_done.Goals as goal

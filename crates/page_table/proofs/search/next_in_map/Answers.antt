@@ -1,6 +1,5 @@
-use Rattle.std.proofs.Common.{◌≡◌, ◌⊎◌, ⊎_elim, ◌+◌, ◌*◌, ◌<◌, ◌≤◌, false, drop, slice_index_or, MatchOption, Option, None, Some, ℕ, arith}
-use Rattle.host_types.specs.Visits.{first_mergeable, is_mergeable}
-use Rattle.page_table.specs.Table.{states_of}
+use Rattle.page_table.proofs.Base.{◌≡◌, ◌⊎◌, ⊎_elim, ◌+◌, ◌*◌, ◌<◌, ◌≤◌, false, drop, slice_index_or, MatchOption, Option, None, Some, ℕ, arith}
+use Rattle.page_table.proofs.Words.{first_mergeable, is_mergeable, states_of}
 use Rattle.page_table.proofs.Creating.{length-contents}
 use Rattle.page_table.proofs.Reading.{few_pages}
 use Rattle.page_table.proofs.Searching.{without-map, behind-pages, shaped}

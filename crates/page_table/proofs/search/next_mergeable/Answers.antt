@@ -1,6 +1,5 @@
-use Rattle.std.proofs.Common.{◌∙◌, ◌+◌, ◌*◌, sym, arith}
-use Rattle.page_table.specs.Table.{states_of}
-use Rattle.host_types.proofs.Next.{next-none}
+use Rattle.page_table.proofs.Base.{◌∙◌, ◌+◌, ◌*◌, sym, arith}
+use Rattle.page_table.proofs.Words.{states_of, next-none}
 use Rattle.page_table.proofs.Creating.{length-contents, length-states}
 use Rattle.page_table.proofs.Next.{next-over}
 use Rattle.page_table.proofs.search.next_mergeable.Goals as goal

@@ -1,7 +1,6 @@
-use Rattle.std.proofs.Common.{ℕ, ◌≡◌, ◌+◌, ◌≤◌, Bool, true, false, if◌then◌else◌, None, ap, refl, arith}
+use Rattle.page_table.proofs.Base.{ℕ, ◌≡◌, ◌+◌, ◌≤◌, Bool, true, false, if◌then◌else◌, None, ap, refl, arith, sum_by_more}
+use Rattle.page_table.proofs.Words.{pages_on}
 use mir.Val.{bool_byte}
-use Rattle.std.proofs.lemmas.List.Sums.{sum_by_more}
-use Rattle.page_table.specs.Table.{pages_on}
 use Rattle.page_table.proofs.Entries.{one_when, on_one}
 use Rattle.page_table.proofs.table.count_on.Goals as goal
 

@@ -1,5 +1,5 @@
-use Rattle.std.proofs.Common.{◌≡◌, ◌≤◌, take}
-use Rattle.page_table.specs.Table.{pages_on}
+use Rattle.page_table.proofs.Base.{◌≡◌, ◌≤◌, take}
+use Rattle.page_table.proofs.Words.{pages_on}
 use Rattle.page_table.proofs.table.count_on.Given as goal
 
 abbrev pub invariant-loop-entry : goal.invariant-loop-entry

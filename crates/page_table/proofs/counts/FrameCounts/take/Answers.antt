@@ -1,4 +1,4 @@
-use Rattle.std.proofs.Common.{◌<◌, length, arith}
+use Rattle.page_table.proofs.Base.{◌<◌, length, arith}
 use Rattle.page_table.proofs.Unused.{popped}
 use Rattle.page_table.proofs.counts.FrameCounts.take.Goals as goal
 

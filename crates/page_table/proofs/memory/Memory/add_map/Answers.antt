@@ -1,10 +1,5 @@
-use Rattle.std.proofs.Common.{◌≡◌, ◌∙◌, ◌+◌, ◌*◌, ℕ, replicate, slice_set, Some, ap, arith}
-use Rattle.host_types.specs.Bytes.{with_part}
-use Rattle.host_types.specs.Pages.{map_place, zero_page}
-use Rattle.host_types.specs.Sharing.{new_page}
-use Rattle.page_table.specs.Limits.{page_count}
-use Rattle.page_table.specs.Table.{contents_of, states_of, used_by}
-use Rattle.page_table.specs.View.{view_of}
+use Rattle.page_table.proofs.Base.{◌≡◌, ◌∙◌, ◌+◌, ◌*◌, ℕ, replicate, slice_set, Some, ap, arith}
+use Rattle.page_table.proofs.Words.{with_part, map_place, zero_page, new_page, page_count, contents_of, states_of, used_by, view_of}
 use Rattle.page_table.proofs.Creating.{Creates, memory_created, creates, index_inside, places_inside, few_entries, no_contents, tenant_inside, number_empty, room_inside}
 use Rattle.page_table.proofs.Waiters.{pass-kept, kept-own}
 use Rattle.page_table.proofs.Ahead.{ahead-more}

@@ -1,9 +1,5 @@
-use Rattle.std.proofs.Common.{◌≡◌, ◌∙◌, ◌+◌, ◌<◌, [], false, drop, map, is_some, None, Some, sym, ap, arith, option_map}
-use Rattle.std.proofs.lemmas.List.{length-map}
-use Rattle.host_types.specs.Pages.{page_place}
-use Rattle.host_types.specs.Visits.{first_mergeable, look_from}
-use Rattle.page_table.specs.Table.{states_of, state_of, waiting_of}
-use Rattle.page_table.specs.View.{view_of, AreWaiters, is_listed}
+use Rattle.page_table.proofs.Base.{◌≡◌, ◌∙◌, ◌+◌, ◌<◌, [], false, drop, map, is_some, None, Some, sym, ap, arith, option_map, length-map}
+use Rattle.page_table.proofs.Words.{page_place, first_mergeable, look_from, states_of, state_of, waiting_of, view_of, AreWaiters, is_listed}
 use Rattle.page_table.proofs.Creating.{length-contents}
 use Rattle.page_table.proofs.Next.{next-is}
 use Rattle.page_table.proofs.Partners.{advanced, moved-on, moved-ended, pass-on, pass-ended, waits-not}

@@ -1,8 +1,5 @@
-use Rattle.std.proofs.Common.{◌∙◌, ℕ, sym, ap}
-use Rattle.host_types.specs.Pages.{page_place}
-use Rattle.page_table.specs.Changes.{IsPageOf}
-use Rattle.page_table.specs.Table.{break_frames}
-use Rattle.page_table.specs.View.{view_of}
+use Rattle.page_table.proofs.Base.{◌∙◌, ℕ, sym, ap}
+use Rattle.page_table.proofs.Words.{page_place, IsPageOf, break_frames, view_of}
 use Rattle.page_table.proofs.Reading.{is_page_at}
 use Rattle.page_table.proofs.Merging.{cost_told}
 use Rattle.page_table.proofs.memory.Memory.break_cost.Goals as goal

@@ -1,17 +1,6 @@
-use Rattle.std.proofs.Common.{◌∙◌, ◌+◌, ◌*◌, ◌<◌, ◌≤◌, length, ℕ, ap, arith, length-take, List, Option}
-use Rattle.std.specs.List.{concat}
-use Rattle.host_types.specs.Bytes.{part_of}
-use Rattle.page_table.specs.declared.pass.Pass.{Pass}
-use Rattle.host_types.specs.declared.shape.Page.{Page}
-use Rattle.host_types.specs.declared.shape.Shape.{Shape}
-use Rattle.host_types.specs.Pages.{map_place, page_place}
-use Rattle.host_types.specs.Shapes.{byte_len_of}
-use Rattle.host_types.specs.Sharing.{cost_from}
-use Rattle.page_table.specs.declared.tenant.Tenant.{Tenant}
-use Rattle.page_table.specs.Changes.{IsPageOf}
-use Rattle.page_table.specs.State.{bytes_of_map, part}
-use Rattle.page_table.specs.Table.{TableState, contents_of, sharing_of}
-use Rattle.page_table.specs.View.{view_of, IsMemory}
+use Rattle.page_table.proofs.Base.{◌∙◌, ◌+◌, ◌*◌, ◌<◌, ◌≤◌, length, ℕ, ap, arith, List, Option, concat}
+use Rattle.page_table.proofs.Words.{part_of, Pass, Page, Shape, map_place, page_place, byte_len_of, cost_from, Tenant, IsPageOf, bytes_of_map, part, TableState, contents_of, sharing_of, view_of, IsMemory}
+use Rattle.std.proofs.Common.{length-take}
 use Rattle.page_table.proofs.Creating.{length-contents}
 use Rattle.page_table.proofs.Reading.{bytes_in, page_located}
 use Rattle.page_table.proofs.memory.Memory.break_costs.Goals as goal

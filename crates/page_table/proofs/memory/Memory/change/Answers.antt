@@ -1,8 +1,5 @@
-use Rattle.std.proofs.Common.{length, ap, arith, refl}
-use Rattle.host_types.specs.Pages.{page_place}
-use Rattle.host_types.specs.Sharing.{Sharing}
-use Rattle.host_types.specs.Visits.{changed}
-use Rattle.page_table.specs.Table.{sharing_of}
+use Rattle.page_table.proofs.Base.{length, ap, arith, refl}
+use Rattle.page_table.proofs.Words.{page_place, Sharing, changed, sharing_of}
 use Rattle.page_table.proofs.Seen.{sees}
 use Rattle.page_table.proofs.Merging.{memory_kept, moves}
 use Rattle.page_table.proofs.Waiters.{pass-others}

@@ -1,5 +1,5 @@
-use Rattle.std.proofs.Common.{◌∙◌, sym, ap}
-use Rattle.page_table.specs.Table.{entry_at}
+use Rattle.page_table.proofs.Base.{◌∙◌, sym, ap}
+use Rattle.page_table.proofs.Words.{entry_at}
 use Rattle.page_table.proofs.Seen.{sees, sees_entry}
 use Rattle.page_table.proofs.Putting.{page_inside, page_there}
 use Rattle.page_table.proofs.memory.Memory.entry.Goals as goal

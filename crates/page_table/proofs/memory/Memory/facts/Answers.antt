@@ -1,4 +1,4 @@
-use Rattle.page_table.specs.Table.{states_of}
+use Rattle.page_table.proofs.Words.{states_of}
 use Rattle.page_table.proofs.Ahead.{ahead-found}
 use Rattle.page_table.proofs.Facts.{reads_as}
 use Rattle.page_table.proofs.memory.Memory.facts.Goals as goal

@@ -1,4 +1,4 @@
-use Rattle.std.proofs.Common.{arith}
+use Rattle.page_table.proofs.Base.{arith}
 use Rattle.page_table.proofs.Free.{free_is}
 use Rattle.page_table.proofs.memory.Memory.free.Goals as goal
 

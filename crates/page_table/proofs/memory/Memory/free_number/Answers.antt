@@ -1,6 +1,5 @@
-use Rattle.std.proofs.Common.{◌≡◌, ◌∙◌, ◌+◌, ◌*◌, length, List, ℕ, Option, is_none, position, ap, sym, arith}
-use Rattle.host_types.specs.Bytes.{part_of}
-use Rattle.host_types.specs.declared.shape.Shape.{Shape}
+use Rattle.page_table.proofs.Base.{◌≡◌, ◌∙◌, ◌+◌, ◌*◌, length, List, ℕ, Option, is_none, position, ap, sym, arith}
+use Rattle.page_table.proofs.Words.{part_of, Shape}
 use Rattle.page_table.proofs.Creating.{tenant_inside}
 use Rattle.page_table.proofs.Shapes.{free_number_told}
 use Rattle.page_table.proofs.memory.Memory.free_number.Goals as goal

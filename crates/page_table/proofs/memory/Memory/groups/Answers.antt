@@ -1,7 +1,5 @@
-use Rattle.std.proofs.Common.{◌∙◌, sym}
-use Rattle.std.proofs.lemmas.List.{length-map}
-use Rattle.page_table.specs.Table.{groups_of, places_on}
-use Rattle.page_table.specs.View.{view_of}
+use Rattle.page_table.proofs.Base.{◌∙◌, sym, length-map}
+use Rattle.page_table.proofs.Words.{groups_of, places_on, view_of}
 use Rattle.page_table.proofs.memory.Memory.groups.Goals as goal
 
 pub returns : goal.returns

@@ -1,7 +1,5 @@
-use Rattle.std.proofs.Common.{◌∙◌, ℕ, nat_lt, sym, ap}
-use Rattle.std.proofs.lemmas.List.{length-map}
-use Rattle.page_table.specs.Table.{groups_of, places_on}
-use Rattle.page_table.specs.View.{view_of}
+use Rattle.page_table.proofs.Base.{◌∙◌, ℕ, nat_lt, sym, ap, length-map}
+use Rattle.page_table.proofs.Words.{groups_of, places_on, view_of}
 use Rattle.page_table.proofs.memory.Memory.has_groups.Goals as goal
 
 pub returns : goal.returns

@@ -1,5 +1,5 @@
-use Rattle.std.proofs.Common.{arith}
-use Rattle.page_table.specs.View.{view_of}
+use Rattle.page_table.proofs.Base.{arith}
+use Rattle.page_table.proofs.Words.{view_of}
 use Rattle.page_table.proofs.Free.{free_is}
 use Rattle.page_table.proofs.memory.Memory.have.Goals as goal
 

@@ -1,7 +1,5 @@
-use Rattle.std.proofs.Common.{◌∙◌, ap}
-use Rattle.host_types.specs.Pins.{is_pinned}
-use Rattle.page_table.specs.Changes.{IsPageOf}
-use Rattle.page_table.specs.View.{view_of}
+use Rattle.page_table.proofs.Base.{◌∙◌, ap}
+use Rattle.page_table.proofs.Words.{is_pinned, IsPageOf, view_of}
 use Rattle.page_table.proofs.Reading.{is_page_at}
 use Rattle.page_table.proofs.Unpinning.{page-inside}
 use Rattle.page_table.proofs.memory.Memory.is_pinned.Goals as goal

@@ -1,10 +1,5 @@
-use Rattle.std.proofs.Common.{◌≡◌, ◌∙◌, ◌≤◌, true, find, Some, refl, sym, arith}
-use Rattle.host_types.specs.Pages.{page_place}
-use Rattle.page_table.specs.Changes.{IsPageOf, contents_now, open_frame}
-use Rattle.host_types.specs.declared.status.Status.TheVariants.{Grouped}
-use Rattle.host_types.specs.Sharing.{with_status}
-use Rattle.page_table.specs.Table.{is_open_frame, times, states_of}
-use Rattle.page_table.specs.View.{view_of}
+use Rattle.page_table.proofs.Base.{◌≡◌, ◌∙◌, ◌≤◌, true, find, Some, refl, sym, arith}
+use Rattle.page_table.proofs.Words.{page_place, IsPageOf, contents_now, open_frame, Grouped, with_status, is_open_frame, times, states_of, view_of}
 use Rattle.page_table.proofs.Reading.{content_is}
 use Rattle.page_table.proofs.Merging.{memory_kept, moves}
 use Rattle.page_table.proofs.Scanning.{bytes_here, open-frame, find-in, open-bytes, sharing-joins}

@@ -1,4 +1,4 @@
-use Rattle.std.proofs.Common.{arith}
+use Rattle.page_table.proofs.Base.{arith}
 use Rattle.page_table.proofs.Recording.{records}
 use Rattle.page_table.proofs.memory.Memory.keep.Goals as goal
 

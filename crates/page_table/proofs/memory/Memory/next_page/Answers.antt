@@ -1,9 +1,5 @@
-use Rattle.std.proofs.Common.{◌≡◌, ◌∙◌, ◌<◌, drop, Some, sym, ap, subst, option_map, arith}
-use Rattle.std.proofs.lemmas.List.{length-map}
-use Rattle.host_types.specs.Sharing.{state_at}
-use Rattle.host_types.specs.Visits.{first_mergeable, is_mergeable, look_from}
-use Rattle.page_table.specs.Table.{IsPageAt, state_of, states_of, sharing_of}
-use Rattle.page_table.specs.View.{view_of}
+use Rattle.page_table.proofs.Base.{◌≡◌, ◌∙◌, ◌<◌, drop, Some, sym, ap, subst, option_map, arith, length-map}
+use Rattle.page_table.proofs.Words.{state_at, first_mergeable, is_mergeable, look_from, IsPageAt, state_of, states_of, sharing_of, view_of}
 use Rattle.page_table.proofs.Putting.{page_of_entry}
 use Rattle.page_table.proofs.Next.{IsNext, next-is}
 use Rattle.page_table.proofs.Partners.{entry-may}

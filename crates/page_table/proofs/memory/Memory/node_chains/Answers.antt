@@ -1,5 +1,5 @@
-use Rattle.std.proofs.Common.{◌∙◌, [], sym, ap}
-use Rattle.host_types.specs.Counters.{seconds_behind}
+use Rattle.page_table.proofs.Base.{◌∙◌, [], sym, ap}
+use Rattle.page_table.proofs.Words.{seconds_behind}
 use Rattle.page_table.proofs.Tallying.{contents-told}
 use Rattle.page_table.proofs.memory.Memory.node_chains.Goals as goal
 

@@ -1,5 +1,5 @@
-use Rattle.std.proofs.Common.{◌∙◌, List, ℕ, sym, ap}
-use Rattle.host_types.specs.Counters.{repeated_among}
+use Rattle.page_table.proofs.Base.{◌∙◌, List, ℕ, sym, ap}
+use Rattle.page_table.proofs.Words.{repeated_among}
 use Rattle.page_table.proofs.Tallying.{contents-told}
 use Rattle.page_table.proofs.memory.Memory.node_dups.Goals as goal
 

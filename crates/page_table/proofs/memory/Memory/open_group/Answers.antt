@@ -1,10 +1,5 @@
-use Rattle.std.proofs.Common.{◌≡◌, ◌∙◌, find, is_some, ap, sym}
-use Rattle.host_types.specs.Pages.{page_place, page_bytes}
-use Rattle.frame_arena.specs.Pages.{page_at}
-use Rattle.page_table.specs.State.{bytes_of_map}
-use Rattle.page_table.specs.Changes.{IsPageOf, contents_now}
-use Rattle.page_table.specs.Table.{is_open_frame}
-use Rattle.page_table.specs.View.{view_of}
+use Rattle.page_table.proofs.Base.{◌≡◌, ◌∙◌, find, is_some, ap, sym}
+use Rattle.page_table.proofs.Words.{page_place, page_bytes, page_at, bytes_of_map, IsPageOf, contents_now, is_open_frame, view_of}
 use Rattle.page_table.proofs.Scanning.{bytes_here, open-frame, has-open}
 use Rattle.page_table.proofs.memory.Memory.open_group.Goals as goal
 

@@ -1,8 +1,5 @@
-use Rattle.std.proofs.Common.{◌≢◌, ◌∙◌, ℕ, ap, arith, sym, refl}
-use Rattle.host_types.specs.Pages.{page_place}
-use Rattle.host_types.specs.Sharing.{Sharing, paired}
-use Rattle.unstable_tree.specs.WaitingList.{WaitingList}
-use Rattle.page_table.specs.Table.{sharing_of, forgets}
+use Rattle.page_table.proofs.Base.{◌≢◌, ◌∙◌, ℕ, ap, arith, sym, refl}
+use Rattle.page_table.proofs.Words.{page_place, Sharing, paired, WaitingList, sharing_of, forgets}
 use Rattle.page_table.proofs.Seen.{sees}
 use Rattle.page_table.proofs.Merging.{memory_kept, moves, places_apart}
 use Rattle.page_table.proofs.Waiters.{pass-left-both, others_of}

@@ -1,13 +1,5 @@
-use Rattle.std.proofs.Common.{◌≡◌, ◌∙◌, ◌<◌, List, ℕ, true, false, find, Some, option_map, sym, ap, subst, arith}
-use Rattle.host_types.specs.declared.shape.Page.{Page}
-use Rattle.host_types.specs.Pages.{page_place, page_bytes}
-use Rattle.frame_arena.specs.Pages.{page_at}
-use Rattle.unstable_tree.specs.declared.tree.Waiter.{Waiter}
-use Rattle.unstable_tree.specs.WaitingList.{is_match}
-use Rattle.page_table.specs.State.{bytes_of_map}
-use Rattle.page_table.specs.Changes.{IsPageOf, IsNotWaiting, contents_now, partner_place}
-use Rattle.page_table.specs.Table.{IsPageAt}
-use Rattle.page_table.specs.View.{view_of, is_listed}
+use Rattle.page_table.proofs.Base.{◌≡◌, ◌∙◌, ◌<◌, List, ℕ, true, false, find, Some, option_map, sym, ap, subst, arith}
+use Rattle.page_table.proofs.Words.{Page, page_place, page_bytes, page_at, Waiter, is_match, bytes_of_map, IsPageOf, IsNotWaiting, contents_now, partner_place, IsPageAt, view_of, is_listed}
 use Rattle.page_table.proofs.Putting.{page_of_entry}
 use Rattle.page_table.proofs.Entries.{inside}
 use Rattle.page_table.proofs.Scanning.{bytes_here, frame_told, page_there}

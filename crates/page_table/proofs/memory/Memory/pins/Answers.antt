@@ -1,10 +1,5 @@
-use Rattle.std.proofs.Common.{◌≡◌, ◌∙◌, true, sym}
-use Rattle.host_types.specs.Pages.{page_place}
-use Rattle.host_types.specs.Sharing.{is_shared_page, state_at}
-use Rattle.page_table.specs.Changes.{IsPageOf}
-use Rattle.page_table.specs.State.{part}
-use Rattle.page_table.specs.Table.{sharing_of}
-use Rattle.page_table.specs.View.{view_of}
+use Rattle.page_table.proofs.Base.{◌≡◌, ◌∙◌, true, sym}
+use Rattle.page_table.proofs.Words.{page_place, is_shared_page, state_at, IsPageOf, part, sharing_of, view_of}
 use Rattle.page_table.proofs.Reading.{is_page_at}
 use Rattle.page_table.proofs.memory.Memory.pins.Goals as goal
 

@@ -1,9 +1,5 @@
-use Rattle.std.proofs.Common.{◌∙◌, ◌+◌, ◌*◌, ◌≤◌, length, ap}
-use Rattle.host_types.proofs.Lists.{length-with_part}
-use Rattle.page_table.specs.State.{MemoryState, bytes_of_map}
-use Rattle.page_table.specs.Changes.{IsPageOf}
-use Rattle.page_table.specs.Table.{entry_at}
-use Rattle.page_table.specs.View.{view_of}
+use Rattle.page_table.proofs.Base.{◌∙◌, ◌+◌, ◌*◌, ◌≤◌, length, ap}
+use Rattle.page_table.proofs.Words.{length-with_part, MemoryState, bytes_of_map, IsPageOf, entry_at, view_of}
 use Rattle.page_table.proofs.Writing.{Writes, memory_written, writes}
 use Rattle.page_table.proofs.Seen.{sees}
 use Rattle.page_table.proofs.Waiters.{pass-kept}

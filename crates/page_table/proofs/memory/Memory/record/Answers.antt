@@ -1,5 +1,5 @@
-use Rattle.std.proofs.Common.{◌∙◌, slice_set, Bool, ap}
-use Rattle.page_table.specs.State.{part}
+use Rattle.page_table.proofs.Base.{◌∙◌, slice_set, Bool, ap}
+use Rattle.page_table.proofs.Words.{part}
 use Rattle.page_table.proofs.memory.Memory.record.Goals as goal
 
 pub returns-clause-all : goal.returns-clause-all

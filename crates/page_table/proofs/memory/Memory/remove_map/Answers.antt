@@ -1,11 +1,5 @@
-use Rattle.std.proofs.Common.{◌≡◌, ◌+◌, ◌*◌, [], None, replicate, slice_set, arith}
-use Rattle.host_types.specs.Bytes.{with_part}
-use Rattle.host_types.specs.Pages.{map_place}
-use Rattle.host_types.specs.Sharing.{gone_from}
-use Rattle.host_types.specs.Visits.{ended_at}
-use Rattle.page_table.specs.Limits.{page_count}
-use Rattle.page_table.specs.Table.{contents_of, sharing_of}
-use Rattle.page_table.specs.View.{view_of}
+use Rattle.page_table.proofs.Base.{◌≡◌, ◌+◌, ◌*◌, [], None, replicate, slice_set, arith}
+use Rattle.page_table.proofs.Words.{with_part, map_place, gone_from, ended_at, page_count, contents_of, sharing_of, view_of}
 use Rattle.page_table.proofs.Dropping.{Drops, left_outside, pass-outside, index_inside, places_inside, pages_there, few, map_pins, long_new, memory_dropped, drops}
 use Rattle.page_table.proofs.memory.Memory.remove_map.Goals as goal
 

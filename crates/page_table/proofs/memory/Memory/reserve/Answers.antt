@@ -1,7 +1,5 @@
-use Rattle.std.proofs.Common.{◌∙◌, List, slice_index_or, ap}
-use Rattle.page_table.specs.declared.tenant.Tenant.{Tenant}
-use Rattle.page_table.specs.State.{unreserved_tenant, part}
-use Rattle.page_table.specs.View.{view_of}
+use Rattle.page_table.proofs.Base.{◌∙◌, List, slice_index_or, ap}
+use Rattle.page_table.proofs.Words.{Tenant, unreserved_tenant, part, view_of}
 use Rattle.page_table.proofs.memory.Memory.reserve.Goals as goal
 
 pub returns : goal.returns

@@ -1,7 +1,5 @@
-use Rattle.std.proofs.Common.{◌∙◌, List, None, Option, IfSome, ℕ, slice_index_or, ap, sym, subst, refl}
-use Rattle.host_types.specs.declared.shape.Shape.{Shape}
-use Rattle.host_types.specs.Memory.{FlatMap}
-use Rattle.host_types.specs.Tenant.{IsFlatMap}
+use Rattle.page_table.proofs.Base.{◌∙◌, List, None, Option, IfSome, ℕ, slice_index_or, ap, sym, subst, refl}
+use Rattle.page_table.proofs.Words.{Shape, FlatMap, IsFlatMap}
 use Rattle.page_table.proofs.Shapes.{shape_told, map_past, map_ok}
 use Rattle.page_table.proofs.memory.Memory.shape.Goals as goal
 

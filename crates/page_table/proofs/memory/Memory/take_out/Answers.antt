@@ -1,11 +1,5 @@
-use Rattle.std.proofs.Common.{◌≡◌, ◌∙◌, ◌≤◌, ◌+◌, ◌&&◌, ℕ, length, sym, ap, arith}
-use Rattle.host_types.specs.Pages.{page_place}
-use Rattle.host_types.specs.Pins.{broken_by}
-use Rattle.host_types.specs.Sharing.{state_at, is_shared_page, broken, break_cost, Sharing}
-use Rattle.page_table.specs.State.{MemoryState, part}
-use Rattle.page_table.specs.Changes.{IsPageOf}
-use Rattle.page_table.specs.Table.{used_by, break_frames, sharing_of}
-use Rattle.page_table.specs.View.{view_of, IsPass}
+use Rattle.page_table.proofs.Base.{◌≡◌, ◌∙◌, ◌≤◌, ◌+◌, ◌&&◌, ℕ, length, sym, ap, arith}
+use Rattle.page_table.proofs.Words.{page_place, broken_by, state_at, is_shared_page, broken, break_cost, Sharing, MemoryState, part, IsPageOf, used_by, break_frames, sharing_of, view_of, IsPass}
 use Rattle.page_table.proofs.Merging.{parts_but, part_pinned, map_small, number_small, memory_kept, cost_told, cost_fits, cost_reserved, own_told, moves}
 use Rattle.page_table.proofs.Fitting.{entries-long, pinned_if, sharing-taken, pins-taken}
 use Rattle.page_table.proofs.Unpinning.{page-inside, pinned-others}

@@ -1,9 +1,5 @@
-use Rattle.std.proofs.Common.{◌≡◌, ◌≤◌, ◌+◌, length, ap, arith}
-use Rattle.host_types.specs.Unmerging.{unmerge_need, unmerged, SharesNothing}
-use Rattle.page_table.specs.declared.pass.Pass.{Pass}
-use Rattle.page_table.specs.State.{MemoryState}
-use Rattle.page_table.specs.Table.{used_by, sharing_of}
-use Rattle.page_table.specs.View.{view_of}
+use Rattle.page_table.proofs.Base.{◌≡◌, ◌≤◌, ◌+◌, length, ap, arith}
+use Rattle.page_table.proofs.Words.{unmerge_need, unmerged, SharesNothing, Pass, MemoryState, used_by, sharing_of, view_of}
 use Rattle.page_table.proofs.Merging.{memory_kept, moves}
 use Rattle.page_table.proofs.Unmerging.{need_reserved, need_fits, unmerged_is, unmerged_apart, pass_stopped}
 use Rattle.page_table.proofs.Fitting.{entries-long}

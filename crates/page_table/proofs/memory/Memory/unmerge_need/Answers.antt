@@ -1,5 +1,5 @@
-use Rattle.std.proofs.Common.{◌∙◌, sym}
-use Rattle.page_table.specs.View.{view_of}
+use Rattle.page_table.proofs.Base.{◌∙◌, sym}
+use Rattle.page_table.proofs.Words.{view_of}
 use Rattle.page_table.proofs.Creating.{length-states}
 use Rattle.page_table.proofs.Unmerging.{all_cost}
 use Rattle.page_table.proofs.memory.Memory.unmerge_need.Goals as goal

@@ -1,8 +1,5 @@
-use Rattle.std.proofs.Common.{◌≡◌, ◌∙◌, ◌*◌, ◌<◌, ℕ, false, length, replicate, refl, ap, arith}
-use Rattle.host_types.specs.Bytes.{with_part}
-use Rattle.host_types.specs.Sharing.{frames_free}
-use Rattle.page_table.specs.State.{part}
-use Rattle.page_table.specs.View.{view_of}
+use Rattle.page_table.proofs.Base.{◌≡◌, ◌∙◌, ◌*◌, ◌<◌, ℕ, false, length, replicate, refl, ap, arith}
+use Rattle.page_table.proofs.Words.{with_part, frames_free, part, view_of}
 use Rattle.page_table.proofs.Recording.{tenant_there}
 use Rattle.page_table.proofs.Unpinning.{pins-inside, part-unpinned, others-kept, all-unpinned, fit-fewer}
 use Rattle.page_table.proofs.memory.Memory.unpin.Goals as goal

@@ -1,10 +1,5 @@
-use Rattle.std.proofs.Common.{◌≡◌, ◌∙◌, ◌*◌, ℕ, Some, option_map, sym, ap, arith}
-use Rattle.host_types.specs.Bytes.{part_of}
-use Rattle.host_types.specs.Memory.{FlatMap, map_at}
-use Rattle.host_types.specs.Pages.{map_place}
-use Rattle.host_types.specs.Pins.{unpinned_from}
-use Rattle.page_table.specs.Pins.{pinned_among}
-use Rattle.page_table.specs.State.{part}
+use Rattle.page_table.proofs.Base.{◌≡◌, ◌∙◌, ◌*◌, ℕ, Some, option_map, sym, ap, arith}
+use Rattle.page_table.proofs.Words.{part_of, FlatMap, map_at, map_place, unpinned_from, pinned_among, part}
 use Rattle.page_table.proofs.Unpinned.{number-inside, pages-told, unpinned-told, pages-none}
 use Rattle.page_table.proofs.memory.Memory.unpinned.Goals as goal
 

@@ -1,5 +1,4 @@
-use Rattle.host_types.specs.Counters.{pages_unshared}
-use Rattle.page_table.specs.View.{view_of}
+use Rattle.page_table.proofs.Words.{pages_unshared, view_of}
 use Rattle.page_table.proofs.memory.Memory.unshared_pages.Goals as goal
 
 pub returns : goal.returns

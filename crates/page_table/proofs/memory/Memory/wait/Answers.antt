@@ -1,12 +1,5 @@
-use Rattle.std.proofs.Common.{◌≡◌, ◌∙◌, ◌≤◌, IfSome, refl, length, ap, arith}
-use Rattle.host_types.specs.declared.status.Status.TheVariants.{Waiting}
-use Rattle.host_types.specs.Pages.{page_place}
-use Rattle.host_types.specs.Visits.{waits}
-use Rattle.unstable_tree.specs.WaitingList.{WaitingList}
-use Rattle.page_table.specs.Changes.{MayMerge, HadFingerprint}
-use Rattle.page_table.specs.Table.{sharing_of}
-use Rattle.page_table.specs.View.{view_of}
-use Rattle.host_types.specs.Sharing.{Sharing}
+use Rattle.page_table.proofs.Base.{◌≡◌, ◌∙◌, ◌≤◌, IfSome, refl, length, ap, arith}
+use Rattle.page_table.proofs.Words.{Waiting, page_place, waits, WaitingList, MayMerge, HadFingerprint, sharing_of, view_of, Sharing}
 use Rattle.page_table.proofs.Merging.{memory_kept, moves}
 use Rattle.page_table.proofs.Marking.{marked_entry}
 use Rattle.page_table.proofs.Partners.{room-left, pass-waits, is-behind, may-entry, sharing-waits}

@@ -1,6 +1,5 @@
-use Rattle.std.proofs.Common.{◌≡◌, ◌∙◌, ◌*◌, ℕ, replicate, None, ap, arith, rules}
-use Rattle.page_table.specs.State.{unreserved_tenant}
-use Rattle.page_table.specs.Table.{new_pass}
+use Rattle.page_table.proofs.Base.{◌≡◌, ◌∙◌, ◌*◌, ℕ, replicate, None, ap, arith, rules}
+use Rattle.page_table.proofs.Words.{unreserved_tenant, new_pass}
 use Rattle.page_table.proofs.Empty.{memory_new, view_new, pass_new}
 use Rattle.page_table.proofs.memory.Memory.without_maps.Goals as goal
 

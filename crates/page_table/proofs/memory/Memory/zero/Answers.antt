@@ -1,8 +1,5 @@
-use Rattle.std.proofs.Common.{◌∙◌, ap, arith, refl}
-use Rattle.host_types.specs.Pages.{page_place}
-use Rattle.host_types.specs.Sharing.{Sharing, zeroed}
-use Rattle.unstable_tree.specs.WaitingList.{WaitingList}
-use Rattle.page_table.specs.Table.{sharing_of, forgets}
+use Rattle.page_table.proofs.Base.{◌∙◌, ap, arith, refl}
+use Rattle.page_table.proofs.Words.{page_place, Sharing, zeroed, WaitingList, sharing_of, forgets}
 use Rattle.page_table.proofs.Seen.{sees}
 use Rattle.page_table.proofs.Merging.{memory_kept, moves}
 use Rattle.page_table.proofs.Waiters.{pass-left}

@@ -1,5 +1,6 @@
-use Rattle.std.proofs.Common.{◌≡◌, ◌∙◌, ℕ, ◌<◌, ◌++◌, ◌∷◌, [], List, Bool, true, if◌then◌else◌, is_ok, length, take, drop, slice_set, sym, ap, arith, length-set, length-append}
-use Rattle.page_table.specs.Table.{groups_in, times}
+use Rattle.page_table.proofs.Base.{◌≡◌, ◌∙◌, ℕ, ◌<◌, ◌++◌, ◌∷◌, [], List, Bool, true, if◌then◌else◌, is_ok, length, take, drop, slice_set, sym, ap, arith}
+use Rattle.page_table.proofs.Words.{groups_in, times}
+use Rattle.std.proofs.Common.{length-set, length-append}
 use Rattle.page_table.proofs.Slots.{placed-pushed, groups-pushed, all-written}
 use Rattle.page_table.proofs.order.GroupOrder.push.Goals as goal
 use Rattle.page_table.proofs.order.GroupOrder.push.Goals.{Else-prove}

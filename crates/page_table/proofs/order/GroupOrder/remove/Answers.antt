@@ -1,5 +1,5 @@
-use Rattle.std.proofs.Common.{◌∙◌, ◌≤◌, ℕ, List, length, slice_set, ap, arith}
-use Rattle.page_table.specs.Table.{groups_in, times}
+use Rattle.page_table.proofs.Base.{◌∙◌, ◌≤◌, ℕ, List, length, slice_set, ap, arith}
+use Rattle.page_table.proofs.Words.{groups_in, times}
 use Rattle.page_table.proofs.Slots.{noted, groups-removed, read-told}
 use Rattle.page_table.proofs.order.GroupOrder.remove.Goals as goal
 

@@ -1,6 +1,5 @@
-use Rattle.std.proofs.Common.{◌≡◌, replicate, Option, None, arith, rules}
-use Rattle.std.proofs.lemmas.List.{length-replicate}
-use Rattle.page_table.specs.declared.entry.Entry.{Entry}
+use Rattle.page_table.proofs.Base.{◌≡◌, replicate, Option, None, arith, rules, length-replicate}
+use Rattle.page_table.proofs.Words.{Entry}
 use Rattle.page_table.proofs.Tallying.{counted-none}
 use Rattle.page_table.proofs.page_list.PageList.new.Goals as goal
 

@@ -1,9 +1,6 @@
-use Rattle.std.proofs.Common.{◌≡◌, ◌∙◌, ◌<◌, ◌≤◌, ◌+◌, ◌-◌, ℕ, sum_by, length, slice_set, Option, None, option_map, sym, ap, arith, length-set}
-use Rattle.std.proofs.lemmas.List.{get_or_default}
-use Rattle.host_types.specs.Counters.{unshared_at, volatile_at}
-use Rattle.host_types.specs.Sharing.{PageState}
-use Rattle.page_table.specs.Table.{entry_at, state_of, states_of}
-use Rattle.page_table.specs.Tallies.{shared_at}
+use Rattle.page_table.proofs.Base.{◌≡◌, ◌∙◌, ◌<◌, ◌≤◌, ◌+◌, ◌-◌, ℕ, sum_by, length, slice_set, Option, None, option_map, sym, ap, arith, get_or_default}
+use Rattle.page_table.proofs.Words.{unshared_at, volatile_at, PageState, entry_at, state_of, states_of, shared_at}
+use Rattle.std.proofs.Common.{length-set}
 use Rattle.page_table.proofs.Tallying.{counted-set, counted-few, unshared-one, volatile-one, shared-one}
 use Rattle.page_table.proofs.page_list.PageList.replace.Goals as goal
 use Rattle.page_table.proofs.page_list.PageList.replace.Goals.{After-of}

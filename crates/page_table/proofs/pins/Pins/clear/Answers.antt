@@ -1,6 +1,5 @@
-use Rattle.std.proofs.Common.{◌≡◌, ◌∙◌, ◌*◌, ◌<◌, List, Bool, false, length, replicate, sym, ap, arith}
-use Rattle.host_types.specs.Bytes.{with_part}
-use Rattle.host_types.proofs.Lists.{length-with_part}
+use Rattle.page_table.proofs.Base.{◌≡◌, ◌∙◌, ◌*◌, ◌<◌, List, Bool, false, length, replicate, sym, ap, arith}
+use Rattle.page_table.proofs.Words.{with_part, length-with_part}
 use Rattle.page_table.proofs.Filled.{map-inside, pins-cleared, written-back}
 use Rattle.page_table.proofs.pins.Pins.clear.Goals as goal
 

@@ -1,4 +1,4 @@
-use Rattle.std.proofs.Common.{◌≡◌, ◌*◌, ℕ, false, replicate, rules}
+use Rattle.page_table.proofs.Base.{◌≡◌, ◌*◌, ℕ, false, replicate, rules}
 use Rattle.page_table.proofs.Filled.{pins-new}
 use Rattle.page_table.proofs.pins.Pins.new.Goals as goal
 

@@ -1,5 +1,4 @@
-use Rattle.std.proofs.Common.{◌≡◌, ◌∙◌, ◌/◌, ◌<◌, false, length, slice_index_or, sym, arith}
-use Rattle.std.proofs.lemmas.List.{get_or_default}
+use Rattle.page_table.proofs.Base.{◌≡◌, ◌∙◌, ◌/◌, ◌<◌, false, length, slice_index_or, sym, arith, get_or_default}
 use Rattle.page_table.proofs.Filled.{number-small, pins-more-at}
 use Rattle.page_table.proofs.pins.Pins.pin.Goals as goal
 

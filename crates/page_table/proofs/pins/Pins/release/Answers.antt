@@ -1,5 +1,4 @@
-use Rattle.std.proofs.Common.{◌≡◌, ◌∙◌, ◌*◌, ◌<◌, length, slice_index_or, sym, arith}
-use Rattle.std.proofs.lemmas.List.{get_or_default}
+use Rattle.page_table.proofs.Base.{◌≡◌, ◌∙◌, ◌*◌, ◌<◌, length, slice_index_or, sym, arith, get_or_default}
 use Rattle.page_table.proofs.Filled.{map-inside, pins-none}
 use Rattle.page_table.proofs.pins.Pins.release.Goals as goal
 

@@ -1,7 +1,5 @@
-use Rattle.std.proofs.Common.{◌≡◌, ◌∙◌, ◌+◌, ◌*◌, ℕ, Bool, List, false, length, replicate, ap, arith}
-use Rattle.std.proofs.lemmas.List.{length-replicate}
-use Rattle.host_types.specs.Bytes.{with_part}
-use Rattle.host_types.proofs.Lists.{length-with_part}
+use Rattle.page_table.proofs.Base.{◌≡◌, ◌∙◌, ◌+◌, ◌*◌, ℕ, Bool, List, false, length, replicate, ap, arith, length-replicate}
+use Rattle.page_table.proofs.Words.{with_part, length-with_part}
 use Rattle.page_table.proofs.Creating.{with_part-none}
 use Rattle.page_table.proofs.Filled.{filled-more}
 use Rattle.page_table.proofs.pins.Pins.release_all.Goals as goal

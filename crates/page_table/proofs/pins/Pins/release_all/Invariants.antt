@@ -1,5 +1,5 @@
-use Rattle.std.proofs.Common.{◌≡◌, ◌*◌, false, replicate}
-use Rattle.host_types.specs.Bytes.{with_part}
+use Rattle.page_table.proofs.Base.{◌≡◌, ◌*◌, false, replicate}
+use Rattle.page_table.proofs.Words.{with_part}
 use Rattle.page_table.proofs.pins.Pins.release_all.Given as goal
 
 abbrev pub invariant-loop-number : goal.invariant-loop-number

@@ -1,6 +1,6 @@
-use Rattle.std.proofs.Common.{◌≡◌, ◌<◌, length, slice_index_or, [], None, length-set, rules}
-use Rattle.host_types.specs.Pages.{zero_page}
-use Rattle.page_table.specs.Table.{TableState, contents_of, entry_at}
+use Rattle.page_table.proofs.Base.{◌≡◌, ◌<◌, length, slice_index_or, [], None, rules}
+use Rattle.page_table.proofs.Words.{zero_page, TableState, contents_of, entry_at}
+use Rattle.std.proofs.Common.{length-set}
 use Rattle.page_table.proofs.Adding.{IsUnused, unused-frame, sound-added, contents-added, states-added, groups-added, used-added}
 use Rattle.page_table.proofs.Putting.{no_entry_of_content}
 use Rattle.page_table.proofs.Entries.{kept-empty}

@@ -1,5 +1,5 @@
-use Rattle.std.proofs.Common.{◌≡◌, ◌∙◌, Some, ⊎_elim, sym, arith}
-use Rattle.page_table.specs.Table.{TableState, entry_at}
+use Rattle.page_table.proofs.Base.{◌≡◌, ◌∙◌, Some, ⊎_elim, sym, arith}
+use Rattle.page_table.proofs.Words.{TableState, entry_at}
 use Rattle.page_table.proofs.Changing.{entry_fits}
 use Rattle.page_table.proofs.Costs.{cost-own, cost-counted}
 use Rattle.page_table.proofs.Putting.{place_of_page, entry_of_page}

@@ -1,5 +1,5 @@
-use Rattle.std.proofs.Common.{arith}
-use Rattle.page_table.specs.Table.{sharing_of}
+use Rattle.page_table.proofs.Base.{arith}
+use Rattle.page_table.proofs.Words.{sharing_of}
 use Rattle.page_table.proofs.Breaks.{cost_from-none, cost_from-more}
 use Rattle.page_table.proofs.table.Table.break_costs.Goals as goal
 

@@ -1,7 +1,5 @@
-use Rattle.std.proofs.Common.{◌≡◌, ◌≤◌}
-use Rattle.page_table.specs.declared.pass.Pass.{Pass}
-use Rattle.host_types.specs.Sharing.{cost_from}
-use Rattle.page_table.specs.Table.{sharing_of}
+use Rattle.page_table.proofs.Base.{◌≡◌, ◌≤◌}
+use Rattle.page_table.proofs.Words.{Pass, cost_from, sharing_of}
 use Rattle.page_table.proofs.table.Table.break_costs.Given as goal
 
 abbrev pub invariant-loop-number : goal.invariant-loop-number

@@ -1,7 +1,6 @@
-use Rattle.std.proofs.Common.{◌≡◌, ◌∙◌, ◌+◌, ◌-◌, ◌<◌, nat_lt, Bool, true, false, if◌then◌else◌, length, ℕ, Some, refl, sym, ap, arith}
+use Rattle.page_table.proofs.Base.{◌≡◌, ◌∙◌, ◌+◌, ◌-◌, ◌<◌, nat_lt, Bool, true, false, if◌then◌else◌, length, ℕ, Some, refl, sym, ap, arith}
+use Rattle.page_table.proofs.Words.{part_of, TableState, entry_at, pages_on}
 use mir.Val.{bool_byte}
-use Rattle.host_types.specs.Bytes.{part_of}
-use Rattle.page_table.specs.Table.{TableState, entry_at, pages_on}
 use Rattle.page_table.proofs.Changing.{entry_fits}
 use Rattle.page_table.proofs.Breaks.{cost-after, cost-after-own, cost-after-none, count-part, entry-behind, pages-before}
 use Rattle.page_table.proofs.table.Table.cost_after.Goals as goal

@@ -1,7 +1,5 @@
-use Rattle.std.proofs.Common.{◌≡◌, ◌+◌, Some, ap, arith, rules}
-use Rattle.std.proofs.lemmas.Grind.{common_steps}
-use Rattle.frame_arena.specs.Counted.{CountedPages}
-use Rattle.page_table.specs.Table.{TableState, GroupsState, entry_at, pages_on, one_if_zero}
+use Rattle.page_table.proofs.Base.{◌≡◌, ◌+◌, Some, ap, arith, rules, common_steps}
+use Rattle.page_table.proofs.Words.{CountedPages, TableState, GroupsState, entry_at, pages_on, one_if_zero}
 use Rattle.page_table.proofs.Ending.{but, one_group, contents-ended, sharing-ended, used-ended, sound-ended}
 use Rattle.page_table.proofs.Entries.{frames-kept, kept-shared}
 use Rattle.page_table.proofs.Trees.{tree-removed}

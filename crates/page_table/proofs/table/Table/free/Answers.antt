@@ -1,4 +1,4 @@
-use Rattle.std.proofs.Common.{arith}
+use Rattle.page_table.proofs.Base.{arith}
 use Rattle.page_table.proofs.table.Table.free.Goals as goal
 
 pub unused-requires : goal.unused-requires

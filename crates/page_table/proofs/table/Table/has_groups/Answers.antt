@@ -1,4 +1,4 @@
-use Rattle.std.proofs.Common.{◌∙◌, ℕ, nat_lt, ap}
+use Rattle.page_table.proofs.Base.{◌∙◌, ℕ, nat_lt, ap}
 use Rattle.page_table.proofs.Trees.{tree-length}
 use Rattle.page_table.proofs.table.Table.has_groups.Goals as goal
 

@@ -1,6 +1,5 @@
-use Rattle.std.proofs.Common.{◌∙◌, sym, ap, option_map}
-use Rattle.host_types.specs.Sharing.{is_shared_page}
-use Rattle.page_table.specs.Table.{state_of}
+use Rattle.page_table.proofs.Base.{◌∙◌, sym, ap, option_map}
+use Rattle.page_table.proofs.Words.{is_shared_page, state_of}
 use Rattle.page_table.proofs.Changing.{entry_fits}
 use Rattle.page_table.proofs.Costs.{state-at}
 use Rattle.page_table.proofs.table.Table.is_shared.Goals as goal

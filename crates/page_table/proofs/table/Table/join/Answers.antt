@@ -1,6 +1,5 @@
-use Rattle.std.proofs.Common.{rules}
-use Rattle.page_table.specs.Table.{TableState}
-use Rattle.host_types.specs.declared.status.Status.TheVariants.{Grouped}
+use Rattle.page_table.proofs.Base.{rules}
+use Rattle.page_table.proofs.Words.{TableState, Grouped}
 use Rattle.page_table.proofs.Moving.{IsMove, few, contents-moved, used-moved, sound-moved, IsMerged}
 use Rattle.page_table.proofs.Joining.{move-joined, groups-joined, states-joined}
 use Rattle.page_table.proofs.table.Table.join.Goals as goal

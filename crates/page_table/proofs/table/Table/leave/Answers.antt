@@ -1,7 +1,6 @@
-use Rattle.std.proofs.Common.{◌≡◌, ◌<◌, ◌+◌, Some, length-set, rules, arith}
-use Rattle.std.proofs.lemmas.Grind.{common_steps}
-use Rattle.frame_arena.specs.Pages.{page_at}
-use Rattle.page_table.specs.Table.{TableState, entry_at, one_if_zero, pages_on}
+use Rattle.page_table.proofs.Base.{◌≡◌, ◌<◌, ◌+◌, Some, rules, arith, common_steps}
+use Rattle.page_table.proofs.Words.{page_at, TableState, entry_at, one_if_zero, pages_on}
+use Rattle.std.proofs.Common.{length-set}
 use Rattle.page_table.proofs.Adding.{IsUnused, unused-frame}
 use Rattle.page_table.proofs.Leaving.{contents-left, sharing-left, used-left, sound-left}
 use Rattle.page_table.proofs.Entries.{kept-shared}

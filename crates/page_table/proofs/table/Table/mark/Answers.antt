@@ -1,6 +1,5 @@
-use Rattle.std.proofs.lemmas.Grind.{common_steps}
-use Rattle.std.proofs.Common.{rules, arith}
-use Rattle.page_table.specs.Table.{TableState}
+use Rattle.page_table.proofs.Base.{common_steps, rules, arith}
+use Rattle.page_table.proofs.Words.{TableState}
 use Rattle.page_table.proofs.Marking.{IsMarking, marking-from, contents-marked, sharing-marked, used-marked, sound-marked}
 use Rattle.page_table.proofs.table.Table.mark.Goals as goal
 

@@ -1,7 +1,5 @@
-use Rattle.std.proofs.Common.{◌∙◌, max, replicate, ap, arith}
-use Rattle.std.proofs.lemmas.List.{length-replicate}
-use Rattle.host_types.specs.Pages.{zero_page}
-use Rattle.stable_tree.specs.Groups.{Groups}
+use Rattle.page_table.proofs.Base.{◌∙◌, max, replicate, ap, arith, length-replicate}
+use Rattle.page_table.proofs.Words.{zero_page, Groups}
 use Rattle.page_table.proofs.Putting.{sound-new}
 use Rattle.page_table.proofs.Trees.{tree-new}
 use Rattle.page_table.proofs.table.Table.new.Goals as goal

@@ -1,6 +1,5 @@
-use Rattle.std.proofs.Common.{◌≡◌, ℕ, ◌<◌, ◌≤◌, false, slice_index_or, None}
-use Rattle.host_types.specs.Visits.{is_mergeable}
-use Rattle.page_table.specs.Table.{states_of}
+use Rattle.page_table.proofs.Base.{◌≡◌, ℕ, ◌<◌, ◌≤◌, false, slice_index_or, None}
+use Rattle.page_table.proofs.Words.{is_mergeable, states_of}
 use Rattle.page_table.proofs.table.Table.next_mergeable.Given as goal
 
 -- no page before the place may be merged

@@ -1,5 +1,5 @@
-use Rattle.std.proofs.Common.{◌∙◌, sym, arith}
-use Rattle.stable_tree.proofs.Counting.{chains-few}
+use Rattle.page_table.proofs.Base.{◌∙◌, sym, arith}
+use Rattle.page_table.proofs.Words.{chains-few}
 use Rattle.page_table.proofs.Trees.{tree-length}
 use Rattle.page_table.proofs.Nodes.{tree-nodes}
 use Rattle.page_table.proofs.table.Table.node_chains.Goals as goal

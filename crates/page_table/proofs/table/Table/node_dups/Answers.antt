@@ -1,5 +1,5 @@
-use Rattle.std.proofs.Common.{◌∙◌, sym, arith}
-use Rattle.stable_tree.proofs.Counting.{dups-fit}
+use Rattle.page_table.proofs.Base.{◌∙◌, sym, arith}
+use Rattle.page_table.proofs.Words.{dups-fit}
 use Rattle.page_table.proofs.Trees.{tree-length}
 use Rattle.page_table.proofs.Nodes.{tree-nodes}
 use Rattle.page_table.proofs.table.Table.node_dups.Goals as goal

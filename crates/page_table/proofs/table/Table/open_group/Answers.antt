@@ -1,8 +1,5 @@
-use Rattle.std.proofs.Common.{◌∙◌, ℕ, nat_lt, List, [], find, slice_index_or, ap}
-use Rattle.frame_arena.specs.Pages.{page_at}
-use Rattle.stable_tree.specs.Groups.{groups_at}
-use Rattle.frame_arena.specs.Counted.{CountedPages}
-use Rattle.page_table.specs.Table.{TableState}
+use Rattle.page_table.proofs.Base.{◌∙◌, ℕ, nat_lt, List, [], find, slice_index_or, ap}
+use Rattle.page_table.proofs.Words.{page_at, groups_at, CountedPages, TableState}
 use Rattle.page_table.proofs.Trees.{found-open}
 use Rattle.page_table.proofs.table.Table.open_group.Goals as goal
 

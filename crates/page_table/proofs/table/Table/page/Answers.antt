@@ -1,4 +1,4 @@
-use Rattle.std.proofs.Common.{◌∙◌, sym, arith}
+use Rattle.page_table.proofs.Base.{◌∙◌, sym, arith}
 use Rattle.page_table.proofs.Putting.{place_of_page, entry_of_page}
 use Rattle.page_table.proofs.table.Table.page.Goals as goal
 

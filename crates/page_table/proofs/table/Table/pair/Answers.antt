@@ -1,7 +1,5 @@
-use Rattle.std.proofs.Common.{◌≡◌, ◌∙◌, ◌∷◌, ◌++◌, [], ℕ, slice_set, Some, None, sym, ap, arith, rules}
-use Rattle.std.proofs.lemmas.List.{get_or-set_other}
-use Rattle.frame_arena.specs.Counted.{CountedPages}
-use Rattle.page_table.specs.Table.{TableState, GroupsState, IsAlone}
+use Rattle.page_table.proofs.Base.{◌≡◌, ◌∙◌, ◌∷◌, ◌++◌, [], ℕ, slice_set, Some, None, sym, ap, arith, rules, get_or-set_other}
+use Rattle.page_table.proofs.Words.{CountedPages, TableState, GroupsState, IsAlone}
 use Rattle.page_table.proofs.Changing.{entry_fits, own_seen, own_alone, IsOwnEntry}
 use Rattle.page_table.proofs.Pairing.{IsPairing, IsGroupEntry, pairing-from, contents-pair, used-pair, sound-pair, sharing-pair}
 use Rattle.page_table.proofs.Trees.{tree-absent, tree-room, tree-pushed}

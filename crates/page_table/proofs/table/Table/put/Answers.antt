@@ -1,8 +1,6 @@
-use Rattle.std.proofs.Common.{◌≡◌, ◌∙◌, List, length, Some, ℕ, sym, arith, length-set, refl}
-use Rattle.host_types.specs.Bytes.{with_part}
-use Rattle.frame_arena.specs.Pages.{page_at}
-use Rattle.host_types.proofs.Lists.{length-with_part}
-use Rattle.page_table.specs.Table.{TableState, IsAlone, entry_at, IsOwnAt}
+use Rattle.page_table.proofs.Base.{◌≡◌, ◌∙◌, List, length, Some, ℕ, sym, arith, refl}
+use Rattle.page_table.proofs.Words.{with_part, page_at, length-with_part, TableState, IsAlone, entry_at, IsOwnAt}
+use Rattle.std.proofs.Common.{length-set}
 use Rattle.page_table.proofs.Changing.{entry_fits, own_seen, own_alone}
 use Rattle.page_table.proofs.Putting.{contents-put, sound-put, content_at, place_of_page, entry_of_page}
 use Rattle.page_table.proofs.Trees.{tree-set}

@@ -1,6 +1,5 @@
-use Rattle.std.proofs.Common.{◌∙◌, inl, inr, ⊎_elim, List, [], ℕ, ◌+◌, length, slice_index_or, slice_set, refl, ap, arith}
-use Rattle.host_types.specs.Sharing.{gone_from}
-use Rattle.page_table.specs.Table.{contents_of}
+use Rattle.page_table.proofs.Base.{◌∙◌, inl, inr, ⊎_elim, List, [], ℕ, ◌+◌, length, slice_index_or, slice_set, refl, ap, arith}
+use Rattle.page_table.proofs.Words.{gone_from, contents_of}
 use Rattle.page_table.proofs.Creating.{filled_more, behind_filled, with_part-none, length-contents}
 use Rattle.page_table.proofs.Vacating.{gone-more}
 use Rattle.page_table.proofs.table.Table.remove_all.Goals as goal

@@ -1,8 +1,5 @@
-use Rattle.std.proofs.Common.{◌≡◌, ◌≤◌, [], length, replicate}
-use Rattle.host_types.specs.Bytes.{with_part}
-use Rattle.host_types.specs.Sharing.{gone_from}
-use Rattle.page_table.specs.declared.pass.Pass.{Pass}
-use Rattle.page_table.specs.Table.{AreOwnKeptOutside, contents_of, sharing_of, used_by}
+use Rattle.page_table.proofs.Base.{◌≡◌, ◌≤◌, [], length, replicate}
+use Rattle.page_table.proofs.Words.{with_part, gone_from, Pass, AreOwnKeptOutside, contents_of, sharing_of, used_by}
 use Rattle.page_table.proofs.table.Table.remove_all.Given as goal
 
 abbrev pub invariant-loop-number : goal.invariant-loop-number

@@ -1,7 +1,5 @@
-use Rattle.std.proofs.Common.{◌≡◌, ◌∙◌, not, slice_index_or, true, false, Some, sym, arith, nat_lt}
-use Rattle.std.proofs.lemmas.Bool.Decides.{nat_tests}
-use Rattle.host_types.specs.Sharing.{is_shared}
-use Rattle.page_table.specs.Table.{TableState, IsEntry, entry_at, break_frames}
+use Rattle.page_table.proofs.Base.{◌≡◌, ◌∙◌, not, slice_index_or, true, false, Some, sym, arith, nat_lt, nat_tests}
+use Rattle.page_table.proofs.Words.{is_shared, TableState, IsEntry, entry_at, break_frames}
 use Rattle.page_table.proofs.Changing.{entry_fits}
 use Rattle.page_table.proofs.Entries.{one_when}
 use Rattle.page_table.proofs.Costs.{cost-own, count-some, cost-by_count}

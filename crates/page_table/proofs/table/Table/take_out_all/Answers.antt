@@ -1,6 +1,5 @@
-use Rattle.std.proofs.Common.{◌∙◌, length, refl, sym, ap, arith}
-use Rattle.host_types.specs.Sharing.{Sharing, broken, break_cost, broken_from, cost_from}
-use Rattle.page_table.specs.Table.{sharing_of}
+use Rattle.page_table.proofs.Base.{◌∙◌, length, refl, sym, ap, arith}
+use Rattle.page_table.proofs.Words.{Sharing, broken, break_cost, broken_from, cost_from, sharing_of}
 use Rattle.page_table.proofs.Creating.{length-contents}
 use Rattle.page_table.proofs.Unmerging.{broken_next, cost_next, next_fits, all_cost, nothing_shared}
 use Rattle.page_table.proofs.table.Table.take_out_all.Goals as goal

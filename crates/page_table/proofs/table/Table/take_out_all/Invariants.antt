@@ -1,7 +1,5 @@
-use Rattle.std.proofs.Common.{◌≡◌, ◌+◌, length}
-use Rattle.host_types.specs.Sharing.{broken_from, cost_from}
-use Rattle.page_table.specs.declared.pass.Pass.{Pass}
-use Rattle.page_table.specs.Table.{AreOwnKept, contents_of, sharing_of, used_by}
+use Rattle.page_table.proofs.Base.{◌≡◌, ◌+◌, length}
+use Rattle.page_table.proofs.Words.{broken_from, cost_from, Pass, AreOwnKept, contents_of, sharing_of, used_by}
 use Rattle.page_table.proofs.table.Table.take_out_all.Given as goal
 
 abbrev pub invariant-loop-place : goal.invariant-loop-place

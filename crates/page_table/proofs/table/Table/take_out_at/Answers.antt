@@ -1,4 +1,4 @@
-use Rattle.std.proofs.Common.{◌∙◌, sym, arith}
+use Rattle.page_table.proofs.Base.{◌∙◌, sym, arith}
 use Rattle.page_table.proofs.Unmerging.{page_of_some, no_page, some_pass}
 use Rattle.page_table.proofs.table.Table.take_out_at.Goals as goal
 

@@ -1,4 +1,4 @@
-use Rattle.std.proofs.Common.{arith}
+use Rattle.page_table.proofs.Base.{arith}
 use Rattle.page_table.proofs.Unmerging.{need-told, some_pass}
 use Rattle.page_table.proofs.table.Table.unmerge_need.Goals as goal
 

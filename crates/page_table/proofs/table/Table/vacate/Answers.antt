@@ -1,7 +1,5 @@
-use Rattle.std.proofs.Common.{◌≡◌, ◌+◌, ◌<◌, Some, None, true, arith, rules}
-use Rattle.std.proofs.lemmas.List.{get_or-set_other}
-use Rattle.host_types.specs.Sharing.{is_shared}
-use Rattle.page_table.specs.Table.{TableState, entry_at, one_if_zero, pages_on}
+use Rattle.page_table.proofs.Base.{◌≡◌, ◌+◌, ◌<◌, Some, None, true, arith, rules, get_or-set_other}
+use Rattle.page_table.proofs.Words.{is_shared, TableState, entry_at, one_if_zero, pages_on}
 use Rattle.page_table.proofs.Costs.{count-some}
 use Rattle.page_table.proofs.Entries.{inside}
 use Rattle.page_table.proofs.Vacating.{fits, contents-vacated, sharing-vacated, used-vacated, sound-vacated}

@@ -1,7 +1,5 @@
-use Rattle.std.proofs.lemmas.List.{get_or-set_other}
-use Rattle.std.proofs.Common.{rules}
-use Rattle.page_table.specs.Table.{TableState}
-use Rattle.host_types.specs.declared.status.Status.TheVariants.{Zero}
+use Rattle.page_table.proofs.Base.{get_or-set_other, rules}
+use Rattle.page_table.proofs.Words.{TableState, Zero}
 use Rattle.page_table.proofs.Moving.{IsMove, few, contents-moved, used-moved, sound-moved, IsMerged}
 use Rattle.page_table.proofs.Zeroing.{move-zeroed, sharing-zeroed}
 use Rattle.page_table.proofs.table.Table.zero.Goals as goal
