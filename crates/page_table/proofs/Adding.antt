@@ -1,5 +1,5 @@
 -- A page table stays sound where a page is added.
-use Rattle.page_table.proofs.Base.{◌≡◌, ◌≢◌, ◌∙◌, ⊎_elim, ℕ, zero, suc, ◌+◌, ◌<◌, ◌≤◌, ◌==◌, Bool, false, if◌then◌else◌, List, [], ◌∷◌, length, slice_index_or, slice_set, Some, None, option_map, refl, sym, ap, subst, arith, get_or-set_same, get_or-set_other, length-set, get_or_default, map-set, nat_tests}
+use Rattle.page_table.proofs.Base.{◌≡◌, ◌≢◌, ◌∙◌, ⊎_elim, ℕ, zero, suc, ◌+◌, ◌<◌, ◌≤◌, ◌==◌, Bool, false, if◌then◌else◌, List, [], length, slice_index_or, slice_set, Some, None, option_map, refl, sym, ap, subst, arith, get_or-set_same, get_or-set_other, length-set, get_or_default, map-set, nat_tests, get_or_past}
 use Rattle.page_table.proofs.Words.{new_page, New, zero_page, length-zero_page, Entry, TableState, CountsState, IsTable, IsGroup, IsSound, AreCountsOf, times, one_if_zero, entry_at, state_of, states_of, contents_of, groups_of, is_on, pages_on, used_by}
 use Rattle.page_table.proofs.Changing.{table-changed, counted-changed, own_one, own_pages-set}
 use Rattle.page_table.proofs.Entries.{on_one, elsewhere, not_equal, pages_on-set, none_on, entry_content-kept, contents-set, places_on-set, groups-kept, pages-set, one_if_zero-above, counts-set}
@@ -20,14 +20,9 @@ pub record IsUnused (table : TableState) (f : ℕ) : Type 0 where
   pub empty : pages_on f table.entries ≡ 0
   pub no_group : times f table.groups ≡ 0
 
-below_default : (counts : List ℕ) (f : ℕ) → slice_index_or counts f 1 ≡ 0 → f < length counts
-below_default [] f h = absurd (omega arith)
-below_default (c ∷ counts) zero h = omega arith
-below_default (c ∷ counts) (suc f) h = let rest = below_default counts f h in omega arith
-
 pub unused-frame : (table : TableState) (counts : CountsState) (f : ℕ) → IsSound table counts → slice_index_or counts.counts f 1 ≡ 0 → IsUnused table f
 unused-frame table counts f sound h =
-    let inside = below_default counts.counts f h in
+    let inside : f < length counts.counts = grind (arith, get_or_past counts.counts f 1) in
     let sized = sound.counted.sized in
     let there : f < length table.arena = omega arith in
     let known = sound.counted.counted f there in

@@ -1,5 +1,5 @@
 -- Unless a pass begins, a page behind the cursor may be merged: what keeps that.
-use Rattle.page_table.proofs.Base.{◌≡◌, ◌≢◌, ◌∙◌, ℕ, zero, suc, ◌+◌, ◌-◌, Bool, true, false, if◌then◌else◌, List, [], ◌∷◌, drop, slice_index_or, slice_set, Option, Some, None, IsSome, IfSome, is_some, option_map, refl, sym, ap, subst, arith, get_or-drop, get_or-set_other}
+use Rattle.page_table.proofs.Base.{◌≡◌, ◌≢◌, ◌∙◌, ℕ, zero, suc, ◌+◌, ◌-◌, Bool, true, false, if◌then◌else◌, List, [], ◌∷◌, drop, slice_index_or, slice_set, Option, Some, None, IsSome, IfSome, is_some, option_map, refl, sym, ap, subst, arith, get_or-drop, get_or-set_other, get_or-set_same, set_past, get_or_past}
 use Rattle.page_table.proofs.Words.{Status, Grouped, Zero, Sharing, PageState, state_at, is_shared_page, broken_page, with_status, broken, broken_from, left_by, paired, zeroed, is_mergeable, first_mergeable, with_page, Entry, Pass, TableState, entry_at, state_of, states_of, sharing_of, marked, IsAhead}
 use Rattle.page_table.proofs.Next.{next-is}
 use Rattle.page_table.proofs.Partners.{entry-may}
@@ -15,11 +15,7 @@ ahead-kept old new (Some c) stay is = (is.0, is.1, stay is.0 is.2)
 
 -- one page changes
 pub stay-put : (pages : List (Option PageState)) (i : ℕ) (x : Option PageState) → (is_mergeable (slice_index_or pages i None) ≡ true → is_mergeable x ≡ true) → StayMergeable pages (slice_set pages i x)
-stay-put [] i x same j may = may
-stay-put (y ∷ ys) zero x same zero may = same may
-stay-put (y ∷ ys) zero x same (suc j) may = may
-stay-put (y ∷ ys) (suc i) x same zero may = may
-stay-put (y ∷ ys) (suc i) x same (suc j) may = stay-put ys i x same j may
+stay-put pages i x same j may = grind (arith, get_or-set_same pages i x None, get_or-set_other pages i j x None, get_or_past pages i None, set_past pages i x)
 
 -- a change that leaves whether a page may be merged
 pub flag-kept : (change : PageState → PageState) → ((state : PageState) → (change state).mergeable ≡ state.mergeable) → (x : Option PageState) → is_mergeable x ≡ true → is_mergeable (option_map change x) ≡ true

@@ -1,5 +1,5 @@
 -- What the break of a page costs, told by its group and by its frame.
-use Rattle.page_table.proofs.Base.{◌≡◌, ◌∙◌, ◌⊎◌, inl, inr, ⊎_elim, ℕ, ◌+◌, ◌≤◌, nat_lt, Bool, true, false, slice_index_or, Option, Some, None, option_map, unwrap_or, refl, sym, ap, arith, ◌&&◌, List, nat_tests, leb_tells}
+use Rattle.page_table.proofs.Base.{◌≡◌, ◌∙◌, ◌⊎◌, ⊎_elim, ℕ, ◌+◌, ◌≤◌, nat_lt, Bool, slice_index_or, Option, Some, None, option_map, unwrap_or, refl, sym, ap, arith, ◌&&◌, List, nat_tests}
 use Rattle.page_table.proofs.Words.{Pass, Status, New, Volatile, Waiting, Grouped, Zero, PageState, state_at, is_in_company, cost_of, break_cost, is_shared, Entry, TableState, CountsState, IsTable, IsSound, IsGroup, LiesRight, times, one_if_zero, entry_at, is_on, state_of, groups_of, sharing_of, pages_on, break_frames}
 use Rattle.page_table.proofs.Changing.{entry_fits}
 use Rattle.page_table.proofs.Entries.{one_when, equal, some_on, one_if_zero-above, told_at}
@@ -60,23 +60,12 @@ cost-is table pass i is = by_entry (entry_at table.entries i) refl
         (company-places table.entries table.groups i entry e) entry.status (entry_fits table i entry is e).right
         ∙ sym (cost-told table i entry is e)
 
--- a page with a frame of its own costs nothing
-pub cost-own : (table : TableState) (i : ℕ) (entry : Entry) → IsTable table → entry_at table.entries i ≡ Some entry → entry.protected ≡ false → break_frames table i ≡ 0
-cost-own table i entry is here own = grind (arith, cost-told table i entry is here, (entry_fits table i entry is here).protected)
-
--- told by the count of the page's frame
-pub cost-by_count : (table : TableState) (counts : CountsState) (i : ℕ) (entry : Entry) → IsSound table counts → entry_at table.entries i ≡ Some entry → entry.protected ≡ true
-    → break_frames table i ≡ one_when (nat_lt 1 (slice_index_or counts.counts entry.frame 0))
-cost-by_count table counts i entry sound here protected =
+-- the same, told by the count of the page's frame
+pub cost-counted : (table : TableState) (counts : CountsState) (i : ℕ) (entry : Entry) → IsSound table counts → entry_at table.entries i ≡ Some entry
+    → break_frames table i ≡ one_when (entry.protected && nat_lt 1 (slice_index_or counts.counts entry.frame 0))
+cost-counted table counts i entry sound here =
     let fits = entry_fits table i entry sound.fits here in
     grind (arith, nat_tests, cost-told table i entry sound.fits here, fits.protected, sound.counted.counted entry.frame fits.frame)
-
--- the same, told by the count of the page's frame
-pub cost-counted : (table : TableState) (counts : CountsState) (i : ℕ) (entry : Entry) → IsSound table counts → entry_at table.entries i ≡ Some entry → entry.protected ≡ true
-    → ((nat_lt 1 (slice_index_or counts.counts entry.frame 0) ≡ true) × (break_frames table i ≡ 1)) ⊎ ((nat_lt 1 (slice_index_or counts.counts entry.frame 0) ≡ false) × (break_frames table i ≡ 0))
-cost-counted table counts i entry sound here protected =
-    let told = cost-by_count table counts i entry sound here protected in
-    ⊎_elim (λ more. inl (more.0, grind (arith, nat_tests, told, more.0))) (λ last. inr (last.0, grind (arith, nat_tests, told, last.0))) (leb_tells 2 (slice_index_or counts.counts entry.frame 0))
 
 -- the count of a page's frame is not 0
 pub count-some : (table : TableState) (counts : CountsState) (i : ℕ) (entry : Entry) → IsSound table counts → entry_at table.entries i ≡ Some entry

@@ -1,5 +1,5 @@
 -- Entries by place: what a change of one of them changes.
-use Rattle.page_table.proofs.Base.{◌≡◌, ◌≢◌, ◌∙◌, ⊎_elim, ℕ, zero, suc, ◌+◌, ◌<◌, ◌≤◌, ◌==◌, Bool, true, false, if◌then◌else◌, List, [], ◌∷◌, length, map, option_map, slice_set, Option, Some, None, refl, sym, ap, arith, slice_index_or, get_or-set_same, get_or-set_other, length-set, map-set, sum_by-set, sum_by-cons, nat_tests, map-set_same}
+use Rattle.page_table.proofs.Base.{◌≡◌, ◌≢◌, ◌∙◌, ⊎_elim, ℕ, zero, suc, ◌+◌, ◌<◌, ◌≤◌, ◌==◌, Bool, true, false, if◌then◌else◌, List, [], ◌∷◌, length, map, option_map, slice_set, Option, Some, None, refl, sym, ap, arith, slice_index_or, get_or-set_same, get_or-set_other, length-set, map-set, sum_by-set, sum_by-cons, nat_tests, map-set_same, get_or_past, get_or-map}
 use Rattle.page_table.proofs.Words.{is_shared, PageState, page_at, Entry, times, entry_at, frames_of, entry_content, is_on, places_on, pages_on, one_if_zero, TableState, IsTable, IsGroup, state_of, states_of}
 
 abbrev pub one_when : Bool → ℕ
@@ -45,17 +45,13 @@ none_on f (x ∷ xs) (suc i) h = grind (arith, pages_on-cons f x xs, none_on f x
 pub some_on : (f : ℕ) (xs : List (Option Entry)) (i : ℕ) → is_on f (entry_at xs i) ≡ true → 1 ≤ pages_on f xs
 some_on f xs i h = grind (arith, none_on f xs i)
 
--- a page that is there has a place
-pub inside : (xs : List (Option Entry)) (i : ℕ) (entry : Entry) → entry_at xs i ≡ Some entry → i < length xs
-inside [] i entry h = absurd (cc)
-inside (x ∷ xs) zero entry h = omega arith
-inside (x ∷ xs) (suc i) entry h = let rest = inside xs i entry h in omega arith
+-- what is there has a place
+pub inside : {X : Type 0} (xs : List (Option X)) (i : ℕ) (x : X) → slice_index_or xs i None ≡ Some x → i < length xs
+inside xs i x h = grind (arith, get_or_past xs i None)
 
 -- what is told of the entry at a place
 pub told_at : {X : Type 0} (tell : Entry → X) (xs : List (Option Entry)) (i : ℕ) → slice_index_or (map (option_map tell) xs) i None ≡ option_map tell (entry_at xs i)
-told_at tell [] i = refl
-told_at tell (x ∷ xs) zero = refl
-told_at tell (x ∷ xs) (suc i) = told_at tell xs i
+told_at tell xs i = get_or-map (option_map tell) xs i None
 
 -- of a page that is there
 pub told_here : {X : Type 0} (tell : Entry → X) (xs : List (Option Entry)) (i : ℕ) (entry : Entry) → entry_at xs i ≡ Some entry

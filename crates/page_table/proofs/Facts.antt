@@ -1,6 +1,6 @@
 -- The law of every memory, from what holds of its table.
 use Rattle.page_table.proofs.Base.{◌≡◌, ◌≢◌, ◌∙◌, ◌⊎◌, ◌↔◌, inl, inr, ⊎_elim, ℕ, zero, suc, ◌+◌, ◌-◌, ◌*◌, ◌/◌, ◌%◌, ◌<◌, ◌≤◌, ◌==◌, Bool, true, false, not, if◌then◌else◌, List, [], ◌∷◌, length, map, sum_by, filter, All, AllPairs, slice_index_or, Option, Some, None, IsSome, IfSome, is_some, option_map, refl, sym, ap, subst, arith, list_any, range_with_len, get_or_default, length-map, sum_by-cons, length-filter, AllPairs-cons, nat_tests}
-use Rattle.page_table.proofs.Words.{Pass, Shape, Status, New, Volatile, Waiting, Grouped, Zero, Page, map_at, map_place, page_place, PinsFit, PageState, is_among, fit-own, contents_in, next_from, page_at, Entry, Tenant, MemoryState, free_of, part, bytes_of_map, TableState, CountsState, IsTable, IsEntry, IsAlone, IsGroup, IsSound, IsPageAt, AreCounts, LiesRight, maps_of, contents_of, times, one_if_zero, entry_at, state_of, states_of, frames_of, groups_of, sharing_of, is_on, pages_on, places_on, view_of, IsMemory, ReadsAs, AreGroups, AreMerged, HasPage, status_at, has_both, is_frame, free_frames}
+use Rattle.page_table.proofs.Words.{Pass, Shape, Status, New, Volatile, Waiting, Grouped, Zero, Page, map_at, map_place, page_place, PinsFit, is_among, fit-own, contents_in, next_from, page_at, Entry, Tenant, MemoryState, free_of, part, bytes_of_map, TableState, CountsState, IsTable, IsEntry, IsAlone, IsGroup, IsSound, IsPageAt, AreCounts, LiesRight, maps_of, contents_of, times, one_if_zero, entry_at, state_of, states_of, frames_of, groups_of, sharing_of, is_on, pages_on, places_on, view_of, IsMemory, ReadsAs, AreGroups, AreMerged, HasPage, status_at, has_both, is_frame, free_frames}
 use Rattle.page_table.proofs.Changing.{entry_fits}
 use Rattle.page_table.proofs.Entries.{one_when, alone, inside, equal, times-head, times-tail, one_if_zero-above, times-cons, told_at, group_of, entry_told}
 use Rattle.page_table.proofs.Putting.{page_there as no_page, page_of_entry}
@@ -14,11 +14,7 @@ use Rattle.page_table.proofs.Groups.{among-places, length-places}
 use Rattle.page_table.proofs.Counting.{length-unused, empty-frame}
 
 status_is : (table : TableState) (pass : Pass) (i : ℕ) → status_at (sharing_of table pass) i ≡ option_map (λ (entry : Entry). entry.status) (entry_at table.entries i)
-status_is table pass i = ap (option_map (λ (state : PageState). state.status)) (told_at state_of table.entries i) ∙ of_entry (entry_at table.entries i)
-  where
-    of_entry : (x : Option Entry) → option_map (λ (state : PageState). state.status) (option_map state_of x) ≡ option_map (λ (entry : Entry). entry.status) x
-    of_entry None = refl
-    of_entry (Some entry) = refl
+status_is table pass i = grind (arith, told_at state_of table.entries i)
 
 -- a page that is there, with its frame and status
 record Lies (table : TableState) (i x : ℕ) : Type 0 where

@@ -1,5 +1,5 @@
 -- A page table stays sound where bytes of a page are written, and a new one is sound.
-use Rattle.page_table.proofs.Base.{◌≡◌, ◌∙◌, inl, ℕ, zero, suc, ◌+◌, ◌<◌, ◌≤◌, true, List, [], ◌∷◌, length, map, replicate, slice_index_or, slice_set, Option, Some, None, IfSome, refl, sym, ap, subst, arith, get_or-set_same, get_or-set_other, length-set, set-get_or, get_or-map, get_or-replicate, length-replicate, sum_by-replicate}
+use Rattle.page_table.proofs.Base.{◌≡◌, ◌∙◌, inl, ℕ, zero, suc, ◌+◌, ◌<◌, ◌≤◌, true, List, [], length, map, replicate, slice_index_or, slice_set, Option, Some, None, IfSome, refl, sym, ap, subst, arith, get_or-set_same, get_or-set_other, length-set, set-get_or, get_or-map, get_or-replicate, length-replicate, sum_by-replicate, get_or_past, length-map}
 use Rattle.page_table.proofs.Words.{zero_page, page_at, length-zero_page, Entry, TableState, CountsState, IsPageAt, IsTable, IsEntry, IsAlone, IsSound, AreCountsOf, one_if_zero, entry_at, entry_content, contents_of, is_on, pages_on, own_pages}
 use Rattle.page_table.proofs.Changing.{table-changed, counted-changed, fits-after, entry_fits, own_one}
 use Rattle.page_table.proofs.Entries.{on_one, equal, alone, entry_content-kept, contents-set, inside, pages-set}
@@ -11,33 +11,16 @@ with_page table f page = record table { arena = slice_set table.arena f page }
 -- a page that is there has an entry
 pub page_inside : (table : TableState) (i : ℕ) → IsPageAt table i → i < length table.entries
 unfolding contents_of
-page_inside table i h = by_list table.entries i h
-  where
-    by_list : (xs : List (Option Entry)) (i : ℕ) → length (slice_index_or (map (entry_content table.arena) xs) i []) ≡ 4096 → i < length xs
-    by_list [] i h = absurd (omega (arith, h))
-    by_list (x ∷ xs) zero h = omega arith
-    by_list (x ∷ xs) (suc i) h = let rest = by_list xs i h in omega arith
+page_inside table i h = grind (arith, get_or_past (map (entry_content table.arena) table.entries) i [], length-map table.entries (entry_content table.arena))
 
 pub page_there : (table : TableState) (i : ℕ) → IsPageAt table i → entry_at table.entries i ≡ None → ⊥
 unfolding contents_of
-page_there table i h e =
-    let there = page_inside table i h in
-    let none : slice_index_or (map (entry_content table.arena) table.entries) i [] ≡ [] = get_or-map (entry_content table.arena) table.entries i None [] there ∙ ap (entry_content table.arena) e in
-    let zero : length (slice_index_or (map (entry_content table.arena) table.entries) i []) ≡ 0 = ap length none in
-    omega (arith, zero, h)
-
--- the same of a table as callers see it, and of what was read there
-pub place_of_page : (table now : TableState) → table ≡ now → (i : ℕ) → IsPageAt now i → i < length table.entries
-place_of_page table now same i there = page_inside table i (rw (← same) at there)
-
-pub entry_of_page : (table now : TableState) → table ≡ now → (i : ℕ) → IsPageAt now i → (read : Option Entry) → read ≡ entry_at table.entries i → read ≡ None → ⊥
-entry_of_page table now same i there read told none = page_there table i (rw (← same) at there) (sym told ∙ none)
+page_there table i h e = absurd (omega (arith, h, ap length (get_or-map (entry_content table.arena) table.entries i None ∙ ap (entry_content table.arena) e)))
 
 -- the content of a page that is there
 pub content_at : (table : TableState) (i : ℕ) (entry : Entry) → entry_at table.entries i ≡ Some entry → slice_index_or (contents_of table) i [] ≡ page_at table.arena entry.frame
 unfolding contents_of
-content_at table i entry e =
-    get_or-map (entry_content table.arena) table.entries i None [] (inside table.entries i entry e) ∙ ap (entry_content table.arena) e
+content_at table i entry e = get_or-map (entry_content table.arena) table.entries i None ∙ ap (entry_content table.arena) e
 
 -- a page with an entry is there
 pub page_of_entry : (table : TableState) (i : ℕ) (entry : Entry) → IsTable table → entry_at table.entries i ≡ Some entry → IsPageAt table i
@@ -49,10 +32,7 @@ no_entry_of_content table i is none = by_entry (entry_at table.entries i) refl
   where
     by_entry : (x : Option Entry) → entry_at table.entries i ≡ x → entry_at table.entries i ≡ None
     by_entry None e = e
-    by_entry (Some entry) e =
-        let fits = entry_fits table i entry is e in
-        let known : page_at table.arena entry.frame ≡ [] = sym (content_at table i entry e) ∙ none in
-        absurd (let long = is.pages entry.frame fits.frame in let short = ap length known in omega (arith, long, short))
+    by_entry (Some entry) e = absurd (omega (arith, page_of_entry table i entry is e, ap length none))
 
 module _ (table : TableState) (i : ℕ) (entry : Entry) (page : List ℕ) (is : IsTable table) (here : entry_at table.entries i ≡ Some entry) (lone : IsAlone table entry.frame) (sized : length page ≡ 4096) where
   there : i < length table.entries
@@ -88,17 +68,7 @@ abbrev pub empty_table : ℕ → ℕ → TableState
 empty_table frames places = record { arena = replicate frames zero_page; entries = replicate places None; groups = [] }
 
 pub all_same : {X : Type 0} (x : X) (n i : ℕ) → slice_index_or (replicate n x) i x ≡ x
-all_same x zero i = refl
-all_same x (suc n) zero = refl
-all_same x (suc n) (suc i) = all_same x n i
-
-no_pages : (f places : ℕ) → pages_on f (replicate places None) ≡ 0
-unfolding pages_on
-no_pages f places = sum_by-replicate (on_one f) places None ∙ omega arith
-
-no_own : (places : ℕ) → own_pages (replicate places None) ≡ 0
-unfolding own_pages
-no_own places = sum_by-replicate own_one places None ∙ omega arith
+all_same x n i = grind (arith, get_or-replicate n i x x, get_or_past (replicate n x) i x, length-replicate n x)
 
 first_count : (frames f : ℕ) → 0 < frames → f < frames → slice_index_or (slice_set (replicate frames 0) 0 1) f 0 ≡ one_if_zero f
 first_count zero f h k = absurd (omega arith)
@@ -107,9 +77,9 @@ first_count (suc n) (suc f) h k = get_or-replicate n f 0 0 (omega arith)
 
 pub sound-new : (frames places : ℕ) (counts : CountsState) → 1 ≤ frames → frames ≤ 4096 → places ≤ 32768
     → counts.counts ≡ slice_set (replicate frames 0) 0 1 → length counts.unused + 1 ≡ frames → IsSound (empty_table frames places) counts
+unfolding pages_on own_pages
 sound-new frames places counts some small few are fewer =
     let long : length (replicate frames zero_page) ≡ frames = length-replicate frames zero_page in
-    let none : own_pages (replicate places None) ≡ 0 = no_own places in
     record {
       fits = record {
         some = omega (arith, long, some);
@@ -122,7 +92,7 @@ sound-new frames places counts some small few are fewer =
       };
       counted = record {
         sized = ap length are ∙ length-set (replicate frames 0) 0 1 ∙ length-replicate frames 0 ∙ sym long;
-        counted = λ f h. ap (λ (l : List ℕ). slice_index_or l f 0) are ∙ first_count frames f (omega arith) (omega (arith, h, long)) ∙ let e = no_pages f places in omega (arith, e);
-        used = omega (arith, none, fewer, long);
+        counted = λ f h. ap (λ (l : List ℕ). slice_index_or l f 0) are ∙ first_count frames f (omega arith) (omega (arith, h, long)) ∙ omega (arith, sum_by-replicate (on_one f) places None);
+        used = omega (arith, sum_by-replicate own_one places None, fewer, long);
       };
     }

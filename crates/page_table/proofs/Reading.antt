@@ -1,10 +1,10 @@
 -- What a memory tells of a page that is there.
-use Rattle.page_table.proofs.Base.{◌≡◌, ◌∙◌, ⊎_elim, ℕ, zero, suc, ◌+◌, ◌*◌, ◌<◌, ◌≤◌, List, [], ◌∷◌, length, take, drop, slice_index_or, Option, Some, None, option_map, unwrap_or, refl, sym, ap, subst, arith, concat, get_or_past, get_or-take, get_or-drop}
+use Rattle.page_table.proofs.Base.{◌≡◌, ◌∙◌, ⊎_elim, ℕ, ◌+◌, ◌*◌, ◌<◌, ◌≤◌, List, [], length, take, drop, slice_index_or, Option, Some, None, option_map, unwrap_or, refl, sym, ap, subst, arith, concat, get_or_past, get_or-take, get_or-drop}
 use Rattle.page_table.proofs.Words.{Pass, Shape, Page, part_of, FlatMap, FlatMaps, map_at, map_place, page_place, page_bytes, IsShape, byte_len_of, state_at, Entry, Tenant, page_count, part, bytes_of_map, frame_at, IsPageOf, TableState, IsPageAt, maps_of, flat_of, ArePages, ArePagesOf, AreMaps, contents_of, entry_at, state_of, view_of, IsMemory}
 use Rattle.std.proofs.Common.{length-take}
 use Rattle.page_table.proofs.Sides.{order}
 use Rattle.page_table.proofs.Maps.{map_at-maps_of, page_bytes-page}
-use Rattle.page_table.proofs.Entries.{told_here}
+use Rattle.page_table.proofs.Entries.{told_here, inside as has_place}
 
 -- a tenant's map by its number, among the maps of all tenants
 pub map_at-part : (maps : FlatMaps) (t m : ℕ) → m < 8 → map_at (part_of maps (t * 8) 8) m ≡ map_at maps (map_place t m)
@@ -47,7 +47,7 @@ located shapes contents t m at are there = ⊎_elim (λ small. by_shape small (s
         let bytes : length (bytes_in (map_at (part_of (maps_of shapes contents) (t * 8) 8) m)) ≡ length (take (byte_len_of shape) (concat (part_of contents (map_place t m * 256) 256))) =
         ap (λ flat. length (bytes_in flat)) known in
         let few = length-take (byte_len_of shape) (concat (part_of contents (map_place t m * 256) 256)) in
-        let inside : map_place t m < length shapes = there_is shapes (map_place t m) e in
+        let inside : map_place t m < length shapes = has_place shapes (map_place t m) shape e in
         record {
           small = small;
           inside = inside;
@@ -57,11 +57,6 @@ located shapes contents t m at are there = ⊎_elim (λ small. by_shape small (s
           within = omega (arith, bytes, few, there);
           flat = known;
         }
-      where
-        there_is : (xs : List (Option Shape)) (i : ℕ) → slice_index_or xs i None ≡ Some shape → i < length xs
-        there_is [] i e = absurd (cc)
-        there_is (x ∷ xs) zero e = omega arith
-        there_is (x ∷ xs) (suc i) e = let rest = there_is xs i e in omega arith
 
 -- the pages of a shape within the limits are at most 256
 pub few_pages : (shape : Shape) → IsShape shape → page_count shape ≤ 256

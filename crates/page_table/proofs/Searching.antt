@@ -1,18 +1,9 @@
 -- No page may be merged where no map is, or behind a map's pages.
-use Rattle.page_table.proofs.Base.{◌≡◌, ◌∙◌, ℕ, zero, suc, ◌+◌, ◌-◌, ◌*◌, ◌<◌, ◌≤◌, false, List, [], ◌∷◌, refl, length, slice_index_or, Option, Some, None, option_map, sym, ap, subst, arith}
-use Rattle.page_table.proofs.Words.{Shape, part_of, is_mergeable, Entry, page_count, TableState, IsTable, ArePages, ArePagesOf, AreMaps, contents_of, entry_at, state_of, states_of}
+use Rattle.page_table.proofs.Base.{◌≡◌, ◌∙◌, ℕ, ◌+◌, ◌-◌, ◌*◌, ◌<◌, ◌≤◌, false, List, [], length, slice_index_or, Option, Some, None, option_map, sym, ap, subst, arith}
+use Rattle.page_table.proofs.Words.{Shape, part_of, is_mergeable, page_count, TableState, IsTable, ArePages, ArePagesOf, AreMaps, contents_of, state_of, states_of}
 use Rattle.page_table.proofs.Putting.{no_entry_of_content}
 use Rattle.page_table.proofs.Reading.{content_in}
-
--- what is known of a place without a page
-state_none : (entries : List (Option Entry)) (i : ℕ) → entry_at entries i ≡ None → slice_index_or (states_of entries) i None ≡ None
-state_none [] i e = get_none i
-  where
-    get_none : (i : ℕ) → slice_index_or (states_of []) i None ≡ None
-    get_none zero = refl
-    get_none (suc i) = refl
-state_none (x ∷ xs) zero e = ap (option_map state_of) e
-state_none (x ∷ xs) (suc i) e = state_none xs i e
+use Rattle.page_table.proofs.Entries.{told_at}
 
 module _ (table : TableState) (shapes : List (Option Shape)) (k i : ℕ) (fits : IsTable table) (are : AreMaps shapes (contents_of table)) (inside : k < length shapes) (from : k * 256 ≤ i) (to : i < k * 256 + 256) where
   no_merge : slice_index_or (part_of (contents_of table) (k * 256) 256) (i - k * 256) [] ≡ [] → is_mergeable (slice_index_or (states_of table.entries) i None) ≡ false
@@ -21,7 +12,7 @@ module _ (table : TableState) (shapes : List (Option Shape)) (k i : ℕ) (fits :
       let small : i - k * 256 < 256 = omega (arith, from, to) in
       let empty : slice_index_or (contents_of table) i [] ≡ [] =
       ap (λ (n : ℕ). slice_index_or (contents_of table) n []) (sym place) ∙ content_in (contents_of table) k (i - k * 256) small ∙ none in
-      ap is_mergeable (state_none table.entries i (no_entry_of_content table i fits empty))
+      ap is_mergeable (told_at state_of table.entries i ∙ ap (option_map state_of) (no_entry_of_content table i fits empty))
 
   pub without-map : slice_index_or shapes k None ≡ None → is_mergeable (slice_index_or (states_of table.entries) i None) ≡ false
   without-map e =

@@ -40,6 +40,11 @@ counted-none places = record { waiting = none unshared_at refl places; changed =
     none f e zero = refl
     none f e (suc n) = grind (arith, sum_by-cons f None (states_of (replicate n None)), none f e n)
 
+-- as many groups as frames of groups
+pub groups_told : (table : TableState) → length (groups_of table) ≡ length table.groups
+unfolding groups_of
+groups_told table = length-map table.groups (λ f. places_on 0 f table.entries)
+
 -- the bytes of the groups' pages are those of their frames
 pub contents-told : (table : TableState) (shapes : List (Option Shape)) (tenants : List Tenant) (pass : Pass) (reserved : ℕ) (is : IsMemory table shapes tenants reserved) (fits : IsTable table)
     → group_contents (contents_now (view_of table shapes tenants pass)) (view_of table shapes tenants pass).sharing ≡ map (page_at table.arena) table.groups

@@ -8,6 +8,7 @@ use crate::memory::Memory;
 
 impl Memory {
     /// How many groups there are.
+    #[tactic(auto, using(crate::proofs::Tallying::groups_told), unfolding(crate::specs::View::view_of))]
     pub fn groups(&self) -> u32
         ensures { result ≡ length self.now.sharing.groups }
     {
@@ -23,6 +24,7 @@ impl Memory {
     }
 
     /// How many pages wait for another one of their bytes. The number is kept, and no page is looked at.
+    #[tactic(auto, unfolding(crate::specs::View::view_of, host_types::specs::Counters::pages_unshared))]
     pub fn unshared_pages(&self) -> u32
         ensures { result ≡ pages_unshared self.now.sharing }
     {
@@ -30,6 +32,7 @@ impl Memory {
     }
 
     /// How many pages changed since they were visited last. The number is kept, and no page is looked at.
+    #[tactic(auto, unfolding(crate::specs::View::view_of, host_types::specs::Counters::pages_volatile))]
     pub fn volatile_pages(&self) -> u32
         ensures { result ≡ pages_volatile self.now.sharing }
     {

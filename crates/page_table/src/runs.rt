@@ -11,6 +11,7 @@ use host_types::MapNo;
 impl Memory {
     /// How many frames are recorded as reserved for a tenant's open run, none where there is no such
     /// tenant.
+    #[tactic(auto, unfolding(crate::specs::View::view_of, crate::specs::State::part))]
     pub fn reserve(&self, tenant: u32) -> u32
         ensures { result ≡ (part self.now tenant).reserve }
     {
@@ -18,6 +19,7 @@ impl Memory {
     }
 
     /// Whether a tenant has an open run, false where there is no such tenant.
+    #[tactic(auto, unfolding(crate::specs::View::view_of, crate::specs::State::part))]
     pub fn is_running(&self, tenant: u32) -> bool
         ensures { result ≡ (part self.now tenant).running }
     {

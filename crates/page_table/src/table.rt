@@ -213,9 +213,7 @@ impl Table {
         ensures groups { self.new.groups ≡ self.old.groups }
         ensures arena { length self.new.arena ≡ length self.old.arena }
     {
-        let Some(entry) = self.entries.get(place) else {
-            unreachable!()
-        };
+        let entry = self.page(place);
         self.arena.put(entry.frame, at, bytes);
     }
 
@@ -225,9 +223,7 @@ impl Table {
         requires { IsPageAt self.now place }
         ensures { result ≡ break_frames self.now place }
     {
-        let Some(entry) = self.entries.get(place) else {
-            unreachable!()
-        };
+        let entry = self.page(place);
         u32::from(entry.protected && self.counts.count(entry.frame) > 1)
     }
 
@@ -278,9 +274,7 @@ impl Table {
         ensures used { used_by self.new ≡ used_by self.old + break_frames self.old place }
         ensures arena { length self.new.arena ≡ length self.old.arena }
     {
-        let Some(entry) = self.entries.get(place) else {
-            unreachable!()
-        };
+        let entry = self.page(place);
         if !entry.protected {
             return;
         }

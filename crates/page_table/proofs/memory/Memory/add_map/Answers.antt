@@ -43,12 +43,4 @@ told c =
     c.self.invariant.0 c.requires.number (tenant_inside c.self.inside.table c.self.inside.shapes.items c.self.inside.tenants.items c.self.inside.pass c.args.self.now c.self.view_is c.args.tenant c.requires.tenant) (number_empty c.self.inside.table c.self.inside.shapes.items c.self.inside.tenants.items c.self.inside.pass c.args.self.now c.self.view_is c.args.tenant c.args.number c.requires.number c.requires.none) c.requires.shape (contents c) (states c) c.add_pages.ensures.groups (used c) c.add_pages.ensures.arena (room_inside c.self.inside.table c.self.inside.shapes.items c.self.inside.tenants.items c.self.inside.pass c.args.self.now c.self.view_is c.self.inside.reserved (page_count c.args.shape) c.self.invariant.0 c.requires.room)
 
 pub returns : goal.returns
-returns c = record {
-  created = rw (← c.self.view_is, c.map_index-index.ensures) (told c).created;
-  there = rw (c.map_index-index.ensures) (told c).there;
-  other_maps = rw (← c.self.view_is, c.map_index-index.ensures) (told c).other_maps;
-  others = rw (← c.self.view_is, c.map_index-index.ensures) (told c).others;
-  sharing = rw (← c.self.view_is, c.map_index-index.ensures) (told c).sharing;
-  free = rw (← c.self.view_is, c.map_index-index.ensures) (told c).free;
-  settings = rw (← c.self.view_is, c.map_index-index.ensures) (told c).settings;
-}
+returns c = rw (← c.self.view_is, c.map_index-index.ensures) (assumption (told c))

@@ -35,13 +35,6 @@ told c =
     c.self.invariant.0 (there c) c.requires.in_page (in_map c) (rw c.place_of.ensures at c.put.ensures.contents) c.put.ensures.entries c.put.ensures.groups c.put.ensures.arena
 
 pub returns : goal.returns
-returns c = record {
-  written = rw (← c.self.view_is) (told c).written;
-  bytes = rw (← c.self.view_is) (told c).bytes_new;
-  length = rw (← c.self.view_is) (ap length (told c).bytes_new ∙ length-with_part (bytes_of_map (before c) c.args.page) (c.args.page.number * 4096 + c.args.at) c.args.bytes.now (in_map c));
-  other_maps = rw (← c.self.view_is) (told c).other_maps;
-  others = rw (← c.self.view_is) (told c).others;
-  sharing = rw (← c.self.view_is) (told c).sharing;
-  frames = rw (← c.self.view_is) (told c).frames;
-  settings = rw (← c.self.view_is) (told c).settings;
-}
+returns c =
+    let long = ap length (told c).bytes_new ∙ length-with_part (bytes_of_map (before c) c.args.page) (c.args.page.number * 4096 + c.args.at) c.args.bytes.now (in_map c) in
+    rw (← c.self.view_is) (assumption (told c, long))

@@ -60,14 +60,4 @@ told c =
     c.remove_all.new.self (contents c) c.remove_all.ensures.used c.remove_all.ensures.arena c.facts.ensures.1.fits c.self.invariant.1.pins c.end_if_done.new.pass (ended c) (gone c)
 
 pub returns : goal.returns
-returns c =
-    rw (← c.self.view_is, c.map_index-index.ensures)
-    record {
-      dropped = (told c).taken;
-      other_maps = (told c).other_maps;
-      others = (told c).others;
-      sharing = (told c).sharing;
-      freed = (told c).freed;
-      have = (told c).have;
-      settings = (told c).settings;
-    }
+returns c = rw (← c.self.view_is, c.map_index-index.ensures) (assumption (told c))

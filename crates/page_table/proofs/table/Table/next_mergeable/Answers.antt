@@ -1,6 +1,6 @@
-use Rattle.page_table.proofs.Base.{◌≡◌, ◌≢◌, ◌∙◌, ⊎_elim, ℕ, ◌+◌, ◌<◌, false, length, slice_index_or, None, option_map, sym, ap, subst, arith, length-map, eqb_tells}
+use Rattle.page_table.proofs.Base.{◌≡◌, ◌≢◌, ◌∙◌, ⊎_elim, ℕ, ◌+◌, ◌<◌, false, length, slice_index_or, None, option_map, sym, ap, subst, arith, length-map, eqb_tells, get_or-map}
 use Rattle.page_table.proofs.Words.{is_mergeable, state_of, states_of, next-here}
-use Rattle.std.proofs.Math.ListN.{get_or-map}
+
 use Rattle.page_table.proofs.Next.{next-over}
 use Rattle.page_table.proofs.table.Table.next_mergeable.Goals as goal
 use Rattle.page_table.proofs.table.Table.next_mergeable.Goals.{After-may_merge}
