@@ -1,8 +1,8 @@
 -- A page table stays sound where a page is added.
 use Rattle.page_table.proofs.Base.{◌≡◌, ◌≢◌, ◌∙◌, ⊎_elim, ℕ, zero, suc, ◌+◌, ◌<◌, ◌≤◌, ◌==◌, Bool, false, if◌then◌else◌, List, [], length, slice_index_or, slice_set, Some, None, option_map, refl, sym, ap, subst, arith, get_or-set_same, get_or-set_other, length-set, get_or_default, map-set, nat_tests, get_or_past}
 use Rattle.page_table.proofs.Words.{new_page, New, zero_page, length-zero_page, Entry, TableState, CountsState, IsTable, IsGroup, IsSound, AreCountsOf, times, one_if_zero, entry_at, state_of, states_of, contents_of, groups_of, is_on, pages_on, used_by}
-use Rattle.page_table.proofs.Changing.{table-changed, counted-changed, own_one, own_pages-set}
-use Rattle.page_table.proofs.Entries.{on_one, elsewhere, not_equal, pages_on-set, none_on, entry_content-kept, contents-set, places_on-set, groups-kept, pages-set, one_if_zero-above, counts-set}
+use Rattle.page_table.proofs.Changing.{table-changed, counted-changed, own_pages-set}
+use Rattle.page_table.proofs.Entries.{elsewhere, not_equal, pages_on-set, none_on, entry_content-kept, contents-set, places_on-set, groups-kept, pages-set, one_if_zero-above, counts-set}
 
 -- a new page
 abbrev pub added_entry : ℕ → Bool → Entry
@@ -46,10 +46,7 @@ unused_apart table f free j y e = elsewhere f y.frame (sym (ap (is_on f) e) ∙ 
 
 module _ (table : TableState) (i f : ℕ) (mergeable : Bool) (is : IsTable table) (free : IsUnused table f) (there : i < length table.entries) (empty : entry_at table.entries i ≡ None) where
   pages_on-added : (g : ℕ) → pages_on g (added table i f mergeable).entries ≡ pages_on g table.entries + (if f == g then 1 else 0)
-  pages_on-added g =
-      let count = pages_on-set g table.entries i (Some (added_entry f mergeable)) there in
-      let none : on_one g (entry_at table.entries i) ≡ 0 = rw empty refl in
-      omega arith
+  pages_on-added g = grind (arith, nat_tests, pages_on-set, there, empty)
 
   pub contents-added : contents_of (added table i f mergeable) ≡ slice_set (contents_of table) i zero_page
   unfolding contents_of
@@ -69,10 +66,7 @@ module _ (table : TableState) (i f : ℕ) (mergeable : Bool) (is : IsTable table
       (not_equal g f (λ e. absurd (omega (arith, subst (λ (n : ℕ). 1 ≤ times n table.groups) (sym e) le, free.no_group))) ∙ sym (ap (is_on g) empty)))
 
   pub used-added : used_by (added table i f mergeable) ≡ used_by table + 1
-  used-added =
-      let count = own_pages-set table.entries i (Some (added_entry f mergeable)) there in
-      let none : own_one (entry_at table.entries i) ≡ 0 = rw empty refl in
-      omega arith
+  used-added = grind (arith, nat_tests, own_pages-set, there, empty)
 
   pub IsTable-added : IsTable (added table i f mergeable)
   IsTable-added =

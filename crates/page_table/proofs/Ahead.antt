@@ -1,6 +1,6 @@
 -- Unless a pass begins, a page behind the cursor may be merged: what keeps that.
-use Rattle.page_table.proofs.Base.{◌≡◌, ◌≢◌, ◌∙◌, ℕ, zero, suc, ◌+◌, ◌-◌, Bool, true, false, if◌then◌else◌, List, [], ◌∷◌, drop, slice_index_or, slice_set, Option, Some, None, IsSome, IfSome, is_some, option_map, refl, sym, ap, subst, arith, get_or-drop, get_or-set_other, get_or-set_same, set_past, get_or_past}
-use Rattle.page_table.proofs.Words.{Status, Grouped, Zero, Sharing, PageState, state_at, is_shared_page, broken_page, with_status, broken, broken_from, left_by, paired, zeroed, is_mergeable, first_mergeable, with_page, Entry, Pass, TableState, entry_at, state_of, states_of, sharing_of, marked, IsAhead}
+use Rattle.page_table.proofs.Base.{◌≡◌, ◌≢◌, ◌∙◌, ℕ, zero, suc, ◌+◌, ◌-◌, true, false, List, [], ◌∷◌, drop, slice_index_or, slice_set, Option, Some, None, IsSome, IfSome, is_some, option_map, refl, sym, ap, arith, get_or-drop, get_or-set_other, get_or-set_same, set_past, get_or_past, nat_tests}
+use Rattle.page_table.proofs.Words.{Status, Grouped, Zero, Sharing, PageState, state_at, broken_page, with_status, broken, broken_from, paired, zeroed, is_mergeable, first_mergeable, with_page, Entry, Pass, TableState, entry_at, state_of, states_of, sharing_of, marked, IsAhead}
 use Rattle.page_table.proofs.Next.{next-is}
 use Rattle.page_table.proofs.Partners.{entry-may}
 use Rattle.page_table.proofs.Entries.{told_at}
@@ -10,8 +10,7 @@ abbrev pub StayMergeable : List (Option PageState) → List (Option PageState) �
 StayMergeable old new = (j : ℕ) → is_mergeable (slice_index_or old j None) ≡ true → is_mergeable (slice_index_or new j None) ≡ true
 
 pub ahead-kept : (old new : List (Option PageState)) (c : Option ℕ) → StayMergeable old new → IsAhead old c → IsAhead new c
-ahead-kept old new None stay is = tt
-ahead-kept old new (Some c) stay is = (is.0, is.1, stay is.0 is.2)
+ahead-kept old new c h1 h2 = grind (arith, nat_tests)
 
 -- one page changes
 pub stay-put : (pages : List (Option PageState)) (i : ℕ) (x : Option PageState) → (is_mergeable (slice_index_or pages i None) ≡ true → is_mergeable x ≡ true) → StayMergeable pages (slice_set pages i x)
@@ -19,8 +18,7 @@ stay-put pages i x same j may = grind (arith, get_or-set_same pages i x None, ge
 
 -- a change that leaves whether a page may be merged
 pub flag-kept : (change : PageState → PageState) → ((state : PageState) → (change state).mergeable ≡ state.mergeable) → (x : Option PageState) → is_mergeable x ≡ true → is_mergeable (option_map change x) ≡ true
-flag-kept change same None may = may
-flag-kept change same (Some state) may = same state ∙ may
+flag-kept change h1 x h2 = grind (arith, nat_tests)
 
 pub stay-set : (pages : List (Option PageState)) (i : ℕ) (change : PageState → PageState) → ((state : PageState) → (change state).mergeable ≡ state.mergeable)
     → StayMergeable pages (slice_set pages i (option_map change (slice_index_or pages i None)))
@@ -28,11 +26,7 @@ stay-set pages i change same = stay-put pages i (option_map change (slice_index_
 
 pub stay-broken : (s : Sharing) (i : ℕ) → StayMergeable s.pages (broken s i).pages
 unfolding broken
-stay-broken s i = by_test (is_shared_page (state_at s i))
-  where
-    by_test : (b : Bool) → StayMergeable s.pages (if b then record s { pages = slice_set s.pages i (option_map broken_page (state_at s i)); groups = left_by i s.groups } else s).pages
-    by_test true = stay-set s.pages i broken_page (λ state. refl)
-    by_test false = λ j may. may
+stay-broken s i = grind (arith, nat_tests, stay-set s.pages i broken_page)
 
 pub stay-broken_from : (s : Sharing) (i n : ℕ) → StayMergeable s.pages (broken_from s i n).pages
 unfolding broken_from
@@ -62,21 +56,13 @@ stay-paired s i j apart k may =
 -- what callers are told of a change tells it
 pub ahead-told : (old new : TableState) (pass : Pass) (s : Sharing) (c : Option ℕ) → sharing_of new pass ≡ s → StayMergeable (states_of old.entries) s.pages → IsAhead (states_of old.entries) c
     → IsAhead (states_of new.entries) c
-ahead-told old new pass s c told stay is =
-    ahead-kept (states_of old.entries) (states_of new.entries) c
-    (λ j may. subst (λ (t : Sharing). is_mergeable (slice_index_or t.pages j None) ≡ true) (sym told) (stay j may)) is
+ahead-told old new pass s c h1 h2 h3 = grind (arith, nat_tests, ahead-kept (states_of old.entries) (states_of new.entries) c)
 
 -- every page stays that was there
 pub ahead-more : (old new : TableState) (pass : Pass) (c : Option ℕ) → ((i : ℕ) (entry : Entry) → entry_at old.entries i ≡ Some entry → entry_at new.entries i ≡ Some entry) → IsAhead (states_of old.entries) c
     → IsAhead (states_of new.entries) c
-ahead-more old new pass c kept is = ahead-kept (states_of old.entries) (states_of new.entries) c stay is
-  where
-    stay : StayMergeable (states_of old.entries) (states_of new.entries)
-    stay j may =
-        let found = entry-may old pass j may in
-        let before : slice_index_or (states_of old.entries) j None ≡ Some (state_of found.0) = told_at state_of old.entries j ∙ ap (option_map state_of) found.1 in
-        let after : slice_index_or (states_of new.entries) j None ≡ Some (state_of found.0) = told_at state_of new.entries j ∙ ap (option_map state_of) (kept j found.0 found.1) in
-        ap is_mergeable (after ∙ sym before) ∙ may
+ahead-more old new pass c h1 h2 =
+    grind (arith, nat_tests, ahead-kept (states_of old.entries) (states_of new.entries) c, entry-may old pass, told_at state_of old.entries, told_at state_of new.entries)
 
 -- the cursor goes on to a page that may be merged where there is a next one
 pub ahead-next : (pages : List (Option PageState)) (i : ℕ) → is_some (first_mergeable (i + 1) (drop (i + 1) pages)) ≡ true → IsAhead pages (Some i)

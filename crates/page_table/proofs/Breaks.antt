@@ -1,7 +1,7 @@
 -- What the breaks of several pages take, each after the breaks before it.
 use Rattle.page_table.proofs.Base.{◌≡◌, ◌∙◌, ℕ, zero, suc, ◌+◌, ◌-◌, ◌<◌, ◌≤◌, ◌&&◌, nat_lt, Bool, true, false, if◌then◌else◌, List, [], ◌∷◌, length, map, filter, take, drop, slice_index_or, slice_set, Option, Some, None, option_map, unwrap_or, refl, sym, ap, subst, arith, list_any, get_or-set_other, length-set, get_or-drop, length-drop, sum_by_more, nat_tests, any-filter_same}
 use Rattle.page_table.proofs.Words.{Pass, part_of, Sharing, PageState, state_at, is_shared, is_shared_page, is_in_company, is_among, without, broken, broken_page, break_cost, broken_from, cost_from, cost_of, Entry, TableState, CountsState, IsTable, IsSound, times, one_if_zero, entry_at, state_of, groups_of, sharing_of, is_on, places_on, pages_on}
-use Rattle.page_table.proofs.Changing.{is_alone, entry_fits}
+use Rattle.page_table.proofs.Changing.{entry_fits}
 use Rattle.page_table.proofs.Entries.{one_when, on_one, not_equal, equal, pages_on-set, some_on, places_on-set, groups-kept}
 use Rattle.page_table.proofs.Groups.{company-places, without-here}
 use Rattle.page_table.proofs.Costs.{state-at, shared-cost}
@@ -80,11 +80,7 @@ has_company i group = is_among i group && nat_lt 1 (length group)
 
 -- a group without pages gives no page company
 company-filled : (i : ℕ) (groups : List (List ℕ)) → list_any (has_company i) (filter filled groups) ≡ list_any (has_company i) groups
-company-filled i groups = any-filter_same (has_company i) filled true (λ group h. has_pages (is_among i group) group h) groups
-  where
-    has_pages : (b : Bool) (group : List ℕ) → (b && nat_lt 1 (length group)) ≡ true → filled group ≡ true
-    has_pages true group h = grind (arith, nat_tests)
-    has_pages false group h = absurd (cc)
+company-filled i groups = grind (arith, nat_tests, any-filter_same (has_company i) filled true, groups)
 
 -- the places without one, group by group
 without-groups : (i : ℕ) (xs : List (Option Entry)) (groups : List ℕ) → map (without i) (map (λ g. places_on 0 g xs) groups) ≡ map (λ g. places_on 0 g (slice_set xs i None)) groups
@@ -105,10 +101,7 @@ module _ (table : TableState) (is : IsTable table) (i n : ℕ) where
 
   -- an entry that shares no frame is in no group
   apart : (x : Option Entry) → entry_at table.entries (i + n) ≡ x → is_shared_page (option_map state_of x) ≡ false → (g : ℕ) → 1 ≤ times g table.groups → is_on g x ≡ false
-  apart None e own g in_groups = refl
-  apart (Some entry) e own g in_groups =
-      let none = (is_alone table entry (entry_fits table (i + n) entry is e) own).no_group in
-      not_equal g entry.frame (λ same. omega (arith, none, in_groups, ap (λ (f : ℕ). times f table.groups) same))
+  apart x h1 h2 g h3 = grind (arith, nat_tests, not_equal g)
 
   abbrev off : Sharing → Bool → Sharing
   off s shared =
@@ -153,10 +146,7 @@ module _ (table : TableState) (is : IsTable table) (i n : ℕ) where
   cost-one : (s : Sharing) (entry : Entry) → AreBroken table s i n → entry_at table.entries (i + n) ≡ Some entry
       → break_cost s (i + n) ≡ one_when (is_shared entry.status && nat_lt 1 (one_if_zero entry.frame + pages_on entry.frame left))
   unfolding break_cost
-  cost-one s entry are e =
-      ap (λ (x : Option PageState). unwrap_or (option_map (λ (state : PageState). cost_of (is_in_company s (i + n)) state.status) x) 0) (are.states (i + n) (omega arith) ∙ ap (option_map state_of) e)
-      ∙ shared-cost table entry.frame left (is_in_company s (i + n)) is (some_on entry.frame left (i + n) (ap (is_on entry.frame) (here ∙ e) ∙ equal entry.frame))
-      (company-after s entry are e) entry.status (entry_fits table (i + n) entry is e).right
+  cost-one s entry h1 h2 = grind (arith, nat_tests, some_on entry.frame left, equal entry.frame, company-after s entry, shared-cost, left, here)
 
 are_broken : (table : TableState) (pass : Pass) (is : IsTable table) (i n : ℕ) → AreBroken table (broken_from (sharing_of table pass) i n) i n
 unfolding broken_from gone groups_of
@@ -188,9 +178,7 @@ cost-after table counts pass i n entry sound h e protected =
 pub cost-after-own : (table : TableState) (pass : Pass) (i n : ℕ) (entry : Entry) → IsTable table → entry_at table.entries (i + n) ≡ Some entry → entry.protected ≡ false
     → break_cost (broken_from (sharing_of table pass) i n) (i + n) ≡ 0
 cost-after-own table pass i n entry is e own =
-    let fits = entry_fits table (i + n) entry is e in
-    cost-one table is i n (broken_from (sharing_of table pass) i n) entry (are_broken table pass is i n) e
-    ∙ ap (λ (b : Bool). one_when (b && nat_lt 1 (one_if_zero entry.frame + pages_on entry.frame (gone table.entries i n)))) (sym fits.protected ∙ own)
+    grind (arith, nat_tests, entry_fits table (i + n) entry is e, cost-one table is i n (broken_from (sharing_of table pass) i n) entry (are_broken table pass is i n) e, are_broken table pass is i n)
 
 -- where no page is, nothing is broken
 pub cost-after-none : (table : TableState) (pass : Pass) (i n : ℕ) → IsTable table → entry_at table.entries (i + n) ≡ None
@@ -203,16 +191,11 @@ cost-after-none table pass i n is e =
 -- there are at least as many on a frame as among some of the pages
 pub count-part : (table : TableState) (counts : CountsState) (i n : ℕ) (entry : Entry) → IsSound table counts → i + n < length table.entries
     → entry_at table.entries (i + n) ≡ Some entry → pages_on entry.frame (part_of table.entries i n) ≤ slice_index_or counts.counts entry.frame 0
-count-part table counts i n entry sound h e =
-    let fits = entry_fits table (i + n) entry sound.fits e in
-    omega (arith, sound.counted.counted entry.frame fits.frame, pages_on-gone entry.frame table.entries i n (omega arith))
+count-part table counts i n entry h1 h2 h3 = grind (arith, nat_tests, entry_fits table (i + n) entry, pages_on-gone entry.frame table.entries i n)
 
 -- the page behind n others from the place i on, in a list that was split there
 pub entry-behind : (xs slice run from : List (Option Entry)) (i n : ℕ) → slice ≡ xs → run ≡ drop i slice → from ≡ drop n run → entry_at from 0 ≡ entry_at xs (i + n)
-entry-behind xs slice run from i n whole back rest =
-    let split : from ≡ drop n (drop i xs) = rest ∙ ap (drop n) (back ∙ ap (drop i) whole) in
-    let here : n + 0 ≡ n = omega arith in
-    ap (λ l. entry_at l 0) split ∙ get_or-drop n (drop i xs) 0 None ∙ ap (entry_at (drop i xs)) here ∙ get_or-drop i xs n None
+entry-behind xs slice run from i n h1 h2 h3 = grind (arith, nat_tests, get_or-drop n (drop i xs) 0 None, get_or-drop i xs n None, here)
 
 -- the pages before it
 pub pages-before : (xs slice run before : List (Option Entry)) (i n f : ℕ) → slice ≡ xs → run ≡ drop i slice → before ≡ take n run → pages_on f before ≡ pages_on f (part_of xs i n)
@@ -225,7 +208,4 @@ unfolding cost_from
 cost_from-none s i = refl
 
 pub cost_from-more : (s : Sharing) (i n cost one : ℕ) → cost ≡ cost_from s i n → one ≡ break_cost (broken_from s i n) (i + n) → cost + one ≡ cost_from s i (n + 1)
-cost_from-more s i n cost one e k =
-    let next : suc n ≡ n + 1 = omega arith in
-    let last = cost_from-last s i n in
-    omega (arith, e, k, last) ∙ ap (cost_from s i) next
+cost_from-more s i n cost one h1 h2 = grind (arith, nat_tests, cost_from-last s i n)

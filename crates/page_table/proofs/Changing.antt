@@ -1,6 +1,6 @@
 -- What makes a table sound again after the entry at one place changed, and perhaps the page of a frame or the groups.
 use Rattle.page_table.proofs.Base.{◌≡◌, ◌≢◌, ◌∙◌, ◌⊎◌, inl, inr, ⊎_elim, ℕ, ◌+◌, ◌<◌, ◌≤◌, false, length, slice_index_or, slice_set, Option, Some, None, IfSome, sym, ap, subst, arith, refl, List, ◌==◌, if◌then◌else◌, option_map, true, length-set, sum_by-set, nat_tests}
-use Rattle.page_table.proofs.Words.{Status, New, Volatile, Waiting, Grouped, Zero, is_shared, own_frame, zero_page, page_at, Entry, TableState, CountsState, IsTable, IsEntry, IsAlone, IsGroup, AreCountsOf, LiesRight, times, entry_at, is_on, pages_on, used_by, IsOwnAt, own_pages, state_of}
+use Rattle.page_table.proofs.Words.{Status, is_shared, own_frame, zero_page, page_at, Entry, TableState, CountsState, IsTable, IsEntry, IsAlone, IsGroup, AreCountsOf, LiesRight, times, entry_at, is_on, pages_on, used_by, IsOwnAt, own_pages, state_of}
 use Rattle.page_table.proofs.Entries.{equal, inside, alone, at_set, one_when, on_one, pages_on-set}
 
 -- one where the page has a frame of its own
@@ -24,30 +24,15 @@ own_pages-changed xs i entry x here = let was = ap own_one here in omega (arith,
 
 -- a page that isn't shared is alone on its frame
 pub is_alone : (table : TableState) (entry : Entry) → IsEntry table entry → is_shared entry.status ≡ false → IsAlone table entry.frame
-is_alone table entry is own = by_status entry.status own is.right
-  where
-    by_status : (status : Status) → is_shared status ≡ false → LiesRight table entry.frame status → IsAlone table entry.frame
-    by_status New e a = a
-    by_status Volatile e a = a
-    by_status Waiting e a = a
-    by_status Grouped e a = absurd (cc)
-    by_status Zero e a = absurd (cc)
+is_alone table entry is own = grind (arith, nat_tests, own)
 
 -- and one that isn't shared lies right where it is alone
 pub lies_alone : (table : TableState) (f : ℕ) (status : Status) → is_shared status ≡ false → IsAlone table f → LiesRight table f status
-lies_alone table f New e a = a
-lies_alone table f Volatile e a = a
-lies_alone table f Waiting e a = a
-lies_alone table f Grouped e a = absurd (cc)
-lies_alone table f Zero e a = absurd (cc)
+lies_alone table f status h1 h2 = grind (arith, nat_tests)
 
 -- one that is shared lies on a group's frame or on the zero frame
 pub lies_shared : (table : TableState) (f : ℕ) (status : Status) → is_shared status ≡ true → LiesRight table f status → (times f table.groups ≡ 1) ⊎ (f ≡ 0)
-lies_shared table f New e a = absurd (cc)
-lies_shared table f Volatile e a = absurd (cc)
-lies_shared table f Waiting e a = absurd (cc)
-lies_shared table f Grouped e a = inl a
-lies_shared table f Zero e a = inr a
+lies_shared table f status h1 h2 = grind (arith, nat_tests)
 
 -- the entry at a place fits
 pub entry_fits : (table : TableState) (i : ℕ) (entry : Entry) → IsTable table → entry_at table.entries i ≡ Some entry → IsEntry table entry
@@ -72,15 +57,7 @@ pub fits-after : (old new : TableState) (entry : Entry) → length new.arena ≡
     → (IsAlone old entry.frame → IsAlone new entry.frame)
     → (times entry.frame old.groups ≡ 1 → times entry.frame new.groups ≡ 1)
     → IsEntry old entry → IsEntry new entry
-fits-after old new entry long lone grouped is =
-    record { frame = omega (arith, long, is.frame); protected = is.protected; right = lies entry.status is.right }
-  where
-    lies : (status : Status) → LiesRight old entry.frame status → LiesRight new entry.frame status
-    lies New a = lone a
-    lies Volatile a = lone a
-    lies Waiting a = lone a
-    lies Grouped e = grouped e
-    lies Zero e = e
+fits-after old new entry long lone grouped is = grind (arith, nat_tests)
 
 -- a page that is alone lies on no other page's frame
 pub apart_alone : (table : TableState) (i j : ℕ) (x y : Entry) → entry_at table.entries i ≡ Some x → entry_at table.entries j ≡ Some y → j ≢ i → pages_on y.frame table.entries ≡ 1
@@ -128,9 +105,4 @@ pub counted-changed : (old new : TableState) (before after : CountsState) → Ar
     → length after.unused + used_by new ≡ length before.unused + used_by old
     → ((g : ℕ) → g < length old.arena → slice_index_or after.counts g 0 + pages_on g old.entries ≡ slice_index_or before.counts g 0 + pages_on g new.entries)
     → AreCountsOf new after
-counted-changed old new before after counted arena sized used each =
-    record {
-      sized = omega (arith, counted.sized, arena, sized);
-      counted = λ g h. let inside : g < length old.arena = omega (arith, h, arena) in omega (arith, counted.counted g inside, each g inside);
-      used = omega (arith, counted.used, used, arena);
-    }
+counted-changed old new before after counted arena sized used each = grind (arith, nat_tests, inside)

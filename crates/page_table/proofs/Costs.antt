@@ -1,6 +1,6 @@
 -- What the break of a page costs, told by its group and by its frame.
-use Rattle.page_table.proofs.Base.{◌≡◌, ◌∙◌, ◌⊎◌, ⊎_elim, ℕ, ◌+◌, ◌≤◌, nat_lt, Bool, slice_index_or, Option, Some, None, option_map, unwrap_or, refl, sym, ap, arith, ◌&&◌, List, nat_tests}
-use Rattle.page_table.proofs.Words.{Pass, Status, New, Volatile, Waiting, Grouped, Zero, PageState, state_at, is_in_company, cost_of, break_cost, is_shared, Entry, TableState, CountsState, IsTable, IsSound, IsGroup, LiesRight, times, one_if_zero, entry_at, is_on, state_of, groups_of, sharing_of, pages_on, break_frames}
+use Rattle.page_table.proofs.Base.{◌≡◌, ◌∙◌, ℕ, ◌+◌, ◌≤◌, nat_lt, Bool, slice_index_or, Option, Some, None, option_map, refl, ap, arith, ◌&&◌, List, nat_tests}
+use Rattle.page_table.proofs.Words.{Pass, Status, state_at, cost_of, break_cost, is_shared, Entry, TableState, CountsState, IsTable, IsSound, LiesRight, times, one_if_zero, entry_at, is_on, state_of, groups_of, sharing_of, pages_on, break_frames}
 use Rattle.page_table.proofs.Changing.{entry_fits}
 use Rattle.page_table.proofs.Entries.{one_when, equal, some_on, one_if_zero-above, told_at}
 use Rattle.page_table.proofs.Groups.{company-places}
@@ -21,17 +21,12 @@ cost-none table i none = rw none refl
 
 -- where a group has the frame, the frame isn't the zero frame
 pub group-frame : (table : TableState) (f : ℕ) → IsTable table → times f table.groups ≡ 1 → one_if_zero f ≡ 0
-group-frame table f is one =
-    one_if_zero-above f (⊎_elim (λ none. absurd (omega (arith, one, none))) (λ group. IsGroup.above group) (is.groups f))
+group-frame table f is one = grind (arith, nat_tests, one_if_zero-above)
 
 -- the break of a page on the frame f takes a frame where it shares its own, and others hold that too: among all pages, or those that are left
 pub shared-cost : (table : TableState) (f : ℕ) (xs : List (Option Entry)) (in_company : Bool) → IsTable table → 1 ≤ pages_on f xs → (times f table.groups ≡ 1 → in_company ≡ nat_lt 1 (pages_on f xs))
     → (status : Status) → LiesRight table f status → cost_of in_company status ≡ one_when (is_shared status && nat_lt 1 (one_if_zero f + pages_on f xs))
-shared-cost table f xs in_company is some told New right = refl
-shared-cost table f xs in_company is some told Volatile right = refl
-shared-cost table f xs in_company is some told Waiting right = refl
-shared-cost table f xs in_company is some told Grouped right = ap one_when (told right ∙ ap (λ (m : ℕ). nat_lt 1 m) (omega (arith, group-frame table f is right)))
-shared-cost table f xs in_company is some told Zero right = let one : one_if_zero f ≡ 1 = ap one_if_zero right in grind (arith, nat_tests, one, some)
+shared-cost table f xs in_company h1 h2 h3 status h4 = grind (arith, nat_tests, group-frame table f)
 
 -- the page of an entry lies on its frame
 lies-there : (table : TableState) (i : ℕ) (entry : Entry) → entry_at table.entries i ≡ Some entry → 1 ≤ pages_on entry.frame table.entries
@@ -40,38 +35,21 @@ lies-there table i entry here = some_on entry.frame table.entries i (ap (is_on e
 -- the break of a page takes a frame where it shares its own, and others hold that too
 cost-told : (table : TableState) (i : ℕ) (entry : Entry) → IsTable table → entry_at table.entries i ≡ Some entry
     → break_frames table i ≡ one_when (is_shared entry.status && nat_lt 1 (one_if_zero entry.frame + pages_on entry.frame table.entries))
-cost-told table i entry is here =
-    cost-entry table i entry here
-    ∙ shared-cost table entry.frame table.entries (nat_lt 1 (pages_on entry.frame table.entries)) is (lies-there table i entry here) (λ once. refl) entry.status (entry_fits table i entry is here).right
+cost-told table i entry h1 h2 =
+    grind (arith, nat_tests, cost-entry table i entry, shared-cost table entry.frame table.entries (nat_lt 1 (pages_on entry.frame table.entries)), lies-there table i entry)
 
 -- what the break of a page takes
 pub cost-is : (table : TableState) (pass : Pass) (i : ℕ) → IsTable table → break_cost (sharing_of table pass) i ≡ break_frames table i
 unfolding break_cost groups_of
-cost-is table pass i is = by_entry (entry_at table.entries i) refl
-  where
-    taken : Option PageState → ℕ
-    taken x = unwrap_or (option_map (λ (state : PageState). cost_of (is_in_company (sharing_of table pass) i) state.status) x) 0
-
-    by_entry : (x : Option Entry) → entry_at table.entries i ≡ x → break_cost (sharing_of table pass) i ≡ break_frames table i
-    by_entry None e = ap taken (state-at table pass i ∙ ap (option_map state_of) e) ∙ sym (cost-none table i e)
-    by_entry (Some entry) e =
-        ap taken (state-at table pass i ∙ ap (option_map state_of) e)
-        ∙ shared-cost table entry.frame table.entries (is_in_company (sharing_of table pass) i) is (lies-there table i entry e)
-        (company-places table.entries table.groups i entry e) entry.status (entry_fits table i entry is e).right
-        ∙ sym (cost-told table i entry is e)
+cost-is table pass i h1 =
+    grind (arith, nat_tests, state-at table pass i, cost-none table i, shared-cost table, lies-there table i, company-places table.entries table.groups i, cost-told table i)
 
 -- the same, told by the count of the page's frame
 pub cost-counted : (table : TableState) (counts : CountsState) (i : ℕ) (entry : Entry) → IsSound table counts → entry_at table.entries i ≡ Some entry
     → break_frames table i ≡ one_when (entry.protected && nat_lt 1 (slice_index_or counts.counts entry.frame 0))
-cost-counted table counts i entry sound here =
-    let fits = entry_fits table i entry sound.fits here in
-    grind (arith, nat_tests, cost-told table i entry sound.fits here, fits.protected, sound.counted.counted entry.frame fits.frame)
+cost-counted table counts i entry h1 h2 = grind (arith, nat_tests, entry_fits table i entry, cost-told table i entry)
 
 -- the count of a page's frame is not 0
 pub count-some : (table : TableState) (counts : CountsState) (i : ℕ) (entry : Entry) → IsSound table counts → entry_at table.entries i ≡ Some entry
     → (slice_index_or counts.counts entry.frame 0 ≡ one_if_zero entry.frame + pages_on entry.frame table.entries) × (1 ≤ slice_index_or counts.counts entry.frame 0)
-count-some table counts i entry sound here =
-    let fits = entry_fits table i entry sound.fits here in
-    let counted = sound.counted.counted entry.frame fits.frame in
-    let lies = some_on entry.frame table.entries i (ap (is_on entry.frame) here ∙ equal entry.frame) in
-    (counted, omega (arith, counted, lies))
+count-some table counts i entry h1 h2 = grind (arith, nat_tests, entry_fits table i entry, some_on entry.frame table.entries i, equal entry.frame)

@@ -32,17 +32,11 @@ replicate-more n x = replicate-append-replicate n 1 x
 
 -- one more of many equal elements
 pub filled_more : {X : Type 0} (xs : List X) (at n : ℕ) (x : X) → at + n < length xs → slice_set (with_part xs at (replicate n x)) (at + n) x ≡ with_part xs at (replicate (n + 1) x)
-filled_more xs at n x h =
-    let long = length-replicate n x in
-    ap (λ (m : ℕ). slice_set (with_part xs at (replicate n x)) (at + m) x) (sym long)
-    ∙ with_part-more xs (replicate n x) at x (omega (arith, h, long))
-    ∙ ap (with_part xs at) (replicate-more n x)
+filled_more xs at n x h1 = grind (arith, nat_tests, length-replicate n x, with_part-more xs (replicate n x) at x, replicate-more n x)
 
 pub with_part-none : {X : Type 0} (xs : List X) (at : ℕ) → xs ≡ with_part xs at []
 unfolding with_part
-with_part-none xs at =
-    let place : at + 0 ≡ at = omega arith in
-    sym (ap (λ l. l ++ drop (at + 0) xs) (append-nil (take at xs)) ∙ ap (λ (n : ℕ). take at xs ++ drop n xs) place ∙ take-append-drop at xs)
+with_part-none xs at = grind (arith, nat_tests, append-nil (take at xs), take-append-drop at xs)
 
 -- what is read where equal elements were filled in
 pub filled_at : {X : Type 0} (xs : List X) (at n i : ℕ) (x d : X) → at + n ≤ length xs
@@ -155,12 +149,7 @@ module _ (table : TableState) (shapes : List (Option Shape)) (tenants : List Ten
 
 -- a number without a map has no shape
 pub shape_none : (shapes : List (Option Shape)) (contents : List (List ℕ)) (t m : ℕ) → m < 8 → map_at (part_of (maps_of shapes contents) (t * 8) 8) m ≡ None → slice_index_or shapes (map_place t m) None ≡ None
-shape_none shapes contents t m small none =
-    by_shape (slice_index_or shapes (map_place t m) None) refl (sym (map_at-part (maps_of shapes contents) t m small ∙ map_at-maps_of shapes contents (map_place t m)) ∙ none)
-  where
-    by_shape : (s : Option Shape) → slice_index_or shapes (map_place t m) None ≡ s → option_map (flat_of (part_of contents (map_place t m * 256) 256)) (slice_index_or shapes (map_place t m) None) ≡ None → slice_index_or shapes (map_place t m) None ≡ None
-    by_shape None e h = e
-    by_shape (Some s) e h = absurd (cc (ap (option_map (flat_of (part_of contents (map_place t m * 256) 256))) e))
+shape_none shapes contents t m h1 h2 = grind (arith, nat_tests, map_at-part, map_at-maps_of)
 
 -- a new map was made, and nothing else has changed
 pub record Creates (old new : MemoryState) (tenant m : ℕ) (shape : Shape) (mergeable : Bool) : Type 0 where
@@ -200,12 +189,10 @@ module _ (table new : TableState) (shapes : List (Option Shape)) (tenants : List
   pages_new = part_of (contents_of new) (k * 256) 256
 
   new_there : (n : ℕ) → n < page_count shape → slice_index_or pages_new n [] ≡ zero_page
-  new_there n less =
-      ap (λ l. slice_index_or (part_of l (k * 256) 256) n []) contents ∙ grind (arith, nat_tests, filled_part (contents_of table) k (page_count shape) n zero_page few all)
+  new_there n less = grind (arith, nat_tests, filled_part, few, all)
 
   new_none : (n : ℕ) → page_count shape ≤ n → slice_index_or pages_new n [] ≡ []
-  new_none n past =
-      ap (λ l. slice_index_or (part_of l (k * 256) 256) n []) contents ∙ grind (arith, nat_tests, filled_part (contents_of table) k (page_count shape) n zero_page few all, old_none n)
+  new_none n past = grind (arith, nat_tests, filled_part, few, all, old_none)
 
   abbrev shapes_new : List (Option Shape)
   shapes_new = slice_set shapes k (Some shape)
@@ -214,15 +201,11 @@ module _ (table new : TableState) (shapes : List (Option Shape)) (tenants : List
   shape_there = get_or-set_same shapes k (Some shape) None place_inside
 
   wide : length (contents_of new) ≡ length (contents_of table)
-  wide =
-      let fits : k * 256 + length (replicate (page_count shape) zero_page) ≤ length (contents_of table) = omega (arith, length-replicate (page_count shape) zero_page, all, few) in
-      ap length contents ∙ length-with_part (contents_of table) (k * 256) (replicate (page_count shape) zero_page) fits
+  wide = grind (arith, nat_tests, length-replicate, all, few, length-with_part)
 
   pub memory_created : IsMemory new shapes_new tenants reserved
   memory_created =
-      memory_changed table new shapes shapes_new tenants reserved tenant m is small place_inside (length-set shapes k (Some shape)) wide
-      (λ j ne. get_or-set_other shapes k j (Some shape) None ne) others_new arena (omega (arith, used, room))
-      (subst (λ s. ArePages s pages_new) (sym shape_there) (pages_created shape pages_new shaped new_there new_none))
+      grind (arith, nat_tests, memory_changed, place_inside, length-set, wide, get_or-set_other, others_new, pages_new, shape_there, pages_created, new_there, new_none)
 
   abbrev before : MemoryState
   before = view_of table shapes tenants pass

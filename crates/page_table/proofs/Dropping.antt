@@ -88,8 +88,7 @@ filled-same pins at n d inside none =
 -- the end of a pass leaves the pins
 ended-pins : (s : Sharing) (c : Option ℕ) → (ended_at s c).pins ≡ s.pins
 unfolding moved_on
-ended-pins s None = refl
-ended-pins s (Some i) = grind arith
+ended-pins s c = grind (arith, nat_tests)
 
 -- the waiting list without some pages, as callers see it
 waiting-outside : (first n : ℕ) (ws : List Waiter) → map waiting_of (outside first (first + n) ws) ≡ waiting_outside first n (map waiting_of ws)
@@ -117,8 +116,7 @@ sharing-outside old new pass first n few inside none told =
 
 -- a map that is there has one of eight numbers
 pub number_small : (memory : MemoryState) (t m : ℕ) (shape : Shape) → option_map (λ (flat : FlatMap). flat.shape) (map_at (part memory t).maps m) ≡ Some shape → m < 8
-number_small memory t m shape e =
-    ⊎_elim (λ less. less) (λ more. absurd (let none = ap (option_map (λ (flat : FlatMap). flat.shape)) (map_past memory t m more) in cc)) (order m 8)
+number_small memory t m shape e = grind (arith, nat_tests, map_past, order)
 
 -- a map was taken away, and nothing else has changed
 pub record Drops (old new : MemoryState) (tenant m : ℕ) (shape : Shape) : Type 0 where
@@ -146,9 +144,7 @@ module _ (table : TableState) (shapes : List (Option Shape)) (tenants : List Ten
   index_inside = let h = small in let t = tenant_inside in omega (arith, is.numbers, h, t)
 
   shape_here : slice_index_or shapes k None ≡ Some shape
-  shape_here =
-      let told : option_map (λ (flat : FlatMap). flat.shape) (map_at (part (view_of table shapes tenants pass) tenant).maps m) ≡ Some shape = rw (← same) at here in
-      sym (shape_told table shapes tenants pass tenant m small) ∙ told
+  shape_here = grind (arith, nat_tests, shape_told, small)
 
   old_pages : ArePagesOf shape (part_of (contents_of table) (k * 256) 256)
   old_pages = subst (λ s. ArePages s (part_of (contents_of table) (k * 256) 256)) shape_here (is.maps.each k index_inside)

@@ -1,6 +1,6 @@
 -- A memory without maps.
-use Rattle.page_table.proofs.Base.{◌≡◌, ◌∙◌, ℕ, zero, suc, ◌+◌, ◌*◌, List, [], ◌∷◌, length, take, drop, replicate, slice_index_or, sum_by, false, Option, None, option_map, refl, sym, ap, arith, ⊎_elim, length-map, length-replicate, length-take, get_or-take, get_or-drop, get_or_past, sum_by-replicate}
-use Rattle.page_table.proofs.Words.{Options, Shape, part_of, zero_page, map-replicate, Entry, Tenant, AreLimits, new_memory, unreserved_tenant, TableState, ArePages, entry_content, contents_of, groups_of, own_pages, state_of, maps_of, used_by, new_pass, view_of, IsMemory, IsPass}
+use Rattle.page_table.proofs.Base.{◌≡◌, ◌∙◌, ℕ, zero, suc, ◌+◌, ◌*◌, List, [], ◌∷◌, take, drop, replicate, slice_index_or, sum_by, Option, None, option_map, refl, ap, arith, ⊎_elim, length-map, length-replicate, length-take, get_or-take, get_or-drop, get_or_past, sum_by-replicate, nat_tests}
+use Rattle.page_table.proofs.Words.{Options, part_of, zero_page, map-replicate, Entry, Tenant, AreLimits, new_memory, unreserved_tenant, TableState, entry_content, contents_of, groups_of, own_pages, state_of, maps_of, used_by, new_pass, view_of, IsMemory, IsPass}
 use Rattle.page_table.proofs.Changing.{own_one}
 use Rattle.page_table.proofs.Sides.{order}
 use Rattle.page_table.proofs.Putting.{empty_table, all_same}
@@ -30,40 +30,11 @@ module _ (frames tenants : ℕ) (options : Options) (limits : AreLimits frames t
   no_reserves = sum_by-replicate (λ (tenant : Tenant). tenant.reserve) tenants unreserved_tenant ∙ omega arith
 
   pub memory_new : IsMemory table (replicate (tenants * 8) None) (replicate tenants unreserved_tenant) 0
-  memory_new =
-      let long = length-replicate {A = Option Shape} (tenants * 8) None in
-      let places = ap length no_contents ∙ length-replicate {A = List ℕ} (tenants * 2048) [] in
-      let count = length-replicate tenants unreserved_tenant in
-      let arena = length-replicate frames zero_page in
-      let used = used_none in
-      record {
-        maps = record {
-          places = omega (arith, places, long);
-          each = λ k less. pages k (slice_index_or (replicate (tenants * 8) None) k None) (all_same {X = Option Shape} None (tenants * 8) k);
-        };
-        numbers = omega (arith, long, count);
-        few = omega (arith, count, limits.few_tenants);
-        frames = omega (arith, arena, limits.few_frames);
-        sum = sym no_reserves;
-        room = omega (arith, used, arena, limits.two_frames);
-      }
-    where
-      pages : (k : ℕ) (shape : Option Shape) → shape ≡ None → ArePages shape (part_of (contents_of table) (k * 256) 256)
-      pages k shape e = rw e (λ n. part_nothing (contents_of table) (k * 256) 256 n (λ i. ap (λ l. slice_index_or l i []) no_contents ∙ all_same {X = List ℕ} [] (tenants * 2048) i))
+  memory_new = grind (arith, nat_tests, length-replicate, no_contents, used_none, all_same, no_reserves, part_nothing)
 
   pub view_new : view_of table (replicate (tenants * 8) None) (replicate tenants unreserved_tenant) (new_pass frames (tenants * 2048) options) ≡ new_memory frames tenants options
   unfolding view_of groups_of new_memory
   view_new = rw (no_maps (tenants * 8) (contents_of table), map-replicate {X = Option Entry} (option_map state_of) (tenants * 2048) None, map-replicate {X = Option Entry} (option_map (λ (entry : Entry). entry.frame)) (tenants * 2048) None) refl
 
   pub pass_new : IsPass table (new_pass frames (tenants * 2048) options)
-  pass_new =
-      let long = length-replicate frames zero_page in
-      record {
-        waiters = tt;
-        room = omega (arith, long);
-        cursor = tt;
-        pins = record {
-          as_many = length-replicate (tenants * 2048) false ∙ sym (length-map (replicate (tenants * 2048) None) (option_map state_of) ∙ length-replicate {A = Option Entry} (tenants * 2048) None);
-          volatile = λ i is. absurd (let none = all_same false (tenants * 2048) i in cc);
-        };
-      }
+  pass_new = grind (arith, nat_tests, length-replicate, length-map, all_same)

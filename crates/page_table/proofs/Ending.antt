@@ -1,6 +1,6 @@
 -- A page table stays sound where the last page leaves its group and keeps the frame.
 use Rattle.page_table.proofs.Base.{◌≡◌, ◌≢◌, ◌∙◌, inl, inr, ◌⊎◌, ⊎_elim, ℕ, ◌+◌, ◌<◌, ◌≤◌, ◌==◌, not, true, false, List, [], ◌∷◌, length, map, filter, slice_index_or, slice_set, Option, Some, None, option_map, refl, sym, ap, subst, arith, map-set, set-get_or, nil_from_length, eqb_tells, nat_tests}
-use Rattle.page_table.proofs.Words.{Pass, Volatile, PageState, state_at, is_shared, broken, broken_page, without, left_by, without-length, times-gone, times-kept, some_kept, page_at, Entry, TableState, CountsState, IsTable, IsEntry, IsAlone, IsGroup, IsSound, AreCountsOf, times, one_if_zero, entry_at, state_of, states_of, contents_of, groups_of, sharing_of, is_on, places_on, pages_on, used_by}
+use Rattle.page_table.proofs.Words.{Pass, Volatile, PageState, is_shared, broken, broken_page, without, left_by, without-length, times-gone, times-kept, some_kept, page_at, Entry, TableState, CountsState, IsTable, IsAlone, IsGroup, IsSound, AreCountsOf, times, one_if_zero, entry_at, state_of, states_of, contents_of, groups_of, sharing_of, is_on, places_on, pages_on, used_by}
 use Rattle.page_table.proofs.Changing.{entry_fits, table-set, counted-changed, lies_alone, apart_alone, pages_on-changed, own_pages-changed, lies_shared}
 use Rattle.page_table.proofs.Costs.{state-at, group-frame}
 use Rattle.page_table.proofs.Entries.{times-head, times-tail, one_when, on_one, not_equal, equal, pages_on-set, some_on, inside, contents-set, group_of}
@@ -31,10 +31,7 @@ left-groups old new f i (g ∷ gs) gone stay =
 pub sharing-unbroken : (table : TableState) (pass : Pass) (i : ℕ) (entry : Entry) → IsTable table → entry_at table.entries i ≡ Some entry → entry.protected ≡ false
     → sharing_of table pass ≡ broken (sharing_of table pass) i
 unfolding broken
-sharing-unbroken table pass i entry is here own =
-    let at : state_at (sharing_of table pass) i ≡ Some (state_of entry) = state-at table pass i ∙ ap (option_map state_of) here in
-    let unshared : is_shared entry.status ≡ false = sym (IsEntry.protected (entry_fits table i entry is here)) ∙ own in
-    rw (at, unshared) refl
+sharing-unbroken table pass i entry h1 h2 h3 = grind (arith, nat_tests, state-at table pass i, entry_fits table i entry)
 
 -- the table after the last page of a group left it
 abbrev pub ended : TableState → ℕ → Entry → ℕ → TableState

@@ -1,5 +1,5 @@
 -- Entries by place: what a change of one of them changes.
-use Rattle.page_table.proofs.Base.{◌≡◌, ◌≢◌, ◌∙◌, ⊎_elim, ℕ, zero, suc, ◌+◌, ◌<◌, ◌≤◌, ◌==◌, Bool, true, false, if◌then◌else◌, List, [], ◌∷◌, length, map, option_map, slice_set, Option, Some, None, refl, sym, ap, arith, slice_index_or, get_or-set_same, get_or-set_other, length-set, map-set, sum_by-set, sum_by-cons, nat_tests, map-set_same, get_or_past, get_or-map}
+use Rattle.page_table.proofs.Base.{◌≡◌, ◌≢◌, ◌∙◌, ⊎_elim, ℕ, zero, suc, ◌+◌, ◌<◌, ◌≤◌, ◌==◌, Bool, true, false, if◌then◌else◌, List, [], ◌∷◌, length, map, option_map, slice_set, Option, Some, None, refl, ap, arith, slice_index_or, get_or-set_same, get_or-set_other, length-set, map-set, sum_by-set, sum_by-cons, nat_tests, map-set_same, get_or_past, get_or-map}
 use Rattle.page_table.proofs.Words.{is_shared, PageState, page_at, Entry, times, entry_at, frames_of, entry_content, is_on, places_on, pages_on, one_if_zero, TableState, IsTable, IsGroup, state_of, states_of}
 
 abbrev pub one_when : Bool → ℕ
@@ -21,8 +21,7 @@ equal g = grind (arith, nat_tests)
 
 -- a frame other than the zero frame has no holders but its pages
 pub one_if_zero-above : (f : ℕ) → 0 < f → one_if_zero f ≡ 0
-one_if_zero-above zero h = absurd (omega arith)
-one_if_zero-above (suc f) h = refl
+one_if_zero-above f h1 = grind (arith, nat_tests)
 
 -- how many pages lie on a frame after one entry is replaced
 pub pages_on-set : (f : ℕ) (xs : List (Option Entry)) (i : ℕ) (x : Option Entry) → i < length xs
@@ -69,8 +68,7 @@ entry_told tell (y ∷ xs) (suc i) x e = entry_told tell xs i x e
 -- one page changes, as callers see it
 pub states-set : (change : PageState → PageState) (xs : List (Option Entry)) (i : ℕ) (entry x : Entry) → entry_at xs i ≡ Some entry → state_of x ≡ change (state_of entry)
     → states_of (slice_set xs i (Some x)) ≡ slice_set (states_of xs) i (option_map change (slice_index_or (states_of xs) i None))
-states-set change xs i entry x here same =
-    map-set (option_map state_of) xs i (Some x) ∙ ap (slice_set (states_of xs) i) (ap Some same ∙ ap (option_map change) (sym (told_here state_of xs i entry here)))
+states-set change xs i entry x here same = grind (arith, nat_tests, map-set (option_map state_of) xs i (Some x), told_here state_of xs i entry here)
 
 -- a frame that is listed is a group's
 pub group_of : (table : TableState) (f : ℕ) → IsTable table → 1 ≤ times f table.groups → IsGroup table f
@@ -96,8 +94,7 @@ at_set P (y ∷ ys) (suc i) (suc j) x none here there = at_set P ys i j x none h
 
 -- the content of a page that doesn't lie on the frame which is written
 pub entry_content-kept : (arena : List (List ℕ)) (f : ℕ) (page : List ℕ) (x : Option Entry) → is_on f x ≡ false → entry_content (slice_set arena f page) x ≡ entry_content arena x
-entry_content-kept arena f page None h = refl
-entry_content-kept arena f page (Some entry) h = get_or-set_other arena f entry.frame page [] (elsewhere f entry.frame h)
+entry_content-kept arena f page x h1 = grind (arith, nat_tests, get_or-set_other, elsewhere)
 
 -- the contents of pages each of which stays
 pub contents-same : (old new : List (List ℕ)) (xs : List (Option Entry)) → ((j : ℕ) → entry_content new (entry_at xs j) ≡ entry_content old (entry_at xs j))
@@ -164,5 +161,4 @@ kept-shared xs i old x here shared j entry e own = grind (arith, get_or-set_othe
 -- a page that keeps its frame leaves all frames where they are
 pub frames-kept : (xs : List (Option Entry)) (i : ℕ) (before after : Entry) → entry_at xs i ≡ Some before → after.frame ≡ before.frame
     → frames_of (slice_set xs i (Some after)) ≡ frames_of xs
-frames-kept xs i before after here same =
-    map-set_same (option_map (λ (entry : Entry). entry.frame)) xs i (Some after) None (ap Some same ∙ ap (option_map (λ (entry : Entry). entry.frame)) (sym here))
+frames-kept xs i before after here same = grind (arith, nat_tests, map-set_same)

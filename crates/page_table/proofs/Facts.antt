@@ -1,6 +1,6 @@
 -- The law of every memory, from what holds of its table.
 use Rattle.page_table.proofs.Base.{◌≡◌, ◌≢◌, ◌∙◌, ◌⊎◌, ◌↔◌, inl, inr, ⊎_elim, ℕ, zero, suc, ◌+◌, ◌-◌, ◌*◌, ◌/◌, ◌%◌, ◌<◌, ◌≤◌, ◌==◌, Bool, true, false, not, if◌then◌else◌, List, [], ◌∷◌, length, map, sum_by, filter, All, AllPairs, slice_index_or, Option, Some, None, IsSome, IfSome, is_some, option_map, refl, sym, ap, subst, arith, list_any, range_with_len, get_or_default, length-map, sum_by-cons, length-filter, AllPairs-cons, nat_tests}
-use Rattle.page_table.proofs.Words.{Pass, Shape, Status, New, Volatile, Waiting, Grouped, Zero, Page, map_at, map_place, page_place, PinsFit, is_among, fit-own, contents_in, next_from, page_at, Entry, Tenant, MemoryState, free_of, part, bytes_of_map, TableState, CountsState, IsTable, IsEntry, IsAlone, IsGroup, IsSound, IsPageAt, AreCounts, LiesRight, maps_of, contents_of, times, one_if_zero, entry_at, state_of, states_of, frames_of, groups_of, sharing_of, is_on, pages_on, places_on, view_of, IsMemory, ReadsAs, AreGroups, AreMerged, HasPage, status_at, has_both, is_frame, free_frames}
+use Rattle.page_table.proofs.Words.{Pass, Shape, Status, Grouped, Zero, Page, map_at, page_place, PinsFit, is_among, fit-own, contents_in, next_from, page_at, Entry, Tenant, MemoryState, free_of, part, bytes_of_map, TableState, CountsState, IsTable, IsEntry, IsAlone, IsGroup, IsSound, IsPageAt, AreCounts, LiesRight, contents_of, times, one_if_zero, entry_at, state_of, states_of, frames_of, groups_of, sharing_of, is_on, pages_on, places_on, view_of, IsMemory, ReadsAs, AreGroups, AreMerged, HasPage, status_at, has_both, is_frame, free_frames}
 use Rattle.page_table.proofs.Changing.{entry_fits}
 use Rattle.page_table.proofs.Entries.{one_when, alone, inside, equal, times-head, times-tail, one_if_zero-above, times-cons, told_at, group_of, entry_told}
 use Rattle.page_table.proofs.Putting.{page_there as no_page, page_of_entry}
@@ -29,9 +29,7 @@ lies table i x is h =
     record { entry = found.0; here = found.1; on = found.2; fits = entry_fits table i found.0 is found.1 }
 
 told : (table : TableState) (pass : Pass) (i : ℕ) (status : Status) → IsTable table → status_at (sharing_of table pass) i ≡ Some status → (entry : Entry) × (entry_at table.entries i ≡ Some entry) × (entry.status ≡ status) × IsEntry table entry
-told table pass i status is h =
-    let found = entry_told (λ (entry : Entry). entry.status) table.entries i status (told_at (λ (entry : Entry). entry.status) table.entries i ∙ sym (status_is table pass i) ∙ h) in
-    (found.0, found.1, found.2, entry_fits table i found.0 is found.1)
+told table pass i status h1 h2 = grind (arith, nat_tests, status_is table pass i, entry_fits table i, entry_told, told_at)
 
 status_there : (table : TableState) (pass : Pass) (i : ℕ) (entry : Entry) (status : Status) → entry_at table.entries i ≡ Some entry → entry.status ≡ status → status_at (sharing_of table pass) i ≡ Some status
 status_there table pass i entry status e same = status_is table pass i ∙ ap (option_map (λ (entry : Entry). entry.status)) e ∙ ap Some same
@@ -42,30 +40,17 @@ Kind table entry = IsAlone table entry.frame ⊎ (((entry.status ≡ Grouped) ×
 
 kind : (table : TableState) (entry : Entry) → IsEntry table entry → Kind table entry
 unfolding Kind
-kind table entry fits = by_status entry.status refl fits.right
-  where
-    by_status : (status : Status) → entry.status ≡ status → LiesRight table entry.frame status → Kind table entry
-    by_status New e right = inl right
-    by_status Volatile e right = inl right
-    by_status Waiting e right = inl right
-    by_status Grouped e right = inr (inl (e, right))
-    by_status Zero e right = inr (inr (e, right))
+kind table entry fits = grind (arith, nat_tests, fits)
 
 -- a page on the zero frame is told to be there
 zero_status : (table : TableState) (entry : Entry) → IsTable table → IsEntry table entry → entry.frame ≡ 0 → entry.status ≡ Zero
 unfolding Kind
-zero_status table entry is fits e =
-    ⊎_elim (λ lone. absurd (omega (arith, IsAlone.above lone, e)))
-    (λ other. ⊎_elim (λ in_group. absurd (omega (arith, IsGroup.above (group_of table entry.frame is (omega (arith, in_group.1))), e))) (λ zeros. zeros.0) other)
-    (kind table entry fits)
+zero_status table entry is fits e = grind (arith, nat_tests, fits, group_of, kind)
 
 -- a page on a group's frame is told to be in a group
 grouped_status : (table : TableState) (entry : Entry) → IsTable table → IsEntry table entry → 1 ≤ times entry.frame table.groups → entry.status ≡ Grouped
 unfolding Kind
-grouped_status table entry is fits some =
-    ⊎_elim (λ lone. absurd (let none = IsAlone.no_group lone in omega (arith, none, some)))
-    (λ other. ⊎_elim (λ in_group. in_group.0) (λ zeros. absurd (let above = IsGroup.above (group_of table entry.frame is some) in omega (arith, above, zeros.1))) other)
-    (kind table entry fits)
+grouped_status table entry is fits some = grind (arith, nat_tests, fits, group_of, kind)
 
 among : (f : ℕ) (xs : List (Option Entry)) (i : ℕ) → is_among i (places_on 0 f xs) ≡ is_on f (entry_at xs i)
 among f xs i = let same : 0 + i ≡ i = omega arith in ap (λ n. is_among n (places_on 0 f xs)) (sym same) ∙ among-places 0 f xs i
@@ -196,9 +181,7 @@ module _ (table : TableState) (shapes : List (Option Shape)) (tenants : List Ten
   -- the bytes of the map that a place's page is of
   map_named : (i : ℕ) → bytes_of_map view (named i) ≡ bytes_in (map_at view.maps (i / 256))
   unfolding view_of part named
-  map_named i =
-      let place : map_place (i / 2048) (i / 256 % 8) ≡ i / 256 = omega arith in
-      ap bytes_in (map_at-part (maps_of shapes (contents_of table)) (i / 2048) (i / 256 % 8) (omega arith) ∙ ap (map_at (maps_of shapes (contents_of table))) place)
+  map_named i = grind (arith, nat_tests, map_at-part)
 
   pub bytes_of_frame : (i x : ℕ) → slice_index_or (frames_of table.entries) i None ≡ Some x → page_at table.arena x ≡ contents_in view.maps i
   bytes_of_frame i x h =

@@ -1,7 +1,6 @@
 -- How many pages are pinned, where one is pinned more, and where those of a map aren't any more.
-use Rattle.page_table.proofs.Base.{◌≡◌, ◌≢◌, ◌∙◌, ⊎_elim, ℕ, ◌+◌, ◌-◌, ◌*◌, ◌/◌, ◌%◌, ◌<◌, ◌≤◌, Bool, true, false, if◌then◌else◌, List, [], ◌∷◌, ◌++◌, length, take, drop, replicate, slice_index_or, slice_set, refl, sym, ap, subst, arith, get_or-set_same, get_or-set_other, length-set, length-replicate, take-replicate, drop-replicate, get_or-replicate, get_or-take, get_or-drop, ext_get_or, take-append_seam, sum_by-cons, sum_by-set, sum_by-replicate, nat_tests}
+use Rattle.page_table.proofs.Base.{◌≡◌, ◌≢◌, ◌∙◌, ℕ, ◌+◌, ◌-◌, ◌*◌, ◌/◌, ◌%◌, ◌<◌, ◌≤◌, Bool, true, false, if◌then◌else◌, List, [], ◌∷◌, ◌++◌, length, take, drop, replicate, slice_index_or, slice_set, refl, sym, ap, subst, arith, get_or-set_same, get_or-set_other, length-set, length-replicate, take-replicate, drop-replicate, get_or-replicate, get_or-take, get_or-drop, ext_get_or, take-append_seam, sum_by-cons, sum_by-set, sum_by-replicate, nat_tests}
 use Rattle.page_table.proofs.Words.{part_of, with_part, length-part_of, length-with_part, part-with_part_same, with_part-same, pinned_among, ArePinsOf}
-use Rattle.page_table.proofs.Sides.{is_same}
 use Rattle.page_table.proofs.Creating.{others-filled, filled_at}
 use Rattle.page_table.proofs.Maps.{part_of-set_same, part_of-set_other}
 
@@ -24,15 +23,8 @@ all-false (false ∷ pins) none = let split = sum_by-cons one_if false pins in a
 
 -- what is filled behind a filled part is a longer part
 filled-behind : (pins : List Bool) (at n m : ℕ) → at + n + m ≤ length pins → with_part (with_part pins at (replicate n false)) (at + n) (replicate m false) ≡ with_part pins at (replicate (n + m) false)
-filled-behind pins at n m inside =
-    let one = length-replicate n false in
-    let more = length-replicate m false in
-    let both = length-replicate (n + m) false in
-    let short = length-with_part pins at (replicate n false) (omega (arith, one, inside)) in
-    let twice = length-with_part (with_part pins at (replicate n false)) (at + n) (replicate m false) (omega (arith, more, short, inside)) in
-    let once = length-with_part pins at (replicate (n + m) false) (omega (arith, both, inside)) in
-    ext_get_or false _ _ (omega (arith, short, twice, once))
-    (λ i less. grind (arith, nat_tests, filled_at (with_part pins at (replicate n false)) (at + n) m i false false, filled_at pins at n i false false, filled_at pins at (n + m) i false false, short))
+filled-behind pins at n m h1 =
+    grind (arith, nat_tests, length-replicate n false, length-replicate m false, length-replicate (n + m) false, length-with_part pins at (replicate n false), length-with_part (with_part pins at (replicate n false)) (at + n) (replicate m false), length-with_part pins at (replicate (n + m) false), ext_get_or false, filled_at (with_part pins at (replicate n false)) (at + n) m, filled_at pins at n, filled_at pins at (n + m))
 
 -- the memory without a map
 pub pins-new : (maps : ℕ) → ArePinsOf (replicate (maps * 256) false) (replicate maps 0)
@@ -55,20 +47,12 @@ pins-new maps =
 -- the pins of one map changed, and its number with them
 pins-changed : (pins now : List Bool) (numbers : List ℕ) (k n : ℕ) → ArePinsOf pins numbers → k < length numbers → length now ≡ length pins
     → ((j : ℕ) → j ≢ k → part_of now (j * 256) 256 ≡ part_of pins (j * 256) 256) → n ≡ pinned_among (part_of now (k * 256) 256) → ArePinsOf now (slice_set numbers k n)
-pins-changed pins now numbers k n are inside long others here = record {
-  maps = omega (arith, long, are.maps, length-set numbers k n);
-  each = λ j less. ⊎_elim
-      (λ same. ap (λ (i : ℕ). slice_index_or (slice_set numbers k n) i 0) same ∙ get_or-set_same numbers k n 0 inside ∙ here ∙ ap (λ (i : ℕ). pinned_among (part_of now (i * 256) 256)) (sym same))
-      (λ other. get_or-set_other numbers k j n 0 other ∙ are.each j (omega (arith, less, length-set numbers k n)) ∙ sym (ap pinned_among (others j other)))
-      (is_same j k);
-}
+pins-changed pins now numbers k n are inside long others here = grind (arith, nat_tests, length-set, get_or-set_same, get_or-set_other)
 
 module _ (pins : List Bool) (numbers : List ℕ) (are : ArePinsOf pins numbers) where
   -- a map's number is no more than that of its pages
   pub number-small : (k : ℕ) → k < length numbers → slice_index_or numbers k 0 ≤ 256
-  number-small k less =
-      let few = few-pinned (part_of pins (k * 256) 256) in
-      omega (arith, few, length-part_of pins (k * 256) 256 (omega (arith, are.maps, less)), are.each k less)
+  number-small k h1 = grind (arith, nat_tests, few-pinned, length-part_of)
 
   pub map-inside : (k : ℕ) → k * 256 < length pins → k < length numbers
   map-inside k less = omega (arith, are.maps, less)
@@ -131,14 +115,8 @@ module _ (pins : List Bool) (numbers : List ℕ) (are : ArePinsOf pins numbers) 
 -- another map more has no pinned pages
 pub filled-more : (pins : List Bool) (first n : ℕ) → first * 256 + n * 256 + 256 ≤ length pins
     → with_part (with_part pins (first * 256) (replicate (n * 256) false)) ((first + n) * 256) (replicate 256 false) ≡ with_part pins (first * 256) (replicate ((n + 1) * 256) false)
-filled-more pins first n inside =
-    let at : (first + n) * 256 ≡ first * 256 + n * 256 = omega arith in
-    let more : n * 256 + 256 ≡ (n + 1) * 256 = omega arith in
-    ap (λ (i : ℕ). with_part (with_part pins (first * 256) (replicate (n * 256) false)) i (replicate 256 false)) at
-    ∙ filled-behind pins (first * 256) (n * 256) 256 inside
-    ∙ ap (λ (m : ℕ). with_part pins (first * 256) (replicate m false)) more
+filled-more pins first n h1 = grind (arith, nat_tests, filled-behind pins (first * 256) (n * 256) 256)
 
 -- a list that was written back whole
 pub written-back : (new old : List Bool) (n : ℕ) → length new ≡ length old → n ≡ length old → take n (new ++ drop (length new) old) ≡ new
-written-back new old n long e =
-    ap (λ (m : ℕ). take m (new ++ drop (length new) old)) (e ∙ sym long) ∙ take-append_seam new (drop (length new) old)
+written-back new old n long e = grind (arith, nat_tests, take-append_seam)

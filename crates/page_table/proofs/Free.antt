@@ -1,6 +1,6 @@
 -- The frames that are free, by the formula of the counters.
-use Rattle.page_table.proofs.Base.{◌≡◌, ◌+◌, ◌≤◌, List, [], ◌∷◌, length, sum_by, Option, option_map, refl, arith, length-map, sum_by-cons}
-use Rattle.page_table.proofs.Words.{Pass, Shape, own_frame, frames_free, Entry, Tenant, free_of, TableState, states_of, state_of, groups_of, own_pages, places_on, used_by, view_of}
+use Rattle.page_table.proofs.Base.{◌≡◌, ◌+◌, ◌≤◌, List, [], ◌∷◌, length, sum_by, Option, option_map, refl, arith, length-map, sum_by-cons, nat_tests}
+use Rattle.page_table.proofs.Words.{Pass, Shape, own_frame, frames_free, Entry, Tenant, free_of, TableState, states_of, state_of, groups_of, own_pages, used_by, view_of}
 use Rattle.page_table.proofs.Changing.{own_one}
 
 own_of_states : (entries : List (Option Entry)) → sum_by own_frame (states_of entries) ≡ sum_by own_one entries
@@ -11,5 +11,4 @@ own_of_states (x ∷ xs) =
 pub free_is : (table : TableState) (shapes : List (Option Shape)) (tenants : List Tenant) (pass : Pass) → used_by table ≤ length table.arena
     → free_of (view_of table shapes tenants pass) + used_by table ≡ length table.arena
 unfolding view_of frames_free groups_of own_pages
-free_is table shapes tenants pass fits =
-    omega (arith, length-map table.groups (λ f. places_on 0 f table.entries), own_of_states table.entries, fits)
+free_is table shapes tenants pass fits = grind (arith, nat_tests, length-map, own_of_states)

@@ -44,11 +44,7 @@ has_company i group = is_among i group && nat_lt 1 (length group)
 
 company-at : (xs : List (Option Entry)) (i : ℕ) (entry : Entry) (g : ℕ) → entry_at xs i ≡ Some entry
     → has_company i (places_on 0 g xs) ≡ ((entry.frame == g) && nat_lt 1 (pages_on g xs))
-company-at xs i entry g here =
-    let start : i ≡ 0 + i = omega arith in
-    let among : is_among i (places_on 0 g xs) ≡ (entry.frame == g) = ap (λ (n : ℕ). is_among n (places_on 0 g xs)) start ∙ among-places 0 g xs i ∙ ap (is_on g) here in
-    let long = length-places 0 g xs in
-    ap (λ b. b && nat_lt 1 (length (places_on 0 g xs))) among ∙ ap (λ (n : ℕ). (entry.frame == g) && nat_lt 1 n) long
+company-at xs i entry g h1 = grind (arith, nat_tests, among-places 0 g xs i, length-places 0 g xs)
 
 -- a page in no group has no company
 company-none : (xs : List (Option Entry)) (groups : List ℕ) (i : ℕ) (entry : Entry) → entry_at xs i ≡ Some entry → times entry.frame groups ≡ 0

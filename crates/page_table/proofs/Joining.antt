@@ -1,9 +1,9 @@
 -- A page moves to the frame of a group of its bytes.
-use Rattle.page_table.proofs.Base.{◌≡◌, ◌∙◌, ℕ, suc, ◌<◌, ◌≤◌, ◌==◌, Bool, true, false, List, [], ◌∷◌, length, map, slice_index_or, slice_set, Option, Some, None, IfSome, option_map, refl, sym, ap, arith, sum_by-cons, nat_tests}
-use Rattle.page_table.proofs.Words.{Grouped, with_status, page_at, Entry, TableState, IsOwnAt, IsTable, IsEntry, times, entry_at, contents_of, groups_of, states_of, is_on, places_on, pages_on, joined_on}
-use Rattle.page_table.proofs.Entries.{on_one, not_equal, inside, places_on-set, groups-each, group_of, states-set}
+use Rattle.page_table.proofs.Base.{◌≡◌, ◌∙◌, ℕ, suc, ◌<◌, ◌≤◌, ◌==◌, Bool, true, false, List, [], ◌∷◌, length, map, slice_index_or, slice_set, Option, Some, None, option_map, refl, ap, arith, sum_by-cons, nat_tests}
+use Rattle.page_table.proofs.Words.{Grouped, with_status, page_at, Entry, TableState, IsOwnAt, IsTable, times, entry_at, contents_of, groups_of, states_of, is_on, places_on, pages_on, joined_on}
+use Rattle.page_table.proofs.Entries.{on_one, not_equal, inside, places_on-set, groups-each, states-set}
 use Rattle.page_table.proofs.Pairing.{IsGroupEntry, joined-here}
-use Rattle.page_table.proofs.Moving.{IsMove, with_entry, lone, move-merged}
+use Rattle.page_table.proofs.Moving.{IsMove, with_entry, move-merged}
 
 -- a page on a frame
 pub page-on : (f : ℕ) (xs : List (Option Entry)) → 1 ≤ pages_on f xs → (i : ℕ) × (is_on f (entry_at xs i) ≡ true)
@@ -16,29 +16,18 @@ page-on f (x ∷ xs) h = by_head (is_on f x) refl (page-on f xs)
     by_head false e rest = let found = rest (grind (arith, sum_by-cons (on_one f) x xs)) in (suc found.0, found.1)
 
 pub group-inside : (table : TableState) (f : ℕ) → IsTable table → 1 ≤ times f table.groups → f < length table.arena
-group-inside table f is some = by_entry (page-on f table.entries (group_of table f is some).some)
-  where
-    by_entry : ((i : ℕ) × (is_on f (entry_at table.entries i) ≡ true)) → f < length table.arena
-    by_entry found = of_entry (entry_at table.entries found.0) found.1 (is.entries found.0)
-      where
-        of_entry : (x : Option Entry) → is_on f x ≡ true → IfSome x (IsEntry table) → f < length table.arena
-        of_entry None on fits = absurd (cc)
-        of_entry (Some entry) on fits = let same : entry.frame ≡ f = grind (arith, nat_tests) in let frame = fits.frame in omega (arith, same, frame)
+group-inside table f h1 h2 = grind (arith, nat_tests, page-on f table.entries)
 
 -- a page may move to the frame of a group of its bytes
 pub move-joined : (table now : TableState) (i : ℕ) (entry x : Entry) (f : ℕ) → table ≡ now → IsTable table → entry_at now.entries i ≡ Some entry → IsOwnAt now i
     → 1 ≤ times f now.groups → slice_index_or (contents_of now) i [] ≡ page_at now.arena f → IsGroupEntry entry x f → IsMove table i entry x
-move-joined table now i entry x f e is there own some same to =
-    let has : 1 ≤ times f table.groups = rw e some in
-    move-merged table now i entry x f Grouped e is there own (same ∙ ap (λ (t : TableState). page_at t.arena f) (sym e)) (group-inside table f is has) (group_of table f is has).once refl to
+move-joined table now i entry x f h1 h2 h3 h4 h5 h6 h7 = grind (arith, nat_tests, move-merged table now i entry x f Grouped, group-inside table f)
 
 module _ (table : TableState) (i : ℕ) (entry x : Entry) (f : ℕ) (move : IsMove table i entry x) (to : IsGroupEntry entry x f) where
   open move use {is, here}
 
   not_own : (g : ℕ) → 1 ≤ times g table.groups → (entry.frame == g) ≡ false
-  not_own g some =
-      let none = (lone table i entry x move).no_group in
-      not_equal g entry.frame (λ e. let also : times g table.groups ≡ 0 = ap (λ n. times n table.groups) (sym e) ∙ none in omega (arith, also, some))
+  not_own g h1 = grind (arith, nat_tests, not_equal g)
 
   pub groups-joined : groups_of (with_entry table i x) ≡ map (joined_on table i f) table.groups
   unfolding groups_of

@@ -1,6 +1,6 @@
 -- A page table stays sound where a page leaves a frame on which others lie.
 use Rattle.page_table.proofs.Base.{◌≡◌, ◌≢◌, ◌∙◌, ℕ, ◌+◌, ◌-◌, ◌<◌, ◌≤◌, ◌==◌, true, false, if◌then◌else◌, List, [], ◌∷◌, length, map, slice_index_or, slice_set, Option, Some, option_map, refl, sym, ap, subst, arith, get_or-set_same, get_or-set_other, set-get_or, length-set, map-set, nat_tests}
-use Rattle.page_table.proofs.Words.{Pass, broken, broken_page, is_shared, left_by, without, state_at, page_at, Entry, TableState, CountsState, IsTable, IsEntry, IsGroup, IsSound, AreCountsOf, times, one_if_zero, entry_at, state_of, states_of, contents_of, groups_of, sharing_of, is_on, places_on, pages_on, used_by}
+use Rattle.page_table.proofs.Words.{Pass, broken, broken_page, is_shared, left_by, without, page_at, Entry, TableState, CountsState, IsTable, IsEntry, IsGroup, IsSound, AreCountsOf, times, one_if_zero, entry_at, state_of, states_of, contents_of, groups_of, sharing_of, is_on, places_on, pages_on, used_by}
 use Rattle.page_table.proofs.Changing.{entry_fits, table-changed, counted-changed, lies_alone, apart_alone, pages_on-changed, own_pages-changed}
 use Rattle.page_table.proofs.Entries.{not_equal, equal, none_on, inside, entry_content-kept, contents-set, pages-set, times-head, times-tail, one_if_zero-above, group_of, told_here, counts-set}
 use Rattle.page_table.proofs.Adding.{IsUnused, unused_apart}
@@ -29,9 +29,7 @@ pub sharing-broken : (old new : TableState) (i : ℕ) (entry : Entry) → entry_
     → groups_of new ≡ left_by i (groups_of old)
     → (pass : Pass) → sharing_of new pass ≡ broken (sharing_of old pass) i
 unfolding broken
-sharing-broken old new i entry here shared states groups pass =
-    let at : state_at (sharing_of old pass) i ≡ Some (state_of entry) = told_here state_of old.entries i entry here in
-    rw (at, shared, states, groups) refl
+sharing-broken old new i entry h1 h2 h3 h4 pass = grind (arith, nat_tests, told_here state_of old.entries i entry)
 
 -- the table where the page at a place lies on a frame of its own, with a copy
 abbrev pub left : TableState → ℕ → Entry → Entry → TableState

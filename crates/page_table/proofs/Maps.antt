@@ -1,5 +1,5 @@
 -- Maps as flat bytes, out of the contents of their pages.
-use Rattle.page_table.proofs.Base.{◌≡◌, ◌≢◌, ◌∙◌, ⊎_elim, ℕ, zero, suc, ◌+◌, ◌-◌, ◌*◌, ◌<◌, ◌≤◌, List, [], ◌∷◌, ◌++◌, length, take, drop, replicate, slice_index_or, slice_set, Option, None, option_map, refl, sym, ap, subst, arith, append_assoc, concat, get_or-set_same, get_or-set_other, length-set, ext_get_or, length-take-le, drop_at, take_at, append-nil, drop-append-le, take-append-le, drop-drop, take-append-drop, take-replicate, drop-set-lt, drop-set-add, take-set-le, take-set-lt, take-append-add, eqb_tells, nat_tests}
+use Rattle.page_table.proofs.Base.{◌≡◌, ◌≢◌, ◌∙◌, ⊎_elim, ℕ, zero, suc, ◌+◌, ◌-◌, ◌*◌, ◌<◌, ◌≤◌, List, [], ◌∷◌, ◌++◌, length, take, drop, replicate, slice_index_or, slice_set, Option, None, option_map, refl, sym, ap, arith, append_assoc, concat, get_or-set_same, get_or-set_other, length-set, ext_get_or, length-take-le, drop_at, take_at, append-nil, drop-append-le, take-append-le, drop-drop, take-append-drop, take-replicate, drop-set-lt, drop-set-add, take-set-le, take-set-lt, take-append-add, eqb_tells, nat_tests}
 use Rattle.page_table.proofs.Words.{Shape, part_of, with_part, FlatMap, page_bytes, byte_len_of, part_of-drop, part_of-first, with_part-append, page_count, maps_of, flat_of, ArePages, ArePagesOf, AreMaps}
 use Rattle.std.proofs.Common.{length-append, length-drop}
 use Rattle.page_table.proofs.Sides.{apart_order}
@@ -60,22 +60,8 @@ pub maps_of-changed : (old new : List (Option Shape)) (before after : List (List
     → ((j : ℕ) → j ≢ k → part_of after (j * 256) 256 ≡ part_of before (j * 256) 256)
     → option_map (flat_of (part_of after (k * 256) 256)) (slice_index_or new k None) ≡ flat
     → maps_of new after ≡ slice_set (maps_of old before) k flat
-maps_of-changed old new before after k flat long inside shapes pages here =
-    let same : length (maps_of new after) ≡ length (slice_set (maps_of old before) k flat) =
-    length-maps_of new after ∙ long ∙ sym (length-set (maps_of old before) k flat ∙ length-maps_of old before) in
-    ext_get_or None (maps_of new after) (slice_set (maps_of old before) k flat) same
-    (λ i less. grind (
-      arith,
-      nat_tests,
-      map_at-maps_of new after i,
-      map_at-maps_of old before i,
-      length-maps_of old before,
-      get_or-set_same (maps_of old before) k flat None,
-      get_or-set_other (maps_of old before) k i flat None,
-      shapes i,
-      pages i,
-      here,
-    ))
+maps_of-changed old new before after k flat h1 h2 h3 h4 h5 =
+    grind (arith, nat_tests, length-maps_of new after, length-set (maps_of old before) k flat, length-maps_of old before, ext_get_or None (maps_of new after) (slice_set (maps_of old before) k flat), map_at-maps_of new after, map_at-maps_of old before, get_or-set_same (maps_of old before) k flat None, get_or-set_other (maps_of old before) k)
 
 -- the maps stay right where one of them changes
 pub AreMaps-changed : (old new : List (Option Shape)) (before after : List (List ℕ)) (k : ℕ) → length new ≡ length old → length after ≡ length before
@@ -83,14 +69,7 @@ pub AreMaps-changed : (old new : List (Option Shape)) (before after : List (List
     → ((j : ℕ) → j ≢ k → part_of after (j * 256) 256 ≡ part_of before (j * 256) 256)
     → ArePages (slice_index_or new k None) (part_of after (k * 256) 256)
     → AreMaps old before → AreMaps new after
-AreMaps-changed old new before after k long wide shapes pages here are =
-    record {
-      places = wide ∙ are.places ∙ ap (λ (n : ℕ). n * 256) (sym long);
-      each = λ i less. ⊎_elim
-          (λ e. subst (λ (n : ℕ). ArePages (slice_index_or new n None) (part_of after (n * 256) 256)) (sym e.1) here)
-          (λ ne. rw (shapes i ne.1, pages i ne.1) (are.each i (omega (arith, less, long))))
-          (eqb_tells i k);
-    }
+AreMaps-changed old new before after k long wide shapes pages here are = grind (arith, nat_tests, eqb_tells)
 
 -- the bytes of pages one after another
 

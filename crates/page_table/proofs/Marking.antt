@@ -1,5 +1,5 @@
 -- A page that keeps its own frame gets another status and fingerprint.
-use Rattle.page_table.proofs.Base.{◌≡◌, ◌∙◌, ℕ, ◌<◌, false, length, slice_set, Some, refl, sym, ap, arith}
+use Rattle.page_table.proofs.Base.{◌≡◌, ◌∙◌, ℕ, ◌<◌, false, length, slice_set, Some, refl, sym, ap, arith, nat_tests}
 use Rattle.page_table.proofs.Words.{Status, is_shared, with_page, Entry, Pass, TableState, CountsState, IsOwnAt, IsTable, IsSound, AreCountsOf, entry_at, contents_of, groups_of, sharing_of, is_on, pages_on, used_by, marked}
 use Rattle.page_table.proofs.Changing.{is_alone, entry_fits, table-changed, counted-changed, lies_alone, own_seen, pages_on-changed, own_pages-changed}
 use Rattle.page_table.proofs.Entries.{inside, places_on-set, groups-kept, states-set}
@@ -49,10 +49,7 @@ module _ (table : TableState) (i : ℕ) (entry : Entry) (status : Status) (last 
   groups-marked = groups-kept table.entries (with_entry table i x).entries table.groups (λ g le. places_on-set 0 g table.entries i (Some x) (on-marked g))
 
   pub sharing-marked : (pass : Pass) → sharing_of (with_entry table i x) pass ≡ with_page (sharing_of table pass) i (marked status last)
-  sharing-marked pass =
-      let pages = states-set (marked status last) table.entries i entry x here refl in
-      let groups = groups-marked in
-      cc
+  sharing-marked pass = grind (arith, nat_tests, states-set, here, groups-marked)
 
   IsTable-marked : IsTable (with_entry table i x)
   IsTable-marked =

@@ -1,5 +1,5 @@
 -- What a memory tells after pages came to share frames, or left shared ones: the bytes of each page stay.
-use Rattle.page_table.proofs.Base.{◌≡◌, ◌≢◌, ℕ, zero, suc, ◌+◌, ◌*◌, ◌<◌, ◌≤◌, List, [], ◌∷◌, length, slice_index_or, Option, Some, None, IfSome, true, false, refl, sym, ap, subst, arith, Bool}
+use Rattle.page_table.proofs.Base.{◌≡◌, ◌≢◌, ℕ, zero, suc, ◌+◌, ◌*◌, ◌<◌, ◌≤◌, List, [], ◌∷◌, length, slice_index_or, Option, Some, None, IfSome, true, false, refl, sym, ap, subst, arith, Bool, nat_tests}
 use Rattle.page_table.proofs.Words.{Pass, Shape, Page, part_of, map_place, page_place, PageState, state_at, is_shared, break_cost, Sharing, Entry, Tenant, MemoryState, part, free_of, have_of, IsPageOf, IsOwn, MayMerge, AreKept, IsKeptBut, KeepsSettings, with_pins, TableState, IsOwnAt, AreMaps, entry_at, state_of, states_of, contents_of, maps_of, sharing_of, used_by, break_frames, view_of, IsMemory}
 use Rattle.page_table.proofs.Reading.{page_located, page_number, few_pages}
 use Rattle.page_table.proofs.Free.{free_is}
@@ -60,8 +60,7 @@ module _ (table new : TableState) (shapes : List (Option Shape)) (tenants : List
   -- the same of what callers saw before
   pub moves : (seen : MemoryState) → before ≡ seen → (taken given reserved : ℕ) → IsMemory table shapes tenants reserved → reserved + used_by new ≤ length table.arena
       → used_by new + given ≡ used_by table + taken → Moves seen after pass.pins now.pins (sharing_of table pass) (sharing_of new now) taken given
-  moves seen same taken given reserved is room used =
-      subst (λ (s : MemoryState). Moves s after pass.pins now.pins (sharing_of table pass) (sharing_of new now) taken given) same (moves_told taken given reserved is room used)
+  moves seen same taken given reserved is room used = grind (arith, nat_tests, moves_told taken given reserved is room used)
 
 -- how many frames the break of a page takes, as callers see it
 module _ (table : TableState) (shapes : List (Option Shape)) (tenants : List Tenant) (pass : Pass) (costs : (pass : Pass) (i : ℕ) → break_cost (sharing_of table pass) i ≡ break_frames table i) where
@@ -97,8 +96,7 @@ own_told table shapes tenants pass page own = state_of_entry (λ state. is_share
 
 -- what may be merged has a frame of its own
 may_own : (x : Option PageState) → IfSome x (λ state. (state.mergeable ≡ true) × (is_shared state.status ≡ false)) → IfSome x (λ state. is_shared state.status ≡ false)
-may_own None h = tt
-may_own (Some state) h = h.1
+may_own x h1 = grind (arith, nat_tests)
 
 pub may_is_own : (memory : MemoryState) (page : Page) → MayMerge memory page → IsOwn memory page
 may_is_own memory page may = may_own (state_at memory.sharing (page_place page)) may.0

@@ -1,5 +1,5 @@
 -- A page with a frame of its own moves to a shared frame of the same bytes, and its old frame is unused then.
-use Rattle.page_table.proofs.Base.{◌≡◌, ◌≢◌, ◌∙◌, ℕ, zero, suc, ◌+◌, ◌-◌, ◌<◌, ◌≤◌, ◌==◌, true, false, List, [], ◌∷◌, length, slice_index_or, slice_set, Option, Some, refl, sym, ap, subst, arith, ⊎_elim, get_or-set_other, length-set, set-get_or, sum_by-cons, nat_tests}
+use Rattle.page_table.proofs.Base.{◌≡◌, ◌≢◌, ◌∙◌, ℕ, zero, ◌+◌, ◌-◌, ◌<◌, ◌≤◌, ◌==◌, true, false, List, [], ◌∷◌, length, slice_index_or, slice_set, Option, Some, refl, sym, ap, subst, arith, get_or-set_other, length-set, set-get_or, sum_by-cons, nat_tests}
 use Rattle.page_table.proofs.Words.{Status, is_shared, with_status, page_at, Entry, TableState, CountsState, IsTable, IsEntry, IsAlone, IsSound, AreCountsOf, LiesRight, times, one_if_zero, entry_at, contents_of, pages_on, used_by, IsOwnAt, state_of}
 use Rattle.page_table.proofs.Changing.{is_alone, entry_fits, table-changed, counted-changed, apart_alone, fits-after, own_seen, pages_on-changed, own_pages-changed, lies_shared}
 use Rattle.page_table.proofs.Entries.{one_when, on_one, inside, contents-set, one_if_zero-above, counts-set}
@@ -25,8 +25,7 @@ pages_on-le f [] = omega arith
 pages_on-le f (x ∷ xs) = grind (arith, sum_by-cons (on_one f) x xs, pages_on-le f xs)
 
 one_holder : (f : ℕ) → one_if_zero f ≤ 1
-one_holder zero = omega arith
-one_holder (suc f) = omega arith
+one_holder f = grind (arith, nat_tests)
 
 -- The page at a place has its own frame, and another entry puts it on a shared frame of the same bytes.
 pub record IsMove (table : TableState) (i : ℕ) (entry x : Entry) : Type 0 where
@@ -74,8 +73,7 @@ module _ (table : TableState) (i : ℕ) (entry x : Entry) (move : IsMove table i
 
   -- the new frame is no page's own
   not_alone : IsAlone table x.frame → ⊥
-  not_alone a =
-      ⊎_elim (λ once. let none = a.no_group in omega (arith, none, once)) (λ zero. let above = a.above in omega (arith, above, zero)) (lies_shared table x.frame x.status shared fits.right)
+  not_alone a = grind (arith, nat_tests, lies_shared, shared)
 
   pub apart : x.frame ≢ entry.frame
   apart e = not_alone (subst (IsAlone table) (sym e) lone)
@@ -109,9 +107,7 @@ module _ (table : TableState) (i : ℕ) (entry x : Entry) (move : IsMove table i
 
   -- one holds the page's own frame
   pub single : (counts : CountsState) → AreCountsOf table counts → slice_index_or counts.counts entry.frame 0 ≡ 1
-  single counts counted =
-      let known = counted.counted entry.frame (entry_fits table i entry is here).frame in
-      omega (arith, known, one_if_zero-above entry.frame lone.above, lone.one)
+  single counts h1 = grind (arith, nat_tests, one_if_zero-above)
 
   -- fewer pages lie on the new frame than there are places
   pub few : (counts : CountsState) → AreCountsOf table counts → slice_index_or counts.counts x.frame 0 ≤ 32768
@@ -123,10 +119,7 @@ module _ (table : TableState) (i : ℕ) (entry x : Entry) (move : IsMove table i
   -- one holds it after another frame is shared, too
   pub still_single : (old mid : CountsState) → AreCountsOf table old → mid.counts ≡ slice_set old.counts x.frame (slice_index_or old.counts x.frame 0 + 1)
       → slice_index_or mid.counts entry.frame 0 ≡ 1
-  still_single old mid counted share =
-      ap (λ (l : List ℕ). slice_index_or l entry.frame 0) share
-      ∙ get_or-set_other old.counts x.frame entry.frame (slice_index_or old.counts x.frame 0 + 1) 0 (λ e. apart (sym e))
-      ∙ single old counted
+  still_single old mid h1 h2 = grind (arith, nat_tests, get_or-set_other old.counts, single old, apart)
 
   pub counted-moved : (old mid new : CountsState) → AreCountsOf table old
       → mid.counts ≡ slice_set old.counts x.frame (slice_index_or old.counts x.frame 0 + 1) → mid.unused ≡ old.unused
@@ -134,17 +127,7 @@ module _ (table : TableState) (i : ℕ) (entry x : Entry) (move : IsMove table i
       → length new.unused ≡ length mid.unused + one_if_zero (slice_index_or mid.counts entry.frame 0 - 1)
       → AreCountsOf (with_entry table i x) new
   counted-moved old mid new counted share kept release left =
-      let sized : length mid.counts ≡ length old.counts = ap length share ∙ length-set old.counts x.frame (slice_index_or old.counts x.frame 0 + 1) in
-      let held : slice_index_or mid.counts entry.frame 0 ≡ 1 = still_single old mid counted share in
-      let last : one_if_zero (slice_index_or mid.counts entry.frame 0 - 1) ≡ 1 = ap (λ n. one_if_zero (n - 1)) held in
-      counted-changed table (with_entry table i x) old new counted refl
-      (ap length release ∙ length-set mid.counts entry.frame (slice_index_or mid.counts entry.frame 0 - 1) ∙ sized)
-      (let used = used-moved in omega (arith, used, ap length kept, last, left))
-      (λ g h.
-      let more = ap (λ (l : List ℕ). slice_index_or l g 0) share ∙ counts-set old.counts x.frame (slice_index_or old.counts x.frame 0 + 1) g (omega (arith, counted.sized, fits.frame)) in
-      let less = ap (λ (l : List ℕ). slice_index_or l g 0) release
-      ∙ counts-set mid.counts entry.frame (slice_index_or mid.counts entry.frame 0 - 1) g (omega (arith, sized, counted.sized, (entry_fits table i entry is here).frame)) in
-      grind (arith, nat_tests, more, less, held, pages_on-moved g))
+      grind (arith, nat_tests, length-set, still_single, counted-changed, used-moved, counts-set, pages_on-moved)
 
   pub sound-moved : (old mid new : CountsState) → AreCountsOf table old
       → mid.counts ≡ slice_set old.counts x.frame (slice_index_or old.counts x.frame 0 + 1) → mid.unused ≡ old.unused

@@ -1,5 +1,5 @@
 -- The next page that may be merged: pages are passed over, and one is found.
-use Rattle.page_table.proofs.Base.{◌≡◌, ◌∙◌, inl, inr, ◌⊎◌, ℕ, zero, suc, ◌+◌, ◌-◌, ◌<◌, ◌≤◌, Bool, true, false, if◌then◌else◌, List, [], ◌∷◌, drop, length, slice_index_or, Option, Some, None, refl, sym, ap, arith, get_or-drop, length-drop}
+use Rattle.page_table.proofs.Base.{◌≡◌, ◌∙◌, inl, inr, ◌⊎◌, ℕ, zero, suc, ◌+◌, ◌-◌, ◌<◌, ◌≤◌, Bool, true, false, if◌then◌else◌, List, [], ◌∷◌, drop, length, slice_index_or, Option, Some, None, refl, sym, ap, arith, get_or-drop, length-drop, nat_tests}
 use Rattle.page_table.proofs.Words.{PageState, is_mergeable, first_mergeable, next-after, next-none}
 use Rattle.page_table.proofs.Sides.{order}
 
@@ -18,9 +18,7 @@ over pages n (suc d) apart =
 -- pages that may not be merged are passed over
 pub next-over : (pages : List (Option PageState)) (n m : ℕ) → n ≤ m → ((i : ℕ) → n ≤ i → i < m → is_mergeable (slice_index_or pages i None) ≡ false)
     → first_mergeable n (drop n pages) ≡ first_mergeable m (drop m pages)
-next-over pages n m le apart =
-    let more : n + (m - n) ≡ m = omega (arith, le) in
-    over pages n (m - n) (λ i from to. apart i from (omega (arith, to, more))) ∙ ap (λ (k : ℕ). first_mergeable k (drop k pages)) more
+next-over pages n m h1 h2 = grind (arith, nat_tests, over pages n (m - n))
 
 -- a page that was found
 pub record IsNext (pages : List (Option PageState)) (from i : ℕ) : Type 0 where

@@ -28,8 +28,7 @@ times-none b = refl
 
 times-last : (b : List ℕ) (xs : List (List ℕ)) (x : List ℕ) → times_among b (xs ++ x ∷ []) ≡ times_among b xs + one_when (bytes_eq x b)
 unfolding times_among
-times-last b xs x =
-    omega (arith, sum_by-append (λ (other : List ℕ). if bytes_eq other b then 1 else 0) xs (x ∷ []), times-cons b x [], times-none b)
+times-last b xs x = grind (arith, nat_tests, sum_by-append, times-cons, times-none)
 
 times-gone : (c : List ℕ) (xs : List (List ℕ)) → times_among c (out c xs) ≡ 0
 times-gone c [] = times-none c
@@ -97,9 +96,7 @@ module _ (arena : List (List ℕ)) where
 
   has-split : (b chain : List ℕ) (chains : List (List ℕ)) → IsChain arena chain
       → length (filter (has arena b) (chain ++ concat chains)) ≡ length (if bytes_eq (content arena chain) b then chain else []) + length (filter (has arena b) (concat chains))
-  has-split b chain chains is =
-      ap length (filter-append (has arena b) chain (concat chains) ∙ ap (λ (l : List ℕ). l ++ filter (has arena b) (concat chains)) (filter-chain arena b chain is))
-      ∙ length-append (if bytes_eq (content arena chain) b then chain else []) (filter (has arena b) (concat chains))
+  has-split b chain chains h1 = grind (arith, nat_tests, filter-append, filter-chain, length-append, content)
 
   -- the numbers of contents that occur twice or more are those of the chains
   pub nodes-told : (chains all : List (List ℕ)) → All (IsChain arena) chains → AllPairs (λ c d. order (content arena c) (content arena d) ≡ Less) chains

@@ -214,11 +214,7 @@ module _ (table : TableState) (i j : ℕ) (one other x y : Entry) (pairing : IsP
 
   -- another group keeps its places
   places-kept : (g : ℕ) → 1 ≤ times g table.groups → places_on 0 g (with_pair table i j x y).entries ≡ places_on 0 g table.entries
-  places-kept g some =
-      places_on-set 0 g (founded table i x).entries j (Some y)
-      (ap (λ (f : ℕ). f == g) to_second.frame ∙ not_of one.frame g lone_first.no_group some
-      ∙ sym (ap (is_on g) here-founded ∙ not_of other.frame g lone_second.no_group some))
-      ∙ places_on-set 0 g table.entries i (Some x) (on-founded table i one x founding g)
+  places-kept g some = grind (arith, nat_tests, places_on-set, not_of, here-founded, on-founded, founding)
 
   -- the new group's places
   places-pair : places_on 0 x.frame (with_pair table i j x y).entries ≡ joined_by i (j ∷ [])

@@ -1,6 +1,6 @@
 -- Waiting pages as callers see them.
-use Rattle.page_table.proofs.Base.{◌≡◌, ◌∙◌, ℕ, ◌+◌, ◌<◌, ◌≤◌, ◌==◌, ◌&&◌, bytes_eq, Bool, true, false, if◌then◌else◌, All, is_some, drop, slice_index_or, slice_set, List, [], ◌∷◌, ◌++◌, length, map, find, Option, Some, None, IfSome, option_map, refl, sym, ap, subst, arith, map-append, All-nil, All-cons, bytes_eq-Decides, nat_tests}
-use Rattle.page_table.proofs.Words.{Page, Shape, Waiting, page_place, is_pinned, Sharing, PageState, state_at, is_shared, with_status, contents_in, is_partner, is_mergeable, first_mergeable, look_from, moved_on, one_more, with_page, waits, page_at, Waiter, is_match, Entry, Pass, Tenant, IsNotWaiting, MayMerge, TableState, IsTable, AreOthersKept, entry_at, waiting_of, states_of, state_of, groups_of, sharing_of, marked, view_of, IsMemory, IsPass, IsWaiter, AreWaiters, is_listed, is_behind}
+use Rattle.page_table.proofs.Base.{◌≡◌, ◌∙◌, ℕ, ◌+◌, ◌<◌, ◌≤◌, Bool, true, false, if◌then◌else◌, All, is_some, drop, slice_index_or, List, [], ◌∷◌, ◌++◌, length, map, find, Option, Some, None, IfSome, option_map, refl, sym, ap, subst, arith, map-append, All-nil, All-cons, bytes_eq-Decides, nat_tests}
+use Rattle.page_table.proofs.Words.{Page, Shape, Waiting, page_place, is_pinned, PageState, state_at, is_shared, with_status, contents_in, is_partner, is_mergeable, first_mergeable, look_from, moved_on, one_more, with_page, waits, page_at, Waiter, is_match, Entry, Pass, Tenant, IsNotWaiting, MayMerge, TableState, IsTable, AreOthersKept, entry_at, waiting_of, states_of, state_of, sharing_of, marked, view_of, IsMemory, IsPass, IsWaiter, AreWaiters, is_listed, is_behind}
 use Rattle.page_table.proofs.Changing.{entry_fits}
 use Rattle.page_table.proofs.Fitting.{not-pinned}
 use Rattle.page_table.proofs.Scanning.{frame_told}
@@ -38,8 +38,7 @@ module _ (table : TableState) (shapes : List (Option Shape)) (tenants : List Ten
 
   -- a waiting page has what it is compared by
   partner-told : (fingerprint : ℕ) (bytes : List ℕ) (c : Option ℕ) (w : Waiter) → IsWaiter table.entries c w → is_partner contents fingerprint bytes (waiting_of w) ≡ is_match table.arena fingerprint bytes w
-  partner-told fingerprint bytes c w waiter =
-      ap (λ l. (w.fingerprint == fingerprint) && bytes_eq l bytes) (frame_told table shapes tenants pass reserved is w.place waiter.entry fits waiter.here ∙ ap (page_at table.arena) waiter.frame)
+  partner-told fingerprint bytes c w waiter = grind (arith, nat_tests, waiter, frame_told)
 
   -- the earliest partner, as callers see it
   pub partners-told : (fingerprint : ℕ) (bytes : List ℕ) (c : Option ℕ) (ws : List Waiter) → AreWaiters table.entries c ws
@@ -109,17 +108,10 @@ pub pass-waits : (old new : TableState) (pass : Pass) (w : Waiter) (entry : Entr
     → entry_at new.entries w.place ≡ Some entry → entry.frame ≡ w.frame → entry.status ≡ Waiting → entry.mergeable ≡ true → is_behind pass.cursor w.place ≡ true
     → IsPass new (record pass { waiting = record pass.waiting { listed = pass.waiting.listed ++ w ∷ [] } })
 pass-waits old new pass w entry is free unpinned others arena long here frame status mergeable behind =
-    let kept = pass-others old new pass w.place is free unpinned others arena long in
-    record {
-      waiters = waiters-more new.entries pass.cursor pass.waiting.listed w kept.waiters (record { entry = entry; here = here; frame = frame; status = status; mergeable = mergeable; behind = behind }) free;
-      room = kept.room;
-      cursor = kept.cursor;
-      pins = kept.pins;
-    }
+    grind (arith, nat_tests, pass-others, waiters-more)
 
 pub is-behind : (c : Option ℕ) (i : ℕ) → IfSome c (λ n. i ≤ n) → is_behind c i ≡ true
-is-behind None i h = refl
-is-behind (Some n) i h = grind (arith, nat_tests)
+is-behind c i h1 = grind (arith, nat_tests)
 
 -- a page with an entry that may be merged
 pub may-entry : (table : TableState) (shapes : List (Option Shape)) (tenants : List Tenant) (pass : Pass) (page : Page) (entry : Entry) → entry_at table.entries (page_place page) ≡ Some entry
@@ -132,10 +124,7 @@ may-entry table shapes tenants pass page entry e may =
 pub may-told : (table : TableState) (shapes : List (Option Shape)) (tenants : List Tenant) (pass : Pass) (page : Page) (entry : Entry) → entry_at table.entries (page_place page) ≡ Some entry
     → entry.mergeable ≡ true → is_shared entry.status ≡ false → is_pinned pass.pins (page_place page) ≡ false → MayMerge (view_of table shapes tenants pass) page
 unfolding view_of
-may-told table shapes tenants pass page entry e mergeable own free = (
-  subst (λ (x : Option PageState). IfSome x (λ state. (state.mergeable ≡ true) × (is_shared state.status ≡ false))) (sym (state-at table pass (page_place page) ∙ ap (option_map state_of) e)) (mergeable, own),
-  free,
-)
+may-told table shapes tenants pass page entry h1 h2 h3 h4 = grind (arith, nat_tests, state-at table pass (page_place page))
 
 -- a page that may be merged isn't pinned
 pub may-free : (table : TableState) (shapes : List (Option Shape)) (tenants : List Tenant) (pass : Pass) (page : Page) → MayMerge (view_of table shapes tenants pass) page → slice_index_or pass.pins (page_place page) false ≡ false
@@ -148,28 +137,15 @@ match-bytes arena fingerprint bytes w h = grind (arith, (bytes_eq-Decides (page_
 
 -- an entry of a page that may be merged
 pub entry-may : (table : TableState) (pass : Pass) (i : ℕ) → is_mergeable (state_at (sharing_of table pass) i) ≡ true → (entry : Entry) × (entry_at table.entries i ≡ Some entry)
-entry-may table pass i may = by_entry (entry_at table.entries i) refl
-  where
-    by_entry : (x : Option Entry) → entry_at table.entries i ≡ x → (entry : Entry) × (entry_at table.entries i ≡ Some entry)
-    by_entry None e = absurd (grind (arith, state-at table pass i))
-    by_entry (Some entry) e = (entry, e)
+entry-may table pass i h1 = grind (arith, nat_tests, state-at table pass i)
 
 -- a page that had the fingerprint and waits with it only has another status
 pub marked-waiting : (table : TableState) (pass : Pass) (i fingerprint : ℕ) → IfSome (state_at (sharing_of table pass) i) (λ state. state.last ≡ Some fingerprint)
     → option_map (marked Waiting fingerprint) (state_at (sharing_of table pass) i) ≡ option_map (with_status Waiting) (state_at (sharing_of table pass) i)
-marked-waiting table pass i fingerprint had = by_state (state_at (sharing_of table pass) i) had
-  where
-    by_state : (x : Option PageState) → IfSome x (λ state. state.last ≡ Some fingerprint) → option_map (marked Waiting fingerprint) x ≡ option_map (with_status Waiting) x
-    by_state None h = refl
-    by_state (Some state) h = rw h refl
+marked-waiting table pass i fingerprint h1 = grind (arith, nat_tests)
 
 pub sharing-waits : (table new : TableState) (pass : Pass) (w : Waiter) → IfSome (state_at (sharing_of table pass) w.place) (λ state. state.last ≡ Some w.fingerprint)
     → sharing_of new pass ≡ with_page (sharing_of table pass) w.place (marked Waiting w.fingerprint)
     → sharing_of new (record pass { waiting = record pass.waiting { listed = pass.waiting.listed ++ w ∷ [] } }) ≡ waits (sharing_of table pass) w.place w.fingerprint
 unfolding waits
-sharing-waits table new pass w had marked =
-    let pages : states_of new.entries ≡ slice_set (states_of table.entries) w.place (option_map (with_status Waiting) (state_at (sharing_of table pass) w.place)) =
-    ap (λ (s : Sharing). s.pages) marked ∙ ap (slice_set (states_of table.entries) w.place) (marked-waiting table pass w.place w.fingerprint had) in
-    let groups : groups_of new ≡ groups_of table = ap (λ (s : Sharing). s.groups) marked in
-    let waiting = map-append waiting_of pass.waiting.listed (w ∷ []) in
-    cc
+sharing-waits table new pass w h1 h2 = grind (arith, nat_tests, marked-waiting, map-append)

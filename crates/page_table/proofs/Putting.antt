@@ -1,8 +1,8 @@
 -- A page table stays sound where bytes of a page are written, and a new one is sound.
-use Rattle.page_table.proofs.Base.{◌≡◌, ◌∙◌, inl, ℕ, zero, suc, ◌+◌, ◌<◌, ◌≤◌, true, List, [], length, map, replicate, slice_index_or, slice_set, Option, Some, None, IfSome, refl, sym, ap, subst, arith, get_or-set_same, get_or-set_other, length-set, set-get_or, get_or-map, get_or-replicate, length-replicate, sum_by-replicate, get_or_past, length-map}
-use Rattle.page_table.proofs.Words.{zero_page, page_at, length-zero_page, Entry, TableState, CountsState, IsPageAt, IsTable, IsEntry, IsAlone, IsSound, AreCountsOf, one_if_zero, entry_at, entry_content, contents_of, is_on, pages_on, own_pages}
-use Rattle.page_table.proofs.Changing.{table-changed, counted-changed, fits-after, entry_fits, own_one}
-use Rattle.page_table.proofs.Entries.{on_one, equal, alone, entry_content-kept, contents-set, inside, pages-set}
+use Rattle.page_table.proofs.Base.{◌≡◌, ◌∙◌, ℕ, ◌+◌, ◌<◌, ◌≤◌, true, List, [], length, map, replicate, slice_index_or, slice_set, Some, None, refl, sym, ap, arith, get_or-set_same, get_or-set_other, length-set, set-get_or, get_or-map, get_or-replicate, length-replicate, sum_by-replicate, get_or_past, length-map, nat_tests}
+use Rattle.page_table.proofs.Words.{zero_page, page_at, length-zero_page, Entry, TableState, CountsState, IsPageAt, IsTable, IsAlone, IsSound, AreCountsOf, one_if_zero, entry_at, entry_content, contents_of, is_on, pages_on, own_pages}
+use Rattle.page_table.proofs.Changing.{table-changed, counted-changed, fits-after, entry_fits}
+use Rattle.page_table.proofs.Entries.{equal, alone, entry_content-kept, contents-set, inside, pages-set}
 
 -- a table with another page in a frame
 abbrev pub with_page : TableState → ℕ → List ℕ → TableState
@@ -28,11 +28,7 @@ page_of_entry table i entry is e = ap length (content_at table i entry e) ∙ is
 
 -- where no bytes are, there is no page
 pub no_entry_of_content : (table : TableState) (i : ℕ) → IsTable table → slice_index_or (contents_of table) i [] ≡ [] → entry_at table.entries i ≡ None
-no_entry_of_content table i is none = by_entry (entry_at table.entries i) refl
-  where
-    by_entry : (x : Option Entry) → entry_at table.entries i ≡ x → entry_at table.entries i ≡ None
-    by_entry None e = e
-    by_entry (Some entry) e = absurd (omega (arith, page_of_entry table i entry is e, ap length none))
+no_entry_of_content table i h1 h2 = grind (arith, nat_tests, page_of_entry table i)
 
 module _ (table : TableState) (i : ℕ) (entry : Entry) (page : List ℕ) (is : IsTable table) (here : entry_at table.entries i ≡ Some entry) (lone : IsAlone table entry.frame) (sized : length page ≡ 4096) where
   there : i < length table.entries
@@ -52,12 +48,7 @@ module _ (table : TableState) (i : ℕ) (entry : Entry) (page : List ℕ) (is : 
       ap (map (entry_content (slice_set table.arena entry.frame page))) (sym (set-get_or table.entries i None)) ∙ changed
 
   IsTable-put : IsTable (with_page table entry.frame page)
-  IsTable-put =
-      let long = length-set table.arena entry.frame page in
-      table-changed table (with_page table entry.frame page) i (entry_at table.entries i) is (sym (set-get_or table.entries i None)) refl long (pages-set table.arena entry.frame page is.pages sized)
-      (get_or-set_other table.arena entry.frame 0 page [] (λ e. omega (arith, lone.above)) ∙ is.zero)
-      (rw here (fits-after table (with_page table entry.frame page) entry long (λ a. record { above = a.above; one = a.one; no_group = a.no_group }) (λ once. once) (entry_fits table i entry is here)))
-      (λ j y ne e a. a.one) (λ g group. group.some)
+  IsTable-put = grind (arith, nat_tests, length-set, table-changed, set-get_or, pages-set, get_or-set_other, fits-after, entry_fits)
 
   pub sound-put : (counts : CountsState) → AreCountsOf table counts → IsSound (with_page table entry.frame page) counts
   sound-put counts counted =
@@ -71,28 +62,10 @@ pub all_same : {X : Type 0} (x : X) (n i : ℕ) → slice_index_or (replicate n 
 all_same x n i = grind (arith, get_or-replicate n i x x, get_or_past (replicate n x) i x, length-replicate n x)
 
 first_count : (frames f : ℕ) → 0 < frames → f < frames → slice_index_or (slice_set (replicate frames 0) 0 1) f 0 ≡ one_if_zero f
-first_count zero f h k = absurd (omega arith)
-first_count (suc n) zero h k = refl
-first_count (suc n) (suc f) h k = get_or-replicate n f 0 0 (omega arith)
+first_count frames f h1 h2 = grind (arith, nat_tests, get_or-replicate)
 
 pub sound-new : (frames places : ℕ) (counts : CountsState) → 1 ≤ frames → frames ≤ 4096 → places ≤ 32768
     → counts.counts ≡ slice_set (replicate frames 0) 0 1 → length counts.unused + 1 ≡ frames → IsSound (empty_table frames places) counts
 unfolding pages_on own_pages
 sound-new frames places counts some small few are fewer =
-    let long : length (replicate frames zero_page) ≡ frames = length-replicate frames zero_page in
-    record {
-      fits = record {
-        some = omega (arith, long, some);
-        small = omega (arith, long, small);
-        pages = λ f h. ap length (get_or-replicate frames f zero_page [] (omega (arith, h, long))) ∙ length-zero_page;
-        zero = get_or-replicate frames 0 zero_page [] (omega arith);
-        entries = λ i. subst (λ (x : Option Entry). IfSome x (IsEntry (empty_table frames places))) (sym (all_same {X = Option Entry} None places i)) tt;
-        groups = λ f. inl refl;
-        few = let e = length-replicate {A = Option Entry} places None in omega (arith, e, few);
-      };
-      counted = record {
-        sized = ap length are ∙ length-set (replicate frames 0) 0 1 ∙ length-replicate frames 0 ∙ sym long;
-        counted = λ f h. ap (λ (l : List ℕ). slice_index_or l f 0) are ∙ first_count frames f (omega arith) (omega (arith, h, long)) ∙ omega (arith, sum_by-replicate (on_one f) places None);
-        used = omega (arith, sum_by-replicate own_one places None, fewer, long);
-      };
-    }
+    grind (arith, nat_tests, length-replicate, get_or-replicate, length-zero_page, all_same, length-set, first_count, sum_by-replicate)

@@ -1,5 +1,5 @@
 -- What a memory tells of a page that is there.
-use Rattle.page_table.proofs.Base.{◌≡◌, ◌∙◌, ⊎_elim, ℕ, ◌+◌, ◌*◌, ◌<◌, ◌≤◌, List, [], length, take, drop, slice_index_or, Option, Some, None, option_map, unwrap_or, refl, sym, ap, subst, arith, concat, get_or_past, get_or-take, get_or-drop}
+use Rattle.page_table.proofs.Base.{◌≡◌, ◌∙◌, ⊎_elim, ℕ, ◌+◌, ◌*◌, ◌<◌, ◌≤◌, List, [], length, take, drop, slice_index_or, Option, Some, None, option_map, unwrap_or, refl, sym, ap, subst, arith, concat, get_or_past, get_or-take, get_or-drop, nat_tests}
 use Rattle.page_table.proofs.Words.{Pass, Shape, Page, part_of, FlatMap, FlatMaps, map_at, map_place, page_place, page_bytes, IsShape, byte_len_of, state_at, Entry, Tenant, page_count, part, bytes_of_map, frame_at, IsPageOf, TableState, IsPageAt, maps_of, flat_of, ArePages, ArePagesOf, AreMaps, contents_of, entry_at, state_of, view_of, IsMemory}
 use Rattle.std.proofs.Common.{length-take}
 use Rattle.page_table.proofs.Sides.{order}
@@ -14,9 +14,7 @@ map_at-part maps t m small = get_or-take 8 (drop (t * 8) maps) m None small ∙ 
 -- a tenant has no map of another number
 pub map_at-past : (maps : FlatMaps) (t m : ℕ) → 8 ≤ m → map_at (part_of maps (t * 8) 8) m ≡ None
 unfolding part_of
-map_at-past maps t m past =
-    let few = length-take 8 (drop (t * 8) maps) in
-    get_or_past (take 8 (drop (t * 8) maps)) m None (omega arith)
+map_at-past maps t m h1 = grind (arith, nat_tests, length-take 8 (drop (t * 8) maps), get_or_past (take 8 (drop (t * 8) maps)) m None)
 
 -- the bytes of what may be a map
 abbrev pub bytes_in : Option FlatMap → List ℕ

@@ -1,8 +1,7 @@
 -- Frames reserved for open runs, and what the maps of a memory meet.
-use Rattle.page_table.proofs.Base.{◌≡◌, ◌∙◌, ⊎_elim, ℕ, ◌+◌, ◌-◌, ◌*◌, ◌<◌, ◌≤◌, List, length, sum_by, slice_index_or, slice_set, Option, IfSome, refl, sym, ap, subst, arith, All, get_or-set_same, get_or-set_other, sum_by-set}
-use Rattle.page_table.proofs.Words.{Shape, FlatMap, map_at, IsFlatMap, AreFlatMaps, IsPage, Pass, Tenant, MemoryState, part, unreserved_tenant, free_of, have_of, IsKeptBut, TableState, contents_of, maps_of, used_by, view_of, IsMemory}
+use Rattle.page_table.proofs.Base.{◌≡◌, ◌∙◌, ℕ, ◌+◌, ◌-◌, ◌*◌, ◌<◌, ◌≤◌, List, length, sum_by, slice_index_or, slice_set, Option, refl, sym, ap, arith, All, get_or-set_same, get_or-set_other, sum_by-set, nat_tests}
+use Rattle.page_table.proofs.Words.{Shape, AreFlatMaps, IsPage, Pass, Tenant, MemoryState, part, unreserved_tenant, free_of, have_of, IsKeptBut, TableState, contents_of, maps_of, used_by, view_of, IsMemory}
 use Rattle.std.proofs.Common.{length-set}
-use Rattle.page_table.proofs.Sides.{order}
 use Rattle.page_table.proofs.Maps.{length-maps_of}
 use Rattle.page_table.proofs.Free.{free_is}
 use Rattle.page_table.proofs.Shapes.{length-part, map_ok, map_past}
@@ -39,10 +38,7 @@ module _ (table : TableState) (shapes : List (Option Shape)) (tenants : List Ten
 
   -- the maps of a tenant are flat maps
   pub flat_maps : All IsPage table.arena → (t : ℕ) → length (part memory t).maps ≡ 8 → AreFlatMaps (part memory t).maps
-  flat_maps bytes t eight = record { eight = eight; each = λ m. ⊎_elim (λ less. map_ok table shapes tenants pass t m is.maps less bytes) (λ past. none m past) (order m 8) }
-    where
-      none : (m : ℕ) → 8 ≤ m → IfSome (map_at (part memory t).maps m) IsFlatMap
-      none m past = subst (λ (x : Option FlatMap). IfSome x IsFlatMap) (sym (map_past memory t m past)) tt
+  flat_maps bytes t eight = grind (arith, nat_tests, map_ok, map_past, memory)
 
   -- no more frames are reserved than are free
   pub reserved_fits : sum_by reserve_in memory.tenants ≤ free_of memory

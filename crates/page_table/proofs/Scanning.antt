@@ -1,5 +1,5 @@
 -- What a memory tells of pages by their places, of open groups and of waiting pages.
-use Rattle.page_table.proofs.Base.{◌≡◌, ◌∙◌, ⊎_elim, ℕ, suc, ◌+◌, ◌*◌, ◌/◌, ◌%◌, ◌<◌, ◌≤◌, ◌==◌, ◌&&◌, nat_lt, bytes_eq, Bool, true, if◌then◌else◌, List, [], ◌∷◌, length, map, find, slice_index_or, slice_set, Option, Some, None, option_map, is_some, refl, sym, ap, subst, arith, concat, list_any, length-take-le, sum_by-cons, bytes_eq-Decides, nat_tests}
+use Rattle.page_table.proofs.Base.{◌≡◌, ◌∙◌, ⊎_elim, ℕ, suc, ◌+◌, ◌*◌, ◌/◌, ◌%◌, ◌<◌, ◌≤◌, ◌==◌, Bool, true, if◌then◌else◌, List, [], ◌∷◌, length, map, find, slice_index_or, slice_set, Option, Some, None, option_map, is_some, refl, sym, ap, subst, arith, concat, list_any, length-take-le, sum_by-cons, bytes_eq-Decides, nat_tests}
 use Rattle.page_table.proofs.Words.{Page, Grouped, Shape, part_of, map_at, map_place, page_place, page_bytes, byte_len_of, joined_by, with_status, contents_in, group_bytes, is_open, has_open, join_first, joined, page_at, Entry, Pass, Tenant, page_count, MemoryState, part, bytes_of_map, frame_at, IsPageOf, frame_of_group, open_frame, TableState, IsTable, IsPageAt, ArePages, ArePagesOf, maps_of, flat_of, contents_of, entry_at, groups_of, sharing_of, states_of, frames_of, times, is_on, places_on, pages_on, is_open_frame, joined_on, view_of, IsMemory}
 use Rattle.page_table.proofs.Sides.{order}
 use Rattle.page_table.proofs.Maps.{map_at-maps_of, length-concat}
@@ -47,10 +47,7 @@ module _ (table : TableState) (shapes : List (Option Shape)) (tenants : List Ten
   -- the bytes at a page's place
   pub contents_told : (page : Page) → page.map < 8 → page.number < 256 → contents_in view.maps (page_place page) ≡ page_bytes (bytes_of_map view page) page.number
   unfolding view_of part contents_in
-  contents_told page small few =
-      let index : page_place page / 256 ≡ map_place page.tenant page.map = omega arith in
-      let number : page_place page % 256 ≡ page.number = omega arith in
-      rw (index, number) (ap (λ flat. page_bytes (bytes_in flat) page.number) (sym (map_at-part (maps_of shapes (contents_of table)) page.tenant page.map small)))
+  contents_told page h1 h2 = grind (arith, nat_tests, map_at-part)
 
   -- the bytes of a page that is there
   pub bytes_here : (page : Page) → IsPageOf view page → contents_in view.maps (page_place page) ≡ page_bytes (bytes_of_map view page) page.number
@@ -75,12 +72,10 @@ first_in none read (i ∷ places) = read i
 
 bytes-first : (contents : ℕ → List ℕ) (places : List ℕ) → group_bytes contents places ≡ first_in [] contents places
 unfolding group_bytes
-bytes-first contents [] = refl
-bytes-first contents (i ∷ places) = refl
+bytes-first contents places = grind (arith, nat_tests, contents)
 
 frame-first : (memory : MemoryState) (places : List ℕ) → frame_of_group memory (Some places) ≡ first_in None (frame_at memory) places
-frame-first memory [] = refl
-frame-first memory (i ∷ places) = refl
+frame-first memory places = grind (arith, nat_tests, memory)
 
 -- what all pages on a frame read as, the first one does
 first-places : {X : Type 0} (none : X) (read : ℕ → X) (told : X) (g n : ℕ) (xs : List (Option Entry)) → ((k : ℕ) → is_on g (entry_at xs k) ≡ true → read (n + k) ≡ told) → 1 ≤ pages_on g xs
@@ -138,10 +133,7 @@ module _ (table : TableState) (shapes : List (Option Shape)) (tenants : List Ten
   contents = contents_in (view_of table shapes tenants pass).maps
 
   on-frame : (g k : ℕ) (x : Option Entry) → entry_at table.entries k ≡ x → is_on g x ≡ true → contents k ≡ page_at table.arena g
-  on-frame g k None e on = absurd (cc)
-  on-frame g k (Some entry) e on =
-      let same : entry.frame ≡ g = grind (arith, nat_tests) in
-      frame_told table shapes tenants pass reserved is k entry fits e ∙ ap (page_at table.arena) same
+  on-frame g k x h1 h2 = grind (arith, nat_tests, frame_told)
 
   pub bytes-of_group : (g : ℕ) → 1 ≤ times g table.groups → group_bytes contents (places_on 0 g table.entries) ≡ page_at table.arena g
   bytes-of_group g some =
@@ -152,9 +144,7 @@ module _ (table : TableState) (shapes : List (Option Shape)) (tenants : List Ten
   -- whether a group is open is told by its frame
   pub open-group : (bytes : List ℕ) (g : ℕ) → 1 ≤ times g table.groups
       → is_open contents (sharing_of table pass) bytes (places_on 0 g table.entries) ≡ is_open_frame table bytes pass.options.max_page_sharing g
-  open-group bytes g some =
-      ap (λ l. bytes_eq l bytes && nat_lt (length (places_on 0 g table.entries)) pass.options.max_page_sharing) (bytes-of_group g some)
-      ∙ ap (λ n. bytes_eq (page_at table.arena g) bytes && nat_lt n pass.options.max_page_sharing) (length-places 0 g table.entries)
+  open-group bytes g h1 = grind (arith, nat_tests, bytes-of_group g, length-places 0 g)
 
   frame-on : (g k : ℕ) → is_on g (entry_at table.entries k) ≡ true → slice_index_or (frames_of table.entries) k None ≡ Some g
   frame-on g k on = told_at (λ (entry : Entry). entry.frame) table.entries k ∙ by_entry (entry_at table.entries k) on
@@ -165,10 +155,7 @@ module _ (table : TableState) (shapes : List (Option Shape)) (tenants : List Ten
 
   frame-of_group : (g : ℕ) → 1 ≤ times g table.groups → frame_of_group memory (Some (places_on 0 g table.entries)) ≡ Some g
   unfolding view_of
-  frame-of_group g some =
-      frame-first memory (places_on 0 g table.entries)
-      ∙ first-places None (frame_at memory) (Some g) g 0 table.entries
-      (λ k on. let start : 0 + k ≡ k = omega arith in ap (frame_at memory) start ∙ frame-on g k on) (group_of table g fits some).some
+  frame-of_group g h1 = grind (arith, nat_tests, frame-first memory, first-places None (frame_at memory) (Some g) g 0, frame-on g, memory)
 
   abbrev opens : List ℕ → ℕ → Bool
   opens bytes = is_open_frame table bytes pass.options.max_page_sharing
@@ -201,9 +188,7 @@ module _ (table : TableState) (shapes : List (Option Shape)) (tenants : List Ten
       → groups_of new ≡ map (joined_on table i f) table.groups
       → (view_of new shapes tenants pass).sharing ≡ joined contents memory.sharing i
   unfolding view_of joined
-  sharing-joins new i f e states groups =
-      let together = groups ∙ sym (joins i f e) in
-      cc
+  sharing-joins new i f h1 h2 h3 = grind (arith, nat_tests, joins i f)
 
 -- an open group has the bytes
 pub open-bytes : (table : TableState) (bytes : List ℕ) (limit f : ℕ) → is_open_frame table bytes limit f ≡ true → page_at table.arena f ≡ bytes

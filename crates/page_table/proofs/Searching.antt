@@ -1,5 +1,5 @@
 -- No page may be merged where no map is, or behind a map's pages.
-use Rattle.page_table.proofs.Base.{◌≡◌, ◌∙◌, ℕ, ◌+◌, ◌-◌, ◌*◌, ◌<◌, ◌≤◌, false, List, [], length, slice_index_or, Option, Some, None, option_map, sym, ap, subst, arith}
+use Rattle.page_table.proofs.Base.{◌≡◌, ◌∙◌, ℕ, ◌+◌, ◌-◌, ◌*◌, ◌<◌, ◌≤◌, false, List, [], length, slice_index_or, Option, Some, None, option_map, sym, ap, subst, arith, nat_tests}
 use Rattle.page_table.proofs.Words.{Shape, part_of, is_mergeable, page_count, TableState, IsTable, ArePages, ArePagesOf, AreMaps, contents_of, state_of, states_of}
 use Rattle.page_table.proofs.Putting.{no_entry_of_content}
 use Rattle.page_table.proofs.Reading.{content_in}
@@ -15,14 +15,10 @@ module _ (table : TableState) (shapes : List (Option Shape)) (k i : ℕ) (fits :
       ap is_mergeable (told_at state_of table.entries i ∙ ap (option_map state_of) (no_entry_of_content table i fits empty))
 
   pub without-map : slice_index_or shapes k None ≡ None → is_mergeable (slice_index_or (states_of table.entries) i None) ≡ false
-  without-map e =
-      let pages = subst (λ s. ArePages s (part_of (contents_of table) (k * 256) 256)) e (are.each k inside) in
-      no_merge (pages (i - k * 256))
+  without-map h1 = grind (arith, nat_tests, no_merge)
 
   pub behind-pages : (shape : Shape) → slice_index_or shapes k None ≡ Some shape → k * 256 + page_count shape ≤ i → is_mergeable (slice_index_or (states_of table.entries) i None) ≡ false
-  behind-pages shape e past =
-      let pages = subst (λ s. ArePages s (part_of (contents_of table) (k * 256) 256)) e (are.each k inside) in
-      no_merge (ArePagesOf.none pages (i - k * 256) (omega (arith, past)))
+  behind-pages shape h1 h2 = grind (arith, nat_tests, no_merge)
 
 -- the shape of a map
 pub shaped : (shapes : List (Option Shape)) (contents : List (List ℕ)) (k : ℕ) (shape : Shape) → AreMaps shapes contents → k < length shapes → slice_index_or shapes k None ≡ Some shape

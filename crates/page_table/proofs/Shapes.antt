@@ -1,13 +1,12 @@
 -- What a memory tells of a tenant's maps by their numbers.
-use Rattle.page_table.proofs.Base.{◌≡◌, ◌∙◌, ⊎_elim, ℕ, zero, suc, ◌+◌, ◌*◌, ◌<◌, ◌≤◌, List, [], ◌∷◌, length, map, take, drop, slice_index_or, Option, Some, None, IfSome, option_map, is_none, position, refl, sym, ap, subst, arith, All, min, ◌-◌, position_or_len, get_or_past, get_or-take, get_or-drop, length-take, length-drop, concat, length-take-le, All-nil, All-cons, All-head, All-tail, All-append, All-take, All-drop}
+use Rattle.page_table.proofs.Base.{◌≡◌, ◌∙◌, ℕ, zero, suc, ◌*◌, ◌<◌, ◌≤◌, List, [], ◌∷◌, length, map, drop, slice_index_or, Option, Some, None, IfSome, option_map, is_none, position, refl, ap, arith, All, min, ◌-◌, position_or_len, get_or_past, get_or-take, get_or-drop, length-take, length-drop, concat, length-take-le, All-nil, All-cons, All-head, All-tail, All-append, All-take, All-drop, nat_tests}
 use Rattle.page_table.proofs.Words.{Pass, Shape, part_of, FlatMap, FlatMaps, map_at, map_place, byte_len_of, IsFlatMap, IsPage, page_at, page_count, Entry, Tenant, MemoryState, part, free_number, TableState, maps_of, flat_of, entry_content, contents_of, ArePages, ArePagesOf, AreMaps, view_of}
 use Rattle.page_table.proofs.Sides.{order}
 use Rattle.page_table.proofs.Maps.{map_at-maps_of, length-maps_of, length-concat}
 use Rattle.page_table.proofs.Reading.{map_at-part, map_at-past}
 
 shape_of_flat : (pages : List (List ℕ)) (shape : Option Shape) → option_map (λ (flat : FlatMap). flat.shape) (option_map (flat_of pages) shape) ≡ shape
-shape_of_flat pages None = refl
-shape_of_flat pages (Some shape) = refl
+shape_of_flat pages shape = grind (arith, nat_tests)
 
 -- two lists that are free at the same places have the same first free place
 same_prefix : (maps : FlatMaps) (shapes : List (Option Shape)) → length maps ≡ length shapes → ((i : ℕ) → is_none (slice_index_or maps i None) ≡ is_none (slice_index_or shapes i None))
@@ -29,30 +28,14 @@ unfolding part_of
 length-part xs at w = length-take w (drop at xs) ∙ ap (min w) (length-drop at xs)
 
 is_none-map : {X Y : Type 0} (f : X → Y) (x : Option X) → is_none (option_map f x) ≡ is_none x
-is_none-map f None = refl
-is_none-map f (Some x) = refl
+is_none-map f x = grind (arith, nat_tests)
 
 -- the maps' places are free where no shape is
 free_of_maps : (shapes : List (Option Shape)) (contents : List (List ℕ)) (from width : ℕ)
     → position (λ (slot : Option FlatMap). is_none slot) (part_of (maps_of shapes contents) from width) ≡ position (λ (slot : Option Shape). is_none slot) (part_of shapes from width)
 unfolding part_of
 free_of_maps shapes contents from width =
-    same_position (take width (drop from (maps_of shapes contents))) (take width (drop from shapes))
-    (length-part (maps_of shapes contents) from width ∙ ap (λ (n : ℕ). min width (n - from)) (length-maps_of shapes contents) ∙ sym (length-part shapes from width))
-    (λ i. ⊎_elim (λ less. within i less) (λ more. past i more) (order i width))
-  where
-    within : (i : ℕ) → i < width → is_none (slice_index_or (take width (drop from (maps_of shapes contents))) i None) ≡ is_none (slice_index_or (take width (drop from shapes)) i None)
-    within i less =
-        ap (λ (x : Option FlatMap). is_none x) (get_or-take width (drop from (maps_of shapes contents)) i None less ∙ get_or-drop from (maps_of shapes contents) i None ∙ map_at-maps_of shapes contents (from + i))
-        ∙ is_none-map (flat_of (take 256 (drop ((from + i) * 256) contents))) (slice_index_or shapes (from + i) None)
-        ∙ ap (λ (x : Option Shape). is_none x) (sym (get_or-take width (drop from shapes) i None less ∙ get_or-drop from shapes i None))
-
-    past : (i : ℕ) → width ≤ i → is_none (slice_index_or (take width (drop from (maps_of shapes contents))) i None) ≡ is_none (slice_index_or (take width (drop from shapes)) i None)
-    past i more =
-        let few = length-take width (drop from (maps_of shapes contents)) in
-        let short = length-take width (drop from shapes) in
-        ap (λ (x : Option FlatMap). is_none x) (get_or_past (take width (drop from (maps_of shapes contents))) i None (omega arith))
-        ∙ sym (ap (λ (x : Option Shape). is_none x) (get_or_past (take width (drop from shapes)) i None (omega arith)))
+    grind (arith, nat_tests, same_position, length-part, length-maps_of, get_or-take, get_or-drop, map_at-maps_of, is_none-map, get_or_past)
 
 -- the first free number of a tenant is the first place of its shapes without one
 pub free_number_told : (table : TableState) (shapes : List (Option Shape)) (tenants : List Tenant) (pass : Pass) (t : ℕ)
@@ -63,9 +46,7 @@ free_number_told table shapes tenants pass t = free_of_maps shapes (contents_of 
 module _ (table : TableState) (shapes : List (Option Shape)) (tenants : List Tenant) (pass : Pass) (t : ℕ) where
   pub shape_told : (m : ℕ) → m < 8 → option_map (λ (flat : FlatMap). flat.shape) (map_at (part (view_of table shapes tenants pass) t).maps m) ≡ slice_index_or shapes (map_place t m) None
   unfolding view_of part
-  shape_told m small =
-      ap (option_map (λ (flat : FlatMap). flat.shape)) (map_at-part (maps_of shapes (contents_of table)) t m small ∙ map_at-maps_of shapes (contents_of table) (map_place t m))
-      ∙ shape_of_flat (part_of (contents_of table) (map_place t m * 256) 256) (slice_index_or shapes (map_place t m) None)
+  shape_told m h1 = grind (arith, nat_tests, map_at-part, map_at-maps_of, shape_of_flat)
 
   pub map_told : (m : ℕ) → m < 8 → map_at (part (view_of table shapes tenants pass) t).maps m ≡ option_map (flat_of (part_of (contents_of table) (map_place t m * 256) 256)) (slice_index_or shapes (map_place t m) None)
   unfolding view_of part
@@ -118,8 +99,4 @@ map_is table shapes k are inside all = by_shape (slice_index_or shapes k None) (
 
 pub map_ok : (table : TableState) (shapes : List (Option Shape)) (tenants : List Tenant) (pass : Pass) (t m : ℕ) → AreMaps shapes (contents_of table) → m < 8 → All IsPage table.arena
     → IfSome (map_at (part (view_of table shapes tenants pass) t).maps m) IsFlatMap
-map_ok table shapes tenants pass t m are small all =
-    subst (λ (x : Option FlatMap). IfSome x IsFlatMap) (sym (map_told table shapes tenants pass t m small))
-    (⊎_elim (λ less. map_is table shapes (map_place t m) are less all)
-    (λ past. subst (λ (x : Option Shape). IfSome (option_map (flat_of (part_of (contents_of table) (map_place t m * 256) 256)) x) IsFlatMap) (sym (get_or_past shapes (map_place t m) None past)) tt)
-    (order (map_place t m) (length shapes)))
+map_ok table shapes tenants pass t m h1 h2 h3 = grind (arith, nat_tests, map_told, map_is, get_or_past, order)

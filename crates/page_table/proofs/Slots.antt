@@ -52,29 +52,15 @@ groups-emptied (x ∷ xs) (suc i) f h here once =
 module _ (slots slot_of : List ℕ) (are : ArePlaced slots slot_of) where
   -- a group stands once
   pub stands-once : (i j : ℕ) → i < length slots → j < length slots → 0 < slice_index_or slots i 0 → slice_index_or slots j 0 ≡ slice_index_or slots i 0 → j ≡ i
-  stands-once i j h k above same =
-      sym (are.placed j k (subst (λ (n : ℕ). 0 < n) (sym same) above)) ∙ ap (λ (n : ℕ). slice_index_or slot_of n 0) same ∙ are.placed i h above
+  stands-once i j h k above same = grind (arith, nat_tests)
 
   -- the slot of a group is the one that is noted
   pub noted : (f : ℕ) → 1 ≤ times f (groups_in slots)
       → (f < length slot_of) × (slice_index_or slot_of f 0 < length slots) × (slice_index_or slots (slice_index_or slot_of f 0) 0 ≡ f) × (0 < f)
-  noted f h =
-      let found = slot-of-group slots f h in
-      let place : slice_index_or slot_of f 0 ≡ found.0 = ap (λ (n : ℕ). slice_index_or slot_of n 0) (sym found.2) ∙ are.placed found.0 found.1 (subst (λ (n : ℕ). 0 < n) (sym found.2) found.3) in
-      let inside = are.below found.0 found.1 in
-      let is = found.2 in
-      let within = found.1 in (
-        omega (arith, inside, is),
-        omega (arith, place, within),
-        ap (λ (n : ℕ). slice_index_or slots n 0) place ∙ found.2,
-        found.3,
-      )
+  noted f h1 = grind (arith, nat_tests, slot-of-group)
 
   pub groups-removed : (f : ℕ) → 1 ≤ times f (groups_in slots) → groups_in (slice_set slots (slice_index_or slot_of f 0) 0) ≡ but f (groups_in slots)
-  groups-removed f h =
-      let there = noted f h in
-      groups-emptied slots (slice_index_or slot_of f 0) f there.1 there.2
-      (λ j less e. stands-once (slice_index_or slot_of f 0) j there.1 less (subst (λ (n : ℕ). 0 < n) (sym there.2) there.3) (e ∙ sym there.2))
+  groups-removed f h1 = grind (arith, nat_tests, noted f, groups-emptied, stands-once)
 
   -- a new group behind the others
   pub placed-pushed : (f : ℕ) → 0 < f → f < length slot_of → times f (groups_in slots) ≡ 0 → ArePlaced (slots ++ f ∷ []) (slice_set slot_of f (length slots))
@@ -131,8 +117,7 @@ groups-again [] = refl
 groups-again (x ∷ xs) = grind (arith, groups-again xs)
 
 pub groups-pushed : (slots : List ℕ) (f : ℕ) → 0 < f → groups_in (slots ++ f ∷ []) ≡ groups_in slots ++ f ∷ []
-groups-pushed slots f above =
-    filter-append (λ g. not (g == 0)) slots (f ∷ []) ∙ ap (λ (b : Bool). groups_in slots ++ (if not b then f ∷ [] else [])) (full f above)
+groups-pushed slots f above = grind (arith, nat_tests, filter-append, full)
 
 -- what is read of a list that reaches so far
 pub read-told : (xs : List ℕ) (i x : ℕ) → i < length xs → x ≡ slice_index_or xs i x → x ≡ slice_index_or xs i 0

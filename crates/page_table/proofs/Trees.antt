@@ -1,6 +1,6 @@
 -- The tree of groups has the groups of each content in order of creation, whatever happens to the table.
-use Rattle.page_table.proofs.Base.{◌≡◌, ◌≢◌, ◌∙◌, ℕ, zero, suc, ◌<◌, ◌≤◌, ◌==◌, nat_lt, not, Bool, true, List, [], ◌∷◌, ◌++◌, length, filter, find, slice_index_or, slice_set, All, refl, sym, ap, arith, concat, get_or-set_other, length-set, All-nil, All-cons, filter-append, sum_by-cons, sum_by-append, nat_tests}
-use Rattle.page_table.proofs.Words.{page_at, Groups, IsSorted, IsChain, has, content, has-itself, TableState, CountsState, IsSound, IsGroup, IsTreeOf, times, pages_on, is_open_frame, without-length, times-gone, times-kept}
+use Rattle.page_table.proofs.Base.{◌≡◌, ◌≢◌, ◌∙◌, ℕ, zero, suc, ◌<◌, ◌≤◌, ◌==◌, nat_lt, Bool, true, List, [], ◌∷◌, ◌++◌, length, filter, find, slice_index_or, slice_set, All, refl, sym, ap, arith, concat, get_or-set_other, length-set, All-nil, All-cons, filter-append, sum_by-cons, sum_by-append, nat_tests}
+use Rattle.page_table.proofs.Words.{page_at, Groups, IsSorted, IsChain, has, content, has-itself, TableState, CountsState, IsSound, IsTreeOf, times, pages_on, is_open_frame, without-length, times-gone, times-kept}
 use Rattle.page_table.proofs.Ending.{but}
 use Rattle.page_table.proofs.Entries.{one_when, times-head, times-tail, one_if_zero-above, group_of, times-cons}
 use Rattle.page_table.proofs.Joining.{group-inside}
@@ -69,23 +69,10 @@ module _ (old new : List (List ℕ)) (size : length new ≡ length old) where
   entry_content-kept chain filled same = same (slice_index_or chain 0 0) (stands chain 0 0 filled)
 
   chain-kept : (chain : List ℕ) → IsChain old chain → ((f : ℕ) → 1 ≤ times f chain → page_at new f ≡ page_at old f) → IsChain new chain
-  chain-kept chain is same =
-      record {
-        filled = is.filled;
-        there = λ k d less. let inside = is.there k d less in omega (arith, inside, size);
-        alike = λ k d less. same (slice_index_or chain k d) (stands chain k d less) ∙ is.alike k d less ∙ sym (entry_content-kept chain is.filled same);
-      }
+  chain-kept chain is same = grind (arith, nat_tests, stands chain, entry_content-kept chain is.filled same)
 
   sorted-kept : (chains : List (List ℕ)) → IsSorted old chains → ((f : ℕ) → 1 ≤ times f (concat chains) → page_at new f ≡ page_at old f) → IsSorted new chains
-  sorted-kept chains sorted same =
-      record {
-        alike = λ k d less. chain-kept (slice_index_or chains k d) (sorted.alike k d less) (λ f some. same f (in-chain chains k d f less some));
-        ascending = λ i j d less there. rw (kept i d (omega (arith, less, there)), kept j d there) (sorted.ascending i j d less there);
-        once = sorted.once;
-      }
-    where
-      kept : (i : ℕ) (d : List ℕ) → i < length chains → content new (slice_index_or chains i d) ≡ content old (slice_index_or chains i d)
-      kept i d less = entry_content-kept (slice_index_or chains i d) (IsChain.filled (sorted.alike i d less)) (λ f some. same f (in-chain chains i d f less some))
+  sorted-kept chains sorted same = grind (arith, nat_tests, chain-kept, in-chain, content, entry_content-kept)
 
   pub tree-kept : (groups : List ℕ) (tree : Groups) → IsTreeOf old groups tree → ((f : ℕ) → 1 ≤ times f groups → page_at new f ≡ page_at old f) → IsTreeOf new groups tree
   tree-kept groups tree is same =
@@ -100,23 +87,14 @@ module _ (old new : List (List ℕ)) (size : length new ≡ length old) where
 
 -- another page in a frame that no group has
 pub tree-set : (arena : List (List ℕ)) (groups : List ℕ) (tree : Groups) (f : ℕ) (page : List ℕ) → IsTreeOf arena groups tree → times f groups ≡ 0 → IsTreeOf (slice_set arena f page) groups tree
-tree-set arena groups tree f page is none =
-    tree-kept arena (slice_set arena f page) (length-set arena f page) groups tree is
-    (λ g some. get_or-set_other arena f g page [] (λ same. let also = ap (λ n. times n groups) same in omega (arith, also, none, some)))
+tree-set arena groups tree f page h1 h2 =
+    grind (arith, nat_tests, tree-kept arena (slice_set arena f page) (length-set arena f page) groups tree, length-set arena f page, get_or-set_other arena f)
 
 -- a new last group
 pub tree-pushed : (arena : List (List ℕ)) (groups : List ℕ) (old new : Groups) (f : ℕ) → IsTreeOf arena groups old → IsSorted arena new.chains → new.room ≡ old.room
     → ((bytes : List ℕ) → filter (has arena bytes) (concat new.chains) ≡ filter (has arena bytes) (concat old.chains) ++ filter (has arena bytes) (f ∷ []))
     → IsTreeOf arena (groups ++ f ∷ []) new
-tree-pushed arena groups old new f is sorted room inserted =
-    record {
-      sorted = sorted;
-      listed = λ bytes.
-          inserted bytes
-          ∙ ap (λ (l : List ℕ). l ++ filter (has arena bytes) (f ∷ [])) (is.listed bytes)
-          ∙ sym (filter-append (has arena bytes) groups (f ∷ []));
-      room = let known = is.room in omega (arith, room, known);
-    }
+tree-pushed arena groups old new f is sorted room inserted = grind (arith, nat_tests, filter-append)
 
 -- one test after another
 filter-filter : (p q : ℕ → Bool) (xs : List ℕ) → filter p (filter q xs) ≡ filter q (filter p xs)
@@ -126,29 +104,11 @@ filter-filter p q (x ∷ xs) = grind (arith, filter-filter p q xs)
 -- a group less
 pub tree-removed : (arena : List (List ℕ)) (groups : List ℕ) (old new : Groups) (f : ℕ) → IsTreeOf arena groups old → IsSorted arena new.chains → new.room ≡ old.room
     → concat new.chains ≡ but f (concat old.chains) → IsTreeOf arena (but f groups) new
-tree-removed arena groups old new f is sorted room removed =
-    record {
-      sorted = sorted;
-      listed = λ bytes.
-          ap (filter (has arena bytes)) removed
-          ∙ filter-filter (has arena bytes) (λ g. not (g == f)) (concat old.chains)
-          ∙ ap (but f) (is.listed bytes)
-          ∙ filter-filter (λ g. not (g == f)) (has arena bytes) groups;
-      room = let known = is.room in omega (arith, room, known);
-    }
+tree-removed arena groups old new f is sorted room removed = grind (arith, nat_tests, filter-filter)
 
 -- there is no group at first
 pub tree-new : (arena : List (List ℕ)) (room : ℕ) → length arena ≤ room → IsTreeOf arena [] (record { chains = []; room = room })
-tree-new arena room enough =
-    record {
-      sorted = record {
-        alike = All-nil (IsChain arena);
-        ascending = λ i j d less there. absurd (omega (arith, there));
-        once = λ i j d less there. absurd (omega (arith, there));
-      };
-      listed = λ bytes. refl;
-      room = enough;
-    }
+tree-new arena room enough = grind (arith, nat_tests)
 
 -- the earliest open group is among those that have the bytes
 pub find-open : (table : TableState) (counts bytes : List ℕ) (limit : ℕ) (gs : List ℕ) → ((f : ℕ) → 1 ≤ times f gs → slice_index_or counts f 0 ≡ pages_on f table.entries)
@@ -163,9 +123,7 @@ module _ (table : TableState) (counts : CountsState) (tree : Groups) (sound : Is
   tree-room = omega (arith, tree-length table.arena table.groups tree is, is.room, sound.counted.used)
 
   counted : (f : ℕ) → 1 ≤ times f table.groups → slice_index_or counts.counts f 0 ≡ pages_on f table.entries
-  counted f some =
-      let known = sound.counted.counted f (group-inside table f sound.fits some) in
-      omega (arith, known, one_if_zero-above f (IsGroup.above (group_of table f sound.fits some)))
+  counted f h1 = grind (arith, nat_tests, one_if_zero-above f, group-inside, group_of)
 
   -- the earliest open group is the earliest one of its bytes in the tree
   pub found-open : (bytes : List ℕ) (limit : ℕ) (gs : List ℕ) → gs ≡ filter (has table.arena bytes) (concat tree.chains)

@@ -1,6 +1,6 @@
 -- What unmerging takes, told by the pages on the groups' frames.
-use Rattle.page_table.proofs.Base.{◌≡◌, ◌∙◌, ⊎_elim, ℕ, zero, suc, ◌+◌, ◌-◌, ◌<◌, ◌≤◌, ◌==◌, Bool, true, false, List, [], ◌∷◌, length, map, sum_by, slice_index_or, Option, Some, None, option_map, is_some, refl, sym, ap, subst, arith, sum_by-cons, length-map, nat_tests}
-use Rattle.page_table.proofs.Words.{Status, New, Volatile, Waiting, Grouped, Zero, Sharing, PageState, state_at, is_shared_page, broken, break_cost, broken_from, cost_from, unmerged, members, zeros_at, one_if_zeros, zero_pages, unmerge_need, SharesNothing, Entry, Pass, Tenant, have_of, view_of, IsMemory, IsPass, Shape, TableState, CountsState, IsTable, IsSound, IsEntry, IsGroup, IsPageAt, LiesRight, times, entry_at, state_of, states_of, groups_of, sharing_of, used_by, new_pass, pages_on, places_on, shared_at}
+use Rattle.page_table.proofs.Base.{◌≡◌, ◌∙◌, ⊎_elim, ℕ, zero, suc, ◌+◌, ◌-◌, ◌<◌, ◌≤◌, ◌==◌, true, false, List, [], ◌∷◌, length, map, sum_by, slice_index_or, Option, Some, None, option_map, is_some, refl, sym, ap, subst, arith, sum_by-cons, length-map, nat_tests}
+use Rattle.page_table.proofs.Words.{Sharing, state_at, is_shared_page, broken, break_cost, broken_from, cost_from, unmerged, members, zeros_at, zero_pages, unmerge_need, SharesNothing, Entry, Pass, Tenant, have_of, view_of, IsMemory, IsPass, Shape, TableState, CountsState, IsTable, IsSound, IsGroup, IsPageAt, times, entry_at, state_of, states_of, groups_of, sharing_of, used_by, new_pass, pages_on, places_on, shared_at}
 use Rattle.host_types.proofs.Without as without
 use Rattle.host_types.proofs.Unmerging as law
 use Rattle.page_table.proofs.Changing.{entry_fits}
@@ -39,8 +39,7 @@ held (Some entry) groups = times entry.frame groups
 
 held-none : (x : Option Entry) → held x [] ≡ 0
 unfolding held
-held-none None = refl
-held-none (Some entry) = refl
+held-none x = grind (arith, nat_tests)
 
 held-cons : (x : Option Entry) (g : ℕ) (gs : List ℕ) → held x (g ∷ gs) ≡ on_one g x + held x gs
 unfolding held
@@ -114,18 +113,7 @@ module _ (table : TableState) (is : IsTable table) where
   -- a page stands in as many groups as its status says
   grouped : (i : ℕ) → held (entry_at table.entries i) table.groups ≡ law.grouped_at (option_map state_of (entry_at table.entries i))
   unfolding held
-  grouped i = by_entry (entry_at table.entries i) refl
-    where
-      by_status : (f : ℕ) (status : Status) → LiesRight table f status → times f table.groups ≡ law.one_if_grouped status
-      by_status f New a = a.no_group
-      by_status f Volatile a = a.no_group
-      by_status f Waiting a = a.no_group
-      by_status f Grouped e = e
-      by_status f Zero e = no_zero_group f e
-
-      by_entry : (x : Option Entry) → entry_at table.entries i ≡ x → held x table.groups ≡ law.grouped_at (option_map state_of x)
-      by_entry None e = refl
-      by_entry (Some entry) e = by_status entry.frame entry.status (IsEntry.right (entry_fits table i entry is e))
+  grouped i = grind (arith, nat_tests, no_zero_group, entry_fits)
 
   -- the groups are those of the pages that are told to be grouped
   pub are_listed : (pass : Pass) → law.AreListed (sharing_of table pass)
@@ -137,36 +125,10 @@ module _ (table : TableState) (is : IsTable table) where
       }
 
   zeros : (i : ℕ) → zeros_at (option_map state_of (entry_at table.entries i)) ≡ on_one 0 (entry_at table.entries i)
-  zeros i = by_entry (entry_at table.entries i) refl
-    where
-      apart : (f : ℕ) → 0 < f → 0 ≡ one_when (f == 0)
-      apart f above = sym (ap one_when (not_equal 0 f (λ e. omega (arith, above, e))))
-
-      by_status : (f : ℕ) (status : Status) → LiesRight table f status → one_if_zeros status ≡ one_when (f == 0)
-      by_status f New a = apart f a.above
-      by_status f Volatile a = apart f a.above
-      by_status f Waiting a = apart f a.above
-      by_status f Grouped e = apart f (⊎_elim (λ none. absurd (omega (arith, none, e))) (λ group. IsGroup.above group) (is.groups f))
-      by_status f Zero e = sym (ap one_when (ap (λ (n : ℕ). n == 0) e ∙ equal 0))
-
-      by_entry : (x : Option Entry) → entry_at table.entries i ≡ x → zeros_at (option_map state_of x) ≡ on_one 0 x
-      by_entry None e = refl
-      by_entry (Some entry) e = by_status entry.frame entry.status (IsEntry.right (entry_fits table i entry is e))
+  zeros i = grind (arith, nat_tests, not_equal 0, equal 0, entry_fits)
 
   shared : (i : ℕ) → shared_at (option_map state_of (entry_at table.entries i)) ≡ held (entry_at table.entries i) table.groups + zeros_at (option_map state_of (entry_at table.entries i))
-  shared i = let own = grouped i in let split = by_page (option_map state_of (entry_at table.entries i)) in omega (arith, own, split)
-    where
-      by_status : (mergeable : Bool) (status : Status) (last : Option ℕ)
-          → shared_at (Some (record { mergeable = mergeable; status = status; last = last })) ≡ law.one_if_grouped status + one_if_zeros status
-      by_status m New l = refl
-      by_status m Volatile l = refl
-      by_status m Waiting l = refl
-      by_status m Grouped l = refl
-      by_status m Zero l = refl
-
-      by_page : (x : Option PageState) → shared_at x ≡ law.grouped_at x + zeros_at x
-      by_page None = refl
-      by_page (Some state) = by_status state.mergeable state.status state.last
+  shared i = grind (arith, nat_tests, grouped i)
 
   -- the need, told by the pages that share a frame: one for each of them, less one for each group
   pub need-told : (pass : Pass)
@@ -186,15 +148,12 @@ module _ (table : TableState) (is : IsTable table) where
   zeros-told pass = let zero = zeros-frames table.entries zeros in omega (arith, zero)
 
   pub page_of_some : (i : ℕ) (x : Option Entry) → x ≡ entry_at table.entries i → is_some x ≡ true → IsPageAt table i
-  page_of_some i None e some = absurd (cc)
-  page_of_some i (Some entry) e some = page_of_entry table i entry is (sym e)
+  page_of_some i x h1 h2 = grind (arith, nat_tests, page_of_entry)
 
 module _ (table : TableState) (counts : CountsState) (is : IsSound table counts) where
   -- the zero frame has one holder more than its pages
   pub zero-counted : (slice_index_or counts.counts 0 0 ≡ 1 + pages_on 0 table.entries) × (pages_on 0 table.entries ≤ 32768)
-  zero-counted =
-      let bound = pages_on-le 0 table.entries in
-      (is.counted.counted 0 is.fits.some, omega (arith, bound, is.fits.few))
+  zero-counted = grind (arith, nat_tests, pages_on-le 0)
 
 -- a pass, where a law holds for any
 pub some_pass : Pass
@@ -206,21 +165,14 @@ broken-none s i none = (law.broken-own s i (ap is_shared_page none), law.cost-no
 
 pub no_page : (table : TableState) (i : ℕ) (x : Option Entry) (pass : Pass) → x ≡ entry_at table.entries i → is_some x ≡ false
     → (broken (sharing_of table pass) i ≡ sharing_of table pass) × (break_cost (sharing_of table pass) i ≡ 0)
-no_page table i None pass e none = broken-none (sharing_of table pass) i (state-at table pass i ∙ ap (option_map state_of) (sym e))
-no_page table i (Some entry) pass e none = absurd (cc)
+no_page table i x pass h1 h2 = grind (arith, nat_tests, broken-none (sharing_of table pass) i, state-at table pass i)
 
 -- the breaks of the first places, and of one more
 pub broken_next : (s : Sharing) (n : ℕ) → broken_from s 0 (n + 1) ≡ broken (broken_from s 0 n) n
-broken_next s n =
-    let next : n + 1 ≡ suc n = omega arith in
-    let here : 0 + n ≡ n = omega arith in
-    ap (broken_from s 0) next ∙ broken_from-last s 0 n ∙ ap (broken (broken_from s 0 n)) here
+broken_next s n = grind (arith, nat_tests, broken_from-last s 0 n)
 
 pub cost_next : (s : Sharing) (n : ℕ) → cost_from s 0 (n + 1) ≡ cost_from s 0 n + break_cost (broken_from s 0 n) n
-cost_next s n =
-    let next : n + 1 ≡ suc n = omega arith in
-    let here : 0 + n ≡ n = omega arith in
-    ap (cost_from s 0) next ∙ cost_from-last s 0 n ∙ ap (λ (i : ℕ). cost_from s 0 n + break_cost (broken_from s 0 n) i) here
+cost_next s n = grind (arith, nat_tests, cost_from-last s 0 n)
 
 -- fewer breaks take less
 cost_from-less : (s : Sharing) (n m : ℕ) → cost_from s 0 n ≤ cost_from s 0 (n + m)
@@ -272,15 +224,10 @@ module _ (old new : TableState) (pass now : Pass) (stopped : now ≡ record pass
     (broken : (p : Pass) → sharing_of new p ≡ broken_from (sharing_of old p) 0 (length old.entries)) where
   pub unmerged_is : sharing_of new now ≡ unmerged (sharing_of old pass)
   unfolding unmerged
-  unmerged_is = ap (sharing_of new) stopped ∙ ap stop (broken pass ∙ ap (broken_from (sharing_of old pass) 0) (sym (length-states old.entries)))
-    where
-      stop : Sharing → Sharing
-      stop s = record s { options = record s.options { run = 2 } }
+  unmerged_is = grind (arith, nat_tests, length-states)
 
   pub unmerged_apart : SharesNothing (broken_from (sharing_of old pass) 0 (length old.entries)) → SharesNothing (sharing_of new now)
-  unmerged_apart none =
-      let here : SharesNothing (sharing_of new pass) = subst SharesNothing (sym (broken pass)) none in
-      record { groups = here.groups; pages = here.pages }
+  unmerged_apart none = grind (arith, nat_tests)
 
 -- stopping the scanner leaves the waiting pages
 pub pass_stopped : (table : TableState) (pass now : Pass) → now ≡ record pass { options = record pass.options { run = 2 } } → IsPass table pass → IsPass table now

@@ -1,5 +1,5 @@
 -- How many pages of a map aren't pinned, told by how many are.
-use Rattle.page_table.proofs.Base.{◌≡◌, ◌∙◌, ⊎_elim, ℕ, zero, suc, ◌+◌, ◌-◌, ◌*◌, ◌<◌, ◌≤◌, Bool, true, false, if◌then◌else◌, List, [], ◌∷◌, length, take, drop, slice_index_or, Option, Some, None, option_map, unwrap_or, refl, sym, ap, arith, get_or_default, get_or_past, get_or-take, get_or-drop, sum_by-cons}
+use Rattle.page_table.proofs.Base.{◌≡◌, ◌∙◌, ⊎_elim, ℕ, zero, suc, ◌+◌, ◌-◌, ◌*◌, ◌<◌, ◌≤◌, Bool, true, false, if◌then◌else◌, List, [], ◌∷◌, length, take, drop, slice_index_or, Option, Some, None, option_map, unwrap_or, refl, sym, ap, arith, get_or_default, get_or_past, get_or-take, get_or-drop, sum_by-cons, nat_tests}
 use Rattle.page_table.proofs.Words.{Shape, part_of, FlatMap, map_at, map_place, unpinned_from, PinsFit, Pass, Tenant, page_count, pinned_among, MemoryState, part, pages_of_map, TableState, IsTable, states_of, view_of, IsMemory}
 use Rattle.page_table.proofs.Sides.{order}
 use Rattle.page_table.proofs.Dropping.{number_small, few, map_pins, unpinned_behind}
@@ -54,12 +54,10 @@ unpinned-in_part pins first at (suc n) small =
 
 -- the pages of a map that is there, and of one that isn't
 pub pages-some : (owned : Option FlatMap) (shape : Shape) → option_map (λ (flat : FlatMap). flat.shape) owned ≡ Some shape → unwrap_or (option_map (λ (flat : FlatMap). page_count flat.shape) owned) 0 ≡ page_count shape
-pages-some None shape e = absurd cc
-pages-some (Some flat) shape e = ap page_count (let same : flat.shape ≡ shape = cc in same)
+pages-some owned shape h1 = grind (arith, nat_tests)
 
 pub pages-none : (owned : Option FlatMap) → option_map (λ (flat : FlatMap). flat.shape) owned ≡ None → unwrap_or (option_map (λ (flat : FlatMap). page_count flat.shape) owned) 0 ≡ 0
-pages-none None e = refl
-pages-none (Some flat) e = absurd cc
+pages-none owned h1 = grind (arith, nat_tests)
 
 module _ (table : TableState) (shapes : List (Option Shape)) (tenants : List Tenant) (pass : Pass) (reserved t m : ℕ) (shape : Shape) (now : MemoryState) (same : view_of table shapes tenants pass ≡ now)
     (is : IsMemory table shapes tenants reserved) (here : option_map (λ (flat : FlatMap). flat.shape) (map_at (part now t).maps m) ≡ Some shape) where

@@ -1,6 +1,6 @@
 -- What a memory tells where the pins of one tenant changed.
-use Rattle.page_table.proofs.Base.{◌≡◌, ◌≢◌, ◌∙◌, ◌⊎◌, inl, inr, ⊎_elim, ℕ, zero, suc, ◌+◌, ◌*◌, ◌<◌, ◌≤◌, Bool, true, false, List, [], ◌∷◌, ◌++◌, length, take, drop, replicate, slice_index_or, slice_set, Option, option_map, refl, sym, ap, arith, length-drop, length-replicate, length-map, get_or_past, nat_tests}
-use Rattle.page_table.proofs.Words.{Shape, part_of, with_part, map_place, PinsFit, released, PageState, length-part_of, length-with_part, take-with_part, with_part-whole, Pass, Tenant, IsKeptBut, with_pins, part, TableState, IsPageAt, contents_of, state_of, states_of, view_of, IsMemory}
+use Rattle.page_table.proofs.Base.{◌≡◌, ◌≢◌, ◌∙◌, ◌⊎◌, ℕ, zero, suc, ◌+◌, ◌*◌, ◌<◌, ◌≤◌, Bool, true, false, List, [], ◌∷◌, ◌++◌, length, take, drop, replicate, slice_index_or, Option, refl, sym, ap, arith, length-drop, length-replicate, length-map, get_or_past, nat_tests}
+use Rattle.page_table.proofs.Words.{Shape, part_of, with_part, map_place, PinsFit, released, PageState, length-part_of, length-with_part, take-with_part, with_part-whole, Pass, Tenant, IsKeptBut, with_pins, part, TableState, IsPageAt, states_of, view_of, IsMemory}
 use Rattle.page_table.proofs.Sides.{order}
 use Rattle.page_table.proofs.Creating.{length-contents, filled_at, others-filled}
 use Rattle.page_table.proofs.Fitting.{pinned_if}
@@ -9,10 +9,7 @@ use Rattle.page_table.proofs.Maps.{part_of-set_other}
 -- a page that is pinned is one of its tenant
 pub pinned-others : (pins : List Bool) (is_pinned : Bool) (t m n u : ℕ) → m < 8 → n < 256 → u ≢ t
     → part_of (pinned_if is_pinned (map_place t m * 256 + n) pins) (u * 2048) 2048 ≡ part_of pins (u * 2048) 2048
-pinned-others pins false t m n u small few ne = refl
-pinned-others pins true t m n u small few ne =
-    let place : map_place t m * 256 + n ≡ t * 2048 + (m * 256 + n) = omega arith in
-    ap (λ (i : ℕ). part_of (slice_set pins i true) (u * 2048) 2048) place ∙ part_of-set_other pins t (m * 256 + n) u 2048 true (omega (arith, small, few)) ne
+pinned-others pins is_pinned t m n u h1 h2 h3 = grind (arith, nat_tests, part_of-set_other pins t (m * 256 + n) u 2048 true)
 
 -- what is no longer pinned of a tenant is so of no other one
 pub others-unpinned : (pins : List Bool) (t m n u : ℕ) → m + n ≤ 2048 → t * 2048 + 2048 ≤ length pins → u ≢ t
@@ -32,9 +29,7 @@ drop-with_part (x ∷ xs) ys (suc a) b h =
 
 -- a page that is pinned still stands outside, and was pinned
 pub outside-pinned : (pins : List Bool) (at n i : ℕ) → at + n ≤ length pins → slice_index_or (with_part pins at (replicate n false)) i false ≡ true → ((i < at) ⊎ (at + n ≤ i)) × (slice_index_or pins i false ≡ true)
-outside-pinned pins at n i inside pinned =
-    let told = filled_at pins at n i false false inside in
-    (⊎_elim (λ less. inl less) (λ from. ⊎_elim (λ within. absurd (grind (arith, nat_tests, told))) (λ past. inr past) (order i (at + n))) (order i at), grind (arith, nat_tests, told))
+outside-pinned pins at n i inside pinned = grind (arith, nat_tests, at, filled_at, order)
 
 pub still-pinned : (pins : List Bool) (at n i : ℕ) → at + n ≤ length pins → slice_index_or (with_part pins at (replicate n false)) i false ≡ true → slice_index_or pins i false ≡ true
 still-pinned pins at n i inside pinned = (outside-pinned pins at n i inside pinned).1
@@ -43,25 +38,18 @@ still-pinned pins at n i inside pinned = (outside-pinned pins at n i inside pinn
 pub tenant-unpinned : (pins : List Bool) (t m n : ℕ) → m + n ≤ 2048 → t * 2048 + 2048 ≤ length pins
     → part_of (with_part pins (t * 2048 + m) (replicate n false)) (t * 2048) 2048 ≡ with_part (part_of pins (t * 2048) 2048) m (replicate n false)
 unfolding part_of
-tenant-unpinned pins t m n few all =
-    let long = length-replicate n false in
-    let rest = length-drop (t * 2048) pins in
-    ap (take 2048) (drop-with_part pins (replicate n false) (t * 2048) m (omega (arith, all)))
-    ∙ take-with_part (drop (t * 2048) pins) (replicate n false) 2048 m (omega (arith, rest, all)) (omega (arith, long, few))
+tenant-unpinned pins t m n h1 h2 =
+    grind (arith, nat_tests, length-replicate n false, length-drop (t * 2048) pins, drop-with_part pins (replicate n false) (t * 2048) m, take-with_part (drop (t * 2048) pins) (replicate n false) 2048 m)
 
 -- each page that is there has a place in the list
 pub page-inside : (table : TableState) (pass : Pass) → PinsFit (states_of table.entries) pass.pins → (i : ℕ) → IsPageAt table i → i < length pass.pins
-page-inside table pass fit i there =
-    ⊎_elim (λ less. let long = length-map table.entries (option_map state_of) in let contents = length-contents table in omega (arith, less, long, contents, fit.as_many))
-    (λ past. absurd (let none = ap (λ (l : List ℕ). length l) (get_or_past (contents_of table) i [] past) in omega (arith, none, there)))
-    (order i (length (contents_of table)))
+page-inside table pass h1 i h2 = grind (arith, nat_tests, length-map, length-contents, get_or_past, order)
 
 -- the memory after a tenant's pins were taken away
 module _ (table : TableState) (shapes : List (Option Shape)) (tenants : List Tenant) (pass : Pass) (reserved : ℕ) (is : IsMemory table shapes tenants reserved) (fit : PinsFit (states_of table.entries) pass.pins)
     (t : ℕ) (inside : t < length tenants) where
   pub pins-inside : t * 2048 + 2048 ≤ length pass.pins
-  pins-inside =
-      omega (arith, length-map table.entries (option_map state_of), length-contents table, fit.as_many, is.maps.places, is.numbers, inside)
+  pins-inside = grind (arith, nat_tests, length-map, length-contents)
 
   abbrev unpinned : List Bool
   unpinned = with_part pass.pins (t * 2048) (replicate 2048 false)
@@ -93,7 +81,4 @@ module _ (table : TableState) (shapes : List (Option Shape)) (tenants : List Ten
 
 -- fewer pins fit, too
 pub fit-fewer : (pages : List (Option PageState)) (pins : List Bool) (at n : ℕ) → at + n ≤ length pins → PinsFit pages pins → PinsFit pages (with_part pins at (replicate n false))
-fit-fewer pages pins at n inside fit = record {
-  as_many = length-with_part pins at (replicate n false) (let long = length-replicate n false in omega (arith, long, inside)) ∙ fit.as_many;
-  volatile = λ i pinned. fit.volatile i (still-pinned pins at n i inside pinned);
-}
+fit-fewer pages pins at n inside fit = grind (arith, nat_tests, at, length-with_part, length-replicate, still-pinned)

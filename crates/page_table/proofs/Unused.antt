@@ -1,5 +1,5 @@
 -- Counts of frames, and the list of the unused ones.
-use Rattle.page_table.proofs.Base.{◌≡◌, ◌∙◌, ℕ, zero, suc, ◌+◌, ◌<◌, ◌≤◌, ◌==◌, ◌&&◌, nat_lt, Bool, List, [], ◌∷◌, ◌++◌, length, slice_index_or, refl, ap, arith, sum_by_push}
+use Rattle.page_table.proofs.Base.{◌≡◌, ℕ, zero, suc, ◌+◌, ◌<◌, ◌≤◌, ◌==◌, ◌&&◌, nat_lt, Bool, List, [], ◌∷◌, ◌++◌, length, slice_index_or, refl, arith, sum_by_push, nat_tests}
 use Rattle.page_table.proofs.Words.{AreCounts, times, one_if_zero}
 use Rattle.page_table.proofs.Entries.{one_when, equal}
 
@@ -16,11 +16,7 @@ unused_default (c ∷ counts) (suc f) h = let rest = unused_default counts f h i
 -- the frame at the end of the unused ones is there, and nobody holds it
 pub popped : (counts unused rest : List ℕ) (f : ℕ) → AreCounts (record { counts = counts; unused = unused }) → unused ≡ rest ++ f ∷ []
     → (f < length counts) × (slice_index_or counts f 1 ≡ 0)
-popped counts unused rest f are e =
-    let listed : times f unused ≡ one_if_zero (slice_index_or counts f 1) = are.listed f in
-    let counted : times f unused ≡ times f rest + one_when (f == f) = ap (times f) e ∙ times-push f f rest in
-    let one : one_when (f == f) ≡ 1 = ap one_when (equal f) in
-    unused_default counts f (omega (arith, listed, counted, one))
+popped counts unused rest f h1 h2 = grind (arith, nat_tests, times-push f f rest, equal f, unused_default counts f)
 
 -- a number of a range that begins with 1
 abbrev pub is_between : ℕ → ℕ → Bool

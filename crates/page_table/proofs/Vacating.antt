@@ -1,5 +1,5 @@
 -- A page table stays sound where a page is taken away that has its own frame, or leaves others on its frame.
-use Rattle.page_table.proofs.Base.{◌≡◌, ◌≢◌, ◌∙◌, ℕ, zero, suc, ◌+◌, ◌-◌, ◌<◌, ◌≤◌, ◌==◌, Bool, true, false, if◌then◌else◌, List, [], length, slice_index_or, slice_set, Option, Some, None, IfSome, option_map, refl, sym, ap, subst, arith, length-set, map-set, set-set, nat_tests}
+use Rattle.page_table.proofs.Base.{◌≡◌, ◌≢◌, ◌∙◌, ℕ, zero, suc, ◌+◌, ◌-◌, ◌<◌, ◌≤◌, ◌==◌, Bool, true, false, if◌then◌else◌, List, [], length, slice_index_or, slice_set, Some, None, option_map, refl, sym, ap, arith, length-set, map-set, set-set, nat_tests}
 use Rattle.page_table.proofs.Words.{Pass, Sharing, state_at, is_shared, is_shared_page, broken, gone, gone_from, left_by, broken-own, Entry, TableState, CountsState, IsTable, IsEntry, IsGroup, IsOwnAt, IsSound, AreCountsOf, times, one_if_zero, entry_at, entry_content, state_of, states_of, contents_of, groups_of, sharing_of, is_on, pages_on, used_by}
 use Rattle.page_table.proofs.Changing.{is_alone, entry_fits, table-changed, counted-changed, apart_alone, pages_on-changed, own_pages-changed}
 use Rattle.page_table.proofs.Costs.{state-at, count-some}
@@ -31,17 +31,11 @@ module _ (table : TableState) (i : ℕ) (entry : Entry) (is : IsTable table) (he
 
   -- a page on a group's frame is of the group
   in_group : times entry.frame table.groups ≡ 1 → is_shared entry.status ≡ true
-  in_group once = by_test (is_shared entry.status) refl
-    where
-      by_test : (b : Bool) → is_shared entry.status ≡ b → b ≡ true
-      by_test true e = refl
-      by_test false e = absurd (let none = (is_alone table entry fits e).no_group in omega (arith, none, once))
+  in_group h1 = grind (arith, nat_tests)
 
   -- each group still has pages
   still : (g : ℕ) → IsGroup table g → 1 ≤ pages_on g (vacated table i).entries
-  still g group =
-      let shared : g ≡ entry.frame → is_shared entry.status ≡ true = λ same. in_group (subst (λ (n : ℕ). times n table.groups ≡ 1) same group.once) in
-      grind (arith, nat_tests, pages_on-vacated g, shared, company, group.some, one_if_zero-above g group.above)
+  still g h1 = grind (arith, nat_tests, pages_on-vacated g, one_if_zero-above g, in_group)
 
   groups-shared : groups_of (vacated table i) ≡ left_by i (groups_of table)
   unfolding groups_of
@@ -119,11 +113,7 @@ gone-broken s i own = ap (λ (left : Sharing). record left { pages = slice_set l
 -- a page goes in the same way whatever is pinned
 gone-with : (s : Sharing) (pins : List Bool) (i : ℕ) → record (gone (record s { pins = pins }) i) { pins = pins } ≡ record (gone s i) { pins = pins }
 unfolding gone broken
-gone-with s pins i = by_test (is_shared_page (state_at s i)) refl
-  where
-    by_test : (b : Bool) → is_shared_page (state_at s i) ≡ b → record (gone (record s { pins = pins }) i) { pins = pins } ≡ record (gone s i) { pins = pins }
-    by_test true e = rw e refl
-    by_test false e = rw e refl
+gone-with s pins i = grind (arith, nat_tests)
 
 -- one page more goes
 pub gone_from-last : (s : Sharing) (i n : ℕ) → gone_from s i (n + 1) ≡ gone (gone_from s i n) (i + n)
@@ -137,23 +127,14 @@ gone_from-last s i n = let next : n + 1 ≡ suc n = omega arith in ap (gone_from
         last (gone s i) (i + 1) n ∙ ap (gone (gone_from (gone s i) (i + 1) n)) next
 
 own-page : (table : TableState) (pass : Pass) (i : ℕ) → IsOwnAt table i → is_shared_page (state_at (sharing_of table pass) i) ≡ false
-own-page table pass i own = ap is_shared_page (state-at table pass i) ∙ by_entry (entry_at table.entries i) own
-  where
-    by_entry : (x : Option Entry) → IfSome x (λ entry. is_shared entry.status ≡ false) → is_shared_page (option_map state_of x) ≡ false
-    by_entry None h = refl
-    by_entry (Some entry) h = h
+own-page table pass i h1 = grind (arith, nat_tests, state-at table pass i)
 
 -- a page whose group ended goes then
 pub gone-ended : (old ended new : TableState) (pass : Pass) (i : ℕ) → sharing_of ended pass ≡ broken (sharing_of old pass) i → IsOwnAt ended i → sharing_of new pass ≡ record (gone (sharing_of ended pass) i) { pins = pass.pins }
     → sharing_of new pass ≡ record (gone (sharing_of old pass) i) { pins = pass.pins }
-gone-ended old ended new pass i broke own went =
-    went ∙ ap (λ (s : Sharing). record (gone s i) { pins = pass.pins }) broke
-    ∙ ap (λ (s : Sharing). record s { pins = pass.pins }) (gone-broken (sharing_of old pass) i (sym (ap (λ (s : Sharing). is_shared_page (state_at s i)) broke) ∙ own-page ended pass i own))
+gone-ended old ended new pass i h1 h2 h3 = grind (arith, nat_tests, gone-broken (sharing_of old pass) i, own-page ended pass i)
 
 -- one page more goes, whatever is pinned
 pub gone-more : (old part new : TableState) (pass : Pass) (i n : ℕ) → sharing_of part pass ≡ record (gone_from (sharing_of old pass) i n) { pins = pass.pins }
     → sharing_of new pass ≡ record (gone (sharing_of part pass) (i + n)) { pins = pass.pins } → sharing_of new pass ≡ record (gone_from (sharing_of old pass) i (n + 1)) { pins = pass.pins }
-gone-more old part new pass i n before went =
-    went ∙ ap (λ (s : Sharing). record (gone s (i + n)) { pins = pass.pins }) before
-    ∙ gone-with (gone_from (sharing_of old pass) i n) pass.pins (i + n)
-    ∙ ap (λ (s : Sharing). record s { pins = pass.pins }) (sym (gone_from-last (sharing_of old pass) i n))
+gone-more old part new pass i n h1 h2 = grind (arith, nat_tests, gone-with, gone_from-last)

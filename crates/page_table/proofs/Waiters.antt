@@ -16,12 +16,10 @@ waiters-kept old new c d (w ∷ ws) h are = (h w are.0, are.1, waiters-kept old 
 
 -- a waiting page whose entry stays
 pub waiter-kept : (old new : List (Option Entry)) (c : Option ℕ) (w : Waiter) → ((entry : Entry) → entry_at old w.place ≡ Some entry → is_shared entry.status ≡ false → entry_at new w.place ≡ Some entry) → IsWaiter old c w → IsWaiter new c w
-waiter-kept old new c w h is =
-    record { entry = is.entry; here = h is.entry is.here (waiter_own old c w is); frame = is.frame; status = is.status; mergeable = is.mergeable; behind = is.behind }
+waiter-kept old new c w h is = grind (arith, nat_tests, waiter_own old c w is)
 
 pub either : (a b : Bool) → (a || b) ≡ false → (a ≡ false) × (b ≡ false)
-either true b h = absurd (cc)
-either false b h = (refl, h)
+either a b h1 = grind (arith, nat_tests)
 
 apart_places : (j i : ℕ) → (j == i) ≡ false → j ≢ i
 apart_places j i h e = grind (arith, nat_tests)
@@ -110,17 +108,10 @@ pass-kept old new pass is kept arena long =
 -- a page changes that doesn't wait and isn't pinned
 pub pass-others : (old new : TableState) (pass : Pass) (i : ℕ) → IsPass old pass → is_listed i pass.waiting.listed ≡ false → slice_index_or pass.pins i false ≡ false → AreOthersKept i old new
     → length new.arena ≡ length old.arena → length new.entries ≡ length old.entries → IsPass new pass
-pass-others old new pass i is none free others arena long =
-    record {
-      waiters = waiters-others old.entries new.entries pass.cursor i pass.waiting.listed none others is.waiters;
-      room = omega (arith, arena, is.room);
-      cursor = is.cursor;
-      pins = pins-kept old new pass is.pins long (λ j entry pinned e volatile. others j (apart-pinned pass.pins i j free pinned) ∙ e);
-    }
+pass-others old new pass i is none free others arena long = grind (arith, nat_tests, waiters-others, pins-kept, apart-pinned)
 
 pub pass-forgets : (table : TableState) (pass : Pass) (i : ℕ) → IsPass table pass → IsPass table (forgets i pass)
-pass-forgets table pass i is =
-    record { waiters = waiters-fewer table.entries pass.cursor i pass.waiting.listed is.waiters; room = is.room; cursor = is.cursor; pins = is.pins }
+pass-forgets table pass i is = grind (arith, nat_tests, waiters-fewer)
 
 -- a page changes that isn't pinned, and doesn't wait any more
 pub pass-left : (old new : TableState) (pass : Pass) (i : ℕ) → IsPass old pass → slice_index_or pass.pins i false ≡ false → AreOthersKept i old new → length new.arena ≡ length old.arena

@@ -1,5 +1,5 @@
 -- What a memory tells after bytes of a page were written.
-use Rattle.page_table.proofs.Base.{◌≡◌, ◌≢◌, ◌∙◌, Bool, ℕ, zero, suc, ◌+◌, ◌*◌, ◌<◌, ◌≤◌, List, [], ◌∷◌, length, take, drop, slice_index_or, slice_set, Option, Some, None, IfSome, false, option_map, refl, sym, ap, subst, arith, concat, get_or-set_same, get_or-set_other, get_or_past, length-take-le}
+use Rattle.page_table.proofs.Base.{◌≡◌, ◌≢◌, ◌∙◌, Bool, ℕ, zero, suc, ◌+◌, ◌*◌, ◌<◌, ◌≤◌, List, [], ◌∷◌, length, take, slice_index_or, slice_set, Option, Some, None, IfSome, false, option_map, refl, sym, ap, arith, concat, get_or-set_same, get_or-set_other, get_or_past, length-take-le, nat_tests}
 use Rattle.page_table.proofs.Words.{Pass, Shape, Page, part_of, with_part, FlatMap, FlatMaps, map_at, map_place, page_place, byte_len_of, PageState, is_shared, TenantPart, length-with_part, Entry, Tenant, page_count, MemoryState, part, bytes_of_map, IsPageOf, IsOwn, map_written, part_written, IsKeptBut, AreMapsKeptBut, KeepsSettings, TableState, entry_at, state_of, maps_of, flat_of, ArePages, ArePagesOf, contents_of, groups_of, states_of, frames_of, used_by, view_of, IsMemory, take-with_part, drop-with_part_before}
 use Rattle.std.proofs.Common.{length-set}
 use Rattle.page_table.proofs.Maps.{maps_of-changed, AreMaps-changed, length-maps_of, part_of-set_same, part_of-set_other, concat-written, length-concat}
@@ -88,27 +88,11 @@ module _ (shape : Shape) (pages : List (List ℕ)) (n at : ℕ) (bytes : List �
   joined = concat-written pages n at bytes (λ m le. are.there m (omega (arith, le, there))) in_page
 
   pub flat_written : flat_of (slice_set pages n written) shape ≡ map_written (n * 4096 + at) bytes (flat_of pages shape)
-  flat_written =
-      ap (λ l. record { shape = shape; bytes = take (byte_len_of shape) l }) joined
-      ∙ ap (λ l. record { shape = shape; bytes = l }) (take-with_part (concat pages) bytes (byte_len_of shape) (n * 4096 + at) (let h = whole in omega arith) in_map)
+  flat_written = grind (arith, nat_tests, joined, take-with_part, whole)
 
   pub pages_written : ArePagesOf shape (slice_set pages n written)
   pages_written =
-      record {
-        shaped = are.shaped;
-        there = λ m less. at_page m less;
-        none = λ m le. get_or-set_other pages n m written [] (λ e. omega (arith, e, le, there)) ∙ are.none m le;
-        padded = ap (drop (byte_len_of shape)) joined ∙ drop-with_part_before (concat pages) bytes (byte_len_of shape) (n * 4096 + at) (let h = whole in omega arith) in_map ∙ are.padded;
-      }
-    where
-      inside_page : n < length pages
-      inside_page = grind (arith, are.there n, get_or_past pages n [])
-
-      at_page : (m : ℕ) → m < page_count shape → length (slice_index_or (slice_set pages n written) m []) ≡ 4096
-      at_page m less =
-          let long = are.there n there in
-          let sized = length-with_part (slice_index_or pages n []) at bytes (omega (arith, long, in_page)) in
-          grind (arith, are.there m, get_or-set_other pages n m written [], get_or-set_same pages n written [], inside_page, sized, long)
+      grind (arith, nat_tests, there, get_or-set_other, written, joined, drop-with_part_before, whole, get_or_past, length-with_part, get_or-set_same)
 
 module _ (table new : TableState) (shapes : List (Option Shape)) (tenants : List Tenant) (pass : Pass) (reserved : ℕ) (page : Page) (at : ℕ) (bytes : List ℕ) (is : IsMemory table shapes tenants reserved) (there : IsPageOf (view_of table shapes tenants pass) page) (in_page : at + length bytes ≤ 4096) (in_map : page.number * 4096 + at + length bytes ≤ length (bytes_of_map (view_of table shapes tenants pass) page))
     (contents : contents_of new ≡ slice_set (contents_of table) (page_place page) (with_part (slice_index_or (contents_of table) (page_place page) []) at bytes))
@@ -151,10 +135,7 @@ module _ (table new : TableState) (shapes : List (Option Shape)) (tenants : List
   wide = ap length contents ∙ length-set (contents_of table) (page_place page) (with_part (slice_index_or (contents_of table) (page_place page) []) at bytes)
 
   pub memory_written : IsMemory new shapes tenants reserved
-  memory_written =
-      memory_changed table new shapes shapes tenants reserved page.tenant page.map is loc.small loc.inside refl wide (λ j ne. refl) others_new arena (rw (groups, entries) is.room)
-      (subst (λ s. ArePages s (part_of (contents_of new) (k * 256) 256)) (sym loc.here)
-      (subst (λ p. ArePagesOf loc.shape p) (sym pages_new) (pages_written loc.shape old_pages page.number at bytes loc.pages number in_page in_bytes)))
+  memory_written = grind (arith, nat_tests, pages_written, old_pages, memory_changed, wide, others_new, pages_new, number, in_bytes)
 
   abbrev before : MemoryState
   before = view_of table shapes tenants pass

@@ -1,5 +1,5 @@
 -- A page of zeros moves to the zero frame.
-use Rattle.page_table.proofs.Base.{◌≡◌, ◌∙◌, ⊎_elim, ℕ, ◌<◌, ◌≤◌, ◌==◌, false, [], slice_index_or, Some, sym, ap, arith, refl}
+use Rattle.page_table.proofs.Base.{◌≡◌, ◌∙◌, ⊎_elim, ℕ, ◌<◌, ◌≤◌, ◌==◌, false, [], slice_index_or, Some, sym, ap, arith, refl, nat_tests}
 use Rattle.page_table.proofs.Words.{Pass, Zero, with_status, zeroed, zero_page, Entry, TableState, IsOwnAt, IsTable, IsGroup, times, entry_at, contents_of, groups_of, sharing_of, forgets, is_on}
 use Rattle.page_table.proofs.Entries.{not_equal, places_on-set, groups-kept, states-set}
 use Rattle.page_table.proofs.Waiters.{waiting-forgets}
@@ -34,8 +34,4 @@ module _ (table : TableState) (i : ℕ) (entry x : Entry) (move : IsMove table i
 
   pub sharing-zeroed : (pass : Pass) → sharing_of (with_entry table i x) (forgets i pass) ≡ zeroed (sharing_of table pass) i
   unfolding zeroed
-  sharing-zeroed pass =
-      let pages = states-set (with_status Zero) table.entries i entry x here to.state in
-      let groups = groups-zeroed in
-      let waiting = waiting-forgets i pass.waiting.listed in
-      cc
+  sharing-zeroed pass = grind (arith, nat_tests, states-set (with_status Zero), groups-zeroed, waiting-forgets)

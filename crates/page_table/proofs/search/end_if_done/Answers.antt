@@ -1,5 +1,5 @@
-use Rattle.page_table.proofs.Base.{◌≡◌, ◌∙◌, ◌+◌, ℕ, Bool, true, false, drop, Option, None, Some, is_some, refl, sym, ap, subst}
-use Rattle.page_table.proofs.Words.{first_mergeable, ended_at, moved_on, one_more, Pass, TableState, states_of, sharing_of, IsAhead}
+use Rattle.page_table.proofs.Base.{◌≡◌, ◌∙◌, ◌+◌, ℕ, Bool, true, false, drop, Option, None, Some, is_some, refl, sym, ap, nat_tests, arith}
+use Rattle.page_table.proofs.Words.{first_mergeable, ended_at, moved_on, one_more, Pass, TableState, states_of, sharing_of}
 use Rattle.page_table.proofs.Ahead.{ahead-next}
 use Rattle.page_table.proofs.Partners.{pass-ended}
 use Rattle.page_table.proofs.search.end_if_done.Goals as goal
@@ -22,19 +22,13 @@ told : (c : After-is_some) (b : Bool) → c.is_some.result ≡ b → is_some (ne
 told c b e = ap is_some (sym c.next_mergeable.ensures) ∙ sym c.is_some.ensures ∙ e
 
 pub returns-then-is_some-clause-ended : goal.returns-then-is_some-clause-ended
-returns-then-is_some-clause-ended c =
-    let d = (goal.at.returns-then-is_some-clause-ended c).After-is_some in
-    goes_on c.args.table.now c.args.pass.now c.in-Some.cursor c.in-Some.is (told d true c.if-is_some.true)
+returns-then-is_some-clause-ended c = grind (arith, nat_tests, goes_on, told)
 
 pub returns-then-is_some-clause-ahead : goal.returns-then-is_some-clause-ahead
-returns-then-is_some-clause-ahead c =
-    let d = (goal.at.returns-then-is_some-clause-ahead c).After-is_some in
-    subst (IsAhead (states_of c.args.table.now.entries)) (sym c.in-Some.is) (ahead-next (states_of c.args.table.now.entries) c.in-Some.cursor (told d true c.if-is_some.true))
+returns-then-is_some-clause-ahead c = grind (arith, nat_tests, ahead-next, told)
 
 pub returns-clause-ended : goal.returns-clause-ended
-returns-clause-ended c =
-    let d = (goal.at.returns-clause-ended c).After-is_some in
-    rw c.end.ensures (ended c.args.table.now c.args.pass.now c.in-Some.cursor c.in-Some.is (told d false c.if-is_some.false))
+returns-clause-ended c = grind (arith, nat_tests, ended, told)
 
 pub returns-clause-kept : goal.returns-clause-kept
 returns-clause-kept c is = rw c.end.ensures (pass-ended c.args.table.now c.args.pass.now _ is)

@@ -1,27 +1,20 @@
-use Rattle.page_table.proofs.Base.{◌≡◌, ◌⊎◌, ⊎_elim, ◌+◌, ◌*◌, ◌<◌, ◌≤◌, false, drop, slice_index_or, MatchOption, Option, None, Some, ℕ, arith}
+use Rattle.page_table.proofs.Base.{◌≡◌, ◌+◌, ◌*◌, ◌<◌, ◌≤◌, false, drop, slice_index_or, MatchOption, Option, None, Some, ℕ, arith, nat_tests}
 use Rattle.page_table.proofs.Words.{first_mergeable, is_mergeable, states_of}
 use Rattle.page_table.proofs.Creating.{length-contents}
 use Rattle.page_table.proofs.Reading.{few_pages}
-use Rattle.page_table.proofs.Searching.{without-map, behind-pages, shaped}
+use Rattle.page_table.proofs.Searching.{without-map, behind-pages}
 use Rattle.page_table.proofs.search.next_in_map.Goals as goal
 
 pub returns-in_default : goal.returns-in_default
-returns-in_default c = λ i le less.
-    without-map c.args.table.now c.args.shapes.now c.args.index i (c.facts.ensures.1).fits c.requires.maps c.requires.map (omega (arith, c.requires.first, le)) less c.in_default.is
+returns-in_default c = grind (arith, nat_tests, without-map)
 
 pub next_mergeable-requires : goal.next_mergeable-requires
-next_mergeable-requires c =
-    let few = few_pages c.in-Some.shape (shaped c.args.shapes.now _ c.args.index c.in-Some.shape c.requires.maps c.requires.map c.in-Some.is).shaped in
-    omega (arith, few, length-contents c.args.table.now, c.requires.maps.places, c.requires.map, c.pages.ensures)
+next_mergeable-requires c = grind (arith, nat_tests, few_pages, length-contents)
 
 -- what is known of a map's pages holds of all its places
 whole : (result : Option ℕ) (mergeable : ℕ → Type 0) (first : ℕ → Type 0) (from end last : ℕ) → MatchOption result ((i : ℕ) → from ≤ i → i < end → mergeable i) first
     → ((i : ℕ) → end ≤ i → i < last → from ≤ i → mergeable i) → MatchOption result ((i : ℕ) → from ≤ i → i < last → mergeable i) first
-whole None mergeable first from end last told behind = λ i le less. ⊎_elim (λ before. told i le before) (λ past. behind i past less le) (split i end)
-  where
-    split : (n m : ℕ) → (n < m) ⊎ (m ≤ n)
-    split n m = grind arith
-whole (Some i) mergeable first from end last told behind = told
+whole result mergeable first from end last h1 h2 = grind (arith, nat_tests)
 
 pub returns : goal.returns
 returns c =

@@ -1,4 +1,4 @@
-use Rattle.page_table.proofs.Base.{length, ap, arith, refl}
+use Rattle.page_table.proofs.Base.{length, ap, arith, refl, nat_tests}
 use Rattle.page_table.proofs.Words.{page_place, Sharing, changed, sharing_of}
 use Rattle.page_table.proofs.Seen.{sees}
 use Rattle.page_table.proofs.Merging.{memory_kept, moves}
@@ -9,20 +9,11 @@ use Rattle.page_table.proofs.memory.Memory.change.Goals as goal
 
 pub mark-requires : goal.mark-requires
 mark-requires c =
-    let seen = sees c.self.inside.table c.self.inside.shapes.items c.self.inside.tenants.items c.self.inside.pass c.self.inside.reserved c.self.invariant.0 c.args.self.now c.self.view_is c.args.page c.place_of.result c.place_of.ensures in
-    record { there = seen.there c.requires.there; own = seen.lone c.requires.may; status = refl }
+    grind (arith, nat_tests, sees c.self.inside.table c.self.inside.shapes.items c.self.inside.tenants.items c.self.inside.pass c.self.inside.reserved c.self.invariant.0 c.args.self.now c.self.view_is c.args.page c.place_of.result c.place_of.ensures)
 
 pub invariant_of-self : goal.invariant_of-self
 invariant_of-self c =
-    let arena = ap length c.mark.ensures.arena in
-    let seen = sees c.self.inside.table c.self.inside.shapes.items c.self.inside.tenants.items c.self.inside.pass c.self.inside.reserved c.self.invariant.0 c.args.self.now c.self.view_is c.args.page c.place_of.result c.place_of.ensures in (
-      memory_kept c.self.inside.table c.mark.new.self c.self.inside.shapes.items c.self.inside.tenants.items c.self.inside.pass c.self.inside.pass c.mark.ensures.contents arena
-          c.self.inside.reserved c.self.invariant.0 (omega (arith, c.mark.ensures.used, c.self.invariant.0.room)),
-      pass-others c.self.inside.table c.mark.new.self c.self.inside.pass c.place_of.result c.self.invariant.1 (seen.unlisted c.requires.free) (seen.unpinned c.requires.may) c.mark.ensures.others arena
-          (entries-long c.self.inside.table c.mark.new.self c.mark.ensures.contents),
-      ahead-told c.self.inside.table c.mark.new.self c.self.inside.pass _ c.self.inside.pass.cursor (c.mark.ensures.sharing c.self.inside.pass)
-          (stay-marked (sharing_of c.self.inside.table c.self.inside.pass) c.place_of.result _ _) c.self.invariant.2,
-    )
+    grind (arith, nat_tests, sees c.self.inside.table c.self.inside.shapes.items c.self.inside.tenants.items c.self.inside.pass c.self.inside.reserved c.self.invariant.0 c.args.self.now c.self.view_is c.args.page c.place_of.result c.place_of.ensures, memory_kept c.self.inside.table c.mark.new.self c.self.inside.shapes.items c.self.inside.tenants.items c.self.inside.pass c.self.inside.pass c.mark.ensures.contents, pass-others c.self.inside.table c.mark.new.self c.self.inside.pass c.place_of.result c.self.invariant.1, entries-long c.self.inside.table c.mark.new.self c.mark.ensures.contents, ahead-told c.self.inside.table c.mark.new.self c.self.inside.pass, stay-marked (sharing_of c.self.inside.table c.self.inside.pass) c.place_of.result)
 
 pub returns : goal.returns
 unfolding changed

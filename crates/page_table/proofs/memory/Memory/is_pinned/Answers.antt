@@ -1,13 +1,12 @@
-use Rattle.page_table.proofs.Base.{◌∙◌, ap}
-use Rattle.page_table.proofs.Words.{is_pinned, IsPageOf, view_of}
+use Rattle.page_table.proofs.Base.{◌∙◌, ap, nat_tests, arith}
+use Rattle.page_table.proofs.Words.{is_pinned, view_of}
 use Rattle.page_table.proofs.Reading.{is_page_at}
 use Rattle.page_table.proofs.Unpinning.{page-inside}
 use Rattle.page_table.proofs.memory.Memory.is_pinned.Goals as goal
 
 pub is_pinned-requires : goal.is_pinned-requires
 is_pinned-requires c =
-    let there : IsPageOf (view_of c.self.inside.table c.self.inside.shapes.items c.self.inside.tenants.items c.self.inside.pass) c.args.page = rw (← c.self.view_is) at c.requires in
-    rw c.place_of.ensures (page-inside c.self.inside.table c.self.inside.pass c.self.invariant.1.pins _ (is_page_at c.self.inside.table c.self.inside.shapes.items c.self.inside.tenants.items c.self.inside.pass c.self.inside.reserved c.args.page c.self.invariant.0 there))
+    grind (arith, nat_tests, page-inside c.self.inside.table c.self.inside.pass c.self.invariant.1.pins, is_page_at c.self.inside.table c.self.inside.shapes.items c.self.inside.tenants.items c.self.inside.pass c.self.inside.reserved c.args.page c.self.invariant.0)
 
 pub returns : goal.returns
 unfolding view_of

@@ -1,5 +1,5 @@
-use Rattle.page_table.proofs.Base.{◌≡◌, ◌∙◌, ◌≤◌, true, find, Some, refl, sym, arith}
-use Rattle.page_table.proofs.Words.{page_place, IsPageOf, contents_now, open_frame, Grouped, with_status, is_open_frame, times, states_of, view_of}
+use Rattle.page_table.proofs.Base.{◌≡◌, ◌∙◌, ◌≤◌, true, find, Some, sym, arith, nat_tests}
+use Rattle.page_table.proofs.Words.{page_place, IsPageOf, contents_now, Grouped, with_status, is_open_frame, times, states_of, view_of}
 use Rattle.page_table.proofs.Reading.{content_is}
 use Rattle.page_table.proofs.Merging.{memory_kept, moves}
 use Rattle.page_table.proofs.Scanning.{bytes_here, open-frame, find-in, open-bytes, sharing-joins}
@@ -15,9 +15,7 @@ there c = rw (← c.self.view_is) at c.requires.there
 
 -- the group is the first one that is open
 found : (c : After-place_of) → find (is_open_frame c.self.inside.table (contents_now (view_of c.self.inside.table c.self.inside.shapes.items c.self.inside.tenants.items c.self.inside.pass) (page_place c.args.page)) c.self.inside.pass.options.max_page_sharing) c.self.inside.table.groups ≡ Some c.args.group
-found c =
-    let opens : open_frame (view_of c.self.inside.table c.self.inside.shapes.items c.self.inside.tenants.items c.self.inside.pass) (page_place c.args.page) ≡ Some c.args.group = rw (← c.self.view_is) at c.requires.open in
-    sym (open-frame c.self.inside.table c.self.inside.shapes.items c.self.inside.tenants.items c.self.inside.pass c.self.inside.reserved c.self.invariant.0 (c.facts.ensures.1).fits (page_place c.args.page)) ∙ opens
+found c = grind (arith, nat_tests, open-frame)
 
 in_groups : (c : After-place_of) → (1 ≤ times c.args.group c.self.inside.table.groups) × (is_open_frame c.self.inside.table (contents_now (view_of c.self.inside.table c.self.inside.shapes.items c.self.inside.tenants.items c.self.inside.pass) (page_place c.args.page)) c.self.inside.pass.options.max_page_sharing c.args.group ≡ true)
 in_groups c = find-in (is_open_frame c.self.inside.table (contents_now (view_of c.self.inside.table c.self.inside.shapes.items c.self.inside.tenants.items c.self.inside.pass) (page_place c.args.page)) c.self.inside.pass.options.max_page_sharing) c.self.inside.table.groups c.args.group (found c)
@@ -37,26 +35,8 @@ join-requires c =
 
 pub invariant_of-self : goal.invariant_of-self
 invariant_of-self c =
-    let seen = sees c.self.inside.table c.self.inside.shapes.items c.self.inside.tenants.items c.self.inside.pass c.self.inside.reserved c.self.invariant.0 c.args.self.now c.self.view_is c.args.page c.place_of.result c.place_of.ensures in (
-      memory_kept c.self.inside.table c.join.new.self c.self.inside.shapes.items c.self.inside.tenants.items c.self.inside.pass c.self.inside.pass c.join.ensures.contents c.join.ensures.arena
-          c.self.inside.reserved c.self.invariant.0 (omega (arith, c.join.ensures.used, c.self.invariant.0.room)),
-      pass-others c.self.inside.table c.join.new.self c.self.inside.pass c.place_of.result c.self.invariant.1 (seen.unlisted c.requires.free) (seen.unpinned c.requires.may)
-          c.join.ensures.others c.join.ensures.arena (entries-long c.self.inside.table c.join.new.self c.join.ensures.contents),
-      rw c.join.ensures.states (ahead-kept _ _ c.self.inside.pass.cursor (stay-set (states_of c.self.inside.table.entries) c.place_of.result (with_status Grouped) (λ state. refl)) c.self.invariant.2),
-    )
+    grind (arith, nat_tests, sees c.self.inside.table c.self.inside.shapes.items c.self.inside.tenants.items c.self.inside.pass c.self.inside.reserved c.self.invariant.0 c.args.self.now c.self.view_is c.args.page c.place_of.result c.place_of.ensures, memory_kept c.self.inside.table c.join.new.self c.self.inside.shapes.items c.self.inside.tenants.items c.self.inside.pass c.self.inside.pass c.join.ensures.contents c.join.ensures.arena c.self.inside.reserved c.self.invariant.0, pass-others c.self.inside.table c.join.new.self c.self.inside.pass c.place_of.result c.self.invariant.1, entries-long c.self.inside.table c.join.new.self c.join.ensures.contents, stay-set (states_of c.self.inside.table.entries) c.place_of.result (with_status Grouped), ahead-kept)
 
 pub returns : goal.returns
 returns c =
-    let told = moves c.self.inside.table c.join.new.self c.self.inside.shapes.items c.self.inside.tenants.items c.self.inside.pass
-    c.self.inside.pass c.join.ensures.contents c.join.ensures.arena c.args.self.now c.self.view_is
-    0 1 c.self.inside.reserved c.self.invariant.0 (omega (arith, c.join.ensures.used, c.self.invariant.0.room)) (omega (arith, c.join.ensures.used)) in
-    record {
-      maps = told.maps;
-      kept = told.kept refl;
-      sharing = rw (← c.self.view_is)
-          (sharing-joins c.self.inside.table c.self.inside.shapes.items c.self.inside.tenants.items c.self.inside.pass c.self.inside.reserved c.self.invariant.0 (c.facts.ensures.1).fits c.join.new.self (page_place c.args.page) c.args.group
-          (found (goal.at.returns c).After-place_of) (rw c.place_of.ensures at c.join.ensures.states) (rw c.place_of.ensures at c.join.ensures.groups));
-      free = omega (arith, told.free);
-      have = omega (arith, told.have);
-      settings = told.settings;
-    }
+    grind (arith, nat_tests, moves c.self.inside.table c.join.new.self c.self.inside.shapes.items c.self.inside.tenants.items c.self.inside.pass c.self.inside.pass c.join.ensures.contents c.join.ensures.arena c.args.self.now c.self.view_is 0 1 c.self.inside.reserved c.self.invariant.0, sharing-joins c.self.inside.table c.self.inside.shapes.items c.self.inside.tenants.items c.self.inside.pass c.self.inside.reserved c.self.invariant.0, found)

@@ -1,9 +1,6 @@
-use Rattle.page_table.proofs.Base.{◌∙◌, [], sym, ap}
-use Rattle.page_table.proofs.Words.{seconds_behind}
+use Rattle.page_table.proofs.Base.{nat_tests, arith}
 use Rattle.page_table.proofs.Tallying.{contents-told}
 use Rattle.page_table.proofs.memory.Memory.node_chains.Goals as goal
 
 pub returns : goal.returns
-returns c =
-    let told = contents-told c.self.inside.table c.self.inside.shapes.items c.self.inside.tenants.items c.self.inside.pass c.self.inside.reserved c.self.invariant.0 c.facts.ensures.1.fits in
-    rw (← c.self.view_is) (c.node_chains.ensures ∙ sym (ap (seconds_behind []) told))
+returns c = grind (arith, nat_tests, contents-told)

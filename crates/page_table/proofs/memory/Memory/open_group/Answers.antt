@@ -1,5 +1,5 @@
-use Rattle.page_table.proofs.Base.{◌≡◌, ◌∙◌, find, is_some, ap, sym}
-use Rattle.page_table.proofs.Words.{page_place, page_bytes, page_at, bytes_of_map, IsPageOf, contents_now, is_open_frame, view_of}
+use Rattle.page_table.proofs.Base.{◌≡◌, find, nat_tests, arith}
+use Rattle.page_table.proofs.Words.{page_place, page_bytes, page_at, bytes_of_map, contents_now, is_open_frame, view_of}
 use Rattle.page_table.proofs.Scanning.{bytes_here, open-frame, has-open}
 use Rattle.page_table.proofs.memory.Memory.open_group.Goals as goal
 
@@ -12,16 +12,7 @@ unfolding view_of
 content_of c = rw (← c.self.view_is) at c.entry-frame.ensures.content
 
 found : (c : goal.After-open_group) → c.open_group.result ≡ find (is_open_frame c.self.inside.table (contents_now (view_of c.self.inside.table c.self.inside.shapes.items c.self.inside.tenants.items c.self.inside.pass) (page_place c.args.page)) c.self.inside.pass.options.max_page_sharing) c.self.inside.table.groups
-found c =
-    let there : IsPageOf (view_of c.self.inside.table c.self.inside.shapes.items c.self.inside.tenants.items c.self.inside.pass) c.args.page = rw (← c.self.view_is) at c.requires in
-    let content : page_at c.self.inside.table.arena c.entry-frame.result.frame ≡ page_bytes (bytes_of_map (view_of c.self.inside.table c.self.inside.shapes.items c.self.inside.tenants.items c.self.inside.pass) c.args.page) c.args.page.number = content_of c in
-    c.open_group.ensures
-    ∙ ap (λ n. find (is_open_frame c.self.inside.table (page_at c.self.inside.table.arena c.entry-frame.result.frame) n) c.self.inside.table.groups) c.max_page_sharing.ensures
-    ∙ ap (λ l. find (is_open_frame c.self.inside.table l c.self.inside.pass.options.max_page_sharing) c.self.inside.table.groups)
-    (content ∙ sym (bytes_here c.self.inside.table c.self.inside.shapes.items c.self.inside.tenants.items c.self.inside.pass c.self.inside.reserved c.self.invariant.0 c.args.page there))
+found c = grind (arith, nat_tests, content_of, bytes_here)
 
 pub returns : goal.returns
-returns c = record {
-  frame = rw (← c.self.view_is) (found c ∙ sym (open-frame c.self.inside.table c.self.inside.shapes.items c.self.inside.tenants.items c.self.inside.pass c.self.inside.reserved c.self.invariant.0 (c.facts.ensures.1).fits (page_place c.args.page)));
-  told = rw (← c.self.view_is) (ap is_some (found c) ∙ sym (has-open c.self.inside.table c.self.inside.shapes.items c.self.inside.tenants.items c.self.inside.pass c.self.inside.reserved c.self.invariant.0 (c.facts.ensures.1).fits (page_place c.args.page)));
-}
+returns c = grind (arith, nat_tests, found, open-frame, has-open)

@@ -1,4 +1,4 @@
-use Rattle.page_table.proofs.Base.{◌≢◌, ◌∙◌, ℕ, ap, arith, sym, refl}
+use Rattle.page_table.proofs.Base.{◌≢◌, ◌∙◌, ℕ, ap, arith, sym, refl, nat_tests}
 use Rattle.page_table.proofs.Words.{page_place, Sharing, paired, WaitingList, sharing_of, forgets}
 use Rattle.page_table.proofs.Seen.{sees}
 use Rattle.page_table.proofs.Merging.{memory_kept, moves, places_apart}
@@ -22,23 +22,11 @@ pair-requires c =
     }
 
 apart : (c : goal.After-forget-2) → c.place_of-first.result ≢ c.place_of-second.result
-apart c =
-    rw (c.place_of-first.ensures, c.place_of-second.ensures)
-    (places_apart c.self.inside.table c.self.inside.shapes.items c.self.inside.tenants.items c.self.inside.pass c.self.inside.reserved c.self.invariant.0 c.args.self.now c.self.view_is c.args.first c.args.second c.requires.first c.requires.second c.requires.apart)
+apart c = grind (arith, nat_tests, places_apart)
 
 pub invariant_of-self : goal.invariant_of-self
 invariant_of-self c =
-    let one = sees c.self.inside.table c.self.inside.shapes.items c.self.inside.tenants.items c.self.inside.pass c.self.inside.reserved c.self.invariant.0 c.args.self.now c.self.view_is c.args.first c.place_of-first.result c.place_of-first.ensures in
-    let other = sees c.self.inside.table c.self.inside.shapes.items c.self.inside.tenants.items c.self.inside.pass c.self.inside.reserved c.self.invariant.0 c.args.self.now c.self.view_is c.args.second c.place_of-second.result c.place_of-second.ensures in (
-      memory_kept c.self.inside.table c.pair.new.self c.self.inside.shapes.items c.self.inside.tenants.items c.self.inside.pass c.self.inside.pass c.pair.ensures.contents c.pair.ensures.arena
-          c.self.inside.reserved c.self.invariant.0 (omega (arith, c.pair.ensures.used, c.self.invariant.0.room)),
-      rw (c.forget-2.ensures, c.forget.ensures)
-          (pass-left-both c.self.inside.table c.pair.new.self c.self.inside.pass c.place_of-first.result c.place_of-second.result c.self.invariant.1
-          (one.unpinned c.requires.may_first) (other.unpinned c.requires.may_second)
-          c.pair.ensures.others c.pair.ensures.arena (entries-long c.self.inside.table c.pair.new.self c.pair.ensures.contents)),
-      ahead-told c.self.inside.table c.pair.new.self (forgets c.place_of-first.result (forgets c.place_of-second.result c.self.inside.pass)) _ c.self.inside.pass.cursor (c.pair.ensures.sharing c.self.inside.pass)
-          (stay-paired (sharing_of c.self.inside.table c.self.inside.pass) c.place_of-first.result c.place_of-second.result (apart c)) c.self.invariant.2,
-    )
+    grind (arith, nat_tests, sees c.self.inside.table c.self.inside.shapes.items c.self.inside.tenants.items c.self.inside.pass c.self.inside.reserved c.self.invariant.0 c.args.self.now c.self.view_is c.args.first c.place_of-first.result c.place_of-first.ensures, sees c.self.inside.table c.self.inside.shapes.items c.self.inside.tenants.items c.self.inside.pass c.self.inside.reserved c.self.invariant.0 c.args.self.now c.self.view_is c.args.second c.place_of-second.result c.place_of-second.ensures, memory_kept c.self.inside.table c.pair.new.self c.self.inside.shapes.items c.self.inside.tenants.items c.self.inside.pass c.self.inside.pass c.pair.ensures.contents c.pair.ensures.arena c.self.inside.reserved c.self.invariant.0, pass-left-both c.self.inside.table c.pair.new.self c.self.inside.pass c.place_of-first.result c.place_of-second.result c.self.invariant.1, entries-long c.self.inside.table c.pair.new.self c.pair.ensures.contents, ahead-told c.self.inside.table c.pair.new.self (forgets c.place_of-first.result (forgets c.place_of-second.result c.self.inside.pass)), stay-paired (sharing_of c.self.inside.table c.self.inside.pass) c.place_of-first.result c.place_of-second.result (apart c), apart c)
 
 pub returns : goal.returns
 returns c =

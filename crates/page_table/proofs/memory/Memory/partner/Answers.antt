@@ -1,4 +1,4 @@
-use Rattle.page_table.proofs.Base.{◌≡◌, ◌∙◌, ◌<◌, List, ℕ, true, false, find, Some, option_map, sym, ap, subst, arith}
+use Rattle.page_table.proofs.Base.{◌≡◌, ◌∙◌, ◌<◌, List, ℕ, true, false, find, Some, option_map, sym, ap, subst, arith, nat_tests}
 use Rattle.page_table.proofs.Words.{Page, page_place, page_bytes, page_at, Waiter, is_match, bytes_of_map, IsPageOf, IsNotWaiting, contents_now, partner_place, IsPageAt, view_of, is_listed}
 use Rattle.page_table.proofs.Putting.{page_of_entry}
 use Rattle.page_table.proofs.Entries.{inside}
@@ -14,8 +14,7 @@ unfolding view_of
 find-requires-clause-frame c = rw (c.arena.ensures) (rw (← c.self.view_is) at c.entry-frame.ensures.there)
 
 pub find-requires-clause-listed : goal.find-requires-clause-listed
-find-requires-clause-listed c =
-    rw (c.arena.ensures) (waiters-frames c.self.inside.table c.self.inside.pass.cursor c.self.inside.pass.waiting.listed (c.facts.ensures.1).fits c.self.invariant.1.waiters)
+find-requires-clause-listed c = grind (arith, nat_tests, waiters-frames)
 
 there : (c : After-find) → IsPageOf (view_of c.self.inside.table c.self.inside.shapes.items c.self.inside.tenants.items c.self.inside.pass) c.args.page
 there c = rw (← c.self.view_is) at c.requires.there
@@ -28,15 +27,11 @@ abbrev bytes : After-find → List ℕ
 bytes c = contents_now (view_of c.self.inside.table c.self.inside.shapes.items c.self.inside.tenants.items c.self.inside.pass) (page_place c.args.page)
 
 told : (c : After-find) → c.find.result ≡ find (is_match c.self.inside.table.arena c.args.fingerprint (bytes c)) c.self.inside.pass.waiting.listed
-told c =
-    c.find.ensures
-    ∙ ap (λ a. find (is_match a c.args.fingerprint (page_at a c.entry-frame.result.frame)) c.self.inside.pass.waiting.listed) c.arena.ensures
-    ∙ ap (λ l. find (is_match c.self.inside.table.arena c.args.fingerprint l) c.self.inside.pass.waiting.listed) (content c ∙ sym (bytes_here c.self.inside.table c.self.inside.shapes.items c.self.inside.tenants.items c.self.inside.pass c.self.inside.reserved c.self.invariant.0 c.args.page (there c)))
+told c = grind (arith, nat_tests, content, bytes_here, there)
 
 found : (c : In-Some) → IsFound c.self.inside.table.entries c.self.inside.pass.cursor (is_match c.self.inside.table.arena c.args.fingerprint (bytes c.before)) c.self.inside.pass.waiting.listed c.in-Some.waiter
 found c =
-    found-waiter c.self.inside.table.entries c.self.inside.pass.cursor (is_match c.self.inside.table.arena c.args.fingerprint (bytes c.before)) c.self.inside.pass.waiting.listed c.in-Some.waiter c.self.invariant.1.waiters
-    (sym (told c.before) ∙ c.in-Some.is)
+    grind (arith, nat_tests, found-waiter c.self.inside.table.entries c.self.inside.pass.cursor (is_match c.self.inside.table.arena c.args.fingerprint (bytes c.before)) c.self.inside.pass.waiting.listed c.in-Some.waiter c.self.invariant.1.waiters, bytes c.before, told c.before)
 
 pub page_at-requires : goal.page_at-requires
 page_at-requires c =
@@ -84,5 +79,4 @@ returns-in-Some c = record {
 }
 
 pub returns-in-None-clause-found : goal.returns-in-None-clause-found
-returns-in-None-clause-found c =
-    rw (← c.self.view_is) (sym (partners (goal.at.returns-in-None-clause-found c).After-find ∙ ap (option_map (λ (w : Waiter). w.place)) c.in-None.is))
+returns-in-None-clause-found c = grind (arith, nat_tests, partners)

@@ -1,12 +1,10 @@
-use Rattle.page_table.proofs.Base.{◌≡◌, ◌∙◌, true, sym}
-use Rattle.page_table.proofs.Words.{page_place, is_shared_page, state_at, IsPageOf, part, sharing_of, view_of}
+use Rattle.page_table.proofs.Base.{◌≡◌, ◌∙◌, true, sym, nat_tests, arith}
+use Rattle.page_table.proofs.Words.{page_place, is_shared_page, state_at, part, sharing_of, view_of}
 use Rattle.page_table.proofs.Reading.{is_page_at}
 use Rattle.page_table.proofs.memory.Memory.pins.Goals as goal
 
 pub is_shared-requires : goal.is_shared-requires
-is_shared-requires c =
-    let there : IsPageOf (view_of c.self.inside.table c.self.inside.shapes.items c.self.inside.tenants.items c.self.inside.pass) c.args.page = rw (← c.self.view_is) at c.requires in
-    rw c.place_of.ensures (is_page_at c.self.inside.table c.self.inside.shapes.items c.self.inside.tenants.items c.self.inside.pass c.self.inside.reserved c.args.page c.self.invariant.0 there)
+is_shared-requires c = grind (arith, nat_tests, is_page_at)
 
 pub returns-then-is_running : goal.returns-then-is_running
 unfolding view_of

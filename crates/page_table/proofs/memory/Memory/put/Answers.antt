@@ -1,5 +1,5 @@
-use Rattle.page_table.proofs.Base.{◌∙◌, ◌+◌, ◌*◌, ◌≤◌, length, ap}
-use Rattle.page_table.proofs.Words.{length-with_part, MemoryState, bytes_of_map, IsPageOf, entry_at, view_of}
+use Rattle.page_table.proofs.Base.{◌+◌, ◌*◌, ◌≤◌, length, nat_tests, arith}
+use Rattle.page_table.proofs.Words.{length-with_part, MemoryState, bytes_of_map, IsPageOf, view_of}
 use Rattle.page_table.proofs.Writing.{Writes, memory_written, writes}
 use Rattle.page_table.proofs.Seen.{sees}
 use Rattle.page_table.proofs.Waiters.{pass-kept}
@@ -22,19 +22,13 @@ in_map : (c : goal.After-put) → c.args.page.number * 4096 + c.args.at + length
 in_map c = rw (← c.self.view_is) at c.requires.in_map
 
 pub invariant_of-self : goal.invariant_of-self
-invariant_of-self c = (
-  memory_written c.self.inside.table c.put.new.self c.self.inside.shapes.items c.self.inside.tenants.items c.self.inside.pass c.self.inside.reserved c.args.page c.args.at c.args.bytes.now
-      c.self.invariant.0 (there c) c.requires.in_page (in_map c) (rw c.place_of.ensures at c.put.ensures.contents) c.put.ensures.entries c.put.ensures.groups c.put.ensures.arena,
-  pass-kept c.self.inside.table c.put.new.self c.self.inside.pass c.self.invariant.1 (λ i entry e own. ap (λ l. entry_at l i) c.put.ensures.entries ∙ e) c.put.ensures.arena (ap (λ l. length l) c.put.ensures.entries),
-  rw c.put.ensures.entries c.self.invariant.2,
-)
+invariant_of-self c =
+    grind (arith, nat_tests, memory_written c.self.inside.table c.put.new.self c.self.inside.shapes.items c.self.inside.tenants.items c.self.inside.pass c.self.inside.reserved c.args.page c.args.at c.args.bytes.now c.self.invariant.0 (there c) c.requires.in_page (in_map c), there c, in_map c, pass-kept c.self.inside.table c.put.new.self c.self.inside.pass c.self.invariant.1)
 
 told : (c : goal.After-put) → Writes (before c) (view_of c.put.new.self c.self.inside.shapes.items c.self.inside.tenants.items c.self.inside.pass) c.args.page c.args.at c.args.bytes.now
 told c =
-    writes c.self.inside.table c.put.new.self c.self.inside.shapes.items c.self.inside.tenants.items c.self.inside.pass c.self.inside.reserved c.args.page c.args.at c.args.bytes.now
-    c.self.invariant.0 (there c) c.requires.in_page (in_map c) (rw c.place_of.ensures at c.put.ensures.contents) c.put.ensures.entries c.put.ensures.groups c.put.ensures.arena
+    grind (arith, nat_tests, writes c.self.inside.table c.put.new.self c.self.inside.shapes.items c.self.inside.tenants.items c.self.inside.pass c.self.inside.reserved c.args.page c.args.at c.args.bytes.now c.self.invariant.0 (there c) c.requires.in_page (in_map c), there c, in_map c)
 
 pub returns : goal.returns
 returns c =
-    let long = ap length (told c).bytes_new ∙ length-with_part (bytes_of_map (before c) c.args.page) (c.args.page.number * 4096 + c.args.at) c.args.bytes.now (in_map c) in
-    rw (← c.self.view_is) (assumption (told c, long))
+    grind (arith, nat_tests, length-with_part (bytes_of_map (before c) c.args.page) (c.args.page.number * 4096 + c.args.at) c.args.bytes.now (in_map c), before c, in_map c, told c)

@@ -1,15 +1,10 @@
-use Rattle.page_table.proofs.Base.{◌≡◌, ◌+◌, ◌*◌, [], None, replicate, slice_set, arith}
+use Rattle.page_table.proofs.Base.{◌≡◌, ◌+◌, ◌*◌, [], None, replicate, slice_set, arith, nat_tests}
 use Rattle.page_table.proofs.Words.{with_part, map_place, gone_from, ended_at, page_count, contents_of, sharing_of, view_of}
 use Rattle.page_table.proofs.Dropping.{Drops, left_outside, pass-outside, index_inside, places_inside, pages_there, few, map_pins, long_new, memory_dropped, drops}
 use Rattle.page_table.proofs.memory.Memory.remove_map.Goals as goal
 
 pub remove_all-requires : goal.remove_all-requires
-remove_all-requires c =
-    rw (c.map_index-index.ensures, c.pages-count.ensures)
-    record {
-      inside = places_inside c.self.inside.table c.self.inside.shapes.items c.self.inside.tenants.items c.self.inside.pass c.self.inside.reserved c.args.tenant c.args.map c.args.shape c.args.self.now c.self.view_is c.self.invariant.0 c.requires.tenant c.requires.there;
-      there = pages_there c.self.inside.table c.self.inside.shapes.items c.self.inside.tenants.items c.self.inside.pass c.self.inside.reserved c.args.tenant c.args.map c.args.shape c.args.self.now c.self.view_is c.self.invariant.0 c.requires.tenant c.requires.there;
-    }
+remove_all-requires c = grind (arith, nat_tests, places_inside, pages_there)
 
 pub release-requires : goal.release-requires
 release-requires c = record {

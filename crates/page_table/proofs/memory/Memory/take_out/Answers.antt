@@ -1,4 +1,4 @@
-use Rattle.page_table.proofs.Base.{◌≡◌, ◌∙◌, ◌≤◌, ◌+◌, ◌&&◌, ℕ, length, sym, ap, arith}
+use Rattle.page_table.proofs.Base.{◌≡◌, ◌∙◌, ◌≤◌, ◌+◌, ◌&&◌, ℕ, length, sym, ap, arith, nat_tests}
 use Rattle.page_table.proofs.Words.{page_place, broken_by, state_at, is_shared_page, broken, break_cost, Sharing, MemoryState, part, IsPageOf, used_by, break_frames, sharing_of, view_of, IsPass}
 use Rattle.page_table.proofs.Merging.{parts_but, part_pinned, map_small, number_small, memory_kept, cost_told, cost_fits, cost_reserved, own_told, moves}
 use Rattle.page_table.proofs.Fitting.{entries-long, pinned_if, sharing-taken, pins-taken}
@@ -13,8 +13,7 @@ pins-is_pinned-requires c = c.requires.there
 
 pub pin_if-requires : goal.pin_if-requires
 pin_if-requires c =
-    let seen = sees c.self.inside.table c.self.inside.shapes.items c.self.inside.tenants.items c.self.inside.pass c.self.inside.reserved c.self.invariant.0 c.args.self.now c.self.view_is c.args.page c.place_of-place.result c.place_of-place.ensures in
-    page-inside c.self.inside.table c.self.inside.pass c.self.invariant.1.pins _ (seen.there c.requires.there)
+    grind (arith, nat_tests, sees c.self.inside.table c.self.inside.shapes.items c.self.inside.tenants.items c.self.inside.pass c.self.inside.reserved c.self.invariant.0 c.args.self.now c.self.view_is c.args.page c.place_of-place.result c.place_of-place.ensures, page-inside c.self.inside.table c.self.inside.pass c.self.invariant.1.pins)
 
 pub take_out-requires : goal.take_out-requires
 take_out-requires c =
@@ -34,9 +33,7 @@ used : (c : goal.After-pin_if) → used_by c.take_out.new.self ≡ used_by c.sel
 used c = rw (told c) (rw c.place_of-place.ensures at c.take_out.ensures.used)
 
 room : (c : goal.After-pin_if) → c.self.inside.reserved + used_by c.take_out.new.self ≤ length c.self.inside.table.arena
-room c =
-    let reserved = cost_reserved c.self.inside.table c.self.inside.shapes.items c.self.inside.tenants.items c.self.inside.pass c.costs_are_told.ensures c.self.inside.reserved (page_place c.args.page) c.self.invariant.0 (rw (← c.self.view_is) at c.requires.room) in
-    omega (arith, used c, told c, reserved)
+room c = grind (arith, nat_tests, cost_reserved, used, told)
 
 pinned : (c : goal.After-pin_if) → c.pin_if.new.self ≡ pinned_if c.pins-is_pinned.result (page_place c.args.page) c.self.inside.pass.pins
 pinned c = c.pin_if.ensures ∙ ap (λ (i : ℕ). pinned_if c.pins-is_pinned.result i c.self.inside.pass.pins) c.place_of-place.ensures
@@ -60,13 +57,8 @@ pass c =
     }
 
 pub invariant_of-self : goal.invariant_of-self
-invariant_of-self c = (
-  memory_kept c.self.inside.table c.take_out.new.self c.self.inside.shapes.items c.self.inside.tenants.items c.self.inside.pass c.self.inside.pass c.take_out.ensures.contents c.take_out.ensures.arena
-      c.self.inside.reserved c.self.invariant.0 (room c),
-  pass c,
-  ahead-told c.self.inside.table c.take_out.new.self c.self.inside.pass _ c.self.inside.pass.cursor (c.take_out.ensures.sharing c.self.inside.pass)
-      (stay-broken (sharing_of c.self.inside.table c.self.inside.pass) _) c.self.invariant.2,
-)
+invariant_of-self c =
+    grind (arith, nat_tests, memory_kept c.self.inside.table c.take_out.new.self c.self.inside.shapes.items c.self.inside.tenants.items c.self.inside.pass c.self.inside.pass c.take_out.ensures.contents c.take_out.ensures.arena c.self.inside.reserved c.self.invariant.0 (room c), room c, pass c, ahead-told c.self.inside.table c.take_out.new.self c.self.inside.pass, stay-broken (sharing_of c.self.inside.table c.self.inside.pass))
 
 frames : (c : goal.After-pin_if) → break_cost c.args.self.now.sharing (page_place c.args.page) ≡ 0
     → (view_of c.take_out.new.self c.self.inside.shapes.items c.self.inside.tenants.items (record c.self.inside.pass { pins = c.pin_if.new.self })).frames ≡ c.args.self.now.frames

@@ -1,4 +1,4 @@
-use Rattle.page_table.proofs.Base.{◌≡◌, ◌≤◌, ◌+◌, length, ap, arith}
+use Rattle.page_table.proofs.Base.{◌≡◌, ◌≤◌, ◌+◌, length, ap, arith, nat_tests}
 use Rattle.page_table.proofs.Words.{unmerge_need, unmerged, SharesNothing, Pass, MemoryState, used_by, sharing_of, view_of}
 use Rattle.page_table.proofs.Merging.{memory_kept, moves}
 use Rattle.page_table.proofs.Unmerging.{need_reserved, need_fits, unmerged_is, unmerged_apart, pass_stopped}
@@ -8,8 +8,7 @@ use Rattle.page_table.proofs.Ahead.{ahead-told, stay-broken_from}
 use Rattle.page_table.proofs.memory.Memory.unmerge.Goals as goal
 
 pub take_out_all-requires : goal.take_out_all-requires
-take_out_all-requires c =
-    need_fits c.self.inside.table c.self.inside.shapes.items c.self.inside.tenants.items c.self.inside.pass c.self.inside.reserved c.self.invariant.0 (rw (← c.self.view_is) at c.requires)
+take_out_all-requires c = grind (arith, nat_tests, need_fits)
 
 room : (c : goal.After-set) → c.self.inside.reserved + used_by c.take_out_all.new.self ≤ length c.self.inside.table.arena
 unfolding view_of
@@ -18,13 +17,8 @@ room c =
     omega (arith, c.take_out_all.ensures.used c.self.inside.pass, room)
 
 pub invariant_of-self : goal.invariant_of-self
-invariant_of-self c = (
-  memory_kept c.self.inside.table c.take_out_all.new.self c.self.inside.shapes.items c.self.inside.tenants.items c.self.inside.pass c.self.inside.pass c.take_out_all.ensures.contents c.take_out_all.ensures.arena
-      c.self.inside.reserved c.self.invariant.0 (room c),
-  pass_stopped c.take_out_all.new.self c.self.inside.pass c.set.new.self c.set.ensures
-      (pass-kept c.self.inside.table c.take_out_all.new.self c.self.inside.pass c.self.invariant.1 c.take_out_all.ensures.kept c.take_out_all.ensures.arena (entries-long c.self.inside.table c.take_out_all.new.self c.take_out_all.ensures.contents)),
-  rw c.set.ensures (ahead-told c.self.inside.table c.take_out_all.new.self c.self.inside.pass _ c.self.inside.pass.cursor (c.take_out_all.ensures.sharing c.self.inside.pass) (stay-broken_from (sharing_of c.self.inside.table c.self.inside.pass) 0 _) c.self.invariant.2),
-)
+invariant_of-self c =
+    grind (arith, nat_tests, memory_kept c.self.inside.table c.take_out_all.new.self c.self.inside.shapes.items c.self.inside.tenants.items c.self.inside.pass c.self.inside.pass c.take_out_all.ensures.contents c.take_out_all.ensures.arena c.self.inside.reserved c.self.invariant.0 (room c), room c, pass_stopped c.take_out_all.new.self c.self.inside.pass c.set.new.self c.set.ensures (pass-kept c.self.inside.table c.take_out_all.new.self c.self.inside.pass c.self.invariant.1 c.take_out_all.ensures.kept c.take_out_all.ensures.arena (entries-long c.self.inside.table c.take_out_all.new.self c.take_out_all.ensures.contents)), pass-kept c.self.inside.table c.take_out_all.new.self c.self.inside.pass c.self.invariant.1 c.take_out_all.ensures.kept c.take_out_all.ensures.arena (entries-long c.self.inside.table c.take_out_all.new.self c.take_out_all.ensures.contents), entries-long c.self.inside.table c.take_out_all.new.self c.take_out_all.ensures.contents, ahead-told c.self.inside.table c.take_out_all.new.self c.self.inside.pass, stay-broken_from (sharing_of c.self.inside.table c.self.inside.pass) 0)
 
 need : (c : goal.After-set) → unmerge_need (sharing_of c.self.inside.table c.self.inside.pass) ≡ unmerge_need c.args.self.now.sharing
 unfolding view_of
@@ -32,8 +26,7 @@ need c = ap (λ (memory : MemoryState). unmerge_need memory.sharing) c.self.view
 
 none : (c : goal.After-set) → SharesNothing (view_of c.take_out_all.new.self c.self.inside.shapes.items c.self.inside.tenants.items c.set.new.self).sharing
 unfolding view_of
-none c =
-    unmerged_apart c.self.inside.table c.take_out_all.new.self c.self.inside.pass c.set.new.self c.set.ensures c.take_out_all.ensures.sharing (c.take_out_all.ensures.none c.self.inside.pass)
+none c = grind (arith, nat_tests, unmerged_apart)
 
 pub returns : goal.returns
 returns c =

@@ -1,4 +1,4 @@
-use Rattle.page_table.proofs.Base.{◌≡◌, ◌∙◌, ◌*◌, ◌<◌, ℕ, false, length, replicate, refl, ap, arith}
+use Rattle.page_table.proofs.Base.{◌≡◌, ◌*◌, ◌<◌, false, length, replicate, refl, arith, nat_tests}
 use Rattle.page_table.proofs.Words.{with_part, frames_free, part, view_of}
 use Rattle.page_table.proofs.Recording.{tenant_there}
 use Rattle.page_table.proofs.Unpinning.{pins-inside, part-unpinned, others-kept, all-unpinned, fit-fewer}
@@ -16,14 +16,10 @@ release_all-requires c = record {
 }
 
 released : (c : goal.After-release_all) → c.release_all.new.self ≡ with_part c.self.inside.pass.pins (c.args.tenant * 2048) (replicate 2048 false)
-released c =
-    let place : c.map_index.result * 256 ≡ c.args.tenant * 2048 = omega (arith, c.map_index.ensures) in
-    c.release_all.ensures ∙ ap (λ (i : ℕ). with_part c.self.inside.pass.pins i (replicate 2048 false)) place
+released c = grind (arith, nat_tests)
 
 inside : (c : goal.After-release_all) → c.args.tenant < length c.self.inside.tenants.items
-inside c =
-    let eight : length (part (view_of c.self.inside.table c.self.inside.shapes.items c.self.inside.tenants.items c.self.inside.pass) c.args.tenant).maps ≡ 8 = rw (← c.self.view_is) at c.requires in
-    tenant_there c.self.inside.table c.self.inside.shapes.items c.self.inside.tenants.items c.self.inside.pass c.self.inside.reserved c.self.invariant.0 c.args.tenant eight
+inside c = grind (arith, nat_tests, tenant_there)
 
 pub invariant_of-self : goal.invariant_of-self
 invariant_of-self c = (

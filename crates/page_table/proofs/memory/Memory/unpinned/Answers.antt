@@ -1,4 +1,4 @@
-use Rattle.page_table.proofs.Base.{◌≡◌, ◌∙◌, ◌*◌, ℕ, Some, option_map, sym, ap, arith}
+use Rattle.page_table.proofs.Base.{◌≡◌, ◌∙◌, ◌*◌, ℕ, Some, option_map, sym, ap, arith, nat_tests}
 use Rattle.page_table.proofs.Words.{part_of, FlatMap, map_at, map_place, unpinned_from, pinned_among, part}
 use Rattle.page_table.proofs.Unpinned.{number-inside, pages-told, unpinned-told, pages-none}
 use Rattle.page_table.proofs.memory.Memory.unpinned.Goals as goal
@@ -28,5 +28,4 @@ returns-in-Some c =
 
 pub returns-in-None : goal.returns-in-None
 unfolding unpinned_from
-returns-in-None c =
-    sym (ap (λ (n : ℕ). unpinned_from (part c.args.self.now c.args.tenant).pins (c.args.map * 256) n) (pages-none (map_at (part c.args.self.now c.args.tenant).maps c.args.map) (sym c.shape.ensures.shape ∙ c.in-None.is)))
+returns-in-None c = grind (arith, nat_tests, pages-none)

@@ -1,4 +1,4 @@
-use Rattle.page_table.proofs.Base.{◌≡◌, ◌∙◌, ◌*◌, ℕ, replicate, None, ap, arith, rules}
+use Rattle.page_table.proofs.Base.{◌≡◌, ◌*◌, replicate, None, arith, rules, nat_tests}
 use Rattle.page_table.proofs.Words.{unreserved_tenant, new_pass}
 use Rattle.page_table.proofs.Empty.{memory_new, view_new, pass_new}
 use Rattle.page_table.proofs.memory.Memory.without_maps.Goals as goal
@@ -10,16 +10,11 @@ tenants : (c : goal.In_ok-tenants) → c.in_ok-tenants.tenants.items ≡ replica
 tenants c = search rules
 
 started : (c : goal.In_ok-tenants) → c.in_ok-pass.pass ≡ new_pass c.args.frames (c.args.tenants * 2048) c.args.options
-started c =
-    let same : c.args.tenants * 8 * 256 ≡ c.args.tenants * 2048 = omega arith in
-    c.in_ok-pass.ensures ∙ ap (λ (places : ℕ). new_pass c.args.frames places c.args.options) same
+started c = grind (arith, nat_tests)
 
 pub invariant_of-result : goal.invariant_of-result
-invariant_of-result c = (
-  rw (c.in_ok-table.ensures, shapes c, tenants c) (memory_new c.args.frames c.args.tenants c.args.options c.requires),
-  rw (c.in_ok-table.ensures, started c) (pass_new c.args.frames c.args.tenants c.args.options c.requires),
-  rw (started c) tt,
-)
+invariant_of-result c =
+    grind (arith, nat_tests, shapes c, tenants c, memory_new c.args.frames c.args.tenants c.args.options c.requires, started c, pass_new c.args.frames c.args.tenants c.args.options c.requires)
 
 pub returns : goal.returns
 returns c = rw (c.in_ok-table.ensures, started c, shapes c, tenants c) (view_new c.args.frames c.args.tenants c.args.options c.requires)

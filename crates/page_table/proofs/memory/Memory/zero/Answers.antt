@@ -1,4 +1,4 @@
-use Rattle.page_table.proofs.Base.{◌∙◌, ap, arith, refl}
+use Rattle.page_table.proofs.Base.{◌∙◌, ap, arith, refl, nat_tests}
 use Rattle.page_table.proofs.Words.{page_place, Sharing, zeroed, WaitingList, sharing_of, forgets}
 use Rattle.page_table.proofs.Seen.{sees}
 use Rattle.page_table.proofs.Merging.{memory_kept, moves}
@@ -9,20 +9,11 @@ use Rattle.page_table.proofs.memory.Memory.zero.Goals as goal
 
 pub zero-requires : goal.zero-requires
 zero-requires c =
-    let seen = sees c.self.inside.table c.self.inside.shapes.items c.self.inside.tenants.items c.self.inside.pass c.self.inside.reserved c.self.invariant.0 c.args.self.now c.self.view_is c.args.page c.place_of-place.result c.place_of-place.ensures in
-    record { there = seen.there c.requires.there; own = seen.lone c.requires.may; zeros = seen.content c.requires.there ∙ c.requires.zeros }
+    grind (arith, nat_tests, sees c.self.inside.table c.self.inside.shapes.items c.self.inside.tenants.items c.self.inside.pass c.self.inside.reserved c.self.invariant.0 c.args.self.now c.self.view_is c.args.page c.place_of-place.result c.place_of-place.ensures)
 
 pub invariant_of-self : goal.invariant_of-self
 invariant_of-self c =
-    let seen = sees c.self.inside.table c.self.inside.shapes.items c.self.inside.tenants.items c.self.inside.pass c.self.inside.reserved c.self.invariant.0 c.args.self.now c.self.view_is c.args.page c.place_of-place.result c.place_of-place.ensures in (
-      memory_kept c.self.inside.table c.zero.new.self c.self.inside.shapes.items c.self.inside.tenants.items c.self.inside.pass c.self.inside.pass c.zero.ensures.contents c.zero.ensures.arena
-          c.self.inside.reserved c.self.invariant.0 (omega (arith, c.zero.ensures.used, c.self.invariant.0.room)),
-      rw c.forget.ensures
-          (pass-left c.self.inside.table c.zero.new.self c.self.inside.pass c.place_of-place.result c.self.invariant.1 (seen.unpinned c.requires.may) c.zero.ensures.others c.zero.ensures.arena
-          (entries-long c.self.inside.table c.zero.new.self c.zero.ensures.contents)),
-      ahead-told c.self.inside.table c.zero.new.self (forgets c.place_of-place.result c.self.inside.pass) _ c.self.inside.pass.cursor (c.zero.ensures.sharing c.self.inside.pass)
-          (stay-zeroed (sharing_of c.self.inside.table c.self.inside.pass) c.place_of-place.result) c.self.invariant.2,
-    )
+    grind (arith, nat_tests, sees c.self.inside.table c.self.inside.shapes.items c.self.inside.tenants.items c.self.inside.pass c.self.inside.reserved c.self.invariant.0 c.args.self.now c.self.view_is c.args.page c.place_of-place.result c.place_of-place.ensures, memory_kept c.self.inside.table c.zero.new.self c.self.inside.shapes.items c.self.inside.tenants.items c.self.inside.pass c.self.inside.pass c.zero.ensures.contents c.zero.ensures.arena c.self.inside.reserved c.self.invariant.0, pass-left c.self.inside.table c.zero.new.self c.self.inside.pass c.place_of-place.result c.self.invariant.1, entries-long c.self.inside.table c.zero.new.self c.zero.ensures.contents, ahead-told c.self.inside.table c.zero.new.self (forgets c.place_of-place.result c.self.inside.pass), stay-zeroed (sharing_of c.self.inside.table c.self.inside.pass) c.place_of-place.result)
 
 pub returns : goal.returns
 returns c =

@@ -1,4 +1,4 @@
-use Rattle.page_table.proofs.Base.{◌≡◌, ◌∙◌, ◌<◌, ◌≤◌, ◌+◌, ◌-◌, ℕ, sum_by, length, slice_set, Option, None, option_map, sym, ap, arith, get_or_default}
+use Rattle.page_table.proofs.Base.{◌≡◌, ◌∙◌, ◌<◌, ◌≤◌, ◌+◌, ◌-◌, ℕ, sum_by, length, slice_set, Option, None, option_map, sym, arith, get_or_default, nat_tests}
 use Rattle.page_table.proofs.Words.{unshared_at, volatile_at, PageState, entry_at, state_of, states_of, shared_at}
 use Rattle.std.proofs.Common.{length-set}
 use Rattle.page_table.proofs.Tallying.{counted-set, counted-few, unshared-one, volatile-one, shared-one}
@@ -16,12 +16,8 @@ was c = sym (get_or_default c.self.inside.pages.items c.args.place None c.index.
 counts : (c : After-of) (f : Option PageState → ℕ) → ((x : Option PageState) → f x ≤ 1) → (count before after : ℕ) → count ≡ sum_by f (states_of c.self.inside.pages.items)
     → before ≡ f (option_map state_of c.index.result.now) → after ≡ f (option_map state_of c.args.page)
     → (before ≤ count) × (count + after < 4294967296) × (count - before + after ≡ sum_by f (states_of (slice_set c.self.inside.pages.items c.args.place c.args.page)))
-counts c f one count before after e b a =
-    let told = counted-set f c.self.inside.pages.items c.args.place count c.args.page (inside c) e in
-    let stood = ap (λ x. f (option_map state_of x)) (was c) in
-    let most = counted-few f c.self.inside.pages.items count one e in
-    let new = one (option_map state_of c.args.page) in
-    (omega (arith, told.0, b, stood), omega (arith, most, c.self.invariant.0, a, new), omega (arith, told.1, b, stood, a))
+counts c f h1 count before after h2 h3 h4 =
+    grind (arith, nat_tests, counted-set f c.self.inside.pages.items c.args.place count c.args.page (inside c), inside c, was c, counted-few f c.self.inside.pages.items count)
 
 pub moved-self-inside-requires : goal.moved-self-inside-requires
 moved-self-inside-requires c =

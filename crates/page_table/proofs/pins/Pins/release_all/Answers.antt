@@ -1,4 +1,4 @@
-use Rattle.page_table.proofs.Base.{◌≡◌, ◌∙◌, ◌+◌, ◌*◌, ℕ, Bool, List, false, length, replicate, ap, arith, length-replicate}
+use Rattle.page_table.proofs.Base.{◌≡◌, ◌∙◌, ◌*◌, ℕ, false, replicate, ap, arith, length-replicate, nat_tests}
 use Rattle.page_table.proofs.Words.{with_part, length-with_part}
 use Rattle.page_table.proofs.Creating.{with_part-none}
 use Rattle.page_table.proofs.Filled.{filled-more}
@@ -11,16 +11,10 @@ pub overflow_add-first : goal.overflow_add-first
 overflow_add-first c = omega (arith, c.requires.few, c.loop-number-test.true)
 
 pub release-requires-clause-map : goal.release-requires-clause-map
-release-requires-clause-map c =
-    let filled = length-replicate (c.loop-number.number * 256) false in
-    let long = length-with_part c.args.self.now (c.args.first * 256) (replicate (c.loop-number.number * 256) false) (omega (arith, filled, c.requires.maps, c.loop-number-test.true)) in
-    omega (arith, ap (λ (l : List Bool). length l) c.loop-number.invariant, long, c.requires.maps, c.loop-number-test.true)
+release-requires-clause-map c = grind (arith, nat_tests, length-replicate, length-with_part)
 
 pub loop-number-preserved : goal.loop-number-preserved
-loop-number-preserved c =
-    c.release.ensures
-    ∙ ap (λ (l : List Bool). with_part l ((c.args.first + c.loop-number.number) * 256) (replicate 256 false)) c.loop-number.invariant
-    ∙ filled-more c.args.self.now c.args.first c.loop-number.number (omega (arith, c.requires.maps, c.loop-number-test.true))
+loop-number-preserved c = grind (arith, nat_tests, filled-more)
 
 pub returns : goal.returns
 returns c =

@@ -1,5 +1,5 @@
-use Rattle.page_table.proofs.Base.{◌≡◌, ◌<◌, length, slice_index_or, [], None, rules}
-use Rattle.page_table.proofs.Words.{zero_page, TableState, contents_of, entry_at}
+use Rattle.page_table.proofs.Base.{◌≡◌, ◌<◌, length, None, rules, nat_tests, arith}
+use Rattle.page_table.proofs.Words.{zero_page, TableState, entry_at}
 use Rattle.std.proofs.Common.{length-set}
 use Rattle.page_table.proofs.Adding.{IsUnused, unused-frame, sound-added, contents-added, states-added, groups-added, used-added}
 use Rattle.page_table.proofs.Putting.{no_entry_of_content}
@@ -17,17 +17,11 @@ there : (c : goal.After-set) → c.args.place < length (table c).entries
 there c = rw (← c.self.view_is) at c.requires.there
 
 empty : (c : goal.After-set) → entry_at (table c).entries c.args.place ≡ None
-empty c =
-    let none : slice_index_or (contents_of (table c)) c.args.place [] ≡ [] = rw (← c.self.view_is) at c.requires.empty in
-    no_entry_of_content (table c) c.args.place c.self.invariant.0.fits none
+empty c = grind (arith, nat_tests, no_entry_of_content)
 
 pub invariant_of-self : goal.invariant_of-self
-invariant_of-self c = (
-  rw (c.set.ensures, c.clear.ensures) (sound-added (table c) c.args.place c.take-frame.result c.args.mergeable c.self.invariant.0.fits (unused c) (there c) (empty c)
-      c.self.inside.counts c.take-frame.new.self c.self.invariant.0.counted c.take-frame.ensures.counts c.take-frame.ensures.fewer),
-  rw (c.clear.ensures, length-set) c.self.invariant.1,
-  rw c.clear.ensures (tree-set c.self.inside.arena c.self.inside.groups.listed c.self.inside.tree c.take-frame.result zero_page c.self.invariant.2 (unused c).no_group),
-)
+invariant_of-self c =
+    grind (arith, nat_tests, sound-added (table c) c.args.place c.take-frame.result c.args.mergeable c.self.invariant.0.fits (unused c) (there c) (empty c) c.self.inside.counts c.take-frame.new.self c.self.invariant.0.counted c.take-frame.ensures.counts c.take-frame.ensures.fewer, unused c, there c, empty c, tree-set c.self.inside.arena c.self.inside.groups.listed c.self.inside.tree c.take-frame.result zero_page c.self.invariant.2, length-set)
 
 pub returns : goal.returns
 returns c = record {

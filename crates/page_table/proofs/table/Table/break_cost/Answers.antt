@@ -9,9 +9,7 @@ abbrev table : goal.Then-entry → TableState
 table c = record { arena = c.self.inside.arena; entries = c.self.inside.entries; groups = c.self.inside.groups.listed }
 
 pub count-requires : goal.count-requires
-count-requires c =
-    let fits = entry_fits (table c) c.args.place c.page-entry.result c.self.invariant.0.fits (rw (← c.self.view_is) at c.page-entry.ensures) in
-    omega (arith, fits.frame, c.self.invariant.0.counted.sized)
+count-requires c = grind (arith, nat_tests, entry_fits)
 
 pub returns : goal.returns
 returns c =

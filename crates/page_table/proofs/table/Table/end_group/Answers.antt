@@ -1,5 +1,5 @@
-use Rattle.page_table.proofs.Base.{◌≡◌, ◌+◌, Some, ap, arith, rules, common_steps}
-use Rattle.page_table.proofs.Words.{CountedPages, TableState, GroupsState, entry_at, pages_on, one_if_zero}
+use Rattle.page_table.proofs.Base.{◌≡◌, ◌+◌, Some, ap, arith, rules, common_steps, nat_tests}
+use Rattle.page_table.proofs.Words.{TableState, GroupsState, entry_at, pages_on, one_if_zero}
 use Rattle.page_table.proofs.Ending.{but, one_group, contents-ended, sharing-ended, used-ended, sound-ended}
 use Rattle.page_table.proofs.Entries.{frames-kept, kept-shared}
 use Rattle.page_table.proofs.Trees.{tree-removed}
@@ -19,13 +19,8 @@ last : (c : After-remove-2) → one_if_zero c.args.entry.frame + pages_on c.args
 last c = rw (← c.self.view_is) at c.requires.last
 
 pub invariant_of-self : goal.invariant_of-self
-invariant_of-self c = (
-  rw (c.set.ensures, left c) (sound-ended (table c) c.args.place c.args.entry c.broken.result c.self.invariant.0.fits (here c) c.requires.shared (last c) c.broken.ensures.state c.broken.ensures.frame
-      c.self.inside.counts c.broken.ensures.protected c.self.invariant.0.counted),
-  rw c.remove.ensures c.self.invariant.1,
-  rw (left c)
-      (tree-removed c.self.inside.arena c.self.inside.groups.listed c.self.inside.tree c.remove-2.new.self c.args.entry.frame c.self.invariant.2 (rw (ap (λ (counted : CountedPages). counted.pages) c.new.ensures) at c.remove-2.ensures.sorted) c.remove-2.ensures.room c.remove-2.ensures.removed),
-)
+invariant_of-self c =
+    grind (arith, nat_tests, left c, sound-ended (table c) c.args.place c.args.entry c.broken.result c.self.invariant.0.fits (here c) c.requires.shared (last c) c.broken.ensures.state c.broken.ensures.frame c.self.inside.counts c.broken.ensures.protected c.self.invariant.0.counted, here c, last c, tree-removed c.self.inside.arena c.self.inside.groups.listed c.self.inside.tree c.remove-2.new.self c.args.entry.frame c.self.invariant.2)
 
 pub remove-requires : goal.remove-requires
 remove-requires c =

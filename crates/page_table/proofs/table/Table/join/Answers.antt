@@ -1,4 +1,4 @@
-use Rattle.page_table.proofs.Base.{rules}
+use Rattle.page_table.proofs.Base.{rules, nat_tests, arith}
 use Rattle.page_table.proofs.Words.{TableState, Grouped}
 use Rattle.page_table.proofs.Moving.{IsMove, few, contents-moved, used-moved, sound-moved, IsMerged}
 use Rattle.page_table.proofs.Joining.{move-joined, groups-joined, states-joined}
@@ -22,12 +22,8 @@ move c =
     move-joined (table c) c.args.self.now c.args.place c.page-entry.result c.merged.result c.args.frame c.self.view_is c.self.invariant.0.fits c.page-entry.ensures c.requires.own c.requires.group c.requires.same (to c)
 
 pub invariant_of-self : goal.invariant_of-self
-invariant_of-self c = (
-  rw c.set.ensures (sound-moved (table c) c.args.place c.page-entry.result c.merged.result (move c) c.self.inside.counts c.share.new.self c.release.new.self c.self.invariant.0.counted
-      (rw c.merged.ensures.frame c.share.ensures.counts) c.share.ensures.unused c.release.ensures.counts c.release.ensures.unused),
-  c.self.invariant.1,
-  c.self.invariant.2,
-)
+invariant_of-self c =
+    grind (arith, nat_tests, sound-moved (table c) c.args.place c.page-entry.result c.merged.result (move c) c.self.inside.counts c.share.new.self c.release.new.self c.self.invariant.0.counted, move c)
 
 pub returns : goal.returns
 returns c = record {

@@ -1,4 +1,4 @@
-use Rattle.page_table.proofs.Base.{◌≡◌, ◌<◌, ◌+◌, Some, rules, arith, common_steps}
+use Rattle.page_table.proofs.Base.{◌≡◌, ◌<◌, ◌+◌, Some, arith, common_steps, nat_tests}
 use Rattle.page_table.proofs.Words.{page_at, TableState, entry_at, one_if_zero, pages_on}
 use Rattle.std.proofs.Common.{length-set}
 use Rattle.page_table.proofs.Adding.{IsUnused, unused-frame}
@@ -20,24 +20,8 @@ company : (c : goal.After-set) → 1 < one_if_zero c.args.entry.frame + pages_on
 company c = rw (← c.self.view_is) at c.requires.company
 
 pub invariant_of-self : goal.invariant_of-self
-invariant_of-self c = (
-  rw (c.set.ensures, c.copy.ensures, ← c.broken.ensures.frame)
-      (sound-left (table c) c.args.place c.args.entry c.broken.result c.self.invariant.0.fits (unused c) (here c) c.requires.shared (company c) c.broken.ensures.state c.broken.ensures.own
-      c.self.inside.counts c.take-frame.new.self c.release.new.self c.broken.ensures.protected c.self.invariant.0.counted (rw c.broken.ensures.frame c.take-frame.ensures.counts) c.take-frame.ensures.fewer c.release.ensures.counts c.release.ensures.unused),
-  rw (c.copy.ensures, length-set) c.self.invariant.1,
-  rw (c.copy.ensures, ← c.broken.ensures.frame)
-      (tree-set c.self.inside.arena c.self.inside.groups.listed c.self.inside.tree c.broken.result.frame (page_at c.self.inside.arena c.args.entry.frame) c.self.invariant.2 (unused c).no_group),
-)
+invariant_of-self c =
+    grind (arith, nat_tests, sound-left (table c) c.args.place c.args.entry c.broken.result c.self.invariant.0.fits (unused c) (here c) c.requires.shared (company c) c.broken.ensures.state c.broken.ensures.own c.self.inside.counts c.take-frame.new.self c.release.new.self c.broken.ensures.protected c.self.invariant.0.counted, unused c, here c, company c, tree-set c.self.inside.arena c.self.inside.groups.listed c.self.inside.tree c.broken.result.frame (page_at c.self.inside.arena c.args.entry.frame) c.self.invariant.2, length-set)
 
 pub returns : goal.returns
-returns c = record {
-  contents = rw (c.set.ensures, c.copy.ensures, ← c.broken.ensures.frame, ← c.self.view_is)
-      (contents-left (table c) c.args.place c.args.entry c.broken.result c.self.invariant.0.fits (unused c) (here c) c.requires.shared (company c) c.broken.ensures.state c.broken.ensures.own);
-  sharing = rw (c.set.ensures, c.copy.ensures, ← c.broken.ensures.frame, ← c.self.view_is)
-      (sharing-left (table c) c.args.place c.args.entry c.broken.result c.self.invariant.0.fits (unused c) (here c) c.requires.shared (company c) c.broken.ensures.state c.broken.ensures.own);
-  own = grind (arith, common_steps);
-  kept = rw (c.set.ensures, ← c.self.view_is) (kept-shared (table c).entries c.args.place c.args.entry _ (here c) c.requires.shared);
-  used = rw (c.set.ensures, ← c.self.view_is)
-      (used-left (table c) c.args.place c.args.entry c.broken.result c.self.invariant.0.fits (unused c) (here c) c.requires.shared (company c) c.broken.ensures.state c.broken.ensures.own);
-  arena = search rules;
-}
+returns c = grind (arith, nat_tests, contents-left, unused, here, company, sharing-left, common_steps, kept-shared, used-left)

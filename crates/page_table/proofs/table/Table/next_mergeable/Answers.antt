@@ -1,4 +1,4 @@
-use Rattle.page_table.proofs.Base.{◌≡◌, ◌≢◌, ◌∙◌, ⊎_elim, ℕ, ◌+◌, ◌<◌, false, length, slice_index_or, None, option_map, sym, ap, subst, arith, length-map, eqb_tells, get_or-map}
+use Rattle.page_table.proofs.Base.{◌≡◌, ◌≢◌, ◌∙◌, ⊎_elim, ℕ, ◌+◌, ◌<◌, false, length, slice_index_or, None, option_map, sym, subst, arith, length-map, eqb_tells, get_or-map, nat_tests}
 use Rattle.page_table.proofs.Words.{is_mergeable, state_of, states_of, next-here}
 
 use Rattle.page_table.proofs.Next.{next-over}
@@ -9,22 +9,14 @@ inside : (c : After-may_merge) → c.loop-place.place < length c.self.inside.ent
 inside c = let end = rw (← c.self.view_is) at c.requires in omega (arith, end, c.loop-place-test.true)
 
 told : (c : After-may_merge) → is_mergeable (slice_index_or (states_of c.args.self.now.entries) c.loop-place.place None) ≡ c.may_merge.result
-told c =
-    rw (← c.self.view_is)
-    (ap is_mergeable (get_or-map (option_map state_of) c.self.inside.entries c.loop-place.place None
-    ∙ ap (option_map state_of) (sym c.get.ensures))
-    ∙ sym c.may_merge.ensures)
+told c = grind (arith, nat_tests, get_or-map (option_map state_of) c.self.inside.entries c.loop-place.place None)
 
 pub loop-place-init : goal.loop-place-init
 loop-place-init c = λ i le less. absurd (omega (arith, le, less))
 
 pub returns-then-may_merge : goal.returns-then-may_merge
 returns-then-may_merge c =
-    let d = (goal.at.returns-then-may_merge c).After-may_merge in
-    let long = length-map c.self.inside.entries (option_map state_of) in
-    let there : c.loop-place.place < length (states_of c.args.self.now.entries) = rw (← c.self.view_is) (omega (arith, long, inside d)) in
-    next-over (states_of c.args.self.now.entries) c.args.from c.loop-place.place c.loop-place.auto.place c.loop-place.invariant
-    ∙ next-here (states_of c.args.self.now.entries) c.loop-place.place there (told d ∙ c.if-may_merge.true)
+    grind (arith, nat_tests, length-map c.self.inside.entries (option_map state_of), next-over (states_of c.args.self.now.entries) c.args.from c.loop-place.place c.loop-place.auto.place c.loop-place.invariant, next-here (states_of c.args.self.now.entries) c.loop-place.place, inside, told)
 
 pub loop-place-preserved : goal.loop-place-preserved
 loop-place-preserved c =

@@ -1,14 +1,11 @@
-use Rattle.page_table.proofs.Base.{◌∙◌, sym, arith}
+use Rattle.page_table.proofs.Base.{◌∙◌, sym, arith, nat_tests}
 use Rattle.page_table.proofs.Words.{chains-few}
 use Rattle.page_table.proofs.Trees.{tree-length}
 use Rattle.page_table.proofs.Nodes.{tree-nodes}
 use Rattle.page_table.proofs.table.Table.node_chains.Goals as goal
 
 pub overflow_cast-result : goal.overflow_cast-result
-overflow_cast-result c =
-    let few = chains-few c.self.inside.tree.chains in
-    let long = tree-length c.self.inside.arena c.self.inside.groups.listed c.self.inside.tree c.self.invariant.2 in
-    omega (arith, c.node_chains.ensures, few, long, c.self.invariant.0.counted.used, c.self.invariant.0.fits.small)
+overflow_cast-result c = grind (arith, nat_tests, chains-few, tree-length)
 
 pub returns : goal.returns
 returns c = rw (← c.self.view_is) (c.node_chains.ensures ∙ sym (tree-nodes c.self.inside.arena c.self.inside.groups.listed c.self.inside.tree c.self.invariant.2).0)

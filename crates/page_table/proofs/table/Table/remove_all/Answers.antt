@@ -1,4 +1,4 @@
-use Rattle.page_table.proofs.Base.{◌∙◌, inl, inr, ⊎_elim, List, [], ℕ, ◌+◌, length, slice_index_or, slice_set, refl, ap, arith}
+use Rattle.page_table.proofs.Base.{◌∙◌, inl, inr, ⊎_elim, List, [], ℕ, ◌+◌, slice_set, ap, arith, nat_tests}
 use Rattle.page_table.proofs.Words.{gone_from, contents_of}
 use Rattle.page_table.proofs.Creating.{filled_more, behind_filled, with_part-none, length-contents}
 use Rattle.page_table.proofs.Vacating.{gone-more}
@@ -6,23 +6,10 @@ use Rattle.page_table.proofs.table.Table.remove_all.Goals as goal
 
 pub loop-number-init : goal.loop-number-init
 unfolding gone_from
-loop-number-init c =
-    record {
-      contents = with_part-none (contents_of c.args.self.now) c.args.first;
-      sharing = λ pass. refl;
-      used = omega arith;
-      arena = refl;
-      kept = λ i entry out e own. e;
-    }
+loop-number-init c = grind (arith, nat_tests, with_part-none)
 
 pub remove-requires : goal.remove-requires
-remove-requires c =
-    let long = length-contents c.args.self.now in
-    ap length
-    (ap (λ (l : List (List ℕ)). slice_index_or l (c.args.first + c.loop-number.number) []) c.loop-number.invariant.contents
-    ∙ behind_filled (contents_of c.args.self.now) c.args.first c.loop-number.number (c.args.first + c.loop-number.number) [] []
-    (omega (arith, long, c.requires.inside, c.loop-number-test.true)) (omega arith))
-    ∙ c.requires.there c.loop-number.number c.loop-number-test.true
+remove-requires c = grind (arith, nat_tests, length-contents, behind_filled)
 
 pub loop-number-preserved : goal.loop-number-preserved
 loop-number-preserved c =

@@ -21,42 +21,31 @@ told : (c : After-page-entry) → break_frames c.args.self.now c.args.place ≡ 
 told c = rw (← c.self.view_is) (cost-counted (table c) c.self.inside.counts c.args.place c.page-entry.result c.self.invariant.0 (here c))
 
 pub returns-then-not-entry-clause-sharing : goal.returns-then-not-entry-clause-sharing
-returns-then-not-entry-clause-sharing c pass =
-    let d = (goal.at.returns-then-not-entry-clause-sharing c).After-page-entry in
-    rw (← c.self.view_is) (sharing-unbroken (table d) pass c.args.place c.page-entry.result c.self.invariant.0.fits (here d) (grind (arith, c.if-not-entry.true)))
+returns-then-not-entry-clause-sharing c pass = grind (arith, nat_tests, sharing-unbroken, here)
 
 pub returns-then-not-entry-clause-used : goal.returns-then-not-entry-clause-used
 returns-then-not-entry-clause-used c = grind (arith, told (goal.at.returns-then-not-entry-clause-used c).After-page-entry, c.if-not-entry.true)
 
 pub count-requires : goal.count-requires
-count-requires c =
-    let fit = fits (goal.at.count-requires c).After-page-entry in
-    omega (arith, fit.frame, c.self.invariant.0.counted.sized)
+count-requires c = grind (arith, nat_tests, fits)
 
 pub leave-requires-clause-shared : goal.leave-requires-clause-shared
 leave-requires-clause-shared c = grind (arith, (fits (goal.at.leave-requires-clause-shared c).After-page-entry).protected, c.if-not-entry.false)
 
 pub leave-requires-clause-room : goal.leave-requires-clause-room
-leave-requires-clause-room c =
-    grind (arith, nat_tests, told (goal.at.leave-requires-clause-room c).After-page-entry, c.if-not-entry.false, c.count.ensures, c.if-count-gt1.true, c.requires.room)
+leave-requires-clause-room c = grind (arith, nat_tests, told)
 
 pub end_group-requires-clause-shared : goal.end_group-requires-clause-shared
 end_group-requires-clause-shared c = grind (arith, (fits (goal.at.end_group-requires-clause-shared c).After-page-entry).protected, c.if-not-entry.false)
 
 pub end_group-requires-clause-last : goal.end_group-requires-clause-last
-end_group-requires-clause-last c =
-    let d = (goal.at.end_group-requires-clause-last c).After-page-entry in
-    let known = count-some (table d) c.self.inside.counts c.args.place c.page-entry.result c.self.invariant.0 (here d) in
-    rw (← c.self.view_is) (omega (arith, known.0, known.1, c.count.ensures, c.if-count-gt1.false))
+end_group-requires-clause-last c = grind (arith, nat_tests, count-some, here)
 
 pub returns-then-count-gt1-clause-used : goal.returns-then-count-gt1-clause-used
-returns-then-count-gt1-clause-used c =
-    grind (arith, nat_tests, told (goal.at.returns-then-count-gt1-clause-used c).After-page-entry, c.if-not-entry.false, c.count.ensures, c.if-count-gt1.true, c.leave.ensures.used)
+returns-then-count-gt1-clause-used c = grind (arith, nat_tests, told)
 
 pub returns-else-count-gt1-clause-used : goal.returns-else-count-gt1-clause-used
-returns-else-count-gt1-clause-used c =
-    grind (arith, nat_tests, told (goal.at.returns-else-count-gt1-clause-used c).After-page-entry, c.if-not-entry.false, c.count.ensures, c.if-count-gt1.false, c.end_group.ensures.used)
+returns-else-count-gt1-clause-used c = grind (arith, nat_tests, told)
 
 pub returns-then-count-gt1-clause-frames : goal.returns-then-count-gt1-clause-frames
-returns-then-count-gt1-clause-frames c none =
-    absurd (grind (arith, nat_tests, told (goal.at.returns-then-count-gt1-clause-frames c).After-page-entry, c.if-not-entry.false, c.count.ensures, c.if-count-gt1.true, none))
+returns-then-count-gt1-clause-frames c none = grind (arith, nat_tests, told)

@@ -1,4 +1,4 @@
-use Rattle.page_table.proofs.Base.{get_or-set_other, rules}
+use Rattle.page_table.proofs.Base.{get_or-set_other, nat_tests, arith}
 use Rattle.page_table.proofs.Words.{TableState, Zero}
 use Rattle.page_table.proofs.Moving.{IsMove, few, contents-moved, used-moved, sound-moved, IsMerged}
 use Rattle.page_table.proofs.Zeroing.{move-zeroed, sharing-zeroed}
@@ -22,18 +22,9 @@ move c =
     move-zeroed (table c) c.args.self.now c.args.place c.page-entry.result c.merged.result c.self.view_is c.self.invariant.0.fits c.page-entry.ensures c.requires.own c.requires.zeros (to c)
 
 pub invariant_of-self : goal.invariant_of-self
-invariant_of-self c = (
-  rw c.set.ensures (sound-moved (table c) c.args.place c.page-entry.result c.merged.result (move c) c.self.inside.counts c.share.new.self c.release.new.self c.self.invariant.0.counted
-      (rw c.merged.ensures.frame c.share.ensures.counts) c.share.ensures.unused c.release.ensures.counts c.release.ensures.unused),
-  c.self.invariant.1,
-  c.self.invariant.2,
-)
+invariant_of-self c =
+    grind (arith, nat_tests, sound-moved (table c) c.args.place c.page-entry.result c.merged.result (move c) c.self.inside.counts c.share.new.self c.release.new.self c.self.invariant.0.counted, move c)
 
 pub returns : goal.returns
-returns c = record {
-  contents = rw (c.set.ensures, ← c.self.view_is) (contents-moved (table c) c.args.place c.page-entry.result c.merged.result (move c));
-  others = λ i ne. rw (c.set.ensures, ← c.self.view_is) (get_or-set_other (table c).entries c.args.place i _ _ ne);
-  sharing = λ pass. rw (c.set.ensures, ← c.self.view_is) (sharing-zeroed (table c) c.args.place c.page-entry.result c.merged.result (move c) (to c) pass);
-  used = rw (c.set.ensures, ← c.self.view_is) (used-moved (table c) c.args.place c.page-entry.result c.merged.result (move c));
-  arena = search rules;
-}
+returns c =
+    grind (arith, nat_tests, contents-moved (table c) c.args.place c.page-entry.result c.merged.result (move c), move c, sharing-zeroed (table c) c.args.place c.page-entry.result c.merged.result (move c) (to c), to c, used-moved (table c) c.args.place c.page-entry.result c.merged.result (move c), get_or-set_other)
