@@ -1,6 +1,6 @@
 -- A page table stays sound where a page is added.
-use Rattle.page_table.proofs.Base.{◌≡◌, ◌≢◌, ◌∙◌, ⊎_elim, ℕ, zero, suc, ◌+◌, ◌<◌, ◌≤◌, ◌==◌, Bool, false, if◌then◌else◌, List, [], length, slice_index_or, slice_set, Some, None, option_map, refl, sym, ap, subst, arith, get_or-set_same, get_or-set_other, length-set, get_or_default, map-set, nat_tests, get_or_past}
-use Rattle.page_table.proofs.Words.{new_page, New, zero_page, length-zero_page, Entry, TableState, CountsState, IsTable, IsGroup, IsSound, AreCountsOf, times, one_if_zero, entry_at, state_of, states_of, contents_of, groups_of, is_on, pages_on, used_by}
+use Rattle.page_table.proofs.Base.{◌≡◌, ◌≢◌, ◌∙◌, ℕ, zero, ◌+◌, ◌<◌, ◌≤◌, ◌==◌, Bool, false, if◌then◌else◌, List, [], length, slice_index_or, slice_set, Some, None, option_map, refl, sym, ap, subst, arith, get_or-set_same, get_or-set_other, length-set, get_or_default, map-set, nat_tests, get_or_past}
+use Rattle.page_table.proofs.Words.{new_page, New, zero_page, length-zero_page, Entry, TableState, CountsState, IsTable, IsSound, AreCountsOf, times, entry_at, state_of, states_of, contents_of, groups_of, is_on, pages_on, used_by}
 use Rattle.page_table.proofs.Changing.{table-changed, counted-changed, own_pages-set}
 use Rattle.page_table.proofs.Entries.{elsewhere, not_equal, pages_on-set, none_on, entry_content-kept, contents-set, places_on-set, groups-kept, pages-set, one_if_zero-above, counts-set}
 
@@ -21,24 +21,7 @@ pub record IsUnused (table : TableState) (f : ℕ) : Type 0 where
   pub no_group : times f table.groups ≡ 0
 
 pub unused-frame : (table : TableState) (counts : CountsState) (f : ℕ) → IsSound table counts → slice_index_or counts.counts f 1 ≡ 0 → IsUnused table f
-unused-frame table counts f sound h =
-    let inside : f < length counts.counts = grind (arith, get_or_past counts.counts f 1) in
-    let sized = sound.counted.sized in
-    let there : f < length table.arena = omega arith in
-    let known = sound.counted.counted f there in
-    let read = get_or_default counts.counts f 0 1 inside in
-    let none : one_if_zero f + pages_on f table.entries ≡ 0 = sym known ∙ read ∙ h in
-    let empty : pages_on f table.entries ≡ 0 = omega arith in
-    record {
-      there = there;
-      above = above f none;
-      empty = empty;
-      no_group = ⊎_elim (λ e. e) (λ group. absurd (omega (arith, IsGroup.some group))) (sound.fits.groups f);
-    }
-  where
-    above : (f : ℕ) → one_if_zero f + pages_on f table.entries ≡ 0 → 0 < f
-    above zero e = absurd (omega arith)
-    above (suc f) e = omega arith
+unused-frame table counts f sound h = grind (arith, nat_tests, get_or_past, get_or_default)
 
 -- no page that is there lies on it
 pub unused_apart : (table : TableState) (f : ℕ) → IsUnused table f → (j : ℕ) (y : Entry) → entry_at table.entries j ≡ Some y → y.frame ≢ f

@@ -1,5 +1,5 @@
 -- What makes a table sound again after the entry at one place changed, and perhaps the page of a frame or the groups.
-use Rattle.page_table.proofs.Base.{◌≡◌, ◌≢◌, ◌∙◌, ◌⊎◌, inl, inr, ⊎_elim, ℕ, ◌+◌, ◌<◌, ◌≤◌, false, length, slice_index_or, slice_set, Option, Some, None, IfSome, sym, ap, subst, arith, refl, List, ◌==◌, if◌then◌else◌, option_map, true, length-set, sum_by-set, nat_tests}
+use Rattle.page_table.proofs.Base.{◌≡◌, ◌≢◌, ◌∙◌, ◌⊎◌, ℕ, ◌+◌, ◌<◌, ◌≤◌, false, length, slice_index_or, slice_set, Option, Some, None, IfSome, sym, ap, subst, arith, refl, List, ◌==◌, if◌then◌else◌, option_map, true, length-set, sum_by-set, nat_tests}
 use Rattle.page_table.proofs.Words.{Status, is_shared, own_frame, zero_page, page_at, Entry, TableState, CountsState, IsTable, IsEntry, IsAlone, IsGroup, AreCountsOf, LiesRight, times, entry_at, is_on, pages_on, used_by, IsOwnAt, own_pages, state_of}
 use Rattle.page_table.proofs.Entries.{equal, inside, alone, at_set, one_when, on_one, pages_on-set}
 
@@ -45,8 +45,7 @@ pub record IsOwnEntry (table : TableState) (i : ℕ) (entry : Entry) : Type 0 wh
 
 -- told of the table as callers see it
 pub own_seen : (table now : TableState) → table ≡ now → (i : ℕ) (entry : Entry) → entry_at now.entries i ≡ Some entry → IsOwnAt now i → IsOwnEntry table i entry
-own_seen table now same i entry there own =
-    rw same record { here = there; own = subst (λ (x : Option Entry). IfSome x (λ (entry : Entry). is_shared entry.status ≡ false)) there own }
+own_seen table now same i entry there own = grind (arith, nat_tests)
 
 -- it is alone there
 pub own_alone : (table : TableState) (i : ℕ) (entry : Entry) → IsTable table → IsOwnEntry table i entry → IsAlone table entry.frame
@@ -92,13 +91,7 @@ pub table-changed : (old new : TableState) (i : ℕ) (x : Option Entry) → IsTa
     → ((f : ℕ) → f < length new.arena → length (page_at new.arena f) ≡ 4096) → page_at new.arena 0 ≡ zero_page → IfSome x (IsEntry new)
     → ((j : ℕ) (y : Entry) → j ≢ i → entry_at old.entries j ≡ Some y → IsAlone old y.frame → pages_on y.frame new.entries ≡ 1)
     → ((g : ℕ) → IsGroup old g → 1 ≤ pages_on g new.entries) → IsTable new
-table-changed old new i x is entries groups arena pages zero here stay still =
-    table-set old new i x is entries arena pages zero here
-    (λ j y ne e. (λ a. record { above = a.above; one = stay j y ne e a; no_group = same y.frame ∙ a.no_group }, λ once. same y.frame ∙ once))
-    (λ g. ⊎_elim (λ none. inl (same g ∙ none)) (λ group. inr (record { above = group.above; once = same g ∙ group.once; some = still g group })) (is.groups g))
-  where
-    same : (g : ℕ) → times g new.groups ≡ times g old.groups
-    same g = ap (times g) groups
+table-changed old new i x h1 h2 h3 h4 h5 h6 h7 h8 h9 = grind (arith, nat_tests, table-set)
 
 -- the counts change as the pages on each frame do, and the unused frames as the used ones
 pub counted-changed : (old new : TableState) (before after : CountsState) → AreCountsOf old before → length new.arena ≡ length old.arena → length after.counts ≡ length before.counts

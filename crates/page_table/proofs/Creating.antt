@@ -50,10 +50,6 @@ filled_at xs at (suc n) i x d fits =
     ∙ ap (λ l. slice_index_or l i d) (sym (filled_more xs at n x (omega (arith, fits))))
     ∙ grind (arith, nat_tests, filled_at xs at n i x d, get_or-set_same (with_part xs at (replicate n x)) (at + n) x d, get_or-set_other (with_part xs at (replicate n x)) (at + n) i x d, long)
 
--- behind the filled places is what was there
-pub behind_filled : {X : Type 0} (xs : List X) (at n i : ℕ) (x d : X) → at + n ≤ length xs → at + n ≤ i → slice_index_or (with_part xs at (replicate n x)) i d ≡ slice_index_or xs i d
-behind_filled xs at n i x d fits past = grind (arith, nat_tests, filled_at xs at n i x d)
-
 pub length-contents : (table : TableState) → length (contents_of table) ≡ length table.entries
 unfolding contents_of
 length-contents table = length-map table.entries (entry_content table.arena)

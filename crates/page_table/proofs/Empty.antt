@@ -1,6 +1,6 @@
 -- A memory without maps.
-use Rattle.page_table.proofs.Base.{◌≡◌, ◌∙◌, ℕ, zero, suc, ◌+◌, ◌*◌, List, [], ◌∷◌, take, drop, replicate, slice_index_or, sum_by, Option, None, option_map, refl, ap, arith, ⊎_elim, length-map, length-replicate, length-take, get_or-take, get_or-drop, get_or_past, sum_by-replicate, nat_tests}
-use Rattle.page_table.proofs.Words.{Options, part_of, zero_page, map-replicate, Entry, Tenant, AreLimits, new_memory, unreserved_tenant, TableState, entry_content, contents_of, groups_of, own_pages, state_of, maps_of, used_by, new_pass, view_of, IsMemory, IsPass}
+use Rattle.page_table.proofs.Base.{◌≡◌, ◌∙◌, ℕ, zero, suc, ◌+◌, ◌*◌, List, [], ◌∷◌, take, drop, replicate, slice_index_or, sum_by, Option, None, option_map, refl, ap, arith, ⊎_elim, length-replicate, length-take, get_or-take, get_or-drop, get_or_past, sum_by-replicate, nat_tests}
+use Rattle.page_table.proofs.Words.{Options, part_of, zero_page, map-replicate, Entry, Tenant, AreLimits, new_memory, unreserved_tenant, TableState, entry_content, contents_of, groups_of, own_pages, state_of, maps_of, used_by, new_pass, view_of, IsMemory}
 use Rattle.page_table.proofs.Changing.{own_one}
 use Rattle.page_table.proofs.Sides.{order}
 use Rattle.page_table.proofs.Putting.{empty_table, all_same}
@@ -35,6 +35,3 @@ module _ (frames tenants : ℕ) (options : Options) (limits : AreLimits frames t
   pub view_new : view_of table (replicate (tenants * 8) None) (replicate tenants unreserved_tenant) (new_pass frames (tenants * 2048) options) ≡ new_memory frames tenants options
   unfolding view_of groups_of new_memory
   view_new = rw (no_maps (tenants * 8) (contents_of table), map-replicate {X = Option Entry} (option_map state_of) (tenants * 2048) None, map-replicate {X = Option Entry} (option_map (λ (entry : Entry). entry.frame)) (tenants * 2048) None) refl
-
-  pub pass_new : IsPass table (new_pass frames (tenants * 2048) options)
-  pass_new = grind (arith, nat_tests, length-replicate, length-map, all_same)

@@ -149,10 +149,6 @@ pub pages-set : (arena : List (List ℕ)) (f : ℕ) (page : List ℕ) → ((g : 
     → (g : ℕ) → g < length (slice_set arena f page) → length (page_at (slice_set arena f page) g) ≡ 4096
 pages-set arena f page pages sized g h = grind (arith, length-set arena f page, get_or-set_same arena f page [], get_or-set_other arena f g page [], pages g)
 
--- an entry put where none was leaves all that are there
-pub kept-empty : (xs : List (Option Entry)) (i : ℕ) (x : Option Entry) → entry_at xs i ≡ None → (j : ℕ) (entry : Entry) → entry_at xs j ≡ Some entry → entry_at (slice_set xs i x) j ≡ Some entry
-kept-empty xs i x none j entry e = grind (arith, get_or-set_other xs i j x None)
-
 -- an entry put where a page shared a frame leaves all that share none
 pub kept-shared : (xs : List (Option Entry)) (i : ℕ) (old : Entry) (x : Option Entry) → entry_at xs i ≡ Some old → is_shared old.status ≡ true
     → (j : ℕ) (entry : Entry) → entry_at xs j ≡ Some entry → is_shared entry.status ≡ false → entry_at (slice_set xs i x) j ≡ Some entry

@@ -8,7 +8,7 @@ abbrev one_if : Bool → ℕ
 one_if b = if b then 1 else 0
 
 -- no more pages are pinned than there are
-few-pinned : (pins : List Bool) → pinned_among pins ≤ length pins
+pub few-pinned : (pins : List Bool) → pinned_among pins ≤ length pins
 few-pinned [] = omega arith
 few-pinned (b ∷ pins) = grind (arith, few-pinned pins, sum_by-cons one_if b pins)
 
@@ -50,9 +50,6 @@ pins-changed : (pins now : List Bool) (numbers : List ℕ) (k n : ℕ) → ArePi
 pins-changed pins now numbers k n are inside long others here = grind (arith, nat_tests, length-set, get_or-set_same, get_or-set_other)
 
 module _ (pins : List Bool) (numbers : List ℕ) (are : ArePinsOf pins numbers) where
-  -- a map's number is no more than that of its pages
-  pub number-small : (k : ℕ) → k < length numbers → slice_index_or numbers k 0 ≤ 256
-  number-small k h1 = grind (arith, nat_tests, few-pinned, length-part_of)
 
   pub map-inside : (k : ℕ) → k * 256 < length pins → k < length numbers
   map-inside k less = omega (arith, are.maps, less)

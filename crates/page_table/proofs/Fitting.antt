@@ -1,6 +1,6 @@
 -- The pins fit the pages after each change of the table.
-use Rattle.page_table.proofs.Base.{◌≡◌, ◌≢◌, ◌∙◌, ℕ, zero, suc, ◌&&◌, Bool, true, false, if◌then◌else◌, List, [], ◌∷◌, length, slice_index_or, slice_set, Option, Some, IsSomeAnd, option_map, sym, ap, subst, arith, get_or_default, length-map, nat_tests}
-use Rattle.page_table.proofs.Words.{Volatile, Waiting, is_pinned, pinned, broken_by, PinsFit, Sharing, PageState, state_at, is_shared_page, broken, fit-by, Entry, Pass, TableState, entry_at, entry_content, contents_of, state_of, states_of, sharing_of}
+use Rattle.page_table.proofs.Base.{◌≡◌, ◌≢◌, ◌∙◌, ℕ, zero, suc, ◌&&◌, Bool, true, false, if◌then◌else◌, List, [], ◌∷◌, length, slice_index_or, slice_set, Some, option_map, sym, ap, subst, arith, get_or_default, length-map, nat_tests}
+use Rattle.page_table.proofs.Words.{Volatile, Waiting, is_pinned, pinned, broken_by, PinsFit, Sharing, state_at, is_shared_page, broken, fit-by, Entry, Pass, TableState, entry_at, entry_content, contents_of, state_of, states_of, sharing_of}
 use Rattle.page_table.proofs.Costs.{state-at}
 use Rattle.page_table.proofs.Entries.{inside}
 
@@ -8,10 +8,6 @@ use Rattle.page_table.proofs.Entries.{inside}
 pub entries-long : (old new : TableState) → contents_of new ≡ contents_of old → length new.entries ≡ length old.entries
 unfolding contents_of
 entries-long old new e = sym (length-map new.entries (entry_content new.arena)) ∙ ap length e ∙ length-map old.entries (entry_content old.arena)
-
--- a page that is there and Volatile
-abbrev IsVolatile : Option PageState → Type 0
-IsVolatile page = IsSomeAnd page (λ (state : PageState). state.status ≡ Volatile)
 
 -- a page that is told not to be pinned has a place in the list
 pub not-pinned : (pins : List Bool) (i : ℕ) → is_pinned pins i ≡ false → slice_index_or pins i false ≡ false

@@ -1,5 +1,5 @@
 -- A page moves to the frame of a group of its bytes.
-use Rattle.page_table.proofs.Base.{◌≡◌, ◌∙◌, ℕ, suc, ◌<◌, ◌≤◌, ◌==◌, Bool, true, false, List, [], ◌∷◌, length, map, slice_index_or, slice_set, Option, Some, None, option_map, refl, ap, arith, sum_by-cons, nat_tests}
+use Rattle.page_table.proofs.Base.{◌≡◌, ◌∙◌, ℕ, suc, ◌≤◌, ◌==◌, Bool, true, false, List, [], ◌∷◌, map, slice_index_or, slice_set, Option, Some, None, option_map, refl, ap, arith, sum_by-cons, nat_tests}
 use Rattle.page_table.proofs.Words.{Grouped, with_status, page_at, Entry, TableState, IsOwnAt, IsTable, times, entry_at, contents_of, groups_of, states_of, is_on, places_on, pages_on, joined_on}
 use Rattle.page_table.proofs.Entries.{on_one, not_equal, inside, places_on-set, groups-each, states-set}
 use Rattle.page_table.proofs.Pairing.{IsGroupEntry, joined-here}
@@ -15,13 +15,10 @@ page-on f (x ∷ xs) h = by_head (is_on f x) refl (page-on f xs)
     by_head true e rest = (0, e)
     by_head false e rest = let found = rest (grind (arith, sum_by-cons (on_one f) x xs)) in (suc found.0, found.1)
 
-pub group-inside : (table : TableState) (f : ℕ) → IsTable table → 1 ≤ times f table.groups → f < length table.arena
-group-inside table f h1 h2 = grind (arith, nat_tests, page-on f table.entries)
-
 -- a page may move to the frame of a group of its bytes
 pub move-joined : (table now : TableState) (i : ℕ) (entry x : Entry) (f : ℕ) → table ≡ now → IsTable table → entry_at now.entries i ≡ Some entry → IsOwnAt now i
     → 1 ≤ times f now.groups → slice_index_or (contents_of now) i [] ≡ page_at now.arena f → IsGroupEntry entry x f → IsMove table i entry x
-move-joined table now i entry x f h1 h2 h3 h4 h5 h6 h7 = grind (arith, nat_tests, move-merged table now i entry x f Grouped, group-inside table f)
+move-joined table now i entry x f h1 h2 h3 h4 h5 h6 h7 = grind (arith, nat_tests, move-merged table now i entry x f Grouped, page-on)
 
 module _ (table : TableState) (i : ℕ) (entry x : Entry) (f : ℕ) (move : IsMove table i entry x) (to : IsGroupEntry entry x f) where
   open move use {is, here}

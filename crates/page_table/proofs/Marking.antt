@@ -1,7 +1,7 @@
 -- A page that keeps its own frame gets another status and fingerprint.
 use Rattle.page_table.proofs.Base.{◌≡◌, ◌∙◌, ℕ, ◌<◌, false, length, slice_set, Some, refl, sym, ap, arith, nat_tests}
-use Rattle.page_table.proofs.Words.{Status, is_shared, with_page, Entry, Pass, TableState, CountsState, IsOwnAt, IsTable, IsSound, AreCountsOf, entry_at, contents_of, groups_of, sharing_of, is_on, pages_on, used_by, marked}
-use Rattle.page_table.proofs.Changing.{is_alone, entry_fits, table-changed, counted-changed, lies_alone, own_seen, pages_on-changed, own_pages-changed}
+use Rattle.page_table.proofs.Words.{Status, is_shared, with_page, Entry, Pass, TableState, CountsState, IsTable, IsSound, AreCountsOf, entry_at, contents_of, groups_of, sharing_of, is_on, pages_on, used_by, marked}
+use Rattle.page_table.proofs.Changing.{is_alone, entry_fits, table-changed, counted-changed, lies_alone, pages_on-changed, own_pages-changed}
 use Rattle.page_table.proofs.Entries.{inside, places_on-set, groups-kept, states-set}
 use Rattle.page_table.proofs.Moving.{with_entry, contents-entry}
 
@@ -16,19 +16,13 @@ pub record IsMarking (table : TableState) (i : ℕ) (entry : Entry) (status : St
   pub own : is_shared entry.status ≡ false
   pub own_new : is_shared status ≡ false
 
--- a page that callers see as such may be marked
-pub marking-from : (table now : TableState) (i : ℕ) (entry : Entry) (status : Status) → table ≡ now → IsTable table → entry_at now.entries i ≡ Some entry → IsOwnAt now i → is_shared status ≡ false → IsMarking table i entry status
-marking-from table now i entry status e is there own own_new =
-    let seen = own_seen table now e i entry there own in
-    record { is = is; here = seen.here; own = seen.own; own_new = own_new }
-
 module _ (table : TableState) (i : ℕ) (entry : Entry) (status : Status) (last : ℕ) (marking : IsMarking table i entry status) where
   open marking use {is, here, own, own_new}
 
   abbrev x : Entry
   x = marked_entry entry status last
 
-  there : i < length table.entries
+  pub there : i < length table.entries
   there = inside table.entries i entry here
 
   -- the page stays on its frame

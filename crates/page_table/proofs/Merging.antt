@@ -1,6 +1,6 @@
 -- What a memory tells after pages came to share frames, or left shared ones: the bytes of each page stay.
-use Rattle.page_table.proofs.Base.{◌≡◌, ◌≢◌, ℕ, zero, suc, ◌+◌, ◌*◌, ◌<◌, ◌≤◌, List, [], ◌∷◌, length, slice_index_or, Option, Some, None, IfSome, true, false, refl, sym, ap, subst, arith, Bool, nat_tests}
-use Rattle.page_table.proofs.Words.{Pass, Shape, Page, part_of, map_place, page_place, PageState, state_at, is_shared, break_cost, Sharing, Entry, Tenant, MemoryState, part, free_of, have_of, IsPageOf, IsOwn, MayMerge, AreKept, IsKeptBut, KeepsSettings, with_pins, TableState, IsOwnAt, AreMaps, entry_at, state_of, states_of, contents_of, maps_of, sharing_of, used_by, break_frames, view_of, IsMemory}
+use Rattle.page_table.proofs.Base.{◌≡◌, ◌≢◌, ℕ, zero, suc, ◌+◌, ◌*◌, ◌<◌, ◌≤◌, List, [], ◌∷◌, length, slice_index_or, Option, Some, None, IfSome, true, false, refl, ap, arith, Bool, nat_tests}
+use Rattle.page_table.proofs.Words.{Pass, Shape, Page, part_of, map_place, page_place, PageState, state_at, is_shared, break_cost, Sharing, Entry, Tenant, MemoryState, part, free_of, have_of, IsPageOf, IsOwn, MayMerge, AreKept, IsKeptBut, KeepsSettings, with_pins, TableState, IsOwnAt, entry_at, state_of, states_of, contents_of, maps_of, sharing_of, used_by, break_frames, view_of, IsMemory}
 use Rattle.page_table.proofs.Reading.{page_located, page_number, few_pages}
 use Rattle.page_table.proofs.Free.{free_is}
 
@@ -32,15 +32,7 @@ module _ (table new : TableState) (shapes : List (Option Shape)) (tenants : List
   part_pinned t = rw contents refl
 
   pub memory_kept : (reserved : ℕ) → IsMemory table shapes tenants reserved → reserved + used_by new ≤ length table.arena → IsMemory new shapes tenants reserved
-  memory_kept reserved is room =
-      record {
-        maps = subst (λ (pages : List (List ℕ)). AreMaps shapes pages) (sym contents) is.maps;
-        numbers = is.numbers;
-        few = is.few;
-        frames = omega (arith, arena, is.frames);
-        sum = is.sum;
-        room = omega (arith, arena, room);
-      }
+  memory_kept reserved is room = grind (arith, nat_tests)
 
   moves_told : (taken given reserved : ℕ) → IsMemory table shapes tenants reserved → reserved + used_by new ≤ length table.arena → used_by new + given ≡ used_by table + taken
       → Moves before after pass.pins now.pins (sharing_of table pass) (sharing_of new now) taken given

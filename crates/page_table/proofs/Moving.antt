@@ -14,9 +14,7 @@ pub contents-entry : (table : TableState) (i : ℕ) (entry x : Entry) (groups : 
     → contents_of (record table { entries = slice_set table.entries i (Some x); groups = groups }) ≡ contents_of table
 unfolding contents_of
 contents-entry table i entry x groups here same =
-    contents-set table.arena table.arena table.entries i (Some x) (page_at table.arena entry.frame) same (λ j ne. refl)
-    ∙ ap (slice_set (contents_of table) i) (sym (content_at table i entry here))
-    ∙ set-get_or (contents_of table) i []
+    grind (arith, nat_tests, contents-set table.arena table.arena table.entries i (Some x) (page_at table.arena entry.frame) same, content_at table i entry here, set-get_or (contents_of table) i [])
 
 -- no more pages lie on a frame than there are places
 pub pages_on-le : (f : ℕ) (xs : List (Option Entry)) → pages_on f xs ≤ length xs
@@ -46,21 +44,7 @@ pub record IsMerged (old new : Entry) (f : ℕ) (status : Status) : Type 0 where
 -- a page may move to a frame of the same bytes on which one of that status lies right
 pub move-merged : (table now : TableState) (i : ℕ) (entry x : Entry) (f : ℕ) (status : Status) → table ≡ now → IsTable table → entry_at now.entries i ≡ Some entry → IsOwnAt now i
     → slice_index_or (contents_of now) i [] ≡ page_at table.arena f → f < length table.arena → LiesRight table f status → is_shared status ≡ true → IsMerged entry x f status → IsMove table i entry x
-move-merged table now i entry x f status e is there own same inside right shared to =
-    let seen = own_seen table now e i entry there own in
-    let is_it : is_shared x.status ≡ true = ap is_shared to.status_is ∙ shared in
-    record {
-      is = is;
-      here = seen.here;
-      own = seen.own;
-      shared = is_it;
-      fits = record {
-        frame = omega (arith, inside, to.frame);
-        protected = to.protected ∙ sym is_it;
-        right = subst (LiesRight table x.frame) (sym to.status_is) (subst (λ (g : ℕ). LiesRight table g status) (sym to.frame) right);
-      };
-      same = ap (page_at table.arena) to.frame ∙ sym same ∙ ap (λ t. slice_index_or (contents_of t) i []) (sym e) ∙ content_at table i entry seen.here;
-    }
+move-merged table now i entry x f status e is there own same inside right shared to = grind (arith, nat_tests, there, inside, own_seen, content_at)
 
 module _ (table : TableState) (i : ℕ) (entry x : Entry) (move : IsMove table i entry x) where
   open move use {is, here, own, shared, fits, same}
@@ -105,10 +89,6 @@ module _ (table : TableState) (i : ℕ) (entry x : Entry) (move : IsMove table i
       grind (arith, nat_tests, pages_on-moved y.frame, a.one, apart_alone table i j entry y here e ne a.one, apart))
       (λ g group. let more = pages_on-kept g (group-apart g group.once) in omega (arith, more, group.some))
 
-  -- one holds the page's own frame
-  pub single : (counts : CountsState) → AreCountsOf table counts → slice_index_or counts.counts entry.frame 0 ≡ 1
-  single counts h1 = grind (arith, nat_tests, one_if_zero-above)
-
   -- fewer pages lie on the new frame than there are places
   pub few : (counts : CountsState) → AreCountsOf table counts → slice_index_or counts.counts x.frame 0 ≤ 32768
   few counts counted =
@@ -119,7 +99,7 @@ module _ (table : TableState) (i : ℕ) (entry x : Entry) (move : IsMove table i
   -- one holds it after another frame is shared, too
   pub still_single : (old mid : CountsState) → AreCountsOf table old → mid.counts ≡ slice_set old.counts x.frame (slice_index_or old.counts x.frame 0 + 1)
       → slice_index_or mid.counts entry.frame 0 ≡ 1
-  still_single old mid h1 h2 = grind (arith, nat_tests, get_or-set_other old.counts, single old, apart)
+  still_single old mid h1 h2 = grind (arith, nat_tests, get_or-set_other old.counts, apart, one_if_zero-above)
 
   pub counted-moved : (old mid new : CountsState) → AreCountsOf table old
       → mid.counts ≡ slice_set old.counts x.frame (slice_index_or old.counts x.frame 0 + 1) → mid.unused ≡ old.unused

@@ -1,5 +1,5 @@
 -- The next page that may be merged: pages are passed over, and one is found.
-use Rattle.page_table.proofs.Base.{◌≡◌, ◌∙◌, inl, inr, ◌⊎◌, ℕ, zero, suc, ◌+◌, ◌-◌, ◌<◌, ◌≤◌, Bool, true, false, if◌then◌else◌, List, [], ◌∷◌, drop, length, slice_index_or, Option, Some, None, refl, sym, ap, arith, get_or-drop, length-drop, nat_tests}
+use Rattle.page_table.proofs.Base.{◌≡◌, ◌∙◌, inl, inr, ◌⊎◌, ℕ, zero, suc, ◌+◌, ◌-◌, ◌<◌, ◌≤◌, Bool, true, false, if◌then◌else◌, List, [], ◌∷◌, drop, length, slice_index_or, Option, Some, None, refl, sym, arith, get_or-drop, length-drop, nat_tests}
 use Rattle.page_table.proofs.Words.{PageState, is_mergeable, first_mergeable, next-after, next-none}
 use Rattle.page_table.proofs.Sides.{order}
 
@@ -40,10 +40,4 @@ found n (y ∷ ys) i e = by_head (is_mergeable y) refl (found (n + 1) ys i) e
     by_head false h rest e = let later = rest e in (suc later.0, omega (arith, later.1), omega (arith, later.2), later.3)
 
 pub next-is : (pages : List (Option PageState)) (from i : ℕ) → first_mergeable from (drop from pages) ≡ Some i → IsNext pages from i
-next-is pages from i e =
-    let it = found from (drop from pages) i e in
-    record {
-      behind = omega (arith, it.1);
-      inside = let long = length-drop from pages in omega (arith, it.1, it.2, long);
-      mergeable = ap (λ n. is_mergeable (slice_index_or pages n None)) it.1 ∙ ap is_mergeable (sym (get_or-drop from pages it.0 None)) ∙ it.3;
-    }
+next-is pages from i e = grind (arith, nat_tests, found from (drop from pages) i e, length-drop from pages, get_or-drop from pages)

@@ -1,11 +1,11 @@
 -- Two pages of the same bytes become a new last group: the first one founds the group, and the second one moves to its frame.
-use Rattle.page_table.proofs.Base.{◌≡◌, ◌≢◌, ◌∙◌, ◌⊎◌, inl, inr, ⊎_elim, ℕ, zero, suc, ◌+◌, ◌-◌, ◌<◌, ◌≤◌, ◌==◌, true, false, List, [], ◌∷◌, ◌++◌, length, slice_index_or, slice_set, Option, Some, None, option_map, refl, sym, ap, subst, arith, get_or-set_other, length-append, map-append, nat_tests, eqb_tells}
-use Rattle.page_table.proofs.Words.{Pass, Grouped, PageState, is_shared, with_status, state_at, joined_by, paired, waiting_without, page_at, Entry, TableState, CountsState, IsOwnAt, IsTable, IsAlone, IsGroup, IsSound, AreCountsOf, LiesRight, times, one_if_zero, entry_at, contents_of, groups_of, state_of, states_of, sharing_of, forgets, is_on, places_on, pages_on, used_by}
-use Rattle.page_table.proofs.Changing.{is_alone, entry_fits, table-set, counted-changed, apart_alone, own_seen, own_alone, pages_on-changed, own_pages-changed}
+use Rattle.page_table.proofs.Base.{◌≡◌, ◌≢◌, ◌∙◌, ◌⊎◌, inl, inr, ⊎_elim, ℕ, zero, suc, ◌+◌, ◌-◌, ◌<◌, ◌≤◌, ◌==◌, true, false, List, [], ◌∷◌, ◌++◌, length, slice_index_or, slice_set, Option, Some, None, refl, sym, ap, subst, arith, get_or-set_other, length-append, map-append, nat_tests, eqb_tells}
+use Rattle.page_table.proofs.Words.{Pass, Grouped, is_shared, with_status, joined_by, paired, page_at, Entry, TableState, CountsState, IsOwnAt, IsTable, IsAlone, IsGroup, IsSound, AreCountsOf, LiesRight, times, one_if_zero, entry_at, contents_of, groups_of, state_of, sharing_of, forgets, is_on, places_on, pages_on, used_by}
+use Rattle.page_table.proofs.Changing.{is_alone, entry_fits, table-set, counted-changed, apart_alone, own_seen, pages_on-changed, own_pages-changed}
 use Rattle.page_table.proofs.Entries.{one_when, not_equal, equal, inside, alone, places_on-set, groups-kept, pages_on-cons, none_on, states-set, told_here}
 use Rattle.page_table.proofs.Putting.{content_at}
 use Rattle.page_table.proofs.Unused.{times-push}
-use Rattle.page_table.proofs.Waiters.{others_of, waiting-forgets}
+use Rattle.page_table.proofs.Waiters.{waiting-forgets}
 use Rattle.page_table.proofs.Moving.{IsMove, with_entry, contents-entry, contents-moved, used-moved, sound-moved, IsMerged}
 
 -- no places are on a frame without pages
@@ -121,8 +121,7 @@ module _ (table : TableState) (i : ℕ) (entry x : Entry) (founding : IsFounding
       another g ne (inr group) = inr (record { above = group.above; once = times-other g ne ∙ group.once; some = let same = pages_on-founded g in let some = group.some in omega (arith, same, some) })
 
   pub counted-founded : (counts : CountsState) → AreCountsOf table counts → AreCountsOf (founded table i x) counts
-  counted-founded counts counted =
-      counted-changed table (founded table i x) counts counts counted refl refl (let same = used-founded in omega (arith, same)) (λ g h. let same = pages_on-founded g in omega (arith, same))
+  counted-founded counts counted = grind (arith, nat_tests, counted-changed, used-founded, pages_on-founded)
 
 -- Two pages of the same bytes, each with its own frame, and their entries in the new group of the first page's frame.
 pub record IsPairing (table : TableState) (i j : ℕ) (one other x y : Entry) : Type 0 where
@@ -146,22 +145,7 @@ pub pairing-from : (table now : TableState) (i j : ℕ) (one other x y : Entry) 
     → slice_index_or (contents_of now) i [] ≡ slice_index_or (contents_of now) j []
     → IsGroupEntry one x one.frame → IsGroupEntry other y one.frame → IsPairing table i j one other x y
 pairing-from table now i j one other x y e is apart there_first there_second own_first own_second bytes to_first to_second =
-    let first = own_seen table now e i one there_first own_first in
-    let second = own_seen table now e j other there_second own_second in
-    record {
-      is = is;
-      apart = apart;
-      first = first.here;
-      second = second.here;
-      own_first = first.own;
-      own_second = second.own;
-      to_first = to_first;
-      to_second = to_second;
-      same =
-          sym (content_at table i one first.here)
-          ∙ ap (λ t. slice_index_or (contents_of t) i []) e ∙ bytes ∙ ap (λ t. slice_index_or (contents_of t) j []) (sym e)
-          ∙ content_at table j other second.here;
-    }
+    grind (arith, nat_tests, own_seen, content_at)
 
 module _ (table : TableState) (i j : ℕ) (one other x y : Entry) (pairing : IsPairing table i j one other x y) where
   open pairing use {is, apart, first, second, own_first, own_second, to_first, to_second, same}
@@ -206,12 +190,6 @@ module _ (table : TableState) (i j : ℕ) (one other x y : Entry) (pairing : IsP
   not_of : (f g : ℕ) → times f table.groups ≡ 0 → 1 ≤ times g table.groups → (f == g) ≡ false
   not_of f g none some = not_equal g f (λ e. let also : times g table.groups ≡ 0 = ap (λ n. times n table.groups) (sym e) ∙ none in omega (arith, also, some))
 
-  lone_first : IsAlone table one.frame
-  lone_first = own_alone table i one is (record { here = first; own = own_first })
-
-  lone_second : IsAlone table other.frame
-  lone_second = own_alone table j other is (record { here = second; own = own_second })
-
   -- another group keeps its places
   places-kept : (g : ℕ) → 1 ≤ times g table.groups → places_on 0 g (with_pair table i j x y).entries ≡ places_on 0 g table.entries
   places-kept g some = grind (arith, nat_tests, places_on-set, not_of, here-founded, on-founded, founding)
@@ -219,17 +197,7 @@ module _ (table : TableState) (i j : ℕ) (one other x y : Entry) (pairing : IsP
   -- the new group's places
   places-pair : places_on 0 x.frame (with_pair table i j x y).entries ≡ joined_by i (j ∷ [])
   places-pair =
-      let there = inside (founded table i x).entries j other here-founded in
-      let on : is_on one.frame (Some y) ≡ true = ap (λ (f : ℕ). f == one.frame) to_second.frame ∙ equal one.frame in
-      let lies : is_on one.frame (entry_at table.entries i) ≡ true = ap (is_on one.frame) first ∙ equal one.frame in
-      let off : is_on one.frame (entry_at (founded table i x).entries j) ≡ false =
-      ap (is_on one.frame) (get_or-set_other table.entries i j (Some x) None (λ e. apart (sym e)))
-      ∙ alone one.frame table.entries i j (inside table.entries i one first) lone_first.one lies (λ e. apart (sym e)) in
-      let i_is : 0 + i ≡ i = omega arith in
-      let single : places_on 0 one.frame (founded table i x).entries ≡ i ∷ [] =
-      places_on-set 0 one.frame table.entries i (Some x) (on-founded table i one x founding one.frame) ∙ places-one 0 one.frame table.entries i lone_first.one lies ∙ ap (λ n. n ∷ []) i_is in
-      ap (λ (f : ℕ). places_on 0 f (with_pair table i j x y).entries) to_first.frame
-      ∙ joined-here one.frame (founded table i x).entries j (Some y) there on off ∙ ap (joined_by j) single ∙ joined-two i j apart
+      grind (arith, nat_tests, there, inside, here-founded, equal, lies, get_or-set_other, alone, places_on-set, on-founded, founding, places-one, joined-here, joined-two)
 
   groups-pair : groups_of (with_pair table i j x y) ≡ groups_of table ++ joined_by i (j ∷ []) ∷ []
   unfolding groups_of
@@ -241,14 +209,4 @@ module _ (table : TableState) (i j : ℕ) (one other x y : Entry) (pairing : IsP
 
   pub sharing-pair : (pass : Pass) → sharing_of (with_pair table i j x y) (forgets i (forgets j pass)) ≡ paired (sharing_of table pass) i j
   unfolding paired
-  sharing-pair pass =
-      let grouped : Option PageState → Option PageState = option_map (with_status Grouped) in
-      let at_second : state_at (sharing_of table pass) j ≡ slice_index_or (states_of (founded table i x).entries) j None =
-      told_here state_of table.entries j other second ∙ sym (told_here state_of (founded table i x).entries j other here-founded) in
-      let pages : states_of (with_pair table i j x y).entries ≡ slice_set (slice_set (states_of table.entries) i (grouped (state_at (sharing_of table pass) i))) j (grouped (state_at (sharing_of table pass) j)) =
-      states-set (with_status Grouped) (founded table i x).entries j other y here-founded to_second.state
-      ∙ ap (λ (l : List (Option PageState)). slice_set l j (grouped (slice_index_or (states_of (founded table i x).entries) j None))) (states-set (with_status Grouped) table.entries i one x first to_first.state)
-      ∙ ap (λ (s : Option PageState). slice_set (slice_set (states_of table.entries) i (grouped (state_at (sharing_of table pass) i))) j (grouped s)) (sym at_second) in
-      let groups = groups-pair in
-      let waiting = waiting-forgets i (others_of j pass.waiting.listed) ∙ ap (waiting_without i) (waiting-forgets j pass.waiting.listed) in
-      cc
+  sharing-pair pass = grind (arith, nat_tests, told_here state_of, states-set (with_status Grouped), here-founded, groups-pair, waiting-forgets)

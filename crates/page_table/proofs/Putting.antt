@@ -1,6 +1,6 @@
 -- A page table stays sound where bytes of a page are written, and a new one is sound.
 use Rattle.page_table.proofs.Base.{◌≡◌, ◌∙◌, ℕ, ◌+◌, ◌<◌, ◌≤◌, true, List, [], length, map, replicate, slice_index_or, slice_set, Some, None, refl, sym, ap, arith, get_or-set_same, get_or-set_other, length-set, set-get_or, get_or-map, get_or-replicate, length-replicate, sum_by-replicate, get_or_past, length-map, nat_tests}
-use Rattle.page_table.proofs.Words.{zero_page, page_at, length-zero_page, Entry, TableState, CountsState, IsPageAt, IsTable, IsAlone, IsSound, AreCountsOf, one_if_zero, entry_at, entry_content, contents_of, is_on, pages_on, own_pages}
+use Rattle.page_table.proofs.Words.{zero_page, page_at, length-zero_page, Entry, TableState, CountsState, IsPageAt, IsTable, IsAlone, IsSound, AreCountsOf, entry_at, entry_content, contents_of, is_on, pages_on, own_pages}
 use Rattle.page_table.proofs.Changing.{table-changed, counted-changed, fits-after, entry_fits}
 use Rattle.page_table.proofs.Entries.{equal, alone, entry_content-kept, contents-set, inside, pages-set}
 
@@ -61,11 +61,8 @@ empty_table frames places = record { arena = replicate frames zero_page; entries
 pub all_same : {X : Type 0} (x : X) (n i : ℕ) → slice_index_or (replicate n x) i x ≡ x
 all_same x n i = grind (arith, get_or-replicate n i x x, get_or_past (replicate n x) i x, length-replicate n x)
 
-first_count : (frames f : ℕ) → 0 < frames → f < frames → slice_index_or (slice_set (replicate frames 0) 0 1) f 0 ≡ one_if_zero f
-first_count frames f h1 h2 = grind (arith, nat_tests, get_or-replicate)
-
 pub sound-new : (frames places : ℕ) (counts : CountsState) → 1 ≤ frames → frames ≤ 4096 → places ≤ 32768
     → counts.counts ≡ slice_set (replicate frames 0) 0 1 → length counts.unused + 1 ≡ frames → IsSound (empty_table frames places) counts
 unfolding pages_on own_pages
 sound-new frames places counts some small few are fewer =
-    grind (arith, nat_tests, length-replicate, get_or-replicate, length-zero_page, all_same, length-set, first_count, sum_by-replicate)
+    grind (arith, nat_tests, length-replicate, get_or-replicate, length-zero_page, all_same, length-set, sum_by-replicate)

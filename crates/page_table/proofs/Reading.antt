@@ -1,10 +1,10 @@
 -- What a memory tells of a page that is there.
-use Rattle.page_table.proofs.Base.{◌≡◌, ◌∙◌, ⊎_elim, ℕ, ◌+◌, ◌*◌, ◌<◌, ◌≤◌, List, [], length, take, drop, slice_index_or, Option, Some, None, option_map, unwrap_or, refl, sym, ap, subst, arith, concat, get_or_past, get_or-take, get_or-drop, nat_tests}
-use Rattle.page_table.proofs.Words.{Pass, Shape, Page, part_of, FlatMap, FlatMaps, map_at, map_place, page_place, page_bytes, IsShape, byte_len_of, state_at, Entry, Tenant, page_count, part, bytes_of_map, frame_at, IsPageOf, TableState, IsPageAt, maps_of, flat_of, ArePages, ArePagesOf, AreMaps, contents_of, entry_at, state_of, view_of, IsMemory}
+use Rattle.page_table.proofs.Base.{◌≡◌, ◌∙◌, ℕ, ◌+◌, ◌*◌, ◌<◌, ◌≤◌, List, [], length, take, drop, slice_index_or, Option, Some, None, option_map, unwrap_or, sym, ap, arith, get_or_past, get_or-take, get_or-drop, nat_tests, common_steps}
+use Rattle.page_table.proofs.Words.{Pass, Shape, Page, part_of, FlatMap, FlatMaps, map_at, map_place, page_place, page_bytes, IsShape, byte_len_of, state_at, Entry, Tenant, page_count, part, bytes_of_map, frame_at, IsPageOf, TableState, IsPageAt, maps_of, flat_of, ArePagesOf, AreMaps, contents_of, entry_at, state_of, view_of, IsMemory}
 use Rattle.std.proofs.Common.{length-take}
 use Rattle.page_table.proofs.Sides.{order}
 use Rattle.page_table.proofs.Maps.{map_at-maps_of, page_bytes-page}
-use Rattle.page_table.proofs.Entries.{told_here, inside as has_place}
+use Rattle.page_table.proofs.Entries.{told_here}
 
 -- a tenant's map by its number, among the maps of all tenants
 pub map_at-part : (maps : FlatMaps) (t m : ℕ) → m < 8 → map_at (part_of maps (t * 8) 8) m ≡ map_at maps (map_place t m)
@@ -32,29 +32,7 @@ pub record IsLocated (shapes : List (Option Shape)) (contents : List (List ℕ))
 
 pub located : (shapes : List (Option Shape)) (contents : List (List ℕ)) (t m at : ℕ) → AreMaps shapes contents
     → at < length (bytes_in (map_at (part_of (maps_of shapes contents) (t * 8) 8) m)) → IsLocated shapes contents t m at
-located shapes contents t m at are there = ⊎_elim (λ small. by_shape small (slice_index_or shapes (map_place t m) None) refl) (λ past. absurd (omega (arith, ap (λ flat. length (bytes_in flat)) (map_at-past (maps_of shapes contents) t m past), there))) (order m 8)
-  where
-    by_shape : m < 8 → (shape : Option Shape) → slice_index_or shapes (map_place t m) None ≡ shape → IsLocated shapes contents t m at
-    by_shape small None e =
-        let known : map_at (part_of (maps_of shapes contents) (t * 8) 8) m ≡ None =
-        map_at-part (maps_of shapes contents) t m small ∙ map_at-maps_of shapes contents (map_place t m) ∙ ap (option_map (flat_of (part_of contents (map_place t m * 256) 256))) e in
-        absurd (omega (arith, ap (λ flat. length (bytes_in flat)) known, there))
-    by_shape small (Some shape) e =
-        let known : map_at (part_of (maps_of shapes contents) (t * 8) 8) m ≡ Some (flat_of (part_of contents (map_place t m * 256) 256) shape) =
-        map_at-part (maps_of shapes contents) t m small ∙ map_at-maps_of shapes contents (map_place t m) ∙ ap (option_map (flat_of (part_of contents (map_place t m * 256) 256))) e in
-        let bytes : length (bytes_in (map_at (part_of (maps_of shapes contents) (t * 8) 8) m)) ≡ length (take (byte_len_of shape) (concat (part_of contents (map_place t m * 256) 256))) =
-        ap (λ flat. length (bytes_in flat)) known in
-        let few = length-take (byte_len_of shape) (concat (part_of contents (map_place t m * 256) 256)) in
-        let inside : map_place t m < length shapes = has_place shapes (map_place t m) shape e in
-        record {
-          small = small;
-          inside = inside;
-          shape = shape;
-          here = e;
-          pages = subst (λ s. ArePages s (part_of contents (map_place t m * 256) 256)) e (are.each (map_place t m) inside);
-          within = omega (arith, bytes, few, there);
-          flat = known;
-        }
+located shapes contents t m at are there = grind (arith, nat_tests, common_steps, map_at-past, order, map_at-part, map_at-maps_of)
 
 -- the pages of a shape within the limits are at most 256
 pub few_pages : (shape : Shape) → IsShape shape → page_count shape ≤ 256
@@ -81,9 +59,7 @@ module _ (table : TableState) (shapes : List (Option Shape)) (tenants : List Ten
 
   pub content_is : slice_index_or (contents_of table) (page_place page) [] ≡ page_bytes (bytes_of_map (view_of table shapes tenants pass) page) page.number
   unfolding view_of part
-  content_is =
-      content_in (contents_of table) (map_place page.tenant page.map) page.number page_small
-      ∙ sym (ap (λ flat. page_bytes (bytes_in flat) page.number) page_located.flat ∙ page_bytes-page page_located.shape (part_of (contents_of table) (map_place page.tenant page.map * 256) 256) page.number page_located.pages page_number)
+  content_is = grind (arith, nat_tests, content_in, page_small, page_bytes-page, page_number)
 
   pub state_is : (entry : Entry) → entry_at table.entries (page_place page) ≡ Some entry → state_at (view_of table shapes tenants pass).sharing (page_place page) ≡ Some (state_of entry)
   unfolding view_of

@@ -1,10 +1,11 @@
 -- Frames reserved for open runs, and what the maps of a memory meet.
-use Rattle.page_table.proofs.Base.{◌≡◌, ◌∙◌, ℕ, ◌+◌, ◌-◌, ◌*◌, ◌<◌, ◌≤◌, List, length, sum_by, slice_index_or, slice_set, Option, refl, sym, ap, arith, All, get_or-set_same, get_or-set_other, sum_by-set, nat_tests}
+use Rattle.page_table.proofs.Sides.{order}
+use Rattle.page_table.proofs.Base.{◌≡◌, ◌∙◌, ℕ, ◌+◌, ◌-◌, ◌*◌, ◌<◌, ◌≤◌, List, length, sum_by, slice_index_or, slice_set, Option, refl, sym, ap, arith, All, get_or-set_same, get_or-set_other, sum_by-set, nat_tests, get_or_past}
 use Rattle.page_table.proofs.Words.{Shape, AreFlatMaps, IsPage, Pass, Tenant, MemoryState, part, unreserved_tenant, free_of, have_of, IsKeptBut, TableState, contents_of, maps_of, used_by, view_of, IsMemory}
 use Rattle.std.proofs.Common.{length-set}
 use Rattle.page_table.proofs.Maps.{length-maps_of}
 use Rattle.page_table.proofs.Free.{free_is}
-use Rattle.page_table.proofs.Shapes.{length-part, map_ok, map_past}
+use Rattle.page_table.proofs.Shapes.{length-part, map_past, map_is, map_told}
 
 -- what is reserved for a tenant's open run
 abbrev pub reserve_in : Tenant → ℕ
@@ -38,7 +39,7 @@ module _ (table : TableState) (shapes : List (Option Shape)) (tenants : List Ten
 
   -- the maps of a tenant are flat maps
   pub flat_maps : All IsPage table.arena → (t : ℕ) → length (part memory t).maps ≡ 8 → AreFlatMaps (part memory t).maps
-  flat_maps bytes t eight = grind (arith, nat_tests, map_ok, map_past, memory)
+  flat_maps bytes t eight = grind (arith, nat_tests, map_past, memory, map_told, map_is, get_or_past, order)
 
   -- no more frames are reserved than are free
   pub reserved_fits : sum_by reserve_in memory.tenants ≤ free_of memory

@@ -1,6 +1,6 @@
 -- What a memory tells of pages by their places, of open groups and of waiting pages.
-use Rattle.page_table.proofs.Base.{◌≡◌, ◌∙◌, ⊎_elim, ℕ, suc, ◌+◌, ◌*◌, ◌/◌, ◌%◌, ◌<◌, ◌≤◌, ◌==◌, Bool, true, if◌then◌else◌, List, [], ◌∷◌, length, map, find, slice_index_or, slice_set, Option, Some, None, option_map, is_some, refl, sym, ap, subst, arith, concat, list_any, length-take-le, sum_by-cons, bytes_eq-Decides, nat_tests}
-use Rattle.page_table.proofs.Words.{Page, Grouped, Shape, part_of, map_at, map_place, page_place, page_bytes, byte_len_of, joined_by, with_status, contents_in, group_bytes, is_open, has_open, join_first, joined, page_at, Entry, Pass, Tenant, page_count, MemoryState, part, bytes_of_map, frame_at, IsPageOf, frame_of_group, open_frame, TableState, IsTable, IsPageAt, ArePages, ArePagesOf, maps_of, flat_of, contents_of, entry_at, groups_of, sharing_of, states_of, frames_of, times, is_on, places_on, pages_on, is_open_frame, joined_on, view_of, IsMemory}
+use Rattle.page_table.proofs.Base.{◌≡◌, ◌∙◌, ⊎_elim, ℕ, suc, ◌+◌, ◌*◌, ◌/◌, ◌%◌, ◌<◌, ◌≤◌, ◌==◌, Bool, true, if◌then◌else◌, List, [], ◌∷◌, length, map, find, slice_index_or, Option, Some, None, option_map, is_some, refl, sym, ap, subst, arith, concat, list_any, length-take-le, sum_by-cons, bytes_eq-Decides, nat_tests, common_steps}
+use Rattle.page_table.proofs.Words.{Page, Shape, part_of, map_at, map_place, page_place, page_bytes, byte_len_of, joined_by, contents_in, group_bytes, is_open, has_open, join_first, page_at, Entry, Pass, Tenant, page_count, MemoryState, part, bytes_of_map, frame_at, IsPageOf, frame_of_group, open_frame, TableState, IsTable, IsPageAt, ArePages, ArePagesOf, maps_of, flat_of, contents_of, entry_at, groups_of, sharing_of, frames_of, times, is_on, places_on, pages_on, is_open_frame, joined_on, view_of, IsMemory}
 use Rattle.page_table.proofs.Sides.{order}
 use Rattle.page_table.proofs.Maps.{map_at-maps_of, length-concat}
 use Rattle.page_table.proofs.Reading.{map_at-part, bytes_in, content_in, content_is}
@@ -74,9 +74,6 @@ bytes-first : (contents : ℕ → List ℕ) (places : List ℕ) → group_bytes 
 unfolding group_bytes
 bytes-first contents places = grind (arith, nat_tests, contents)
 
-frame-first : (memory : MemoryState) (places : List ℕ) → frame_of_group memory (Some places) ≡ first_in None (frame_at memory) places
-frame-first memory places = grind (arith, nat_tests, memory)
-
 -- what all pages on a frame read as, the first one does
 first-places : {X : Type 0} (none : X) (read : ℕ → X) (told : X) (g n : ℕ) (xs : List (Option Entry)) → ((k : ℕ) → is_on g (entry_at xs k) ≡ true → read (n + k) ≡ told) → 1 ≤ pages_on g xs
     → first_in none read (places_on n g xs) ≡ told
@@ -147,15 +144,11 @@ module _ (table : TableState) (shapes : List (Option Shape)) (tenants : List Ten
   open-group bytes g h1 = grind (arith, nat_tests, bytes-of_group g, length-places 0 g)
 
   frame-on : (g k : ℕ) → is_on g (entry_at table.entries k) ≡ true → slice_index_or (frames_of table.entries) k None ≡ Some g
-  frame-on g k on = told_at (λ (entry : Entry). entry.frame) table.entries k ∙ by_entry (entry_at table.entries k) on
-    where
-      by_entry : (x : Option Entry) → is_on g x ≡ true → option_map (λ (entry : Entry). entry.frame) x ≡ Some g
-      by_entry None on = absurd (cc)
-      by_entry (Some entry) on = grind (arith, nat_tests)
+  frame-on g k on = grind (arith, nat_tests, common_steps, told_at)
 
   frame-of_group : (g : ℕ) → 1 ≤ times g table.groups → frame_of_group memory (Some (places_on 0 g table.entries)) ≡ Some g
   unfolding view_of
-  frame-of_group g h1 = grind (arith, nat_tests, frame-first memory, first-places None (frame_at memory) (Some g) g 0, frame-on g, memory)
+  frame-of_group g h1 = grind (arith, nat_tests, first-places None (frame_at memory) (Some g) g 0, frame-on g, memory)
 
   abbrev opens : List ℕ → ℕ → Bool
   opens bytes = is_open_frame table bytes pass.options.max_page_sharing
@@ -181,14 +174,6 @@ module _ (table : TableState) (shapes : List (Option Shape)) (tenants : List Ten
       let there = (find-in (opens (contents i)) table.groups f e).0 in
       let once = (group_of table f fits there).once in
       join-places (is_open contents (sharing_of table pass) (contents i)) (opens (contents i)) (λ g. places_on 0 g table.entries) i f table.groups (open-group (contents i)) e (omega (arith, once))
-
-  -- the state of sharing after a page joined the group
-  pub sharing-joins : (new : TableState) (i f : ℕ) → find (opens (contents i)) table.groups ≡ Some f
-      → states_of new.entries ≡ slice_set (states_of table.entries) i (option_map (with_status Grouped) (slice_index_or (states_of table.entries) i None))
-      → groups_of new ≡ map (joined_on table i f) table.groups
-      → (view_of new shapes tenants pass).sharing ≡ joined contents memory.sharing i
-  unfolding view_of joined
-  sharing-joins new i f h1 h2 h3 = grind (arith, nat_tests, joins i f)
 
 -- an open group has the bytes
 pub open-bytes : (table : TableState) (bytes : List ℕ) (limit f : ℕ) → is_open_frame table bytes limit f ≡ true → page_at table.arena f ≡ bytes

@@ -1,6 +1,6 @@
 -- No page may be merged where no map is, or behind a map's pages.
-use Rattle.page_table.proofs.Base.{◌≡◌, ◌∙◌, ℕ, ◌+◌, ◌-◌, ◌*◌, ◌<◌, ◌≤◌, false, List, [], length, slice_index_or, Option, Some, None, option_map, sym, ap, subst, arith, nat_tests}
-use Rattle.page_table.proofs.Words.{Shape, part_of, is_mergeable, page_count, TableState, IsTable, ArePages, ArePagesOf, AreMaps, contents_of, state_of, states_of}
+use Rattle.page_table.proofs.Base.{◌≡◌, ◌∙◌, ℕ, ◌+◌, ◌-◌, ◌*◌, ◌<◌, ◌≤◌, false, List, [], length, slice_index_or, Option, Some, None, option_map, sym, ap, arith, nat_tests}
+use Rattle.page_table.proofs.Words.{Shape, part_of, is_mergeable, page_count, TableState, IsTable, AreMaps, contents_of, state_of, states_of}
 use Rattle.page_table.proofs.Putting.{no_entry_of_content}
 use Rattle.page_table.proofs.Reading.{content_in}
 use Rattle.page_table.proofs.Entries.{told_at}
@@ -19,8 +19,3 @@ module _ (table : TableState) (shapes : List (Option Shape)) (k i : ℕ) (fits :
 
   pub behind-pages : (shape : Shape) → slice_index_or shapes k None ≡ Some shape → k * 256 + page_count shape ≤ i → is_mergeable (slice_index_or (states_of table.entries) i None) ≡ false
   behind-pages shape h1 h2 = grind (arith, nat_tests, no_merge)
-
--- the shape of a map
-pub shaped : (shapes : List (Option Shape)) (contents : List (List ℕ)) (k : ℕ) (shape : Shape) → AreMaps shapes contents → k < length shapes → slice_index_or shapes k None ≡ Some shape
-    → ArePagesOf shape (part_of contents (k * 256) 256)
-shaped shapes contents k shape are inside e = subst (λ s. ArePages s (part_of contents (k * 256) 256)) e (are.each k inside)

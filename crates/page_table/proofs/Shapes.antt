@@ -1,12 +1,8 @@
 -- What a memory tells of a tenant's maps by their numbers.
 use Rattle.page_table.proofs.Base.{◌≡◌, ◌∙◌, ℕ, zero, suc, ◌*◌, ◌<◌, ◌≤◌, List, [], ◌∷◌, length, map, drop, slice_index_or, Option, Some, None, IfSome, option_map, is_none, position, refl, ap, arith, All, min, ◌-◌, position_or_len, get_or_past, get_or-take, get_or-drop, length-take, length-drop, concat, length-take-le, All-nil, All-cons, All-head, All-tail, All-append, All-take, All-drop, nat_tests}
 use Rattle.page_table.proofs.Words.{Pass, Shape, part_of, FlatMap, FlatMaps, map_at, map_place, byte_len_of, IsFlatMap, IsPage, page_at, page_count, Entry, Tenant, MemoryState, part, free_number, TableState, maps_of, flat_of, entry_content, contents_of, ArePages, ArePagesOf, AreMaps, view_of}
-use Rattle.page_table.proofs.Sides.{order}
 use Rattle.page_table.proofs.Maps.{map_at-maps_of, length-maps_of, length-concat}
 use Rattle.page_table.proofs.Reading.{map_at-part, map_at-past}
-
-shape_of_flat : (pages : List (List ℕ)) (shape : Option Shape) → option_map (λ (flat : FlatMap). flat.shape) (option_map (flat_of pages) shape) ≡ shape
-shape_of_flat pages shape = grind (arith, nat_tests)
 
 -- two lists that are free at the same places have the same first free place
 same_prefix : (maps : FlatMaps) (shapes : List (Option Shape)) → length maps ≡ length shapes → ((i : ℕ) → is_none (slice_index_or maps i None) ≡ is_none (slice_index_or shapes i None))
@@ -27,15 +23,12 @@ pub length-part : {X : Type 0} (xs : List X) (at w : ℕ) → length (part_of xs
 unfolding part_of
 length-part xs at w = length-take w (drop at xs) ∙ ap (min w) (length-drop at xs)
 
-is_none-map : {X Y : Type 0} (f : X → Y) (x : Option X) → is_none (option_map f x) ≡ is_none x
-is_none-map f x = grind (arith, nat_tests)
-
 -- the maps' places are free where no shape is
 free_of_maps : (shapes : List (Option Shape)) (contents : List (List ℕ)) (from width : ℕ)
     → position (λ (slot : Option FlatMap). is_none slot) (part_of (maps_of shapes contents) from width) ≡ position (λ (slot : Option Shape). is_none slot) (part_of shapes from width)
 unfolding part_of
 free_of_maps shapes contents from width =
-    grind (arith, nat_tests, same_position, length-part, length-maps_of, get_or-take, get_or-drop, map_at-maps_of, is_none-map, get_or_past)
+    grind (arith, nat_tests, same_position, length-part, length-maps_of, get_or-take, get_or-drop, map_at-maps_of, get_or_past)
 
 -- the first free number of a tenant is the first place of its shapes without one
 pub free_number_told : (table : TableState) (shapes : List (Option Shape)) (tenants : List Tenant) (pass : Pass) (t : ℕ)
@@ -46,7 +39,7 @@ free_number_told table shapes tenants pass t = free_of_maps shapes (contents_of 
 module _ (table : TableState) (shapes : List (Option Shape)) (tenants : List Tenant) (pass : Pass) (t : ℕ) where
   pub shape_told : (m : ℕ) → m < 8 → option_map (λ (flat : FlatMap). flat.shape) (map_at (part (view_of table shapes tenants pass) t).maps m) ≡ slice_index_or shapes (map_place t m) None
   unfolding view_of part
-  shape_told m h1 = grind (arith, nat_tests, map_at-part, map_at-maps_of, shape_of_flat)
+  shape_told m h1 = grind (arith, nat_tests, map_at-part, map_at-maps_of)
 
   pub map_told : (m : ℕ) → m < 8 → map_at (part (view_of table shapes tenants pass) t).maps m ≡ option_map (flat_of (part_of (contents_of table) (map_place t m * 256) 256)) (slice_index_or shapes (map_place t m) None)
   unfolding view_of part
@@ -86,7 +79,7 @@ flat_is shape pages are all =
     }
 
 -- a map that is there is within the limits
-map_is : (table : TableState) (shapes : List (Option Shape)) (k : ℕ) → AreMaps shapes (contents_of table) → k < length shapes → All IsPage table.arena
+pub map_is : (table : TableState) (shapes : List (Option Shape)) (k : ℕ) → AreMaps shapes (contents_of table) → k < length shapes → All IsPage table.arena
     → IfSome (option_map (flat_of (part_of (contents_of table) (k * 256) 256)) (slice_index_or shapes k None)) IsFlatMap
 unfolding contents_of part_of
 map_is table shapes k are inside all = by_shape (slice_index_or shapes k None) (are.each k inside)
@@ -96,7 +89,3 @@ map_is table shapes k are inside all = by_shape (slice_index_or shapes k None) (
     by_shape (Some shape) h =
         flat_is shape (part_of (contents_of table) (k * 256) 256) h
         (All-take (λ page. All IsByte page) 256 (drop (k * 256) (contents_of table)) (All-drop (λ page. All IsByte page) (k * 256) (contents_of table) (contents_small table.arena table.entries all)))
-
-pub map_ok : (table : TableState) (shapes : List (Option Shape)) (tenants : List Tenant) (pass : Pass) (t m : ℕ) → AreMaps shapes (contents_of table) → m < 8 → All IsPage table.arena
-    → IfSome (map_at (part (view_of table shapes tenants pass) t).maps m) IsFlatMap
-map_ok table shapes tenants pass t m h1 h2 h3 = grind (arith, nat_tests, map_told, map_is, get_or_past, order)

@@ -1,12 +1,12 @@
 -- The slots of the groups in order of creation.
-use Rattle.page_table.proofs.Base.{◌≡◌, ◌≢◌, ◌∙◌, ◌⊎◌, ⊎_elim, ℕ, zero, suc, ◌+◌, ◌<◌, ◌≤◌, ◌==◌, not, Bool, true, false, if◌then◌else◌, List, [], ◌∷◌, ◌++◌, length, take, drop, slice_index_or, slice_set, All, AllPairs, refl, sym, ap, subst, arith, inl, inr, get_or-set_same, get_or-set_other, length-set, get_or_append_left, get_or-append-add, get_or_default, take_at, All-filter, filter-append, filter_passes, AllPairs-filter, sum_by-cons, nat_tests, eqb_tells}
+use Rattle.page_table.proofs.Base.{◌≡◌, ◌≢◌, ◌∙◌, ◌⊎◌, ⊎_elim, ℕ, zero, suc, ◌+◌, ◌<◌, ◌≤◌, ◌==◌, not, Bool, true, false, if◌then◌else◌, List, [], ◌∷◌, ◌++◌, length, take, drop, slice_index_or, slice_set, All, AllPairs, refl, sym, ap, subst, arith, inl, inr, get_or-set_same, get_or-set_other, length-set, get_or_append_left, get_or-append-add, get_or_default, take_at, All-filter, filter_passes, AllPairs-filter, sum_by-cons, nat_tests, eqb_tells}
 use Rattle.page_table.proofs.Words.{filter-absent, ArePlaced, groups_in, times}
 use Rattle.std.proofs.Common.{length-append}
 use Rattle.page_table.proofs.Ending.{but}
 use Rattle.page_table.proofs.Entries.{one_when, times-head, times-tail}
 use Rattle.page_table.proofs.Sides.{is_same}
 
-full : (x : ℕ) → 0 < x → (x == 0) ≡ false
+pub full : (x : ℕ) → 0 < x → (x == 0) ≡ false
 full x h = grind (arith, nat_tests)
 
 empty : (x : ℕ) → (x == 0) ≡ true → x ≡ 0
@@ -58,9 +58,6 @@ module _ (slots slot_of : List ℕ) (are : ArePlaced slots slot_of) where
   pub noted : (f : ℕ) → 1 ≤ times f (groups_in slots)
       → (f < length slot_of) × (slice_index_or slot_of f 0 < length slots) × (slice_index_or slots (slice_index_or slot_of f 0) 0 ≡ f) × (0 < f)
   noted f h1 = grind (arith, nat_tests, slot-of-group)
-
-  pub groups-removed : (f : ℕ) → 1 ≤ times f (groups_in slots) → groups_in (slice_set slots (slice_index_or slot_of f 0) 0) ≡ but f (groups_in slots)
-  groups-removed f h1 = grind (arith, nat_tests, noted f, groups-emptied, stands-once)
 
   -- a new group behind the others
   pub placed-pushed : (f : ℕ) → 0 < f → f < length slot_of → times f (groups_in slots) ≡ 0 → ArePlaced (slots ++ f ∷ []) (slice_set slot_of f (length slots))
@@ -115,9 +112,6 @@ module _ (slots slot_of : List ℕ) (are : ArePlaced slots slot_of) where
 pub groups-again : (slots : List ℕ) → groups_in (groups_in slots) ≡ groups_in slots
 groups-again [] = refl
 groups-again (x ∷ xs) = grind (arith, groups-again xs)
-
-pub groups-pushed : (slots : List ℕ) (f : ℕ) → 0 < f → groups_in (slots ++ f ∷ []) ≡ groups_in slots ++ f ∷ []
-groups-pushed slots f above = grind (arith, nat_tests, filter-append, full)
 
 -- what is read of a list that reaches so far
 pub read-told : (xs : List ℕ) (i x : ℕ) → i < length xs → x ≡ slice_index_or xs i x → x ≡ slice_index_or xs i 0

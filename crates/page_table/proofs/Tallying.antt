@@ -1,5 +1,5 @@
 -- What is counted of pages, and the contents of the groups.
-use Rattle.page_table.proofs.Base.{◌≡◌, ℕ, zero, suc, ◌+◌, ◌-◌, ◌<◌, ◌≤◌, replicate, List, [], ◌∷◌, length, map, sum_by, slice_set, Option, None, option_map, refl, ap, arith, length-map, map-set, sum_by-cons, sum_by-set, sum_by-le, get_or-le-sum_by, nat_tests}
+use Rattle.page_table.proofs.Base.{◌≡◌, ℕ, zero, suc, ◌+◌, ◌-◌, ◌<◌, ◌≤◌, replicate, List, [], ◌∷◌, length, map, sum_by, slice_set, Option, None, option_map, refl, ap, arith, length-map, map-set, sum_by-cons, sum_by-set, get_or-le-sum_by}
 use Rattle.page_table.proofs.Words.{group_contents, unshared_at, volatile_at, PageState, Shape, group_bytes, page_at, Entry, Pass, Tenant, contents_now, TableState, IsTable, entry_at, states_of, state_of, groups_of, places_on, times, IsTally, shared_at, view_of, IsMemory}
 use Rattle.page_table.proofs.Entries.{times-head, times-tail, told_at}
 use Rattle.page_table.proofs.Scanning.{bytes-of_group}
@@ -17,10 +17,6 @@ counted-set f pages i count x inside e =
     let same = ap (sum_by f) (map-set (option_map state_of) pages i x) in
     let here = ap f (told_at state_of pages i) in
     (omega (arith, e, least, here), omega (arith, e, least, moved, same, here))
-
--- at most all pages are counted
-pub counted-few : (f : Option PageState → ℕ) (pages : List (Option Entry)) (count : ℕ) → ((x : Option PageState) → f x ≤ 1) → count ≡ sum_by f (states_of pages) → count ≤ length pages
-counted-few f pages count one e = grind (arith, nat_tests, sum_by-le f 1 (states_of pages), length-map pages (option_map state_of))
 
 pub unshared-one : (x : Option PageState) → unshared_at x ≤ 1
 unshared-one x = grind arith

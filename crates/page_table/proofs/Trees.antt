@@ -1,9 +1,9 @@
 -- The tree of groups has the groups of each content in order of creation, whatever happens to the table.
-use Rattle.page_table.proofs.Base.{◌≡◌, ◌≢◌, ◌∙◌, ℕ, zero, suc, ◌<◌, ◌≤◌, ◌==◌, nat_lt, Bool, true, List, [], ◌∷◌, ◌++◌, length, filter, find, slice_index_or, slice_set, All, refl, sym, ap, arith, concat, get_or-set_other, length-set, All-nil, All-cons, filter-append, sum_by-cons, sum_by-append, nat_tests}
+use Rattle.page_table.proofs.Base.{◌≡◌, ◌≢◌, ◌∙◌, ℕ, zero, suc, ◌<◌, ◌≤◌, ◌==◌, nat_lt, Bool, true, List, [], ◌∷◌, length, filter, find, slice_index_or, slice_set, All, refl, sym, ap, arith, concat, get_or-set_other, length-set, All-nil, All-cons, sum_by-cons, sum_by-append, nat_tests}
 use Rattle.page_table.proofs.Words.{page_at, Groups, IsSorted, IsChain, has, content, has-itself, TableState, CountsState, IsSound, IsTreeOf, times, pages_on, is_open_frame, without-length, times-gone, times-kept}
 use Rattle.page_table.proofs.Ending.{but}
 use Rattle.page_table.proofs.Entries.{one_when, times-head, times-tail, one_if_zero-above, group_of, times-cons}
-use Rattle.page_table.proofs.Joining.{group-inside}
+use Rattle.page_table.proofs.Joining.{page-on}
 
 -- a number that stands nowhere
 pub nowhere : (f : ℕ) (xs : List ℕ) → times f xs ≡ 0 → All (λ g. g ≢ f) xs
@@ -90,21 +90,10 @@ pub tree-set : (arena : List (List ℕ)) (groups : List ℕ) (tree : Groups) (f 
 tree-set arena groups tree f page h1 h2 =
     grind (arith, nat_tests, tree-kept arena (slice_set arena f page) (length-set arena f page) groups tree, length-set arena f page, get_or-set_other arena f)
 
--- a new last group
-pub tree-pushed : (arena : List (List ℕ)) (groups : List ℕ) (old new : Groups) (f : ℕ) → IsTreeOf arena groups old → IsSorted arena new.chains → new.room ≡ old.room
-    → ((bytes : List ℕ) → filter (has arena bytes) (concat new.chains) ≡ filter (has arena bytes) (concat old.chains) ++ filter (has arena bytes) (f ∷ []))
-    → IsTreeOf arena (groups ++ f ∷ []) new
-tree-pushed arena groups old new f is sorted room inserted = grind (arith, nat_tests, filter-append)
-
 -- one test after another
-filter-filter : (p q : ℕ → Bool) (xs : List ℕ) → filter p (filter q xs) ≡ filter q (filter p xs)
+pub filter-filter : (p q : ℕ → Bool) (xs : List ℕ) → filter p (filter q xs) ≡ filter q (filter p xs)
 filter-filter p q [] = refl
 filter-filter p q (x ∷ xs) = grind (arith, filter-filter p q xs)
-
--- a group less
-pub tree-removed : (arena : List (List ℕ)) (groups : List ℕ) (old new : Groups) (f : ℕ) → IsTreeOf arena groups old → IsSorted arena new.chains → new.room ≡ old.room
-    → concat new.chains ≡ but f (concat old.chains) → IsTreeOf arena (but f groups) new
-tree-removed arena groups old new f is sorted room removed = grind (arith, nat_tests, filter-filter)
 
 -- there is no group at first
 pub tree-new : (arena : List (List ℕ)) (room : ℕ) → length arena ≤ room → IsTreeOf arena [] (record { chains = []; room = room })
@@ -123,7 +112,7 @@ module _ (table : TableState) (counts : CountsState) (tree : Groups) (sound : Is
   tree-room = omega (arith, tree-length table.arena table.groups tree is, is.room, sound.counted.used)
 
   counted : (f : ℕ) → 1 ≤ times f table.groups → slice_index_or counts.counts f 0 ≡ pages_on f table.entries
-  counted f h1 = grind (arith, nat_tests, one_if_zero-above f, group-inside, group_of)
+  counted f h1 = grind (arith, nat_tests, one_if_zero-above f, group_of, page-on)
 
   -- the earliest open group is the earliest one of its bytes in the tree
   pub found-open : (bytes : List ℕ) (limit : ℕ) (gs : List ℕ) → gs ≡ filter (has table.arena bytes) (concat tree.chains)

@@ -43,8 +43,7 @@ held-none x = grind (arith, nat_tests)
 
 held-cons : (x : Option Entry) (g : ℕ) (gs : List ℕ) → held x (g ∷ gs) ≡ on_one g x + held x gs
 unfolding held
-held-cons None g gs = refl
-held-cons (Some entry) g gs = grind (arith, nat_tests, times-cons entry.frame g gs)
+held-cons x g gs = grind (arith, nat_tests, times-cons)
 
 listed-frames : (xs : List (Option Entry)) (groups : List ℕ) (i : ℕ) → law.listed i (map (λ g. places_on 0 g xs) groups) ≡ held (entry_at xs i) groups
 listed-frames xs [] i = sym (held-none (entry_at xs i))
@@ -225,9 +224,6 @@ module _ (old new : TableState) (pass now : Pass) (stopped : now ≡ record pass
   pub unmerged_is : sharing_of new now ≡ unmerged (sharing_of old pass)
   unfolding unmerged
   unmerged_is = grind (arith, nat_tests, length-states)
-
-  pub unmerged_apart : SharesNothing (broken_from (sharing_of old pass) 0 (length old.entries)) → SharesNothing (sharing_of new now)
-  unmerged_apart none = grind (arith, nat_tests)
 
 -- stopping the scanner leaves the waiting pages
 pub pass_stopped : (table : TableState) (pass now : Pass) → now ≡ record pass { options = record pass.options { run = 2 } } → IsPass table pass → IsPass table now

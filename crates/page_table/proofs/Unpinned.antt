@@ -56,9 +56,6 @@ unpinned-in_part pins first at (suc n) small =
 pub pages-some : (owned : Option FlatMap) (shape : Shape) → option_map (λ (flat : FlatMap). flat.shape) owned ≡ Some shape → unwrap_or (option_map (λ (flat : FlatMap). page_count flat.shape) owned) 0 ≡ page_count shape
 pages-some owned shape h1 = grind (arith, nat_tests)
 
-pub pages-none : (owned : Option FlatMap) → option_map (λ (flat : FlatMap). flat.shape) owned ≡ None → unwrap_or (option_map (λ (flat : FlatMap). page_count flat.shape) owned) 0 ≡ 0
-pages-none owned h1 = grind (arith, nat_tests)
-
 module _ (table : TableState) (shapes : List (Option Shape)) (tenants : List Tenant) (pass : Pass) (reserved t m : ℕ) (shape : Shape) (now : MemoryState) (same : view_of table shapes tenants pass ≡ now)
     (is : IsMemory table shapes tenants reserved) (here : option_map (λ (flat : FlatMap). flat.shape) (map_at (part now t).maps m) ≡ Some shape) where
   -- a tenant that has a map is there

@@ -1,6 +1,6 @@
 -- What a memory tells where the pins of one tenant changed.
-use Rattle.page_table.proofs.Base.{◌≡◌, ◌≢◌, ◌∙◌, ◌⊎◌, ℕ, zero, suc, ◌+◌, ◌*◌, ◌<◌, ◌≤◌, Bool, true, false, List, [], ◌∷◌, ◌++◌, length, take, drop, replicate, slice_index_or, Option, refl, sym, ap, arith, length-drop, length-replicate, length-map, get_or_past, nat_tests}
-use Rattle.page_table.proofs.Words.{Shape, part_of, with_part, map_place, PinsFit, released, PageState, length-part_of, length-with_part, take-with_part, with_part-whole, Pass, Tenant, IsKeptBut, with_pins, part, TableState, IsPageAt, states_of, view_of, IsMemory}
+use Rattle.page_table.proofs.Base.{◌≡◌, ◌≢◌, ◌∙◌, ◌⊎◌, ℕ, zero, suc, ◌+◌, ◌*◌, ◌<◌, ◌≤◌, Bool, true, false, List, [], ◌∷◌, ◌++◌, length, take, drop, replicate, slice_index_or, Option, refl, sym, ap, arith, length-drop, length-replicate, length-map, nat_tests}
+use Rattle.page_table.proofs.Words.{Shape, part_of, with_part, map_place, PinsFit, released, PageState, length-part_of, length-with_part, take-with_part, with_part-whole, Pass, Tenant, IsKeptBut, with_pins, part, TableState, states_of, view_of, IsMemory}
 use Rattle.page_table.proofs.Sides.{order}
 use Rattle.page_table.proofs.Creating.{length-contents, filled_at, others-filled}
 use Rattle.page_table.proofs.Fitting.{pinned_if}
@@ -40,10 +40,6 @@ pub tenant-unpinned : (pins : List Bool) (t m n : ℕ) → m + n ≤ 2048 → t 
 unfolding part_of
 tenant-unpinned pins t m n h1 h2 =
     grind (arith, nat_tests, length-replicate n false, length-drop (t * 2048) pins, drop-with_part pins (replicate n false) (t * 2048) m, take-with_part (drop (t * 2048) pins) (replicate n false) 2048 m)
-
--- each page that is there has a place in the list
-pub page-inside : (table : TableState) (pass : Pass) → PinsFit (states_of table.entries) pass.pins → (i : ℕ) → IsPageAt table i → i < length pass.pins
-page-inside table pass h1 i h2 = grind (arith, nat_tests, length-map, length-contents, get_or_past, order)
 
 -- the memory after a tenant's pins were taken away
 module _ (table : TableState) (shapes : List (Option Shape)) (tenants : List Tenant) (pass : Pass) (reserved : ℕ) (is : IsMemory table shapes tenants reserved) (fit : PinsFit (states_of table.entries) pass.pins)

@@ -1,5 +1,5 @@
 -- A page table stays sound where a page is taken away that has its own frame, or leaves others on its frame.
-use Rattle.page_table.proofs.Base.{◌≡◌, ◌≢◌, ◌∙◌, ℕ, zero, suc, ◌+◌, ◌-◌, ◌<◌, ◌≤◌, ◌==◌, Bool, true, false, if◌then◌else◌, List, [], length, slice_index_or, slice_set, Some, None, option_map, refl, sym, ap, arith, length-set, map-set, set-set, nat_tests}
+use Rattle.page_table.proofs.Base.{◌≡◌, ◌≢◌, ◌∙◌, ℕ, zero, suc, ◌+◌, ◌-◌, ◌<◌, ◌≤◌, ◌==◌, Bool, true, false, if◌then◌else◌, List, [], length, slice_index_or, slice_set, Some, None, option_map, refl, sym, ap, arith, length-set, map-set, set-set, nat_tests, common_steps}
 use Rattle.page_table.proofs.Words.{Pass, Sharing, state_at, is_shared, is_shared_page, broken, gone, gone_from, left_by, broken-own, Entry, TableState, CountsState, IsTable, IsEntry, IsGroup, IsOwnAt, IsSound, AreCountsOf, times, one_if_zero, entry_at, entry_content, state_of, states_of, contents_of, groups_of, sharing_of, is_on, pages_on, used_by}
 use Rattle.page_table.proofs.Changing.{is_alone, entry_fits, table-changed, counted-changed, apart_alone, pages_on-changed, own_pages-changed}
 use Rattle.page_table.proofs.Costs.{state-at, count-some}
@@ -29,13 +29,9 @@ module _ (table : TableState) (i : ℕ) (entry : Entry) (is : IsTable table) (he
   states-vacated : states_of (vacated table i).entries ≡ slice_set (states_of table.entries) i None
   states-vacated = map-set (option_map state_of) table.entries i None
 
-  -- a page on a group's frame is of the group
-  in_group : times entry.frame table.groups ≡ 1 → is_shared entry.status ≡ true
-  in_group h1 = grind (arith, nat_tests)
-
   -- each group still has pages
   still : (g : ℕ) → IsGroup table g → 1 ≤ pages_on g (vacated table i).entries
-  still g h1 = grind (arith, nat_tests, pages_on-vacated g, one_if_zero-above g, in_group)
+  still g h1 = grind (arith, nat_tests, pages_on-vacated g, one_if_zero-above g)
 
   groups-shared : groups_of (vacated table i) ≡ left_by i (groups_of table)
   unfolding groups_of
@@ -57,14 +53,7 @@ module _ (table : TableState) (i : ℕ) (entry : Entry) (is : IsTable table) (he
 
   pub sharing-vacated : (pass : Pass) → sharing_of (vacated table i) pass ≡ record (gone (sharing_of table pass) i) { pins = pass.pins }
   unfolding gone broken
-  sharing-vacated pass = by_test (is_shared entry.status) refl
-    where
-      at : state_at (sharing_of table pass) i ≡ Some (state_of entry)
-      at = state-at table pass i ∙ ap (option_map state_of) here
-
-      by_test : (b : Bool) → is_shared entry.status ≡ b → sharing_of (vacated table i) pass ≡ record (gone (sharing_of table pass) i) { pins = pass.pins }
-      by_test true e = rw (at, e, set-set, states-vacated, groups-shared) refl
-      by_test false e = rw (at, e, states-vacated, groups-own e) refl
+  sharing-vacated pass = grind (arith, nat_tests, common_steps, state-at, set-set, states-vacated, groups-shared, groups-own)
 
   pub used-vacated : used_by (vacated table i) + (if is_shared entry.status then 0 else 1) ≡ used_by table
   used-vacated = let count = own_pages-changed table.entries i entry None here in omega (arith, count)
@@ -110,11 +99,6 @@ gone-broken : (s : Sharing) (i : ℕ) → is_shared_page (state_at (broken s i) 
 unfolding gone
 gone-broken s i own = ap (λ (left : Sharing). record left { pages = slice_set left.pages i None; pins = slice_set left.pins i false }) (broken-own (broken s i) i own)
 
--- a page goes in the same way whatever is pinned
-gone-with : (s : Sharing) (pins : List Bool) (i : ℕ) → record (gone (record s { pins = pins }) i) { pins = pins } ≡ record (gone s i) { pins = pins }
-unfolding gone broken
-gone-with s pins i = grind (arith, nat_tests)
-
 -- one page more goes
 pub gone_from-last : (s : Sharing) (i n : ℕ) → gone_from s i (n + 1) ≡ gone (gone_from s i n) (i + n)
 unfolding gone_from
@@ -137,4 +121,5 @@ gone-ended old ended new pass i h1 h2 h3 = grind (arith, nat_tests, gone-broken 
 -- one page more goes, whatever is pinned
 pub gone-more : (old part new : TableState) (pass : Pass) (i n : ℕ) → sharing_of part pass ≡ record (gone_from (sharing_of old pass) i n) { pins = pass.pins }
     → sharing_of new pass ≡ record (gone (sharing_of part pass) (i + n)) { pins = pass.pins } → sharing_of new pass ≡ record (gone_from (sharing_of old pass) i (n + 1)) { pins = pass.pins }
-gone-more old part new pass i n h1 h2 = grind (arith, nat_tests, gone-with, gone_from-last)
+unfolding gone broken
+gone-more old part new pass i n h1 h2 = grind (arith, nat_tests, gone_from-last)

@@ -1,8 +1,8 @@
 -- What a memory tells after bytes of a page were written.
-use Rattle.page_table.proofs.Base.{◌≡◌, ◌≢◌, ◌∙◌, Bool, ℕ, zero, suc, ◌+◌, ◌*◌, ◌<◌, ◌≤◌, List, [], ◌∷◌, length, take, slice_index_or, slice_set, Option, Some, None, IfSome, false, option_map, refl, sym, ap, arith, concat, get_or-set_same, get_or-set_other, get_or_past, length-take-le, nat_tests}
+use Rattle.page_table.proofs.Base.{◌≡◌, ◌≢◌, ◌∙◌, Bool, ℕ, zero, suc, ◌+◌, ◌*◌, ◌<◌, ◌≤◌, List, [], ◌∷◌, length, slice_index_or, slice_set, Option, Some, None, IfSome, false, option_map, refl, sym, ap, arith, concat, get_or-set_same, get_or-set_other, get_or_past, length-take-le, nat_tests, common_steps}
 use Rattle.page_table.proofs.Words.{Pass, Shape, Page, part_of, with_part, FlatMap, FlatMaps, map_at, map_place, page_place, byte_len_of, PageState, is_shared, TenantPart, length-with_part, Entry, Tenant, page_count, MemoryState, part, bytes_of_map, IsPageOf, IsOwn, map_written, part_written, IsKeptBut, AreMapsKeptBut, KeepsSettings, TableState, entry_at, state_of, maps_of, flat_of, ArePages, ArePagesOf, contents_of, groups_of, states_of, frames_of, used_by, view_of, IsMemory, take-with_part, drop-with_part_before}
 use Rattle.std.proofs.Common.{length-set}
-use Rattle.page_table.proofs.Maps.{maps_of-changed, AreMaps-changed, length-maps_of, part_of-set_same, part_of-set_other, concat-written, length-concat}
+use Rattle.page_table.proofs.Maps.{maps_of-changed, length-maps_of, part_of-set_same, part_of-set_other, concat-written, length-concat}
 use Rattle.page_table.proofs.Reading.{IsLocated, page_located, page_number, few_pages, content_in, bytes_in, map_at-part}
 
 -- a memory with one map of a tenant replaced
@@ -38,15 +38,7 @@ module _ (table new : TableState) (shapes renewed : List (Option Shape)) (tenant
     (arena : length new.arena ≡ length table.arena) where
   pub memory_changed : reserved + used_by new ≤ length table.arena → ArePages (slice_index_or renewed (map_place t m) None) (part_of (contents_of new) (map_place t m * 256) 256)
       → IsMemory new renewed tenants reserved
-  memory_changed room right =
-      record {
-        maps = AreMaps-changed shapes renewed (contents_of table) (contents_of new) (map_place t m) long wide other_shapes other_pages right is.maps;
-        numbers = long ∙ is.numbers;
-        few = is.few;
-        frames = omega (arith, arena, is.frames);
-        sum = is.sum;
-        room = omega (arith, arena, room);
-      }
+  memory_changed room right = grind (arith, nat_tests, wide)
 
   pub one_map : (pass now : Pass) (flat : Option FlatMap) (pins : List Bool)
       → option_map (flat_of (part_of (contents_of new) (map_place t m * 256) 256)) (slice_index_or renewed (map_place t m) None) ≡ flat
@@ -114,10 +106,7 @@ module _ (table new : TableState) (shapes : List (Option Shape)) (tenants : List
 
   in_bytes : page.number * 4096 + at + length bytes ≤ byte_len_of loc.shape
   unfolding view_of part
-  in_bytes =
-      let long : length (bytes_of_map (view_of table shapes tenants pass) page) ≡ length (take (byte_len_of loc.shape) (concat old_pages)) = ap (λ flat. length (bytes_in flat)) loc.flat in
-      let whole_is = length-concat old_pages (page_count loc.shape) loc.pages.there loc.pages.none in
-      omega (arith, in_map, long, length-take-le (byte_len_of loc.shape) (concat old_pages) (omega arith))
+  in_bytes = grind (arith, nat_tests, common_steps, old_pages, length-concat, length-take-le)
 
   contents_new : contents_of new ≡ slice_set (contents_of table) (k * 256 + page.number) (with_part (slice_index_or old_pages page.number []) at bytes)
   contents_new = contents ∙ ap (λ l. slice_set (contents_of table) (k * 256 + page.number) (with_part l at bytes)) (content_in (contents_of table) k page.number small)

@@ -1,12 +1,9 @@
-use Rattle.page_table.proofs.Base.{◌≡◌, ◌∙◌, ◌+◌, ◌-◌, ◌≤◌, ℕ, List, Bool, false, length, take, drop, replicate, ap, arith, length-take-le, length-drop, length-replicate}
+use Rattle.page_table.proofs.Base.{◌≡◌, ◌∙◌, ◌+◌, ◌-◌, ◌≤◌, ℕ, List, Bool, false, length, take, drop, replicate, ap, arith, length-take-le, length-replicate, nat_tests, common_steps}
 use Rattle.page_table.proofs.Words.{put_mid-with_part}
 use Rattle.page_table.proofs.pins.clear_map.Goals as goal
 
 long : (xs : List Bool) (first : ℕ) → first + 256 ≤ length xs → length (take (first + 256 - first) (drop first xs)) ≡ 256
-long xs first inside =
-    let size : first + 256 - first ≡ 256 = omega arith in
-    let rest = length-drop first xs in
-    ap (λ (n : ℕ). length (take n (drop first xs))) size ∙ length-take-le 256 (drop first xs) (omega (arith, rest, inside))
+long xs first inside = grind (arith, nat_tests, common_steps, length-take-le)
 
 pub returns : goal.returns
 returns c =

@@ -1,8 +1,8 @@
 use Rattle.page_table.proofs.Base.{◌≡◌, ◌∙◌, ◌≤◌, true, find, Some, sym, arith, nat_tests}
-use Rattle.page_table.proofs.Words.{page_place, IsPageOf, contents_now, Grouped, with_status, is_open_frame, times, states_of, view_of}
+use Rattle.page_table.proofs.Words.{page_place, IsPageOf, contents_now, Grouped, with_status, is_open_frame, times, states_of, view_of, joined}
 use Rattle.page_table.proofs.Reading.{content_is}
 use Rattle.page_table.proofs.Merging.{memory_kept, moves}
-use Rattle.page_table.proofs.Scanning.{bytes_here, open-frame, find-in, open-bytes, sharing-joins}
+use Rattle.page_table.proofs.Scanning.{bytes_here, open-frame, find-in, open-bytes, joins}
 use Rattle.page_table.proofs.Waiters.{pass-others}
 use Rattle.page_table.proofs.Ahead.{ahead-kept, stay-set}
 use Rattle.page_table.proofs.Fitting.{entries-long}
@@ -38,5 +38,6 @@ invariant_of-self c =
     grind (arith, nat_tests, sees c.self.inside.table c.self.inside.shapes.items c.self.inside.tenants.items c.self.inside.pass c.self.inside.reserved c.self.invariant.0 c.args.self.now c.self.view_is c.args.page c.place_of.result c.place_of.ensures, memory_kept c.self.inside.table c.join.new.self c.self.inside.shapes.items c.self.inside.tenants.items c.self.inside.pass c.self.inside.pass c.join.ensures.contents c.join.ensures.arena c.self.inside.reserved c.self.invariant.0, pass-others c.self.inside.table c.join.new.self c.self.inside.pass c.place_of.result c.self.invariant.1, entries-long c.self.inside.table c.join.new.self c.join.ensures.contents, stay-set (states_of c.self.inside.table.entries) c.place_of.result (with_status Grouped), ahead-kept)
 
 pub returns : goal.returns
+unfolding view_of joined
 returns c =
-    grind (arith, nat_tests, moves c.self.inside.table c.join.new.self c.self.inside.shapes.items c.self.inside.tenants.items c.self.inside.pass c.self.inside.pass c.join.ensures.contents c.join.ensures.arena c.args.self.now c.self.view_is 0 1 c.self.inside.reserved c.self.invariant.0, sharing-joins c.self.inside.table c.self.inside.shapes.items c.self.inside.tenants.items c.self.inside.pass c.self.inside.reserved c.self.invariant.0, found)
+    grind (arith, nat_tests, moves c.self.inside.table c.join.new.self c.self.inside.shapes.items c.self.inside.tenants.items c.self.inside.pass c.self.inside.pass c.join.ensures.contents c.join.ensures.arena c.args.self.now c.self.view_is 0 1 c.self.inside.reserved c.self.invariant.0, found, joins)

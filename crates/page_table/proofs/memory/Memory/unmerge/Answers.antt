@@ -1,7 +1,7 @@
 use Rattle.page_table.proofs.Base.{◌≡◌, ◌≤◌, ◌+◌, length, ap, arith, nat_tests}
 use Rattle.page_table.proofs.Words.{unmerge_need, unmerged, SharesNothing, Pass, MemoryState, used_by, sharing_of, view_of}
 use Rattle.page_table.proofs.Merging.{memory_kept, moves}
-use Rattle.page_table.proofs.Unmerging.{need_reserved, need_fits, unmerged_is, unmerged_apart, pass_stopped}
+use Rattle.page_table.proofs.Unmerging.{need_reserved, need_fits, unmerged_is, pass_stopped}
 use Rattle.page_table.proofs.Fitting.{entries-long}
 use Rattle.page_table.proofs.Waiters.{pass-kept}
 use Rattle.page_table.proofs.Ahead.{ahead-told, stay-broken_from}
@@ -26,7 +26,7 @@ need c = ap (λ (memory : MemoryState). unmerge_need memory.sharing) c.self.view
 
 none : (c : goal.After-set) → SharesNothing (view_of c.take_out_all.new.self c.self.inside.shapes.items c.self.inside.tenants.items c.set.new.self).sharing
 unfolding view_of
-none c = grind (arith, nat_tests, unmerged_apart)
+none c = grind (arith, nat_tests)
 
 pub returns : goal.returns
 returns c =

@@ -1,6 +1,6 @@
 use Rattle.page_table.proofs.Base.{◌≡◌, ◌∙◌, ◌*◌, ℕ, Some, option_map, sym, ap, arith, nat_tests}
 use Rattle.page_table.proofs.Words.{part_of, FlatMap, map_at, map_place, unpinned_from, pinned_among, part}
-use Rattle.page_table.proofs.Unpinned.{number-inside, pages-told, unpinned-told, pages-none}
+use Rattle.page_table.proofs.Unpinned.{number-inside, pages-told, unpinned-told}
 use Rattle.page_table.proofs.memory.Memory.unpinned.Goals as goal
 
 pub pinned-requires : goal.pinned-requires
@@ -28,4 +28,4 @@ returns-in-Some c =
 
 pub returns-in-None : goal.returns-in-None
 unfolding unpinned_from
-returns-in-None c = grind (arith, nat_tests, pages-none)
+returns-in-None c = grind (arith, nat_tests)

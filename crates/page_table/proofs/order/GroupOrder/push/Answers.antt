@@ -1,7 +1,7 @@
-use Rattle.page_table.proofs.Base.{◌≡◌, ◌<◌, ◌++◌, ◌∷◌, [], length, take, drop, arith, nat_tests}
+use Rattle.page_table.proofs.Base.{◌≡◌, ◌<◌, ◌++◌, ◌∷◌, [], length, take, drop, arith, nat_tests, filter-append}
 use Rattle.page_table.proofs.Words.{groups_in, times}
 use Rattle.std.proofs.Common.{length-set}
-use Rattle.page_table.proofs.Slots.{placed-pushed, groups-pushed, all-written}
+use Rattle.page_table.proofs.Slots.{placed-pushed, all-written, full}
 use Rattle.page_table.proofs.order.GroupOrder.push.Goals as goal
 use Rattle.page_table.proofs.order.GroupOrder.push.Goals.{Else-prove}
 
@@ -24,4 +24,4 @@ pub invariant_of-self : goal.invariant_of-self
 invariant_of-self c = grind (arith, nat_tests, length-set, written, pushed, length_is, placed-pushed, there, new)
 
 pub returns : goal.returns
-returns c = grind (arith, nat_tests, length-set, written, pushed, length_is, groups-pushed)
+returns c = grind (arith, nat_tests, length-set, written, pushed, length_is, filter-append, full)

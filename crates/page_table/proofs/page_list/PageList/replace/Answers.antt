@@ -1,7 +1,7 @@
-use Rattle.page_table.proofs.Base.{◌≡◌, ◌∙◌, ◌<◌, ◌≤◌, ◌+◌, ◌-◌, ℕ, sum_by, length, slice_set, Option, None, option_map, sym, arith, get_or_default, nat_tests}
+use Rattle.page_table.proofs.Base.{◌≡◌, ◌∙◌, ◌<◌, ◌≤◌, ◌+◌, ◌-◌, ℕ, sum_by, length, slice_set, Option, None, option_map, sym, arith, get_or_default, nat_tests, length-map, sum_by-le}
 use Rattle.page_table.proofs.Words.{unshared_at, volatile_at, PageState, entry_at, state_of, states_of, shared_at}
 use Rattle.std.proofs.Common.{length-set}
-use Rattle.page_table.proofs.Tallying.{counted-set, counted-few, unshared-one, volatile-one, shared-one}
+use Rattle.page_table.proofs.Tallying.{counted-set, unshared-one, volatile-one, shared-one}
 use Rattle.page_table.proofs.page_list.PageList.replace.Goals as goal
 use Rattle.page_table.proofs.page_list.PageList.replace.Goals.{After-of}
 
@@ -17,7 +17,7 @@ counts : (c : After-of) (f : Option PageState → ℕ) → ((x : Option PageStat
     → before ≡ f (option_map state_of c.index.result.now) → after ≡ f (option_map state_of c.args.page)
     → (before ≤ count) × (count + after < 4294967296) × (count - before + after ≡ sum_by f (states_of (slice_set c.self.inside.pages.items c.args.place c.args.page)))
 counts c f h1 count before after h2 h3 h4 =
-    grind (arith, nat_tests, counted-set f c.self.inside.pages.items c.args.place count c.args.page (inside c), inside c, was c, counted-few f c.self.inside.pages.items count)
+    grind (arith, nat_tests, counted-set f c.self.inside.pages.items c.args.place count c.args.page (inside c), inside c, was c, sum_by-le, length-map)
 
 pub moved-self-inside-requires : goal.moved-self-inside-requires
 moved-self-inside-requires c =

@@ -1,9 +1,10 @@
 use Rattle.page_table.proofs.Base.{false, arith, get_or_default, nat_tests}
-use Rattle.page_table.proofs.Filled.{number-small, pins-more-at}
+use Rattle.page_table.proofs.Words.{length-part_of}
+use Rattle.page_table.proofs.Filled.{pins-more-at, few-pinned}
 use Rattle.page_table.proofs.pins.Pins.pin.Goals as goal
 
 pub overflow_add-index_mut : goal.overflow_add-index_mut
-overflow_add-index_mut c = grind (arith, nat_tests, number-small, get_or_default)
+overflow_add-index_mut c = grind (arith, nat_tests, get_or_default, few-pinned, length-part_of)
 
 pub invariant_of-self : goal.invariant_of-self
 invariant_of-self c =

@@ -1,9 +1,8 @@
-use Rattle.page_table.proofs.Base.{◌≡◌, ◌<◌, length, None, rules, nat_tests, arith}
+use Rattle.page_table.proofs.Base.{◌≡◌, ◌<◌, length, None, nat_tests, arith, common_steps, get_or-set_other}
 use Rattle.page_table.proofs.Words.{zero_page, TableState, entry_at}
 use Rattle.std.proofs.Common.{length-set}
 use Rattle.page_table.proofs.Adding.{IsUnused, unused-frame, sound-added, contents-added, states-added, groups-added, used-added}
 use Rattle.page_table.proofs.Putting.{no_entry_of_content}
-use Rattle.page_table.proofs.Entries.{kept-empty}
 use Rattle.page_table.proofs.Trees.{tree-set}
 use Rattle.page_table.proofs.table.Table.add.Goals as goal
 
@@ -24,12 +23,4 @@ invariant_of-self c =
     grind (arith, nat_tests, sound-added (table c) c.args.place c.take-frame.result c.args.mergeable c.self.invariant.0.fits (unused c) (there c) (empty c) c.self.inside.counts c.take-frame.new.self c.self.invariant.0.counted c.take-frame.ensures.counts c.take-frame.ensures.fewer, unused c, there c, empty c, tree-set c.self.inside.arena c.self.inside.groups.listed c.self.inside.tree c.take-frame.result zero_page c.self.invariant.2, length-set)
 
 pub returns : goal.returns
-returns c = record {
-  contents = rw (c.set.ensures, c.clear.ensures, ← c.self.view_is) (contents-added (table c) c.args.place c.take-frame.result c.args.mergeable c.self.invariant.0.fits (unused c) (there c) (empty c));
-  states = rw (c.set.ensures, ← c.self.view_is) (states-added (table c) c.args.place c.take-frame.result c.args.mergeable c.self.invariant.0.fits (unused c) (there c) (empty c));
-  groups = rw (c.set.ensures, c.clear.ensures, ← c.self.view_is) (groups-added (table c) c.args.place c.take-frame.result c.args.mergeable c.self.invariant.0.fits (unused c) (there c) (empty c));
-  used = rw (c.set.ensures, ← c.self.view_is) (used-added (table c) c.args.place c.take-frame.result c.args.mergeable c.self.invariant.0.fits (unused c) (there c) (empty c));
-  arena = search rules;
-  entries = search rules;
-  kept = rw (c.set.ensures, ← c.self.view_is) (kept-empty (table c).entries c.args.place _ (empty c));
-}
+returns c = grind (arith, nat_tests, common_steps, contents-added, unused, there, empty, states-added, groups-added, used-added, get_or-set_other)

@@ -2,7 +2,7 @@ use Rattle.page_table.proofs.Base.{◌≡◌, ◌+◌, Some, ap, arith, rules, c
 use Rattle.page_table.proofs.Words.{TableState, GroupsState, entry_at, pages_on, one_if_zero}
 use Rattle.page_table.proofs.Ending.{but, one_group, contents-ended, sharing-ended, used-ended, sound-ended}
 use Rattle.page_table.proofs.Entries.{frames-kept, kept-shared}
-use Rattle.page_table.proofs.Trees.{tree-removed}
+use Rattle.page_table.proofs.Trees.{filter-filter}
 use Rattle.page_table.proofs.table.Table.end_group.Goals as goal
 use Rattle.page_table.proofs.table.Table.end_group.Goals.{After-remove-2}
 
@@ -20,7 +20,7 @@ last c = rw (← c.self.view_is) at c.requires.last
 
 pub invariant_of-self : goal.invariant_of-self
 invariant_of-self c =
-    grind (arith, nat_tests, left c, sound-ended (table c) c.args.place c.args.entry c.broken.result c.self.invariant.0.fits (here c) c.requires.shared (last c) c.broken.ensures.state c.broken.ensures.frame c.self.inside.counts c.broken.ensures.protected c.self.invariant.0.counted, here c, last c, tree-removed c.self.inside.arena c.self.inside.groups.listed c.self.inside.tree c.remove-2.new.self c.args.entry.frame c.self.invariant.2)
+    grind (arith, nat_tests, left c, sound-ended (table c) c.args.place c.args.entry c.broken.result c.self.invariant.0.fits (here c) c.requires.shared (last c) c.broken.ensures.state c.broken.ensures.frame c.self.inside.counts c.broken.ensures.protected c.self.invariant.0.counted, here c, last c, filter-filter)
 
 pub remove-requires : goal.remove-requires
 remove-requires c =

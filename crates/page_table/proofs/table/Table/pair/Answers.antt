@@ -1,8 +1,8 @@
-use Rattle.page_table.proofs.Base.{◌≡◌, ◌∷◌, ◌++◌, [], arith, get_or-set_other, nat_tests}
+use Rattle.page_table.proofs.Base.{◌≡◌, ◌∷◌, ◌++◌, [], arith, get_or-set_other, nat_tests, filter-append}
 use Rattle.page_table.proofs.Words.{TableState, IsAlone}
 use Rattle.page_table.proofs.Changing.{entry_fits, own_seen, own_alone, IsOwnEntry}
 use Rattle.page_table.proofs.Pairing.{IsPairing, IsGroupEntry, pairing-from, contents-pair, used-pair, sound-pair, sharing-pair}
-use Rattle.page_table.proofs.Trees.{tree-absent, tree-room, tree-pushed}
+use Rattle.page_table.proofs.Trees.{tree-absent, tree-room}
 use Rattle.page_table.proofs.table.Table.pair.Goals as goal
 use Rattle.page_table.proofs.table.Table.pair.Goals.{After-release}
 
@@ -40,7 +40,7 @@ pushed c = grind (arith, nat_tests)
 
 pub invariant_of-self : goal.invariant_of-self
 invariant_of-self c =
-    grind (arith, nat_tests, pushed c, sound-pair (table c) c.args.first c.args.second c.page-one.result c.page-other.result c.merged.result c.merged-2.result (pairs c) c.self.inside.counts c.share.new.self c.release.new.self c.self.invariant.0.counted c.share.ensures.counts c.share.ensures.unused c.release.ensures.counts c.release.ensures.unused, pairs c, tree-pushed c.self.inside.arena c.self.inside.groups.listed c.self.inside.tree c.insert.new.self c.page-one.result.frame c.self.invariant.2)
+    grind (arith, nat_tests, pushed c, sound-pair (table c) c.args.first c.args.second c.page-one.result c.page-other.result c.merged.result c.merged-2.result (pairs c) c.self.inside.counts c.share.new.self c.release.new.self c.self.invariant.0.counted c.share.ensures.counts c.share.ensures.unused c.release.ensures.counts c.release.ensures.unused, pairs c, filter-append)
 
 pub returns : goal.returns
 returns c =

@@ -1,6 +1,6 @@
 use Rattle.page_table.proofs.Base.{◌∙◌, inl, inr, ⊎_elim, List, [], ℕ, ◌+◌, slice_set, ap, arith, nat_tests}
 use Rattle.page_table.proofs.Words.{gone_from, contents_of}
-use Rattle.page_table.proofs.Creating.{filled_more, behind_filled, with_part-none, length-contents}
+use Rattle.page_table.proofs.Creating.{filled_more, with_part-none, length-contents, filled_at}
 use Rattle.page_table.proofs.Vacating.{gone-more}
 use Rattle.page_table.proofs.table.Table.remove_all.Goals as goal
 
@@ -9,7 +9,7 @@ unfolding gone_from
 loop-number-init c = grind (arith, nat_tests, with_part-none)
 
 pub remove-requires : goal.remove-requires
-remove-requires c = grind (arith, nat_tests, length-contents, behind_filled)
+remove-requires c = grind (arith, nat_tests, length-contents, filled_at)
 
 pub loop-number-preserved : goal.loop-number-preserved
 loop-number-preserved c =
