@@ -50,7 +50,6 @@ pins-changed : (pins now : List Bool) (numbers : List ℕ) (k n : ℕ) → ArePi
 pins-changed pins now numbers k n are inside long others here = grind (arith, nat_tests, length-set, get_or-set_same, get_or-set_other)
 
 module _ (pins : List Bool) (numbers : List ℕ) (are : ArePinsOf pins numbers) where
-
   pub map-inside : (k : ℕ) → k * 256 < length pins → k < length numbers
   map-inside k less = omega (arith, are.maps, less)
 
