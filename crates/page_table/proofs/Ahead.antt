@@ -9,9 +9,6 @@ use Rattle.page_table.proofs.Entries.{told_at}
 abbrev pub StayMergeable : List (Option PageState) → List (Option PageState) → Type 0
 StayMergeable old new = (j : ℕ) → is_mergeable (slice_index_or old j None) ≡ true → is_mergeable (slice_index_or new j None) ≡ true
 
-pub ahead-kept : (old new : List (Option PageState)) (c : Option ℕ) → StayMergeable old new → IsAhead old c → IsAhead new c
-ahead-kept old new c h1 h2 = grind (arith, nat_tests)
-
 -- one page changes
 pub stay-put : (pages : List (Option PageState)) (i : ℕ) (x : Option PageState) → (is_mergeable (slice_index_or pages i None) ≡ true → is_mergeable x ≡ true) → StayMergeable pages (slice_set pages i x)
 stay-put pages i x same j may = grind (arith, get_or-set_same pages i x None, get_or-set_other pages i j x None, get_or_past pages i None, set_past pages i x)
@@ -56,13 +53,12 @@ stay-paired s i j apart k may =
 -- what callers are told of a change tells it
 pub ahead-told : (old new : TableState) (pass : Pass) (s : Sharing) (c : Option ℕ) → sharing_of new pass ≡ s → StayMergeable (states_of old.entries) s.pages → IsAhead (states_of old.entries) c
     → IsAhead (states_of new.entries) c
-ahead-told old new pass s c h1 h2 h3 = grind (arith, nat_tests, ahead-kept (states_of old.entries) (states_of new.entries) c)
+ahead-told old new pass s c h1 h2 h3 = grind (arith, nat_tests)
 
 -- every page stays that was there
 pub ahead-more : (old new : TableState) (pass : Pass) (c : Option ℕ) → ((i : ℕ) (entry : Entry) → entry_at old.entries i ≡ Some entry → entry_at new.entries i ≡ Some entry) → IsAhead (states_of old.entries) c
     → IsAhead (states_of new.entries) c
-ahead-more old new pass c h1 h2 =
-    grind (arith, nat_tests, ahead-kept (states_of old.entries) (states_of new.entries) c, entry-may old pass, told_at state_of old.entries, told_at state_of new.entries)
+ahead-more old new pass c h1 h2 = grind (arith, nat_tests, entry-may old pass, told_at state_of old.entries, told_at state_of new.entries)
 
 -- the cursor goes on to a page that may be merged where there is a next one
 pub ahead-next : (pages : List (Option PageState)) (i : ℕ) → is_some (first_mergeable (i + 1) (drop (i + 1) pages)) ≡ true → IsAhead pages (Some i)

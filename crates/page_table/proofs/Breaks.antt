@@ -178,7 +178,7 @@ cost-after table counts pass i n entry sound h e protected =
 pub cost-after-own : (table : TableState) (pass : Pass) (i n : ℕ) (entry : Entry) → IsTable table → entry_at table.entries (i + n) ≡ Some entry → entry.protected ≡ false
     → break_cost (broken_from (sharing_of table pass) i n) (i + n) ≡ 0
 cost-after-own table pass i n entry is e own =
-    grind (arith, nat_tests, entry_fits table (i + n) entry is e, cost-one table is i n (broken_from (sharing_of table pass) i n) entry (are_broken table pass is i n) e, are_broken table pass is i n)
+    grind (arith, cost-one table is i n (broken_from (sharing_of table pass) i n) entry (are_broken table pass is i n) e)
 
 -- where no page is, nothing is broken
 pub cost-after-none : (table : TableState) (pass : Pass) (i n : ℕ) → IsTable table → entry_at table.entries (i + n) ≡ None

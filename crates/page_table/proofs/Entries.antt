@@ -1,6 +1,6 @@
 -- Entries by place: what a change of one of them changes.
-use Rattle.page_table.proofs.Base.{◌≡◌, ◌≢◌, ◌∙◌, ⊎_elim, ℕ, zero, suc, ◌+◌, ◌<◌, ◌≤◌, ◌==◌, Bool, true, false, if◌then◌else◌, List, [], ◌∷◌, length, map, option_map, slice_set, Option, Some, None, refl, ap, arith, slice_index_or, get_or-set_same, get_or-set_other, length-set, map-set, sum_by-set, sum_by-cons, nat_tests, map-set_same, get_or_past, get_or-map}
-use Rattle.page_table.proofs.Words.{is_shared, PageState, page_at, Entry, times, entry_at, frames_of, entry_content, is_on, places_on, pages_on, one_if_zero, TableState, IsTable, IsGroup, state_of, states_of}
+use Rattle.page_table.proofs.Base.{◌≡◌, ◌≢◌, ◌∙◌, ⊎_elim, ℕ, zero, suc, ◌+◌, ◌<◌, ◌≤◌, ◌==◌, Bool, true, false, if◌then◌else◌, List, [], ◌∷◌, length, map, option_map, slice_set, Option, Some, None, refl, ap, arith, slice_index_or, get_or-set_same, get_or-set_other, length-set, map-set, sum_by-set, sum_by-cons, nat_tests, get_or_past, get_or-map}
+use Rattle.page_table.proofs.Words.{is_shared, PageState, page_at, Entry, times, entry_at, entry_content, is_on, places_on, pages_on, one_if_zero, TableState, IsTable, IsGroup, state_of, states_of}
 
 abbrev pub one_when : Bool → ℕ
 one_when b = if b then 1 else 0
@@ -153,8 +153,3 @@ pages-set arena f page pages sized g h = grind (arith, length-set arena f page, 
 pub kept-shared : (xs : List (Option Entry)) (i : ℕ) (old : Entry) (x : Option Entry) → entry_at xs i ≡ Some old → is_shared old.status ≡ true
     → (j : ℕ) (entry : Entry) → entry_at xs j ≡ Some entry → is_shared entry.status ≡ false → entry_at (slice_set xs i x) j ≡ Some entry
 kept-shared xs i old x here shared j entry e own = grind (arith, get_or-set_other xs i j x None)
-
--- a page that keeps its frame leaves all frames where they are
-pub frames-kept : (xs : List (Option Entry)) (i : ℕ) (before after : Entry) → entry_at xs i ≡ Some before → after.frame ≡ before.frame
-    → frames_of (slice_set xs i (Some after)) ≡ frames_of xs
-frames-kept xs i before after here same = grind (arith, nat_tests, map-set_same)

@@ -1,6 +1,6 @@
 -- A page moves to the frame of a group of its bytes.
-use Rattle.page_table.proofs.Base.{◌≡◌, ◌∙◌, ℕ, suc, ◌≤◌, ◌==◌, Bool, true, false, List, [], ◌∷◌, map, slice_index_or, slice_set, Option, Some, None, option_map, refl, ap, arith, sum_by-cons, nat_tests}
-use Rattle.page_table.proofs.Words.{Grouped, with_status, page_at, Entry, TableState, IsOwnAt, IsTable, times, entry_at, contents_of, groups_of, states_of, is_on, places_on, pages_on, joined_on}
+use Rattle.page_table.proofs.Base.{◌≡◌, ℕ, suc, ◌≤◌, ◌==◌, Bool, true, false, List, [], ◌∷◌, map, slice_index_or, slice_set, Option, Some, None, option_map, refl, arith, sum_by-cons, nat_tests}
+use Rattle.page_table.proofs.Words.{Grouped, with_status, page_at, Entry, TableState, IsOwnAt, IsTable, times, entry_at, contents_of, groups_of, states_of, is_on, pages_on, joined_on}
 use Rattle.page_table.proofs.Entries.{on_one, not_equal, inside, places_on-set, groups-each, states-set}
 use Rattle.page_table.proofs.Pairing.{IsGroupEntry, joined-here}
 use Rattle.page_table.proofs.Moving.{IsMove, with_entry, move-merged}
@@ -28,12 +28,7 @@ module _ (table : TableState) (i : ℕ) (entry x : Entry) (f : ℕ) (move : IsMo
 
   pub groups-joined : groups_of (with_entry table i x) ≡ map (joined_on table i f) table.groups
   unfolding groups_of
-  groups-joined = groups-each (λ g. places_on 0 g (with_entry table i x).entries) (joined_on table i f) table.groups each
-    where
-      each : (g : ℕ) → 1 ≤ times g table.groups → places_on 0 g (slice_set table.entries i (Some x)) ≡ joined_on table i f g
-      each g some =
-          let off : is_on g (entry_at table.entries i) ≡ false = ap (is_on g) here ∙ not_own g some in
-          grind (arith, nat_tests, off, to.frame, joined-here g table.entries i (Some x) (inside table.entries i entry here), places_on-set 0 g table.entries i (Some x))
+  groups-joined = grind (arith, nat_tests, groups-each, not_own, joined-here, inside, places_on-set)
 
   pub states-joined : states_of (with_entry table i x).entries ≡ slice_set (states_of table.entries) i (option_map (with_status Grouped) (slice_index_or (states_of table.entries) i None))
   states-joined = states-set (with_status Grouped) table.entries i entry x here to.state

@@ -1,5 +1,5 @@
 -- Maps as flat bytes, out of the contents of their pages.
-use Rattle.page_table.proofs.Base.{◌≡◌, ◌≢◌, ◌∙◌, ⊎_elim, ℕ, zero, suc, ◌+◌, ◌-◌, ◌*◌, ◌<◌, ◌≤◌, List, [], ◌∷◌, ◌++◌, length, take, drop, replicate, slice_index_or, slice_set, Option, None, option_map, refl, sym, ap, arith, append_assoc, concat, get_or-set_same, get_or-set_other, length-set, ext_get_or, length-take-le, drop_at, take_at, append-nil, drop-append-le, take-append-le, drop-drop, take-append-drop, take-replicate, drop-set-lt, drop-set-add, take-set-le, take-set-lt, take-append-add, nat_tests}
+use Rattle.page_table.proofs.Base.{◌≡◌, ◌≢◌, ◌∙◌, ⊎_elim, ℕ, zero, suc, ◌+◌, ◌-◌, ◌*◌, ◌<◌, ◌≤◌, List, [], ◌∷◌, ◌++◌, length, take, drop, replicate, slice_index_or, slice_set, Option, None, option_map, refl, sym, ap, arith, append_assoc, concat, get_or-set_same, get_or-set_other, length-set, ext_get_or, length-take-le, drop_at, take_at, append-nil, drop-append-le, take-append-le, drop-drop, take-append-drop, take-replicate, drop-set-lt, drop-set-add, take-set-le, take-set-lt, take-append-add}
 use Rattle.page_table.proofs.Words.{Shape, part_of, with_part, FlatMap, page_bytes, byte_len_of, part_of-drop, part_of-first, with_part-append, page_count, maps_of, flat_of, ArePagesOf}
 use Rattle.std.proofs.Common.{length-append, length-drop}
 use Rattle.page_table.proofs.Sides.{apart_order}
@@ -61,7 +61,7 @@ pub maps_of-changed : (old new : List (Option Shape)) (before after : List (List
     → option_map (flat_of (part_of after (k * 256) 256)) (slice_index_or new k None) ≡ flat
     → maps_of new after ≡ slice_set (maps_of old before) k flat
 maps_of-changed old new before after k flat h1 h2 h3 h4 h5 =
-    grind (arith, nat_tests, length-maps_of new after, length-set (maps_of old before) k flat, length-maps_of old before, ext_get_or None (maps_of new after) (slice_set (maps_of old before) k flat), map_at-maps_of new after, map_at-maps_of old before, get_or-set_same (maps_of old before) k flat None, get_or-set_other (maps_of old before) k)
+    grind (arith, length-maps_of new after, length-set (maps_of old before) k flat, length-maps_of old before, ext_get_or None (maps_of new after) (slice_set (maps_of old before) k flat), map_at-maps_of new after, map_at-maps_of old before, get_or-set_same (maps_of old before) k flat None, get_or-set_other (maps_of old before) k)
 
 -- the bytes of pages one after another
 

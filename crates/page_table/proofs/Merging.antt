@@ -1,6 +1,6 @@
 -- What a memory tells after pages came to share frames, or left shared ones: the bytes of each page stay.
-use Rattle.page_table.proofs.Base.{◌≡◌, ◌≢◌, ℕ, zero, suc, ◌+◌, ◌*◌, ◌<◌, ◌≤◌, List, [], ◌∷◌, length, slice_index_or, Option, Some, None, IfSome, true, false, refl, ap, arith, Bool, nat_tests}
-use Rattle.page_table.proofs.Words.{Pass, Shape, Page, part_of, map_place, page_place, PageState, state_at, is_shared, break_cost, Sharing, Entry, Tenant, MemoryState, part, free_of, have_of, IsPageOf, IsOwn, MayMerge, AreKept, IsKeptBut, KeepsSettings, with_pins, TableState, IsOwnAt, entry_at, state_of, states_of, contents_of, maps_of, sharing_of, used_by, break_frames, view_of, IsMemory}
+use Rattle.page_table.proofs.Base.{◌≡◌, ◌≢◌, ℕ, zero, suc, ◌+◌, ◌*◌, ◌<◌, ◌≤◌, List, [], ◌∷◌, length, slice_index_or, Option, Some, None, IfSome, false, refl, ap, arith, Bool, nat_tests}
+use Rattle.page_table.proofs.Words.{Pass, Shape, Page, part_of, map_place, page_place, PageState, is_shared, break_cost, Sharing, Entry, Tenant, MemoryState, part, free_of, have_of, IsPageOf, IsOwn, AreKept, IsKeptBut, KeepsSettings, with_pins, TableState, IsOwnAt, entry_at, state_of, states_of, contents_of, maps_of, sharing_of, used_by, break_frames, view_of, IsMemory}
 use Rattle.page_table.proofs.Reading.{page_located, page_number, few_pages}
 use Rattle.page_table.proofs.Free.{free_is}
 
@@ -85,13 +85,6 @@ pub own_told : (table : TableState) (shapes : List (Option Shape)) (tenants : Li
     → IsOwn (view_of table shapes tenants pass) page
 unfolding view_of
 own_told table shapes tenants pass page own = state_of_entry (λ state. is_shared state.status ≡ false) table.entries (page_place page) own
-
--- what may be merged has a frame of its own
-may_own : (x : Option PageState) → IfSome x (λ state. (state.mergeable ≡ true) × (is_shared state.status ≡ false)) → IfSome x (λ state. is_shared state.status ≡ false)
-may_own x h1 = grind (arith, nat_tests)
-
-pub may_is_own : (memory : MemoryState) (page : Page) → MayMerge memory page → IsOwn memory page
-may_is_own memory page may = may_own (state_at memory.sharing (page_place page)) may.0
 
 -- different pages that are there have different places
 same_place : (t m n u k l : ℕ) → m < 8 → n < 256 → k < 8 → l < 256 → map_place t m * 256 + n ≡ map_place u k * 256 + l → (t ≡ u) × (m ≡ k) × (n ≡ l)

@@ -14,7 +14,7 @@ pub contents-entry : (table : TableState) (i : ℕ) (entry x : Entry) (groups : 
     → contents_of (record table { entries = slice_set table.entries i (Some x); groups = groups }) ≡ contents_of table
 unfolding contents_of
 contents-entry table i entry x groups here same =
-    grind (arith, nat_tests, contents-set table.arena table.arena table.entries i (Some x) (page_at table.arena entry.frame) same, content_at table i entry here, set-get_or (contents_of table) i [])
+    grind (arith, contents-set table.arena table.arena table.entries i (Some x) (page_at table.arena entry.frame) same, content_at table i entry here, set-get_or (contents_of table) i [])
 
 -- no more pages lie on a frame than there are places
 pub pages_on-le : (f : ℕ) (xs : List (Option Entry)) → pages_on f xs ≤ length xs

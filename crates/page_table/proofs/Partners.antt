@@ -1,6 +1,6 @@
 -- Waiting pages as callers see them.
-use Rattle.page_table.proofs.Base.{◌≡◌, ◌∙◌, ℕ, ◌+◌, ◌<◌, ◌≤◌, Bool, true, false, if◌then◌else◌, All, is_some, drop, slice_index_or, List, [], ◌∷◌, ◌++◌, length, map, find, Option, Some, None, IfSome, option_map, refl, sym, ap, subst, arith, map-append, All-nil, All-cons, bytes_eq-Decides, nat_tests}
-use Rattle.page_table.proofs.Words.{Page, Shape, Waiting, page_place, is_pinned, PageState, state_at, is_shared, contents_in, is_partner, is_mergeable, first_mergeable, look_from, moved_on, one_more, with_page, waits, page_at, Waiter, is_match, Entry, Pass, Tenant, IsNotWaiting, MayMerge, TableState, IsTable, AreOthersKept, entry_at, waiting_of, states_of, state_of, sharing_of, marked, view_of, IsMemory, IsPass, IsWaiter, AreWaiters, is_listed, is_behind}
+use Rattle.page_table.proofs.Base.{◌≡◌, ◌∙◌, ℕ, ◌+◌, ◌<◌, ◌≤◌, Bool, true, false, if◌then◌else◌, All, is_some, drop, slice_index_or, List, [], ◌∷◌, ◌++◌, length, map, find, Option, Some, None, IfSome, option_map, refl, sym, ap, subst, arith, All-nil, All-cons, bytes_eq-Decides, nat_tests}
+use Rattle.page_table.proofs.Words.{Page, Shape, Waiting, page_place, is_pinned, PageState, state_at, is_shared, contents_in, is_partner, is_mergeable, first_mergeable, look_from, moved_on, one_more, page_at, Waiter, is_match, Entry, Pass, Tenant, IsNotWaiting, MayMerge, TableState, IsTable, AreOthersKept, entry_at, waiting_of, states_of, state_of, sharing_of, marked, view_of, IsMemory, IsPass, IsWaiter, AreWaiters, is_listed, is_behind}
 use Rattle.page_table.proofs.Changing.{entry_fits}
 use Rattle.page_table.proofs.Fitting.{not-pinned}
 use Rattle.page_table.proofs.Scanning.{frame_told}
@@ -138,9 +138,3 @@ match-bytes arena fingerprint bytes w h = grind (arith, (bytes_eq-Decides (page_
 -- an entry of a page that may be merged
 pub entry-may : (table : TableState) (pass : Pass) (i : ℕ) → is_mergeable (state_at (sharing_of table pass) i) ≡ true → (entry : Entry) × (entry_at table.entries i ≡ Some entry)
 entry-may table pass i h1 = grind (arith, nat_tests, state-at table pass i)
-
-pub sharing-waits : (table new : TableState) (pass : Pass) (w : Waiter) → IfSome (state_at (sharing_of table pass) w.place) (λ state. state.last ≡ Some w.fingerprint)
-    → sharing_of new pass ≡ with_page (sharing_of table pass) w.place (marked Waiting w.fingerprint)
-    → sharing_of new (record pass { waiting = record pass.waiting { listed = pass.waiting.listed ++ w ∷ [] } }) ≡ waits (sharing_of table pass) w.place w.fingerprint
-unfolding waits
-sharing-waits table new pass w h1 h2 = grind (arith, nat_tests, map-append)

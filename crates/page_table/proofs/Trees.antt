@@ -95,10 +95,6 @@ pub filter-filter : (p q : ℕ → Bool) (xs : List ℕ) → filter p (filter q 
 filter-filter p q [] = refl
 filter-filter p q (x ∷ xs) = grind (arith, filter-filter p q xs)
 
--- there is no group at first
-pub tree-new : (arena : List (List ℕ)) (room : ℕ) → length arena ≤ room → IsTreeOf arena [] (record { chains = []; room = room })
-tree-new arena room enough = grind (arith, nat_tests)
-
 -- the earliest open group is among those that have the bytes
 pub find-open : (table : TableState) (counts bytes : List ℕ) (limit : ℕ) (gs : List ℕ) → ((f : ℕ) → 1 ≤ times f gs → slice_index_or counts f 0 ≡ pages_on f table.entries)
     → find (λ f. nat_lt (slice_index_or counts f 0) limit) (filter (has table.arena bytes) gs) ≡ find (is_open_frame table bytes limit) gs

@@ -1,6 +1,6 @@
 -- What unmerging takes, told by the pages on the groups' frames.
 use Rattle.page_table.proofs.Base.{◌≡◌, ◌∙◌, ⊎_elim, ℕ, zero, suc, ◌+◌, ◌-◌, ◌<◌, ◌≤◌, ◌==◌, true, false, List, [], ◌∷◌, length, map, sum_by, slice_index_or, Option, Some, None, option_map, is_some, refl, sym, ap, subst, arith, sum_by-cons, length-map, nat_tests}
-use Rattle.page_table.proofs.Words.{Sharing, state_at, is_shared_page, broken, break_cost, broken_from, cost_from, unmerged, members, zeros_at, zero_pages, unmerge_need, SharesNothing, Entry, Pass, Tenant, have_of, view_of, IsMemory, IsPass, Shape, TableState, CountsState, IsTable, IsSound, IsGroup, IsPageAt, times, entry_at, state_of, states_of, groups_of, sharing_of, used_by, new_pass, pages_on, places_on, shared_at}
+use Rattle.page_table.proofs.Words.{Sharing, state_at, is_shared_page, broken, break_cost, broken_from, cost_from, unmerged, members, zeros_at, zero_pages, unmerge_need, SharesNothing, Entry, Pass, Tenant, have_of, view_of, IsMemory, Shape, TableState, CountsState, IsTable, IsSound, IsGroup, IsPageAt, times, entry_at, state_of, states_of, groups_of, sharing_of, used_by, new_pass, pages_on, places_on, shared_at}
 use Rattle.host_types.proofs.Without as without
 use Rattle.host_types.proofs.Unmerging as law
 use Rattle.page_table.proofs.Changing.{entry_fits}
@@ -224,7 +224,3 @@ module _ (old new : TableState) (pass now : Pass) (stopped : now ≡ record pass
   pub unmerged_is : sharing_of new now ≡ unmerged (sharing_of old pass)
   unfolding unmerged
   unmerged_is = grind (arith, nat_tests, length-states)
-
--- stopping the scanner leaves the waiting pages
-pub pass_stopped : (table : TableState) (pass now : Pass) → now ≡ record pass { options = record pass.options { run = 2 } } → IsPass table pass → IsPass table now
-pass_stopped table pass now stopped is = subst (IsPass table) (sym stopped) (record { waiters = is.waiters; room = is.room; cursor = is.cursor; pins = is.pins })

@@ -39,7 +39,7 @@ pub tenant-unpinned : (pins : List Bool) (t m n : ℕ) → m + n ≤ 2048 → t 
     → part_of (with_part pins (t * 2048 + m) (replicate n false)) (t * 2048) 2048 ≡ with_part (part_of pins (t * 2048) 2048) m (replicate n false)
 unfolding part_of
 tenant-unpinned pins t m n h1 h2 =
-    grind (arith, nat_tests, length-replicate n false, length-drop (t * 2048) pins, drop-with_part pins (replicate n false) (t * 2048) m, take-with_part (drop (t * 2048) pins) (replicate n false) 2048 m)
+    grind (arith, length-replicate n false, length-drop (t * 2048) pins, drop-with_part pins (replicate n false) (t * 2048) m, take-with_part (drop (t * 2048) pins) (replicate n false) 2048 m)
 
 -- the memory after a tenant's pins were taken away
 module _ (table : TableState) (shapes : List (Option Shape)) (tenants : List Tenant) (pass : Pass) (reserved : ℕ) (is : IsMemory table shapes tenants reserved) (fit : PinsFit (states_of table.entries) pass.pins)

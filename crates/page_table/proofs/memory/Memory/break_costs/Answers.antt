@@ -16,7 +16,7 @@ run_inside table shapes tenants pass reserved page count h1 h2 h3 =
 
 pub break_costs-requires : goal.break_costs-requires
 break_costs-requires c =
-    grind (arith, nat_tests, run_inside c.self.inside.table c.self.inside.shapes.items c.self.inside.tenants.items c.self.inside.pass c.self.inside.reserved c.args.first c.args.count c.self.invariant.0)
+    grind (arith, run_inside c.self.inside.table c.self.inside.shapes.items c.self.inside.tenants.items c.self.inside.pass c.self.inside.reserved c.args.first c.args.count c.self.invariant.0)
 
 pub returns : goal.returns
 unfolding view_of

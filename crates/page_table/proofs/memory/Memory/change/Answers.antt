@@ -1,7 +1,7 @@
-use Rattle.page_table.proofs.Base.{length, ap, arith, refl, nat_tests}
+use Rattle.page_table.proofs.Base.{length, ap, arith, refl}
 use Rattle.page_table.proofs.Words.{page_place, Sharing, changed, sharing_of}
 use Rattle.page_table.proofs.Seen.{sees}
-use Rattle.page_table.proofs.Merging.{memory_kept, moves}
+use Rattle.page_table.proofs.Merging.{moves}
 use Rattle.page_table.proofs.Waiters.{pass-others}
 use Rattle.page_table.proofs.Ahead.{ahead-told, stay-marked}
 use Rattle.page_table.proofs.Fitting.{entries-long}
@@ -9,11 +9,11 @@ use Rattle.page_table.proofs.memory.Memory.change.Goals as goal
 
 pub mark-requires : goal.mark-requires
 mark-requires c =
-    grind (arith, nat_tests, sees c.self.inside.table c.self.inside.shapes.items c.self.inside.tenants.items c.self.inside.pass c.self.inside.reserved c.self.invariant.0 c.args.self.now c.self.view_is c.args.page c.place_of.result c.place_of.ensures)
+    grind (arith, sees c.self.inside.table c.self.inside.shapes.items c.self.inside.tenants.items c.self.inside.pass c.self.inside.reserved c.self.invariant.0 c.args.self.now c.self.view_is c.args.page c.place_of.result c.place_of.ensures)
 
 pub invariant_of-self : goal.invariant_of-self
 invariant_of-self c =
-    grind (arith, nat_tests, sees c.self.inside.table c.self.inside.shapes.items c.self.inside.tenants.items c.self.inside.pass c.self.inside.reserved c.self.invariant.0 c.args.self.now c.self.view_is c.args.page c.place_of.result c.place_of.ensures, memory_kept c.self.inside.table c.mark.new.self c.self.inside.shapes.items c.self.inside.tenants.items c.self.inside.pass c.self.inside.pass c.mark.ensures.contents, pass-others c.self.inside.table c.mark.new.self c.self.inside.pass c.place_of.result c.self.invariant.1, entries-long c.self.inside.table c.mark.new.self c.mark.ensures.contents, ahead-told c.self.inside.table c.mark.new.self c.self.inside.pass, stay-marked (sharing_of c.self.inside.table c.self.inside.pass) c.place_of.result)
+    grind (arith, sees c.self.inside.table c.self.inside.shapes.items c.self.inside.tenants.items c.self.inside.pass c.self.inside.reserved c.self.invariant.0 c.args.self.now c.self.view_is c.args.page c.place_of.result c.place_of.ensures, pass-others c.self.inside.table c.mark.new.self c.self.inside.pass c.place_of.result c.self.invariant.1, entries-long c.self.inside.table c.mark.new.self c.mark.ensures.contents, ahead-told c.self.inside.table c.mark.new.self c.self.inside.pass, stay-marked (sharing_of c.self.inside.table c.self.inside.pass) c.place_of.result)
 
 pub returns : goal.returns
 unfolding changed

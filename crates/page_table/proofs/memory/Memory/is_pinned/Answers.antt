@@ -1,5 +1,4 @@
-use Rattle.page_table.proofs.Base.{◌∙◌, ap, nat_tests, arith, get_or_past, length-map}
-use Rattle.page_table.proofs.Sides.{order}
+use Rattle.page_table.proofs.Base.{◌∙◌, ap, arith, get_or_past, length-map}
 use Rattle.page_table.proofs.Creating.{length-contents}
 use Rattle.page_table.proofs.Words.{is_pinned, view_of}
 use Rattle.page_table.proofs.Reading.{is_page_at}
@@ -7,7 +6,7 @@ use Rattle.page_table.proofs.memory.Memory.is_pinned.Goals as goal
 
 pub is_pinned-requires : goal.is_pinned-requires
 is_pinned-requires c =
-    grind (arith, nat_tests, is_page_at c.self.inside.table c.self.inside.shapes.items c.self.inside.tenants.items c.self.inside.pass c.self.inside.reserved c.args.page c.self.invariant.0, length-map, length-contents, get_or_past, order)
+    grind (arith, is_page_at c.self.inside.table c.self.inside.shapes.items c.self.inside.tenants.items c.self.inside.pass c.self.inside.reserved c.args.page c.self.invariant.0, length-map, length-contents, get_or_past)
 
 pub returns : goal.returns
 unfolding view_of

@@ -1,10 +1,10 @@
 use Rattle.page_table.proofs.Base.{◌≡◌, ◌∙◌, ◌≤◌, true, find, Some, sym, arith, nat_tests}
 use Rattle.page_table.proofs.Words.{page_place, IsPageOf, contents_now, Grouped, with_status, is_open_frame, times, states_of, view_of, joined}
 use Rattle.page_table.proofs.Reading.{content_is}
-use Rattle.page_table.proofs.Merging.{memory_kept, moves}
+use Rattle.page_table.proofs.Merging.{moves}
 use Rattle.page_table.proofs.Scanning.{bytes_here, open-frame, find-in, open-bytes, joins}
 use Rattle.page_table.proofs.Waiters.{pass-others}
-use Rattle.page_table.proofs.Ahead.{ahead-kept, stay-set}
+use Rattle.page_table.proofs.Ahead.{stay-set}
 use Rattle.page_table.proofs.Fitting.{entries-long}
 use Rattle.page_table.proofs.Seen.{sees}
 use Rattle.page_table.proofs.memory.Memory.join_group.Goals as goal
@@ -35,9 +35,9 @@ join-requires c =
 
 pub invariant_of-self : goal.invariant_of-self
 invariant_of-self c =
-    grind (arith, nat_tests, sees c.self.inside.table c.self.inside.shapes.items c.self.inside.tenants.items c.self.inside.pass c.self.inside.reserved c.self.invariant.0 c.args.self.now c.self.view_is c.args.page c.place_of.result c.place_of.ensures, memory_kept c.self.inside.table c.join.new.self c.self.inside.shapes.items c.self.inside.tenants.items c.self.inside.pass c.self.inside.pass c.join.ensures.contents c.join.ensures.arena c.self.inside.reserved c.self.invariant.0, pass-others c.self.inside.table c.join.new.self c.self.inside.pass c.place_of.result c.self.invariant.1, entries-long c.self.inside.table c.join.new.self c.join.ensures.contents, stay-set (states_of c.self.inside.table.entries) c.place_of.result (with_status Grouped), ahead-kept)
+    grind (arith, sees c.self.inside.table c.self.inside.shapes.items c.self.inside.tenants.items c.self.inside.pass c.self.inside.reserved c.self.invariant.0 c.args.self.now c.self.view_is c.args.page c.place_of.result c.place_of.ensures, pass-others c.self.inside.table c.join.new.self c.self.inside.pass c.place_of.result c.self.invariant.1, entries-long c.self.inside.table c.join.new.self c.join.ensures.contents, stay-set (states_of c.self.inside.table.entries) c.place_of.result (with_status Grouped))
 
 pub returns : goal.returns
 unfolding view_of joined
 returns c =
-    grind (arith, nat_tests, moves c.self.inside.table c.join.new.self c.self.inside.shapes.items c.self.inside.tenants.items c.self.inside.pass c.self.inside.pass c.join.ensures.contents c.join.ensures.arena c.args.self.now c.self.view_is 0 1 c.self.inside.reserved c.self.invariant.0, found, joins)
+    grind (arith, moves c.self.inside.table c.join.new.self c.self.inside.shapes.items c.self.inside.tenants.items c.self.inside.pass c.self.inside.pass c.join.ensures.contents c.join.ensures.arena c.args.self.now c.self.view_is 0 1 c.self.inside.reserved c.self.invariant.0, found, joins)

@@ -1,9 +1,9 @@
 use Rattle.page_table.proofs.Base.{◌≢◌, ◌∙◌, ℕ, ap, arith, sym, refl, nat_tests}
-use Rattle.page_table.proofs.Words.{page_place, Sharing, paired, WaitingList, sharing_of, forgets}
+use Rattle.page_table.proofs.Words.{page_place, Sharing, paired, WaitingList, sharing_of}
 use Rattle.page_table.proofs.Seen.{sees}
-use Rattle.page_table.proofs.Merging.{memory_kept, moves, places_apart}
+use Rattle.page_table.proofs.Merging.{moves, places_apart}
 use Rattle.page_table.proofs.Waiters.{pass-left-both, others_of}
-use Rattle.page_table.proofs.Ahead.{ahead-told, stay-paired}
+use Rattle.page_table.proofs.Ahead.{stay-paired}
 use Rattle.page_table.proofs.Fitting.{entries-long}
 use Rattle.page_table.proofs.memory.Memory.pair.Goals as goal
 
@@ -26,7 +26,7 @@ apart c = grind (arith, nat_tests, places_apart)
 
 pub invariant_of-self : goal.invariant_of-self
 invariant_of-self c =
-    grind (arith, nat_tests, sees c.self.inside.table c.self.inside.shapes.items c.self.inside.tenants.items c.self.inside.pass c.self.inside.reserved c.self.invariant.0 c.args.self.now c.self.view_is c.args.first c.place_of-first.result c.place_of-first.ensures, sees c.self.inside.table c.self.inside.shapes.items c.self.inside.tenants.items c.self.inside.pass c.self.inside.reserved c.self.invariant.0 c.args.self.now c.self.view_is c.args.second c.place_of-second.result c.place_of-second.ensures, memory_kept c.self.inside.table c.pair.new.self c.self.inside.shapes.items c.self.inside.tenants.items c.self.inside.pass c.self.inside.pass c.pair.ensures.contents c.pair.ensures.arena c.self.inside.reserved c.self.invariant.0, pass-left-both c.self.inside.table c.pair.new.self c.self.inside.pass c.place_of-first.result c.place_of-second.result c.self.invariant.1, entries-long c.self.inside.table c.pair.new.self c.pair.ensures.contents, ahead-told c.self.inside.table c.pair.new.self (forgets c.place_of-first.result (forgets c.place_of-second.result c.self.inside.pass)), stay-paired (sharing_of c.self.inside.table c.self.inside.pass) c.place_of-first.result c.place_of-second.result (apart c), apart c)
+    grind (arith, sees c.self.inside.table c.self.inside.shapes.items c.self.inside.tenants.items c.self.inside.pass c.self.inside.reserved c.self.invariant.0 c.args.self.now c.self.view_is c.args.first c.place_of-first.result c.place_of-first.ensures, sees c.self.inside.table c.self.inside.shapes.items c.self.inside.tenants.items c.self.inside.pass c.self.inside.reserved c.self.invariant.0 c.args.self.now c.self.view_is c.args.second c.place_of-second.result c.place_of-second.ensures, pass-left-both c.self.inside.table c.pair.new.self c.self.inside.pass c.place_of-first.result c.place_of-second.result c.self.invariant.1, entries-long c.self.inside.table c.pair.new.self c.pair.ensures.contents, stay-paired (sharing_of c.self.inside.table c.self.inside.pass) c.place_of-first.result c.place_of-second.result (apart c))
 
 pub returns : goal.returns
 returns c =

@@ -31,7 +31,7 @@ told c = grind (arith, nat_tests, content, bytes_here, there)
 
 found : (c : In-Some) → IsFound c.self.inside.table.entries c.self.inside.pass.cursor (is_match c.self.inside.table.arena c.args.fingerprint (bytes c.before)) c.self.inside.pass.waiting.listed c.in-Some.waiter
 found c =
-    grind (arith, nat_tests, found-waiter c.self.inside.table.entries c.self.inside.pass.cursor (is_match c.self.inside.table.arena c.args.fingerprint (bytes c.before)) c.self.inside.pass.waiting.listed c.in-Some.waiter c.self.invariant.1.waiters, bytes c.before, told c.before)
+    grind (arith, found-waiter c.self.inside.table.entries c.self.inside.pass.cursor (is_match c.self.inside.table.arena c.args.fingerprint (bytes c.before)) c.self.inside.pass.waiting.listed c.in-Some.waiter c.self.invariant.1.waiters, told c.before)
 
 pub page_at-requires : goal.page_at-requires
 page_at-requires c =

@@ -1,8 +1,7 @@
-use Rattle.page_table.proofs.Base.{◌+◌, ◌*◌, ◌≤◌, length, nat_tests, arith}
+use Rattle.page_table.proofs.Base.{◌+◌, ◌*◌, ◌≤◌, length, arith}
 use Rattle.page_table.proofs.Words.{length-with_part, MemoryState, bytes_of_map, IsPageOf, view_of}
 use Rattle.page_table.proofs.Writing.{Writes, memory_written, writes}
 use Rattle.page_table.proofs.Seen.{sees}
-use Rattle.page_table.proofs.Waiters.{pass-kept}
 use Rattle.page_table.proofs.memory.Memory.put.Goals as goal
 
 pub put-requires : goal.put-requires
@@ -23,12 +22,12 @@ in_map c = rw (← c.self.view_is) at c.requires.in_map
 
 pub invariant_of-self : goal.invariant_of-self
 invariant_of-self c =
-    grind (arith, nat_tests, memory_written c.self.inside.table c.put.new.self c.self.inside.shapes.items c.self.inside.tenants.items c.self.inside.pass c.self.inside.reserved c.args.page c.args.at c.args.bytes.now c.self.invariant.0 (there c) c.requires.in_page (in_map c), there c, in_map c, pass-kept c.self.inside.table c.put.new.self c.self.inside.pass c.self.invariant.1)
+    grind (arith, memory_written c.self.inside.table c.put.new.self c.self.inside.shapes.items c.self.inside.tenants.items c.self.inside.pass c.self.inside.reserved c.args.page c.args.at c.args.bytes.now c.self.invariant.0 (there c) c.requires.in_page (in_map c))
 
 told : (c : goal.After-put) → Writes (before c) (view_of c.put.new.self c.self.inside.shapes.items c.self.inside.tenants.items c.self.inside.pass) c.args.page c.args.at c.args.bytes.now
 told c =
-    grind (arith, nat_tests, writes c.self.inside.table c.put.new.self c.self.inside.shapes.items c.self.inside.tenants.items c.self.inside.pass c.self.inside.reserved c.args.page c.args.at c.args.bytes.now c.self.invariant.0 (there c) c.requires.in_page (in_map c), there c, in_map c)
+    grind (arith, writes c.self.inside.table c.put.new.self c.self.inside.shapes.items c.self.inside.tenants.items c.self.inside.pass c.self.inside.reserved c.args.page c.args.at c.args.bytes.now c.self.invariant.0 (there c) c.requires.in_page (in_map c))
 
 pub returns : goal.returns
 returns c =
-    grind (arith, nat_tests, length-with_part (bytes_of_map (before c) c.args.page) (c.args.page.number * 4096 + c.args.at) c.args.bytes.now (in_map c), before c, in_map c, told c)
+    grind (arith, length-with_part (bytes_of_map (before c) c.args.page) (c.args.page.number * 4096 + c.args.at) c.args.bytes.now (in_map c), told c)

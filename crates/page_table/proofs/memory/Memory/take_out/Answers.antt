@@ -1,8 +1,7 @@
 use Rattle.page_table.proofs.Base.{◌≡◌, ◌∙◌, ◌≤◌, ◌+◌, ◌&&◌, ℕ, length, sym, ap, arith, nat_tests, get_or_past, length-map}
-use Rattle.page_table.proofs.Sides.{order}
 use Rattle.page_table.proofs.Creating.{length-contents}
 use Rattle.page_table.proofs.Words.{page_place, broken_by, state_at, is_shared_page, broken, break_cost, Sharing, MemoryState, part, IsPageOf, used_by, break_frames, sharing_of, view_of, IsPass}
-use Rattle.page_table.proofs.Merging.{parts_but, part_pinned, map_small, number_small, memory_kept, cost_told, cost_fits, cost_reserved, own_told, moves}
+use Rattle.page_table.proofs.Merging.{parts_but, part_pinned, map_small, number_small, cost_told, cost_fits, cost_reserved, own_told, moves}
 use Rattle.page_table.proofs.Fitting.{entries-long, pinned_if, sharing-taken, pins-taken}
 use Rattle.page_table.proofs.Unpinning.{pinned-others}
 use Rattle.page_table.proofs.Waiters.{pass-kept}
@@ -15,7 +14,7 @@ pins-is_pinned-requires c = c.requires.there
 
 pub pin_if-requires : goal.pin_if-requires
 pin_if-requires c =
-    grind (arith, nat_tests, sees c.self.inside.table c.self.inside.shapes.items c.self.inside.tenants.items c.self.inside.pass c.self.inside.reserved c.self.invariant.0 c.args.self.now c.self.view_is c.args.page c.place_of-place.result c.place_of-place.ensures, length-map, length-contents, get_or_past, order)
+    grind (arith, sees c.self.inside.table c.self.inside.shapes.items c.self.inside.tenants.items c.self.inside.pass c.self.inside.reserved c.self.invariant.0 c.args.self.now c.self.view_is c.args.page c.place_of-place.result c.place_of-place.ensures, length-map, length-contents, get_or_past)
 
 pub take_out-requires : goal.take_out-requires
 take_out-requires c =
@@ -60,7 +59,7 @@ pass c =
 
 pub invariant_of-self : goal.invariant_of-self
 invariant_of-self c =
-    grind (arith, nat_tests, memory_kept c.self.inside.table c.take_out.new.self c.self.inside.shapes.items c.self.inside.tenants.items c.self.inside.pass c.self.inside.pass c.take_out.ensures.contents c.take_out.ensures.arena c.self.inside.reserved c.self.invariant.0 (room c), room c, pass c, ahead-told c.self.inside.table c.take_out.new.self c.self.inside.pass, stay-broken (sharing_of c.self.inside.table c.self.inside.pass))
+    grind (arith, nat_tests, room c, pass c, ahead-told c.self.inside.table c.take_out.new.self c.self.inside.pass, stay-broken (sharing_of c.self.inside.table c.self.inside.pass))
 
 frames : (c : goal.After-pin_if) → break_cost c.args.self.now.sharing (page_place c.args.page) ≡ 0
     → (view_of c.take_out.new.self c.self.inside.shapes.items c.self.inside.tenants.items (record c.self.inside.pass { pins = c.pin_if.new.self })).frames ≡ c.args.self.now.frames

@@ -1,8 +1,8 @@
-use Rattle.page_table.proofs.Base.{◌≡◌, ◌≤◌, IfSome, refl, length, ap, arith, nat_tests}
+use Rattle.page_table.proofs.Base.{◌≡◌, ◌≤◌, IfSome, refl, length, ap, arith, nat_tests, map-append}
 use Rattle.page_table.proofs.Words.{Waiting, page_place, waits, MayMerge, HadFingerprint, sharing_of, view_of, Sharing}
 use Rattle.page_table.proofs.Merging.{memory_kept, moves}
 use Rattle.page_table.proofs.Marking.{marked_entry}
-use Rattle.page_table.proofs.Partners.{room-left, pass-waits, is-behind, may-entry, sharing-waits}
+use Rattle.page_table.proofs.Partners.{room-left, pass-waits, is-behind, may-entry}
 use Rattle.page_table.proofs.Ahead.{ahead-told, stay-marked}
 use Rattle.page_table.proofs.Fitting.{entries-long}
 use Rattle.page_table.proofs.Seen.{sees}
@@ -13,11 +13,11 @@ page-frame-requires c = (sees c.self.inside.table c.self.inside.shapes.items c.s
 
 pub mark-requires : goal.mark-requires
 mark-requires c =
-    grind (arith, nat_tests, sees c.self.inside.table c.self.inside.shapes.items c.self.inside.tenants.items c.self.inside.pass c.self.inside.reserved c.self.invariant.0 c.args.self.now c.self.view_is c.args.page c.place_of-place.result c.place_of-place.ensures)
+    grind (arith, sees c.self.inside.table c.self.inside.shapes.items c.self.inside.tenants.items c.self.inside.pass c.self.inside.reserved c.self.invariant.0 c.args.self.now c.self.view_is c.args.page c.place_of-place.result c.place_of-place.ensures)
 
 pub insert-requires : goal.insert-requires
 insert-requires c =
-    grind (arith, nat_tests, room-left c.self.inside.table c.self.inside.shapes.items c.self.inside.tenants.items c.self.inside.reserved c.self.inside.pass.cursor c.self.inside.pass.waiting.listed c.self.inside.pass.waiting.room c.self.invariant.0 c.self.invariant.1.waiters c.self.invariant.1.room)
+    grind (arith, room-left c.self.inside.table c.self.inside.shapes.items c.self.inside.tenants.items c.self.inside.reserved c.self.inside.pass.cursor c.self.inside.pass.waiting.listed c.self.inside.pass.waiting.room c.self.invariant.0 c.self.invariant.1.waiters c.self.invariant.1.room)
 
 pub invariant_of-self : goal.invariant_of-self
 unfolding view_of
@@ -44,8 +44,8 @@ had c = rw (← c.self.view_is) at c.requires.last
 -- the page waits, as the table and the pass tell it
 waiting_told : (c : goal.After-insert)
     → sharing_of c.mark.new.self (record c.self.inside.pass { waiting = c.insert.new.self }) ≡ waits (sharing_of c.self.inside.table c.self.inside.pass) (page_place c.args.page) c.args.fingerprint
-unfolding view_of
-waiting_told c = grind (arith, nat_tests, sharing-waits c.self.inside.table c.mark.new.self c.self.inside.pass, had c)
+unfolding view_of waits
+waiting_told c = grind (arith, nat_tests, had c, map-append)
 
 pub returns : goal.returns
 returns c =

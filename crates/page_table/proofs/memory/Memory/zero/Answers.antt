@@ -1,19 +1,19 @@
-use Rattle.page_table.proofs.Base.{◌∙◌, ap, arith, refl, nat_tests}
-use Rattle.page_table.proofs.Words.{page_place, Sharing, zeroed, WaitingList, sharing_of, forgets}
+use Rattle.page_table.proofs.Base.{◌∙◌, ap, arith, refl}
+use Rattle.page_table.proofs.Words.{page_place, Sharing, zeroed, WaitingList, sharing_of}
 use Rattle.page_table.proofs.Seen.{sees}
-use Rattle.page_table.proofs.Merging.{memory_kept, moves}
+use Rattle.page_table.proofs.Merging.{moves}
 use Rattle.page_table.proofs.Waiters.{pass-left}
-use Rattle.page_table.proofs.Ahead.{ahead-told, stay-zeroed}
+use Rattle.page_table.proofs.Ahead.{stay-zeroed}
 use Rattle.page_table.proofs.Fitting.{entries-long}
 use Rattle.page_table.proofs.memory.Memory.zero.Goals as goal
 
 pub zero-requires : goal.zero-requires
 zero-requires c =
-    grind (arith, nat_tests, sees c.self.inside.table c.self.inside.shapes.items c.self.inside.tenants.items c.self.inside.pass c.self.inside.reserved c.self.invariant.0 c.args.self.now c.self.view_is c.args.page c.place_of-place.result c.place_of-place.ensures)
+    grind (arith, sees c.self.inside.table c.self.inside.shapes.items c.self.inside.tenants.items c.self.inside.pass c.self.inside.reserved c.self.invariant.0 c.args.self.now c.self.view_is c.args.page c.place_of-place.result c.place_of-place.ensures)
 
 pub invariant_of-self : goal.invariant_of-self
 invariant_of-self c =
-    grind (arith, nat_tests, sees c.self.inside.table c.self.inside.shapes.items c.self.inside.tenants.items c.self.inside.pass c.self.inside.reserved c.self.invariant.0 c.args.self.now c.self.view_is c.args.page c.place_of-place.result c.place_of-place.ensures, memory_kept c.self.inside.table c.zero.new.self c.self.inside.shapes.items c.self.inside.tenants.items c.self.inside.pass c.self.inside.pass c.zero.ensures.contents c.zero.ensures.arena c.self.inside.reserved c.self.invariant.0, pass-left c.self.inside.table c.zero.new.self c.self.inside.pass c.place_of-place.result c.self.invariant.1, entries-long c.self.inside.table c.zero.new.self c.zero.ensures.contents, ahead-told c.self.inside.table c.zero.new.self (forgets c.place_of-place.result c.self.inside.pass), stay-zeroed (sharing_of c.self.inside.table c.self.inside.pass) c.place_of-place.result)
+    grind (arith, sees c.self.inside.table c.self.inside.shapes.items c.self.inside.tenants.items c.self.inside.pass c.self.inside.reserved c.self.invariant.0 c.args.self.now c.self.view_is c.args.page c.place_of-place.result c.place_of-place.ensures, pass-left c.self.inside.table c.zero.new.self c.self.inside.pass c.place_of-place.result c.self.invariant.1, entries-long c.self.inside.table c.zero.new.self c.zero.ensures.contents, stay-zeroed (sharing_of c.self.inside.table c.self.inside.pass) c.place_of-place.result)
 
 pub returns : goal.returns
 returns c =

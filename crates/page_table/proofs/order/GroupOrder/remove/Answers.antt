@@ -1,6 +1,6 @@
-use Rattle.page_table.proofs.Base.{◌≤◌, arith, nat_tests}
+use Rattle.page_table.proofs.Base.{◌≤◌, arith}
 use Rattle.page_table.proofs.Words.{groups_in, times}
-use Rattle.page_table.proofs.Slots.{noted, read-told, groups-emptied, stands-once}
+use Rattle.page_table.proofs.Slots.{noted, read-told, groups-emptied}
 use Rattle.page_table.proofs.order.GroupOrder.remove.Goals as goal
 
 pub index-slot-requires : goal.index-slot-requires
@@ -10,8 +10,8 @@ index-slot-requires c =
 
 pub index_mut-requires : goal.index_mut-requires
 index_mut-requires c =
-    grind (arith, nat_tests, noted c.self.inside.slots.items c.self.inside.slot_of.items c.self.invariant.0 c.args.frame, read-told c.self.inside.slot_of.items c.args.frame c.index-slot.result.now)
+    grind (arith, noted c.self.inside.slots.items c.self.inside.slot_of.items c.self.invariant.0 c.args.frame, read-told c.self.inside.slot_of.items c.args.frame c.index-slot.result.now)
 
 pub returns : goal.returns
 returns c =
-    grind (arith, nat_tests, noted c.self.inside.slots.items c.self.inside.slot_of.items c.self.invariant.0 c.args.frame, read-told c.self.inside.slot_of.items c.args.frame c.index-slot.result.now, groups-emptied, stands-once)
+    grind (arith, noted c.self.inside.slots.items c.self.inside.slot_of.items c.self.invariant.0 c.args.frame, read-told c.self.inside.slot_of.items c.args.frame c.index-slot.result.now, groups-emptied)

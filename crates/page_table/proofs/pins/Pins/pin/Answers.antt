@@ -1,4 +1,4 @@
-use Rattle.page_table.proofs.Base.{false, arith, get_or_default, nat_tests}
+use Rattle.page_table.proofs.Base.{arith, get_or_default, nat_tests}
 use Rattle.page_table.proofs.Words.{length-part_of}
 use Rattle.page_table.proofs.Filled.{pins-more-at, few-pinned}
 use Rattle.page_table.proofs.pins.Pins.pin.Goals as goal
@@ -8,4 +8,4 @@ overflow_add-index_mut c = grind (arith, nat_tests, get_or_default, few-pinned, 
 
 pub invariant_of-self : goal.invariant_of-self
 invariant_of-self c =
-    grind (arith, nat_tests, get_or_default c.self.inside.numbers.items, get_or_default c.self.inside.places.items c.args.place c.index.result.now false, pins-more-at c.self.inside.places.items c.self.inside.numbers.items c.self.invariant c.args.place c.index_mut-then-not-index.result.now)
+    grind (arith, get_or_default c.self.inside.numbers.items, pins-more-at c.self.inside.places.items c.self.inside.numbers.items c.self.invariant c.args.place c.index_mut-then-not-index.result.now)

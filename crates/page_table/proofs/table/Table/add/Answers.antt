@@ -20,7 +20,7 @@ empty c = grind (arith, nat_tests, no_entry_of_content)
 
 pub invariant_of-self : goal.invariant_of-self
 invariant_of-self c =
-    grind (arith, nat_tests, sound-added (table c) c.args.place c.take-frame.result c.args.mergeable c.self.invariant.0.fits (unused c) (there c) (empty c) c.self.inside.counts c.take-frame.new.self c.self.invariant.0.counted c.take-frame.ensures.counts c.take-frame.ensures.fewer, unused c, there c, empty c, tree-set c.self.inside.arena c.self.inside.groups.listed c.self.inside.tree c.take-frame.result zero_page c.self.invariant.2, length-set)
+    grind (arith, sound-added (table c) c.args.place c.take-frame.result c.args.mergeable c.self.invariant.0.fits (unused c) (there c) (empty c) c.self.inside.counts c.take-frame.new.self c.self.invariant.0.counted c.take-frame.ensures.counts c.take-frame.ensures.fewer, unused c, tree-set c.self.inside.arena c.self.inside.groups.listed c.self.inside.tree c.take-frame.result zero_page c.self.invariant.2, length-set)
 
 pub returns : goal.returns
 returns c = grind (arith, nat_tests, common_steps, contents-added, unused, there, empty, states-added, groups-added, used-added, get_or-set_other)

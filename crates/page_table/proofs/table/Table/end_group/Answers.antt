@@ -1,7 +1,7 @@
-use Rattle.page_table.proofs.Base.{◌≡◌, ◌+◌, Some, ap, arith, rules, common_steps, nat_tests}
+use Rattle.page_table.proofs.Base.{◌≡◌, ◌+◌, Some, ap, arith, common_steps, nat_tests, map-set_same}
 use Rattle.page_table.proofs.Words.{TableState, GroupsState, entry_at, pages_on, one_if_zero}
 use Rattle.page_table.proofs.Ending.{but, one_group, contents-ended, sharing-ended, used-ended, sound-ended}
-use Rattle.page_table.proofs.Entries.{frames-kept, kept-shared}
+use Rattle.page_table.proofs.Entries.{kept-shared}
 use Rattle.page_table.proofs.Trees.{filter-filter}
 use Rattle.page_table.proofs.table.Table.end_group.Goals as goal
 use Rattle.page_table.proofs.table.Table.end_group.Goals.{After-remove-2}
@@ -20,7 +20,7 @@ last c = rw (← c.self.view_is) at c.requires.last
 
 pub invariant_of-self : goal.invariant_of-self
 invariant_of-self c =
-    grind (arith, nat_tests, left c, sound-ended (table c) c.args.place c.args.entry c.broken.result c.self.invariant.0.fits (here c) c.requires.shared (last c) c.broken.ensures.state c.broken.ensures.frame c.self.inside.counts c.broken.ensures.protected c.self.invariant.0.counted, here c, last c, filter-filter)
+    grind (arith, sound-ended (table c) c.args.place c.args.entry c.broken.result c.self.invariant.0.fits (here c) c.requires.shared (last c) c.broken.ensures.state c.broken.ensures.frame c.self.inside.counts c.broken.ensures.protected c.self.invariant.0.counted, filter-filter)
 
 pub remove-requires : goal.remove-requires
 remove-requires c =
@@ -31,15 +31,5 @@ remove-requires c =
     omega (arith, one)
 
 pub returns : goal.returns
-returns c = record {
-  frames = rw (c.set.ensures, ← c.self.view_is) (frames-kept (table c).entries c.args.place c.args.entry c.broken.result (here c) c.broken.ensures.frame);
-  contents = rw (c.set.ensures, left c, ← c.self.view_is)
-      (contents-ended (table c) c.args.place c.args.entry c.broken.result c.self.invariant.0.fits (here c) c.requires.shared (last c) c.broken.ensures.state c.broken.ensures.frame);
-  sharing = λ pass. rw (c.set.ensures, left c, ← c.self.view_is)
-      (sharing-ended (table c) c.args.place c.args.entry c.broken.result c.self.invariant.0.fits (here c) c.requires.shared (last c) c.broken.ensures.state c.broken.ensures.frame pass);
-  own = grind (arith, common_steps);
-  kept = rw (c.set.ensures, ← c.self.view_is) (kept-shared (table c).entries c.args.place c.args.entry _ (here c) c.requires.shared);
-  used = rw (c.set.ensures, left c, ← c.self.view_is)
-      (used-ended (table c) c.args.place c.args.entry c.broken.result c.self.invariant.0.fits (here c) c.requires.shared (last c) c.broken.ensures.state c.broken.ensures.frame);
-  arena = search rules;
-}
+returns c =
+    grind (arith, nat_tests, here c, left c, contents-ended (table c) c.args.place c.args.entry c.broken.result c.self.invariant.0.fits (here c) c.requires.shared (last c) c.broken.ensures.state c.broken.ensures.frame, last c, sharing-ended (table c) c.args.place c.args.entry c.broken.result c.self.invariant.0.fits (here c) c.requires.shared (last c) c.broken.ensures.state c.broken.ensures.frame, used-ended (table c) c.args.place c.args.entry c.broken.result c.self.invariant.0.fits (here c) c.requires.shared (last c) c.broken.ensures.state c.broken.ensures.frame, common_steps, kept-shared, map-set_same)

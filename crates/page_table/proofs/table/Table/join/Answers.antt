@@ -1,4 +1,4 @@
-use Rattle.page_table.proofs.Base.{rules, nat_tests, arith}
+use Rattle.page_table.proofs.Base.{rules, arith}
 use Rattle.page_table.proofs.Words.{TableState, Grouped}
 use Rattle.page_table.proofs.Moving.{IsMove, few, contents-moved, used-moved, sound-moved, IsMerged}
 use Rattle.page_table.proofs.Joining.{move-joined, groups-joined, states-joined}
@@ -23,7 +23,7 @@ move c =
 
 pub invariant_of-self : goal.invariant_of-self
 invariant_of-self c =
-    grind (arith, nat_tests, sound-moved (table c) c.args.place c.page-entry.result c.merged.result (move c) c.self.inside.counts c.share.new.self c.release.new.self c.self.invariant.0.counted, move c)
+    grind (arith, sound-moved (table c) c.args.place c.page-entry.result c.merged.result (move c) c.self.inside.counts c.share.new.self c.release.new.self c.self.invariant.0.counted)
 
 pub returns : goal.returns
 returns c = record {

@@ -21,7 +21,7 @@ company c = rw (← c.self.view_is) at c.requires.company
 
 pub invariant_of-self : goal.invariant_of-self
 invariant_of-self c =
-    grind (arith, nat_tests, sound-left (table c) c.args.place c.args.entry c.broken.result c.self.invariant.0.fits (unused c) (here c) c.requires.shared (company c) c.broken.ensures.state c.broken.ensures.own c.self.inside.counts c.take-frame.new.self c.release.new.self c.broken.ensures.protected c.self.invariant.0.counted, unused c, here c, company c, tree-set c.self.inside.arena c.self.inside.groups.listed c.self.inside.tree c.broken.result.frame (page_at c.self.inside.arena c.args.entry.frame) c.self.invariant.2, length-set)
+    grind (arith, sound-left (table c) c.args.place c.args.entry c.broken.result c.self.invariant.0.fits (unused c) (here c) c.requires.shared (company c) c.broken.ensures.state c.broken.ensures.own c.self.inside.counts c.take-frame.new.self c.release.new.self c.broken.ensures.protected c.self.invariant.0.counted, unused c, tree-set c.self.inside.arena c.self.inside.groups.listed c.self.inside.tree c.broken.result.frame (page_at c.self.inside.arena c.args.entry.frame) c.self.invariant.2, length-set)
 
 pub returns : goal.returns
 returns c = grind (arith, nat_tests, contents-left, unused, here, company, sharing-left, common_steps, kept-shared, used-left)

@@ -12,8 +12,8 @@ marking c = grind (arith, nat_tests, there, own_seen)
 
 pub invariant_of-self : goal.invariant_of-self
 invariant_of-self c =
-    grind (arith, nat_tests, sound-marked (table c) c.args.place c.page-entry.result c.args.status c.args.last (marking c) c.self.inside.counts c.self.invariant.0.counted, marking c)
+    grind (arith, sound-marked (table c) c.args.place c.page-entry.result c.args.status c.args.last (marking c) c.self.inside.counts c.self.invariant.0.counted)
 
 pub returns : goal.returns
 returns c =
-    grind (arith, nat_tests, contents-marked (table c) c.args.place c.page-entry.result c.args.status c.args.last (marking c), marking c, sharing-marked (table c) c.args.place c.page-entry.result c.args.status c.args.last (marking c), used-marked (table c) c.args.place c.page-entry.result c.args.status c.args.last (marking c), common_steps)
+    grind (arith, contents-marked (table c) c.args.place c.page-entry.result c.args.status c.args.last (marking c), sharing-marked (table c) c.args.place c.page-entry.result c.args.status c.args.last (marking c), used-marked (table c) c.args.place c.page-entry.result c.args.status c.args.last (marking c), common_steps)

@@ -1,9 +1,8 @@
-use Rattle.page_table.proofs.Base.{max, replicate, arith, length-replicate, nat_tests}
+use Rattle.page_table.proofs.Base.{arith, length-replicate}
 use Rattle.page_table.proofs.Words.{zero_page}
 use Rattle.page_table.proofs.Putting.{sound-new}
-use Rattle.page_table.proofs.Trees.{tree-new}
 use Rattle.page_table.proofs.table.Table.new.Goals as goal
 
 pub invariant_of-result : goal.invariant_of-result
 invariant_of-result c =
-    grind (arith, nat_tests, length-replicate c.args.frames zero_page, sound-new c.args.frames c.args.places c.in_ok-counts.counts c.requires.frames.0 c.requires.frames.1 c.requires.places c.in_ok-counts.ensures.counts c.in_ok-counts.ensures.unused, tree-new (replicate c.args.frames zero_page) (max 0 c.args.frames))
+    grind (arith, length-replicate c.args.frames zero_page, sound-new c.args.frames c.args.places c.in_ok-counts.counts c.requires.frames.0 c.requires.frames.1 c.requires.places c.in_ok-counts.ensures.counts c.in_ok-counts.ensures.unused)

@@ -15,7 +15,7 @@ loop-place-init c = λ i le less. absurd (omega (arith, le, less))
 
 pub returns-then-may_merge : goal.returns-then-may_merge
 returns-then-may_merge c =
-    grind (arith, nat_tests, length-map c.self.inside.entries (option_map state_of), next-over (states_of c.args.self.now.entries) c.args.from c.loop-place.place c.loop-place.auto.place c.loop-place.invariant, next-here (states_of c.args.self.now.entries) c.loop-place.place, inside, told)
+    grind (arith, length-map c.self.inside.entries (option_map state_of), next-over (states_of c.args.self.now.entries) c.args.from c.loop-place.place c.loop-place.auto.place c.loop-place.invariant, next-here (states_of c.args.self.now.entries) c.loop-place.place, told)
 
 pub loop-place-preserved : goal.loop-place-preserved
 loop-place-preserved c =

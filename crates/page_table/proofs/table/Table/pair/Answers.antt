@@ -40,8 +40,8 @@ pushed c = grind (arith, nat_tests)
 
 pub invariant_of-self : goal.invariant_of-self
 invariant_of-self c =
-    grind (arith, nat_tests, pushed c, sound-pair (table c) c.args.first c.args.second c.page-one.result c.page-other.result c.merged.result c.merged-2.result (pairs c) c.self.inside.counts c.share.new.self c.release.new.self c.self.invariant.0.counted c.share.ensures.counts c.share.ensures.unused c.release.ensures.counts c.release.ensures.unused, pairs c, filter-append)
+    grind (arith, sound-pair (table c) c.args.first c.args.second c.page-one.result c.page-other.result c.merged.result c.merged-2.result (pairs c) c.self.inside.counts c.share.new.self c.release.new.self c.self.invariant.0.counted c.share.ensures.counts c.share.ensures.unused c.release.ensures.counts c.release.ensures.unused, filter-append)
 
 pub returns : goal.returns
 returns c =
-    grind (arith, nat_tests, pushed c, contents-pair (table c) c.args.first c.args.second c.page-one.result c.page-other.result c.merged.result c.merged-2.result (pairs c), pairs c, sharing-pair (table c) c.args.first c.args.second c.page-one.result c.page-other.result c.merged.result c.merged-2.result (pairs c), used-pair (table c) c.args.first c.args.second c.page-one.result c.page-other.result c.merged.result c.merged-2.result (pairs c), get_or-set_other)
+    grind (arith, contents-pair (table c) c.args.first c.args.second c.page-one.result c.page-other.result c.merged.result c.merged-2.result (pairs c), sharing-pair (table c) c.args.first c.args.second c.page-one.result c.page-other.result c.merged.result c.merged-2.result (pairs c), used-pair (table c) c.args.first c.args.second c.page-one.result c.page-other.result c.merged.result c.merged-2.result (pairs c), get_or-set_other)

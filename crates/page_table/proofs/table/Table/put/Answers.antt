@@ -1,6 +1,5 @@
 use Rattle.page_table.proofs.Base.{◌≡◌, List, length, Some, ℕ, arith, nat_tests}
 use Rattle.page_table.proofs.Words.{with_part, page_at, length-with_part, TableState, IsAlone, entry_at}
-use Rattle.std.proofs.Common.{length-set}
 use Rattle.page_table.proofs.Changing.{own_seen, own_alone}
 use Rattle.page_table.proofs.Putting.{contents-put, sound-put, content_at}
 use Rattle.page_table.proofs.Trees.{tree-set}
@@ -23,11 +22,11 @@ sized c = grind (arith, nat_tests, length-with_part)
 
 pub invariant_of-self : goal.invariant_of-self
 invariant_of-self c =
-    grind (arith, nat_tests, sound-put (table c) c.args.place c.page-entry.result (page c) c.self.invariant.0.fits (here c) (lone c) (sized c) c.self.inside.counts c.self.invariant.0.counted, here c, lone c, sized c, tree-set c.self.inside.arena c.self.inside.groups.listed c.self.inside.tree c.page-entry.result.frame (page c) c.self.invariant.2, length-set)
+    grind (arith, sound-put (table c) c.args.place c.page-entry.result (page c) c.self.invariant.0.fits (here c) (lone c) (sized c) c.self.inside.counts c.self.invariant.0.counted, tree-set c.self.inside.arena c.self.inside.groups.listed c.self.inside.tree c.page-entry.result.frame (page c) c.self.invariant.2)
 
 pub returns-clause-contents : goal.returns-clause-contents
 returns-clause-contents c =
-    grind (arith, nat_tests, content_at (table c) c.args.place c.page-entry.result (here c), here c, contents-put (table c) c.args.place c.page-entry.result (page c) c.self.invariant.0.fits (here c) (lone c) (sized c), lone c, sized c)
+    grind (arith, content_at (table c) c.args.place c.page-entry.result (here c), contents-put (table c) c.args.place c.page-entry.result (page c) c.self.invariant.0.fits (here c) (lone c) (sized c))
 
 pub put-requires-clause-frame : goal.put-requires-clause-frame
 put-requires-clause-frame c = grind (arith, nat_tests, here)

@@ -30,4 +30,4 @@ invariant_of-self c = (
 
 pub returns : goal.returns
 returns c =
-    grind (arith, nat_tests, contents-vacated (table c) c.args.place c.args.entry c.self.invariant.0.fits (here c) (company c), here c, company c, sharing-vacated (table c) c.args.place c.args.entry c.self.invariant.0.fits (here c) (company c), used-vacated (table c) c.args.place c.args.entry c.self.invariant.0.fits (here c) (company c), get_or-set_other)
+    grind (arith, contents-vacated (table c) c.args.place c.args.entry c.self.invariant.0.fits (here c) (company c), sharing-vacated (table c) c.args.place c.args.entry c.self.invariant.0.fits (here c) (company c), used-vacated (table c) c.args.place c.args.entry c.self.invariant.0.fits (here c) (company c), get_or-set_other)

@@ -1,4 +1,4 @@
-use Rattle.page_table.proofs.Base.{get_or-set_other, nat_tests, arith}
+use Rattle.page_table.proofs.Base.{get_or-set_other, arith}
 use Rattle.page_table.proofs.Words.{TableState, Zero}
 use Rattle.page_table.proofs.Moving.{IsMove, few, contents-moved, used-moved, sound-moved, IsMerged}
 use Rattle.page_table.proofs.Zeroing.{move-zeroed, sharing-zeroed}
@@ -23,8 +23,8 @@ move c =
 
 pub invariant_of-self : goal.invariant_of-self
 invariant_of-self c =
-    grind (arith, nat_tests, sound-moved (table c) c.args.place c.page-entry.result c.merged.result (move c) c.self.inside.counts c.share.new.self c.release.new.self c.self.invariant.0.counted, move c)
+    grind (arith, sound-moved (table c) c.args.place c.page-entry.result c.merged.result (move c) c.self.inside.counts c.share.new.self c.release.new.self c.self.invariant.0.counted)
 
 pub returns : goal.returns
 returns c =
-    grind (arith, nat_tests, contents-moved (table c) c.args.place c.page-entry.result c.merged.result (move c), move c, sharing-zeroed (table c) c.args.place c.page-entry.result c.merged.result (move c) (to c), to c, used-moved (table c) c.args.place c.page-entry.result c.merged.result (move c), get_or-set_other)
+    grind (arith, contents-moved (table c) c.args.place c.page-entry.result c.merged.result (move c), sharing-zeroed (table c) c.args.place c.page-entry.result c.merged.result (move c) (to c), used-moved (table c) c.args.place c.page-entry.result c.merged.result (move c), get_or-set_other)
