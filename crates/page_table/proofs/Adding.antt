@@ -1,5 +1,5 @@
 -- A page table stays sound where a page is added.
-use Rattle.page_table.proofs.Base.{◌≡◌, ◌≢◌, ◌∙◌, ℕ, zero, ◌+◌, ◌<◌, ◌≤◌, ◌==◌, Bool, false, if◌then◌else◌, List, [], length, slice_index_or, slice_set, Some, None, option_map, refl, sym, ap, subst, arith, get_or-set_same, get_or-set_other, length-set, get_or_default, map-set, nat_tests, get_or_past}
+use Rattle.page_table.proofs.Base.{◌≡◌, ◌≢◌, ◌∙◌, ℕ, ◌+◌, ◌<◌, ◌≤◌, ◌==◌, Bool, false, if◌then◌else◌, List, [], length, slice_index_or, slice_set, Some, None, option_map, refl, sym, ap, subst, arith, get_or-set_same, get_or-set_other, length-set, get_or_default, map-set, nat_tests, get_or_past}
 use Rattle.page_table.proofs.Words.{new_page, New, zero_page, length-zero_page, Entry, TableState, CountsState, IsTable, IsSound, AreCountsOf, times, entry_at, state_of, states_of, contents_of, groups_of, is_on, pages_on, used_by}
 use Rattle.page_table.proofs.Changing.{table-changed, counted-changed, own_pages-set}
 use Rattle.page_table.proofs.Entries.{elsewhere, not_equal, pages_on-set, none_on, entry_content-kept, contents-set, places_on-set, groups-kept, pages-set, one_if_zero-above, counts-set}

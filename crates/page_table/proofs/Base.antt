@@ -1,8 +1,8 @@
 -- The standard library's words and lemmas that the proofs of this crate use.
-pub use Rattle.std.proofs.Common.{◌≡◌, ◌≢◌, ◌∙◌, ⊎_elim, ℕ, zero, suc, ◌+◌, ◌<◌, ◌≤◌, ◌==◌, Bool, false, if◌then◌else◌, List, [], ◌∷◌, length, slice_index_or, slice_set, Some, None, option_map, refl, sym, ap, subst, arith, ◌-◌, true, drop, Option, IsSome, IfSome, is_some, ◌&&◌, nat_lt, map, filter, take, unwrap_or, ◌⊎◌, inl, inr, not, sum_by, ◌*◌, ◌++◌, replicate, append_assoc, nat_le, IsSomeAnd, ◌↔◌, ◌/◌, ◌%◌, All, AllPairs, bytes_eq, find, is_none, position, min, ◌||◌, vec_capacity, rules, is_ok, MatchOption, max}
+pub use Rattle.std.proofs.Common.{◌≡◌, ◌≢◌, ◌∙◌, ⊎_elim, ℕ, zero, suc, ◌+◌, ◌<◌, ◌≤◌, ◌==◌, Bool, false, if◌then◌else◌, List, [], ◌∷◌, length, slice_index_or, slice_set, Some, None, option_map, refl, sym, ap, subst, arith, ◌-◌, true, drop, Option, IsSome, IfSome, is_some, ◌&&◌, nat_lt, map, filter, take, unwrap_or, ◌⊎◌, inl, inr, not, sum_by, ◌*◌, ◌++◌, replicate, append_assoc, nat_le, IsSomeAnd, ◌↔◌, ◌/◌, ◌%◌, All, AllPairs, bytes_eq, find, is_none, position, min, ◌||◌, vec_capacity, rules, MatchOption}
 pub use Rattle.std.proofs.Math.ListN.{get_or-map}
 pub use Rattle.std.proofs.Math.Seq.{map-set_same, take-append_seam, take-set-lt, take-append-add}
-pub use Rattle.std.proofs.lemmas.Bool.Decides.{nat_tests, leb_tells, eqb_tells}
+pub use Rattle.std.proofs.lemmas.Bool.Decides.{nat_tests, eqb_tells}
 pub use Rattle.std.proofs.lemmas.Fn.{filter_same}
 pub use Rattle.std.proofs.lemmas.Grind.{common_steps}
 pub use Rattle.std.proofs.lemmas.List.{set_past, get_or-set_same, get_or-set_other, length-set, get_or_default, map-set, get_or-drop, length-drop, get_or_past, length-take-le, length-take, length-append, length-replicate, set-append_right, append-nil, take-append-drop, replicate-append-replicate, take-replicate, drop-replicate, length-map, ext_get_or, get_or-take, set-get_or, nil_from_length, get_or-replicate, drop_at, take_at, drop-append-le, take-append-le, drop-drop, drop-set-lt, drop-set-add, take-set-le, map-append, get_or_append_left, get_or-append-add, set-set}

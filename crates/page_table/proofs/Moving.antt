@@ -1,5 +1,5 @@
 -- A page with a frame of its own moves to a shared frame of the same bytes, and its old frame is unused then.
-use Rattle.page_table.proofs.Base.{◌≡◌, ◌≢◌, ◌∙◌, ℕ, zero, ◌+◌, ◌-◌, ◌<◌, ◌≤◌, ◌==◌, true, false, List, [], ◌∷◌, length, slice_index_or, slice_set, Option, Some, refl, sym, ap, subst, arith, get_or-set_other, length-set, set-get_or, sum_by-cons, nat_tests}
+use Rattle.page_table.proofs.Base.{◌≡◌, ◌≢◌, ◌∙◌, ℕ, ◌+◌, ◌-◌, ◌<◌, ◌≤◌, ◌==◌, true, false, List, [], ◌∷◌, length, slice_index_or, slice_set, Option, Some, refl, sym, ap, subst, arith, get_or-set_other, length-set, set-get_or, sum_by-cons, nat_tests}
 use Rattle.page_table.proofs.Words.{Status, is_shared, with_status, page_at, Entry, TableState, CountsState, IsTable, IsEntry, IsAlone, IsSound, AreCountsOf, LiesRight, times, one_if_zero, entry_at, contents_of, pages_on, used_by, IsOwnAt, state_of}
 use Rattle.page_table.proofs.Changing.{is_alone, entry_fits, table-changed, counted-changed, apart_alone, fits-after, own_seen, pages_on-changed, own_pages-changed, lies_shared}
 use Rattle.page_table.proofs.Entries.{one_when, on_one, inside, contents-set, one_if_zero-above, counts-set}

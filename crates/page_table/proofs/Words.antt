@@ -11,7 +11,7 @@ pub use Rattle.host_types.proofs.Unmerging.{broken-own}
 pub use Rattle.host_types.proofs.Without.{without-length, times-gone, times-kept, some_kept}
 unfoldable pub use Rattle.host_types.specs.Bytes.{part_of, with_part}
 pub use Rattle.host_types.specs.Counters.{unshared_at, volatile_at}
-unfoldable pub use Rattle.host_types.specs.Counters.{times_among, repeated_among, seconds_behind, group_contents, pages_unshared, pages_volatile}
+unfoldable pub use Rattle.host_types.specs.Counters.{times_among, repeated_among, seconds_behind, group_contents}
 pub use Rattle.host_types.specs.Memory.{map_at, FlatMap, FlatMaps}
 pub use Rattle.host_types.specs.Pages.{zero_page, map_place, page_place}
 unfoldable pub use Rattle.host_types.specs.Pages.{page_bytes}
@@ -21,7 +21,7 @@ pub use Rattle.host_types.specs.Shapes.{IsShape, byte_len_of}
 pub use Rattle.host_types.specs.Sharing.{new_page, Sharing, PageState, state_at, is_shared_page, broken_page, with_status, left_by, is_shared, is_in_company, is_among, without, cost_of, own_frame, waiting_without}
 unfoldable pub use Rattle.host_types.specs.Sharing.{broken, broken_from, paired, zeroed, break_cost, cost_from, gone, gone_from, frames_free, joined_by}
 pub use Rattle.host_types.specs.Tenant.{part_dropped, IsFlatMap, AreFlatMaps, TenantPart}
-pub use Rattle.host_types.specs.Unmerging.{zeros_at, one_if_zeros, SharesNothing}
+pub use Rattle.host_types.specs.Unmerging.{zeros_at, SharesNothing}
 unfoldable pub use Rattle.host_types.specs.Unmerging.{unmerged, members, zero_pages, unmerge_need}
 pub use Rattle.host_types.specs.Visits.{is_mergeable, with_page, waiting_outside, ended_at, next_from, is_partner, look_from, one_more, is_open}
 unfoldable pub use Rattle.host_types.specs.Visits.{first_mergeable, dropped, moved_on, contents_in, waits, group_bytes, has_open, join_first, joined, changed}

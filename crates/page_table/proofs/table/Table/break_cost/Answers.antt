@@ -1,4 +1,4 @@
-use Rattle.page_table.proofs.Base.{true, false, arith, nat_tests}
+use Rattle.page_table.proofs.Base.{arith, nat_tests}
 use Rattle.page_table.proofs.Words.{TableState}
 use Rattle.page_table.proofs.Changing.{entry_fits}
 use Rattle.page_table.proofs.Costs.{cost-counted}

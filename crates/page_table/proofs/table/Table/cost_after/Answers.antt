@@ -1,4 +1,4 @@
-use Rattle.page_table.proofs.Base.{◌≡◌, ◌+◌, ◌-◌, ◌<◌, Bool, if◌then◌else◌, length, Some, arith, nat_tests}
+use Rattle.page_table.proofs.Base.{◌≡◌, ◌+◌, ◌<◌, Bool, if◌then◌else◌, length, Some, arith, nat_tests}
 use Rattle.page_table.proofs.Words.{part_of, TableState, entry_at, pages_on}
 use mir.Val.{bool_byte}
 use Rattle.page_table.proofs.Changing.{entry_fits}

@@ -1,4 +1,4 @@
-use Rattle.page_table.proofs.Base.{◌≡◌, ◌&&◌, slice_index_or, true, false, Some, arith, nat_lt, nat_tests}
+use Rattle.page_table.proofs.Base.{◌≡◌, ◌&&◌, slice_index_or, Some, arith, nat_lt, nat_tests}
 use Rattle.page_table.proofs.Words.{TableState, IsEntry, entry_at, break_frames}
 use Rattle.page_table.proofs.Changing.{entry_fits}
 use Rattle.page_table.proofs.Entries.{one_when}
