@@ -1,6 +1,6 @@
 -- What is described: numbers that a kind, a slot or a description describes are described by each that is
 -- above it.
-use Rattle.std.proofs.Common.{◌≡◌, ℕ, zero, suc, ◌*◌, ◌%◌, ◌^◌, ◌<◌, ◌≤◌, ◌∙◌, bit_and, List, [], ◌∷◌, length, get_or, inl, inr, Option, Some, None, refl, sym, ap, subst, arith}
+use Rattle.std.proofs.Common.{◌≡◌, ℕ, zero, suc, ◌*◌, ◌^◌, ◌<◌, ◌≤◌, ◌∙◌, bit_and, List, [], ◌∷◌, length, get_or, inl, inr, Option, Some, None, refl, sym, ap, subst, arith}
 use Rattle.std.specs.Prelude.{IsSome, IsSomeAnd, IsBitSet}
 use Rattle.std.proofs.lemmas.Nat.{and_assoc, and_comm, and_le_l, and_le_r}
 use Rattle.std.proofs.lemmas.Bool.{cases_lt}
@@ -15,7 +15,7 @@ use Rattle.verifier_kinds.specs.declared.kind.Kind.TheVariants.{Scalar, Context,
 use Rattle.verifier_kinds.specs.declared.description.StackSlot.{StackSlot}
 use Rattle.verifier_kinds.specs.declared.description.StackSlot.TheVariants.{Kept, Bytes}
 use Rattle.verifier_kinds.specs.declared.description.Description.{Description}
-use Rattle.verifier_kinds.specs.Kinds.{Setting, shape_at, range_in, factor, rank, IsIn, IsWithin, IsByElement, IsOfKind, IsKindBelow, IsBelow, Describes}
+use Rattle.verifier_kinds.specs.Kinds.{Setting, shape_at, range_in, IsIn, IsWithin, IsByElement, IsOfKind, IsKindBelow, IsBelow, Describes}
 use Rattle.verifier_kinds.specs.Descriptions.{IsDescription, IsSlotBelow, IsDescriptionBelow, DescribesSlot, DescribesRegisters, DescribesStack, register_of, slot_of}
 use Rattle.verifier_kinds.proofs.Ranges.{divided_less}
 

@@ -1,5 +1,5 @@
 -- Narrower ranges: of ranges that lie within others, arithmetic makes ranges that do.
-use Rattle.std.proofs.Common.{◌≡◌, ℕ, ◌+◌, ◌-◌, ◌*◌, ◌/◌, ◌%◌, ◌^◌, ◌<◌, ◌≤◌, ◌==◌, ◌&&◌, ◌∙◌, min, max, nat_lt, nat_le, suc, ℤ, Bool, true, false, inl, inr, sym, ap, subst, arith}
+use Rattle.std.proofs.Common.{◌≡◌, ℕ, ◌+◌, ◌-◌, ◌*◌, ◌/◌, ◌%◌, ◌^◌, ◌<◌, ◌≤◌, ◌==◌, ◌&&◌, ◌∙◌, min, max, nat_lt, nat_le, suc, ℤ, Bool, true, false, inl, inr, sym, ap, arith}
 use Rattle.std.specs.Prelude.{if◌then◌else◌}
 use Rattle.std.specs.Int.{leading_zeros, w64}
 use Rattle.std.proofs.lemmas.Bool.{cond_both, cond-true, cond-false, and_parts, eq-eqb, eqb-true, eqb-false, le-leb, leb-true, leb-false, lt-ltb, ltb-true, cases_lt}
@@ -236,12 +236,8 @@ unless_narrows width from to wide_from wide_to d e p q h =
 
 sum_narrows : (width : Width) (a b c d : Range) → IsRangeNarrower width a c → IsRangeNarrower width b d → IsWithin (sum_of width a b) (sum_of width c d)
 sum_narrows width a b c d p q =
-    let a_low = p.within.low in
-    let a_high = p.within.high in
-    let b_low = q.within.low in
-    let b_high = q.within.high in
     unless_narrows width (a.low + b.low) (a.high + b.high) (c.low + d.low) (c.high + d.high) (least_align a.align b.align) (least_align c.align d.align)
-    (omega arith) (omega arith) (rank_least c.align d.align a.align b.align p.within.aligned q.within.aligned)
+    (omega (arith, p.within.low, q.within.low)) (omega (arith, p.within.high, q.within.high)) (rank_least c.align d.align a.align b.align p.within.aligned q.within.aligned)
 
 difference_narrows : (width : Width) (a b c d : Range) → IsRangeNarrower width a c → IsRangeNarrower width b d → IsWithin (difference_of width a b) (difference_of width c d)
 difference_narrows width a b c d p q =

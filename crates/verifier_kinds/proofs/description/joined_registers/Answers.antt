@@ -1,5 +1,4 @@
-use Rattle.std.proofs.Common.{◌≡◌, ◌≢◌, ◌<◌, length, get_or, None, refl, ◌∙◌, arith, rules, below_more}
-use Rattle.std.proofs.lemmas.List.{get_or-set_same, get_or-set_other}
+use Rattle.std.proofs.Common.{◌≡◌, get_or, None, refl, arith, rules}
 use Rattle.verifier_kinds.specs.Descriptions.{join_of_registers}
 use Rattle.verifier_kinds.proofs.Descriptions.{filled_more}
 use Rattle.verifier_kinds.proofs.Joins.{merged_by_index}

@@ -1,6 +1,5 @@
-use Rattle.std.proofs.Common.{◌≡◌, ◌≢◌, ◌<◌, length, get_or, None, refl, ◌∙◌, arith, rules, below_more}
+use Rattle.std.proofs.Common.{◌≡◌, get_or, None, refl, arith, rules}
 use Rattle.std.specs.Prelude.{option_map}
-use Rattle.std.proofs.lemmas.List.{get_or-set_same, get_or-set_other}
 use Rattle.verifier_kinds.specs.Descriptions.{settled_kind}
 use Rattle.verifier_kinds.proofs.Descriptions.{filled_more, mapped_by_index}
 use Rattle.verifier_kinds.proofs.description.settled_registers.Goals as goal

@@ -1,5 +1,5 @@
-use Rattle.std.proofs.Common.{◌≡◌, ◌≢◌, ◌<◌, length, get_or, refl, ap, ◌∙◌, arith, rules, below_more}
-use Rattle.std.proofs.lemmas.List.{get_or-set_same, get_or-set_other, get_or_default}
+use Rattle.std.proofs.Common.{◌≡◌, get_or, refl, ap, ◌∙◌, arith, rules}
+use Rattle.std.proofs.lemmas.List.{get_or_default}
 use Rattle.verifier_kinds.specs.declared.description.StackSlot.TheVariants.{Bytes}
 use Rattle.verifier_kinds.specs.Descriptions.{settled_slot}
 use Rattle.verifier_kinds.proofs.Descriptions.{filled_more, mapped_by_index}
