@@ -394,33 +394,29 @@ swap_narrows width b d q =
     (λ _. record { low = omega arith; high = omega (arith, bits_small b.low); aligned = omega arith })
     (λ _. within_self (all Bits64 One)))
 
+-- and with an offset all is left open
+unless_offset : (width : Width) (offset : ℤ) (r wide : Range) → IsWithin r wide → IsWithin (if is offset 0 then r else all width One) (if is offset 0 then wide else all width One)
+unless_offset width offset r wide h = either (is offset 0)
+  where
+    either : (t : Bool) → IsWithin (if t then r else all width One) (if t then wide else all width One)
+    either true = h
+    either false = within_self (all width One)
+
 -- what a row makes of ranges lies within what it makes of wider ones
 row_narrows : (code : AluCode) (width : Width) (offset : ℤ) (a b c d : Range) → IsRangeNarrower width a c → IsRangeNarrower width b d → IsWithin (row code width offset a b) (row code width offset c d)
 unfolding row
 row_narrows Add width offset a b c d p q = sum_narrows width a b c d p q
 row_narrows Sub width offset a b c d p q = difference_narrows width a b c d p q
 row_narrows Mul width offset a b c d p q = product_narrows width a b c d p q
-row_narrows Div width offset a b c d p q = either (is offset 0) (quotient_narrows width a b c d p q)
-  where
-    either : (t : Bool) → IsWithin (quotient_of a b) (quotient_of c d) → IsWithin (if t then quotient_of a b else all width One) (if t then quotient_of c d else all width One)
-    either true h = h
-    either false h = within_self (all width One)
+row_narrows Div width offset a b c d p q = unless_offset width offset (quotient_of a b) (quotient_of c d) (quotient_narrows width a b c d p q)
 row_narrows Or width offset a b c d p q = or_narrows width a b c d p q
 row_narrows And width offset a b c d p q = and_narrows width a b c d p q
 row_narrows Lsh width offset a b c d p q = left_shift_narrows width a b c d p q
 row_narrows Rsh width offset a b c d p q = right_shift_narrows width a b c d p q
 row_narrows Neg width offset a b c d p q = within_self (all width One)
-row_narrows Mod width offset a b c d p q = either (is offset 0) (remainder_narrows width a b c d p q)
-  where
-    either : (t : Bool) → IsWithin (remainder_of a b) (remainder_of c d) → IsWithin (if t then remainder_of a b else all width One) (if t then remainder_of c d else all width One)
-    either true h = h
-    either false h = within_self (all width One)
+row_narrows Mod width offset a b c d p q = unless_offset width offset (remainder_of a b) (remainder_of c d) (remainder_narrows width a b c d p q)
 row_narrows Xor width offset a b c d p q = xor_narrows width a b c d p q
-row_narrows Mov width offset a b c d p q = either (is offset 0) q.within
-  where
-    either : (t : Bool) → IsWithin b d → IsWithin (if t then b else all width One) (if t then d else all width One)
-    either true h = h
-    either false h = within_self (all width One)
+row_narrows Mov width offset a b c d p q = unless_offset width offset b d q.within
 row_narrows Arsh width offset a b c d p q = within_self (all width One)
 row_narrows ToLittleEndian width offset a b c d p q = swap_narrows width b d q
 row_narrows ToBigEndian width offset a b c d p q = swap_narrows width b d q
