@@ -1,11 +1,10 @@
 //! The program `bpf_host` (docs/HOST.md).
 #![tactic(auto)]
 
-use engines::{status_of, write_fault};
+use engines::{status_of, words_from, write_fault};
 use host_file::FileFault;
 use requests::{Progress, answer_words};
 use std::alloc::AllocError;
-use std::env;
 use std::io::{self, BufWriter, IsTerminal, LineWriter, Write};
 use std::process::ExitCode;
 use std::rt::{Env, Files};
@@ -39,13 +38,7 @@ where
     P: Write + Send + Drop,
 {
     let alloc = rt.alloc();
-    let words: Vec<String> = match env::args(rt) {
-        Ok(words) => words.collect(alloc)?,
-        Err(error) if error.kind() == io::ErrorKind::OutOfMemory => {
-            return Err(FileFault::OutOfMemory(AllocError));
-        }
-        Err(_) => return Err(FileFault::Usage(String::from_str(alloc, "the words can't be read")?)),
-    };
+    let words = words_from(rt)?;
     if is_terminal {
         let output = LineWriter::new(alloc, io::writer(rt));
         let mut output = output.map_err(|_| FileFault::OutOfMemory(AllocError))?;

@@ -9,9 +9,11 @@ mod lines;
 pub mod replay;
 mod session;
 mod watch;
+mod words;
 
 pub use fault::{status_of, write_fault, written};
 pub use lines::write_reply;
 pub use replay::{file_from, refuse};
 pub use session::explain_at;
 pub use watch::{Unwatched, Watch};
+pub use words::words_from;

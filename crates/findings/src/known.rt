@@ -16,9 +16,15 @@ impl fmt::Display for Known {
             None => write!(f, "of r{register} nothing is known"),
             Some(Kind::Scalar(range)) => write!(f, "r{register} is {}", Numbers(range)),
             Some(Kind::Context(offset)) => {
-                write!(f, "r{register} is the context's address{}", Moved(offset))
+                write!(
+                    f,
+                    "r{register} is the context's address{}",
+                    Moved(i64::from(offset))
+                )
             }
-            Some(Kind::Stack(offset)) => { write!(f, "r{register} is r10{}", Moved(offset)) }
+            Some(Kind::Stack(offset)) => {
+                write!(f, "r{register} is r10{}", Moved(i64::from(offset)))
+            }
             Some(Kind::MapValue { map, offsets }) => {
                 write!(
                     f,
@@ -44,7 +50,7 @@ impl fmt::Display for Numbers {
         if range.low == range.high {
             return write!(f, "{}", range.low);
         }
-        let multiple = Multiple(range.align);
+        let multiple = Multiple("by ", range.align);
         let left = range.high.wrapping_neg();
         if 1 <= left && left <= 8 {
             return write!(f, "{} to 2^64 - {left}{multiple}", range.low);
@@ -53,22 +59,23 @@ impl fmt::Display for Numbers {
     }
 }
 
-/// Which numbers alone are meant.
-#[derive(Clone, Copy)]
-struct Multiple(Align);
+/// Which numbers alone are meant, behind a word for that; nothing where all are.
+#[derive(Clone, Copy, Debug)]
+pub struct Multiple(pub &'static str, pub Align);
 
 impl fmt::Display for Multiple {
     fn fmt<W: fmt::Write>(&self, f: &mut fmt::Formatter<W>) -> fmt::Result {
-        match self.0 {
+        let Multiple(word, align) = *self;
+        match align {
             Align::One => Ok(()),
-            align => write!(f, " by {}", align.factor()),
+            _ => write!(f, " {word}{}", align.factor()),
         }
     }
 }
 
-/// How far an address moved.
-#[derive(Clone, Copy)]
-struct Moved(i32);
+/// How far an address moved: ` + 8`, ` - 4`, or nothing.
+#[derive(Clone, Copy, Debug)]
+pub struct Moved(pub i64);
 
 impl fmt::Display for Moved {
     fn fmt<W: fmt::Write>(&self, f: &mut fmt::Formatter<W>) -> fmt::Result {
@@ -91,7 +98,11 @@ impl fmt::Display for Reach {
         match (low, high) {
             (0, 0) => Ok(()),
             _ if low == high => write!(f, " and {low} bytes"),
-            _ => write!(f, " and {low} to {high} bytes{}", Multiple(self.0.align)),
+            _ => write!(
+                f,
+                " and {low} to {high} bytes{}",
+                Multiple("by ", self.0.align)
+            ),
         }
     }
 }

@@ -16,6 +16,7 @@ pub use cut::{CLEAR, Cut, is_within_limits};
 use host_types::rule::{NULL_NOT_CHECKED, POINTER_LEAKS, UNSET_REGISTER};
 use host_types::{Refused, Shape};
 use known::Known;
+pub use known::{Moved, Multiple};
 use limit::Limit;
 pub use limit::{greatest, least};
 pub use operands::registers_read;

@@ -22,11 +22,8 @@ AreSome [] = ⊤
 AreSome (group ∷ groups) = (0 < length group) × AreSome groups
 
 abbrev pub one_if_grouped : Status → ℕ
-one_if_grouped New = 0
-one_if_grouped Volatile = 0
-one_if_grouped Waiting = 0
 one_if_grouped Grouped = 1
-one_if_grouped Zero = 0
+one_if_grouped other = 0
 
 abbrev pub grouped_at : Option PageState → ℕ
 grouped_at None = 0
@@ -37,26 +34,23 @@ pub record AreListed (s : Sharing) : Type 0 where
   pub some : AreSome s.groups
   pub once : (i : ℕ) → listed i s.groups ≡ grouped_at (state_at s i)
 
+-- where it doesn't stand in a group, it isn't the first one there, and doesn't stand behind that
+none-here : (i j : ℕ) (g : List ℕ) → times i (j ∷ g) ≡ 0 → ((j == i) ≡ false) × (times i g ≡ 0)
+none-here i j g h = by_test (j == i) refl
+  where
+    by_test : (b : Bool) → (j == i) ≡ b → ((j == i) ≡ false) × (times i g ≡ 0)
+    by_test true e = absurd (let split = sum_by-cons (λ (x : ℕ). one_when (x == i)) j g in let one = ap one_when e in omega (arith, h, split, one))
+    by_test false e = (e, let split = sum_by-cons (λ (x : ℕ). one_when (x == i)) j g in let one = ap one_when e in omega (arith, h, split, one))
+
 without-none : (i : ℕ) (g : List ℕ) → times i g ≡ 0 → without i g ≡ g
 without-none i [] h = refl
 without-none i (j ∷ g) h =
-    let split = sum_by-cons (λ (x : ℕ). one_when (x == i)) j g in
-    by_test (j == i) refl split (without-none i g)
-  where
-    by_test : (b : Bool) → (j == i) ≡ b → times i (j ∷ g) ≡ one_when (j == i) + times i g → (times i g ≡ 0 → without i g ≡ g)
-        → (if not b then j ∷ without i g else without i g) ≡ j ∷ g
-    by_test true e split rest = absurd (let one = ap one_when e in omega (arith, h, split, one))
-    by_test false e split rest = ap (λ (l : List ℕ). j ∷ l) (rest (let one = ap one_when e in omega (arith, h, split, one)))
+    let (other, none) = none-here i j g h in
+    ap (λ (b : Bool). if not b then j ∷ without i g else without i g) other ∙ ap (λ (l : List ℕ). j ∷ l) (without-none i g none)
 
 among-none : (i : ℕ) (g : List ℕ) → times i g ≡ 0 → is_among i g ≡ false
 among-none i [] h = refl
-among-none i (j ∷ g) h =
-    let split = sum_by-cons (λ (x : ℕ). one_when (x == i)) j g in
-    by_test (j == i) refl split (among-none i g)
-  where
-    by_test : (b : Bool) → (j == i) ≡ b → times i (j ∷ g) ≡ one_when (j == i) + times i g → (times i g ≡ 0 → is_among i g ≡ false) → (b || is_among i g) ≡ false
-    by_test true e split rest = absurd (let one = ap one_when e in omega (arith, h, split, one))
-    by_test false e split rest = rest (let one = ap one_when e in omega (arith, h, split, one))
+among-none i (j ∷ g) h = let (other, none) = none-here i j g h in ap (λ (b : Bool). b || is_among i g) other ∙ among-none i g none
 
 among-some : (i : ℕ) (g : List ℕ) → 1 ≤ times i g → is_among i g ≡ true
 among-some i [] h = absurd (omega arith)

@@ -2,7 +2,8 @@
 use Rattle.std.proofs.Common.{◌≡◌, ◌∙◌, ap, ℕ, suc, zero, ◌/◌, ◌^◌, ◌<◌, ◌≤◌, ℤ, pos, negsuc, neg_ℤ, FitsSigned, arith}
 use Rattle.std.proofs.Math.Nat.{div-le_self, le_trans}
 use Rattle.std.proofs.Math.Facts.{sfits_to_z}
-use Rattle.std.specs.Int.{w32, w64, cast_signed, cast_unsigned, int_wrapping_div}
+use mir.Val.{bits}
+use Rattle.std.specs.Int.{Width, w32, w64, cast_signed, cast_unsigned, int_wrapping_div}
 use Rattle.std.specs.Int.Signed.{quot_z}
 use Rattle.std.proofs.lemmas.Int.{of_z-to_z}
 
@@ -38,34 +39,18 @@ below_32 : (z : ℤ) → size_of z ≤ 2147483648 → cast_unsigned w32 z < 2 ^ 
 below_32 (pos n) h = omega arith
 below_32 (negsuc n) h = omega arith
 
--- the bits of a quotient are bits of the width
-quotient_fits_64 : (a : ℕ) (y : ℤ) → a < 2 ^ 64 → cast_unsigned w64 (quot_z (cast_signed w64 a) y) < 2 ^ 64
-quotient_fits_64 a y h = below_64 (quot_z x y) (le_trans (quotient_size x y) (size_64 x (sfits_to_z (record { fits = h }))))
+-- the bits of a quotient, where they are bits of the width, stay as they were written, however often they are read
+quotient_read : (w : Width) (a b : ℕ) → a < 2 ^ bits w → b < 2 ^ bits w → cast_unsigned w (quot_z (cast_signed w a) (cast_signed w b)) < 2 ^ bits w
+    → cast_unsigned w (cast_signed w (cast_unsigned w (int_wrapping_div w (cast_signed w (cast_unsigned w (cast_signed w a))) (cast_signed w (cast_unsigned w (cast_signed w b)))))) ≡ cast_unsigned w (quot_z (cast_signed w a) (cast_signed w b))
+quotient_read w a b p q fits =
+    rw (of_z-to_z w a p, of_z-to_z w b q)
+    (ap (λ k. cast_unsigned w (cast_signed w k)) back ∙ back)
   where
-    x : ℤ
-    x = cast_signed w64 a
+    back : cast_unsigned w (int_wrapping_div w (cast_signed w a) (cast_signed w b)) ≡ cast_unsigned w (quot_z (cast_signed w a) (cast_signed w b))
+    back = of_z-to_z w (cast_unsigned w (quot_z (cast_signed w a) (cast_signed w b))) fits
 
--- a quotient's bits stay as they were written, however often they are read
 pub quotient_64 : (a b : ℕ) → a < 2 ^ 64 → b < 2 ^ 64 → cast_unsigned w64 (cast_signed w64 (cast_unsigned w64 (int_wrapping_div w64 (cast_signed w64 (cast_unsigned w64 (cast_signed w64 a))) (cast_signed w64 (cast_unsigned w64 (cast_signed w64 b)))))) ≡ cast_unsigned w64 (quot_z (cast_signed w64 a) (cast_signed w64 b))
-quotient_64 a b p q =
-    rw (of_z-to_z w64 a p, of_z-to_z w64 b q)
-    (ap (λ k. cast_unsigned w64 (cast_signed w64 k)) back ∙ back)
-  where
-    back : cast_unsigned w64 (int_wrapping_div w64 (cast_signed w64 a) (cast_signed w64 b)) ≡ cast_unsigned w64 (quot_z (cast_signed w64 a) (cast_signed w64 b))
-    back = of_z-to_z w64 (cast_unsigned w64 (quot_z (cast_signed w64 a) (cast_signed w64 b))) (quotient_fits_64 a (cast_signed w64 b) p)
+quotient_64 a b p q = quotient_read w64 a b p q (below_64 (quot_z (cast_signed w64 a) (cast_signed w64 b)) (le_trans (quotient_size (cast_signed w64 a) (cast_signed w64 b)) (size_64 (cast_signed w64 a) (sfits_to_z (record { fits = p })))))
 
--- the bits of a quotient are bits of the width
-quotient_fits_32 : (a : ℕ) (y : ℤ) → a < 2 ^ 32 → cast_unsigned w32 (quot_z (cast_signed w32 a) y) < 2 ^ 32
-quotient_fits_32 a y h = below_32 (quot_z x y) (le_trans (quotient_size x y) (size_32 x (sfits_to_z (record { fits = h }))))
-  where
-    x : ℤ
-    x = cast_signed w32 a
-
--- a quotient's bits stay as they were written, however often they are read
 pub quotient_32 : (a b : ℕ) → a < 2 ^ 32 → b < 2 ^ 32 → cast_unsigned w32 (cast_signed w32 (cast_unsigned w32 (int_wrapping_div w32 (cast_signed w32 (cast_unsigned w32 (cast_signed w32 a))) (cast_signed w32 (cast_unsigned w32 (cast_signed w32 b)))))) ≡ cast_unsigned w32 (quot_z (cast_signed w32 a) (cast_signed w32 b))
-quotient_32 a b p q =
-    rw (of_z-to_z w32 a p, of_z-to_z w32 b q)
-    (ap (λ k. cast_unsigned w32 (cast_signed w32 k)) back ∙ back)
-  where
-    back : cast_unsigned w32 (int_wrapping_div w32 (cast_signed w32 a) (cast_signed w32 b)) ≡ cast_unsigned w32 (quot_z (cast_signed w32 a) (cast_signed w32 b))
-    back = of_z-to_z w32 (cast_unsigned w32 (quot_z (cast_signed w32 a) (cast_signed w32 b))) (quotient_fits_32 a (cast_signed w32 b) p)
+quotient_32 a b p q = quotient_read w32 a b p q (below_32 (quot_z (cast_signed w32 a) (cast_signed w32 b)) (le_trans (quotient_size (cast_signed w32 a) (cast_signed w32 b)) (size_32 (cast_signed w32 a) (sfits_to_z (record { fits = p })))))

@@ -1,8 +1,8 @@
 //! What is known of a value, in few signs.
 
-use findings::{greatest, least};
+use findings::{Moved, Multiple, greatest, least};
 use std::fmt;
-use verifier_kinds::{Align, Kind, Range, StackSlot};
+use verifier_kinds::{Kind, Range, StackSlot};
 
 /// A kind: `0..56 /8`, `context + 8`, `fp - 4`, `map 0 value + 0..56 /8`, `lookup at 4, may be 0`, `map 0`.
 #[derive(Clone, Copy, Debug)]
@@ -12,16 +12,16 @@ impl fmt::Display for Few {
     fn fmt<W: fmt::Write>(&self, f: &mut fmt::Formatter<W>) -> fmt::Result {
         match self.0 {
             Kind::Scalar(range) => write!(f, "{}", Numbers(range)),
-            Kind::Context(offset) => write!(f, "context{}", Behind(i64::from(offset))),
-            Kind::Stack(offset) => write!(f, "fp{}", Behind(i64::from(offset))),
+            Kind::Context(offset) => write!(f, "context{}", Moved(i64::from(offset))),
+            Kind::Stack(offset) => write!(f, "fp{}", Moved(i64::from(offset))),
             Kind::MapValue { map, offsets } => {
                 write!(f, "map {map} value")?;
                 let low = least(offsets);
                 let high = greatest(offsets);
                 if low == high {
-                    write!(f, "{}", Behind(low))
+                    write!(f, "{}", Moved(low))
                 } else {
-                    write!(f, " + {low}..{high}{}", Multiple(offsets.align))
+                    write!(f, " + {low}..{high}{}", Multiple("/", offsets.align))
                 }
             }
             Kind::MaybeValue { call, .. } => write!(f, "lookup at {call}, may be 0"),
@@ -77,7 +77,7 @@ impl fmt::Display for Numbers {
         }
         let low = Number(range.low);
         let high = Number(range.high);
-        write!(f, "{low}..{high}{}", Multiple(range.align))
+        write!(f, "{low}..{high}{}", Multiple("/", range.align))
     }
 }
 
@@ -94,33 +94,6 @@ impl fmt::Display for Number {
             write!(f, "2^32-1")
         } else {
             write!(f, "{}", self.0)
-        }
-    }
-}
-
-/// Which numbers alone are meant.
-#[derive(Clone, Copy)]
-struct Multiple(Align);
-
-impl fmt::Display for Multiple {
-    fn fmt<W: fmt::Write>(&self, f: &mut fmt::Formatter<W>) -> fmt::Result {
-        match self.0 {
-            Align::One => Ok(()),
-            align => write!(f, " /{}", align.factor()),
-        }
-    }
-}
-
-/// How far an address lies behind another one.
-#[derive(Clone, Copy)]
-struct Behind(i64);
-
-impl fmt::Display for Behind {
-    fn fmt<W: fmt::Write>(&self, f: &mut fmt::Formatter<W>) -> fmt::Result {
-        match self.0 {
-            0 => Ok(()),
-            ..0 => write!(f, " - {}", self.0.unsigned_abs()),
-            _ => write!(f, " + {}", self.0),
         }
     }
 }

@@ -9,7 +9,7 @@ use bpf_decode::{FRAME_POINTER, Insn, Operation, decode};
 use host_types::limits::MAX_MAPS;
 use host_types::{Fault, MapHelper, MapNo, Shape};
 use plain_machine::ArrayMap;
-use plain_verifier::{Judged, Table, judge_forward};
+use plain_verifier::{Judged, Order, Table, judge_in};
 use std::alloc::{AllocError, Global};
 use verifier_kinds::Kind;
 
@@ -178,7 +178,7 @@ fn table_of(
         Ok(program) => program,
         Err(refused) => return Err(refused.fault()),
     };
-    match judge_forward(alloc, program, shapes, context_size) {
+    match judge_in(alloc, program, shapes, context_size, Order::Forward) {
         Ok(Judged::Accepted(table)) => Ok(table),
         Ok(Judged::Refused { refused, .. }) => Err(refused.fault()),
         Err(AllocError) => Err(Fault::OutOfMemory),

@@ -2,7 +2,7 @@
 use Rattle.std.proofs.Common.{◌≡◌, ◌∙◌, ℕ, zero, suc, ◌+◌, ◌<◌, ◌≤◌, ◌==◌, Bool, true, false, if◌then◌else◌, List, [], ◌∷◌, length, take, drop, sum_by, slice_index_or, Vec, refl, sym, ap, arith}
 use mir.Val.{bool_byte}
 use Rattle.std.specs.declared.alloc.Global.{Global}
-use Rattle.std.proofs.lemmas.List.{length-map, take_more, get_or_default}
+use Rattle.std.proofs.lemmas.List.{length-map, take_all, take_more, get_or_default}
 use Rattle.std.proofs.lemmas.List.Sums.{sum_by_more}
 use Rattle.std.proofs.Math.ListN.{get_or-map}
 use Rattle.host_types.specs.Counters.{times_among, seconds_behind}
@@ -29,14 +29,28 @@ bytes-at contents groups i group item =
     get_or-map (group_bytes contents) (places_of groups) i group.items
     ∙ ap (group_bytes contents) (get_or-map (λ (other : Vec ℕ Global). other.items) groups i group ∙ ap (λ (other : Vec ℕ Global). other.items) item)
 
--- one more group is counted
-pub counted_group : (f : List ℕ → ℕ) (contents : Contents) (groups : List (Vec ℕ Global)) (i count n : ℕ) (group : Vec ℕ Global) → i < length groups → slice_index_or groups i group ≡ group
-    → count ≡ sum_by f (take i (bytes_of_each contents groups)) → n ≡ f (group_bytes contents group.items) → count + n ≡ sum_by f (take (i + 1) (bytes_of_each contents groups))
-counted_group f contents groups i count n group inside item e g =
+-- how many of the groups have bytes that meet a test, one group after another
+pub record AreCounted (test : List ℕ → Bool) (contents : Contents) (groups : List (Vec ℕ Global)) (i count : ℕ) : Type 0 where
+  pub counted : count ≡ sum_by (λ bytes. if test bytes then 1 else 0) (take i (bytes_of_each contents groups))
+  pub few : count ≤ i
+
+pub counted_group : (test : List ℕ → Bool) (contents : Contents) (groups : List (Vec ℕ Global)) (i count n : ℕ) (group : Vec ℕ Global) (met : Bool) → i < length groups → slice_index_or groups i group ≡ group
+    → AreCounted test contents groups i count → met ≡ test (group_bytes contents group.items) → n ≡ bool_byte met → AreCounted test contents groups (i + 1) (count + n)
+counted_group test contents groups i count n group met inside item e told one =
+    let f : List ℕ → ℕ = λ bytes. if test bytes then 1 else 0 in
     let long = length-each contents groups in
     let more = sum_by_more f (bytes_of_each contents groups) i (group_bytes contents group.items) (omega (arith, inside, long)) in
     let here = ap f (bytes-at contents groups i group item) in
-    omega (arith, e, g, more, here)
+    let this : n ≡ f (group_bytes contents group.items) = one_of met n one ∙ ap (λ (b : Bool). if b then 1 else 0) told in
+    let small = small_of met n one in
+    record { counted = let e_counted = e.counted in omega (arith, e_counted, this, more, here); few = let e_few = e.few in omega (arith, e_few, small) }
+
+-- behind the last one all are counted
+pub counted_each : (test : List ℕ → Bool) (contents : Contents) (groups : List (Vec ℕ Global)) (i count : ℕ) → length groups ≤ i → AreCounted test contents groups i count
+    → count ≡ sum_by (λ bytes. if test bytes then 1 else 0) (bytes_of_each contents groups)
+counted_each test contents groups i count past e =
+    let long = length-each contents groups in
+    e.counted ∙ ap (sum_by (λ bytes. if test bytes then 1 else 0)) (take_all i (bytes_of_each contents groups) (omega (arith, long, past)))
 
 split-drop : (xs : List (List ℕ)) (i : ℕ) → i < length xs → drop i xs ≡ slice_index_or xs i [] ∷ drop (i + 1) xs
 split-drop [] i h = absurd (omega arith)

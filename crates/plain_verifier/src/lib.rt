@@ -11,6 +11,7 @@ mod shapes;
 mod table;
 
 pub use laws::orders_agree;
-pub use pass::{judge_backward, judge_forward};
+pub use orders::Order;
+pub use pass::judge_in;
 pub use shapes::push_shape;
 pub use table::{Judged, Table};

@@ -9,10 +9,11 @@ use verifier_kinds::Description;
 
 /// The order in which targets are joined.
 #[derive(Clone, Copy, Debug, PartialEq, Eq)]
-pub(crate) enum Order {
-    /// The one in which they flowed, from the start's description on.
+pub enum Order {
+    /// The one in which they flowed: by the slots that they come from, the start's description first.
     Forward,
-    /// The opposite one, from the last target back to the start's description.
+    /// The opposite one: from the last slot back, of each first the slot to which it jumps, and the start's
+    /// description last.
     Backward,
 }
 

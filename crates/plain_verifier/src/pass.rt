@@ -96,35 +96,19 @@ fn judge(alloc: Global, candidate: &Candidate, order: Order) -> Result<Judged, A
 }
 
 /// Judges a program that may use maps of these shapes, by number, and whose context has `ctx_size` bytes;
-/// a number without a shape is that of no map.
-/// At each slot it joins what flows there in the order of the slots that it comes from, the start's
-/// description first at slot 0. The error is want of memory.
-pub fn judge_forward(
+/// a number without a shape is that of no map. At each slot it joins in this order what flows there. The
+/// error is want of memory.
+pub fn judge_in(
     alloc: Global,
     program: Program,
     shapes: &[Option<Shape>],
     ctx_size: u32,
+    order: Order,
 ) -> Result<Judged, AllocError>
     requires shapes { AreShapes shapes.now }
     requires context { IsContextSize ctx_size }
     ensures { IfOk result (IsJudged (record { text = program; shapes = padded shapes.now; context_size = ctx_size })) }
 {
     let candidate = Candidate::new(program, shapes, ctx_size);
-    judge(alloc, &candidate, Order::Forward)
-}
-
-/// Judges it with joins in the opposite order: from the slot before back to slot 0, of each instruction
-/// first the slot to which it jumps, and the start's description last.
-pub fn judge_backward(
-    alloc: Global,
-    program: Program,
-    shapes: &[Option<Shape>],
-    ctx_size: u32,
-) -> Result<Judged, AllocError>
-    requires shapes { AreShapes shapes.now }
-    requires context { IsContextSize ctx_size }
-    ensures { IfOk result (IsJudged (record { text = program; shapes = padded shapes.now; context_size = ctx_size })) }
-{
-    let candidate = Candidate::new(program, shapes, ctx_size);
-    judge(alloc, &candidate, Order::Backward)
+    judge(alloc, &candidate, order)
 }

@@ -29,24 +29,6 @@ pub fn answer_words<R, W, E, P>(
     words: &[String],
     output: &mut W,
     errors: &mut E,
-    progress: Progress<'_, R, P>,
-) -> Result<u8, FileFault>
-where
-    R: AllocGlobal + Clock + Files + Threads + Wait + Sync,
-    W: Write,
-    E: Write,
-    P: Write + Send + Drop,
-{
-    let request = request_of(rt.alloc(), words).map_err(words_fault)?;
-    answer(rt, request, output, errors, progress)
-}
-
-/// Does what a request asks for.
-fn answer<R, W, E, P>(
-    rt: &R,
-    request: Request<'_>,
-    output: &mut W,
-    errors: &mut E,
     mut progress: Progress<'_, R, P>,
 ) -> Result<u8, FileFault>
 where
@@ -56,7 +38,7 @@ where
     P: Write + Send + Drop,
 {
     let alloc = rt.alloc();
-    match request {
+    match request_of(alloc, words).map_err(words_fault)? {
         Request::Replay { path } => {
             let answer = replay_at(rt, path, output, errors, &mut progress);
             name_file(alloc, errors, path, answer)

@@ -4,7 +4,7 @@ ghost use Rattle.verifier.specs.Verified.{AreShapes};
 use bpf_decode::decode;
 use host_types::limits::MAX_TEXT;
 use host_types::{Refused, Shape};
-use plain_verifier::{Judged, Table, judge_backward, judge_forward};
+use plain_verifier::{Judged, Order, Table, judge_in};
 use std::alloc::Global;
 use verifier::Verified;
 
@@ -21,30 +21,28 @@ pub fn judge_alike(
     requires shapes { AreShapes shapes.now }
     requires context { IsContextSize size }
 {
-    let Some(forward) = forward(alloc, text, shapes, size) else {
+    let Some(forward) = answer(alloc, text, shapes, size, Order::Forward) else {
         return false;
     };
-    let Some(backward) = backward(alloc, text, shapes, size) else {
+    let Some(backward) = answer(alloc, text, shapes, size, Order::Backward) else {
         return false;
     };
     let slots = (text.len().min(MAX_TEXT) / 8) as u32;
     is_one(&forward, &backward, slots) && is_as(&forward, verified)
 }
 
-/// What the pass answers that joins in order; `None` where the decoder refuses, or for want of memory.
-fn forward(alloc: Global, text: &[u8], shapes: &[Option<Shape>], size: u32) -> Option<Judged>
+/// What the pass answers that joins in an order; `None` where the decoder refuses, or for want of memory.
+fn answer(
+    alloc: Global,
+    text: &[u8],
+    shapes: &[Option<Shape>],
+    size: u32,
+    order: Order,
+) -> Option<Judged>
     requires shapes { AreShapes shapes.now }
     requires context { IsContextSize size }
 {
-    judge_forward(alloc, decode(alloc, text).ok()?, shapes, size).ok()
-}
-
-/// What the pass answers that joins in the opposite order.
-fn backward(alloc: Global, text: &[u8], shapes: &[Option<Shape>], size: u32) -> Option<Judged>
-    requires shapes { AreShapes shapes.now }
-    requires context { IsContextSize size }
-{
-    judge_backward(alloc, decode(alloc, text).ok()?, shapes, size).ok()
+    judge_in(alloc, decode(alloc, text).ok()?, shapes, size, order).ok()
 }
 
 /// Whether two passes judged a text of so many slots alike, with one table.

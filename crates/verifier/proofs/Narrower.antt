@@ -45,7 +45,7 @@ use Rattle.verifier_kinds.specs.Refinement.{refined}
 use Rattle.verifier_kinds.proofs.Ranges.{constant_is_normal}
 use Rattle.verifier_kinds.proofs.Moves.{int_le_true, true_int_le}
 use Rattle.verifier_kinds.proofs.Under.{IsKindUnder, IsSlotUnder, IsDescriptionUnder, kind_under_raised, description_under_trans}
-use Rattle.verifier_kinds.proofs.Narrower.{divided_less}
+use Rattle.verifier_kinds.proofs.Ranges.{divided_less}
 use Rattle.verifier_kinds.proofs.NarrowerKinds.{IsResultBelow, result_below_self, IsKindNarrower, IsKnownNarrower, IsLeftWithin, arithmetic_narrows, refined_narrows}
 use Rattle.verifier_kinds.proofs.NarrowerDescriptions.{IsNarrower, IsSlotNarrower, IsAlikeBelow, alike, register_narrows, slot_narrows, with_kind_below, with_slot_below, with_unset_below, places_known, none_known, places_more, places_written, settled_below}
 use Rattle.verifier.specs.declared.jumps.Compared.{Compared}

@@ -92,28 +92,6 @@ fn tell(d: &mut Description, dst: u8, range: Option<Range>) -> bool
     true
 }
 
-/// Lets flow to a slot what is known on a way of a conditional jump, if that may be gone.
-fn send(
-    alloc: Global,
-    pending: &mut Pending,
-    slot: u32,
-    d: &mut Description,
-    dst: u8,
-    range: Option<Range>,
-) -> Result<(), AllocError>
-    requires slot { slot < length pending.old.items }
-    requires dst { dst ≤ 10 }
-    ensures len { length pending.new.items ≡ length pending.old.items }
-    ensures arrived { OnOk result ((s : ℕ) → pending_at pending.new.items s
-        ≡ arrived s (pending_at pending.old.items s) (target slot (option_map (λ range. with_kind d.old dst (Scalar range)) range))) }
-    ensures same { (kind : Kind) → with_kind d.new dst kind ≡ with_kind d.old dst kind }
-{
-    if tell(d, dst, range) {
-        enter(alloc, pending, slot, d)?;
-    }
-    Ok(())
-}
-
 impl Pass {
     /// Before the first slot the start's description falls to it, and nothing else is known.
     fn begin(alloc: Global, candidate: &Candidate) -> Result<Pass, AllocError>
@@ -147,6 +125,28 @@ impl Pass {
         self.falls = true;
     }
 
+    /// Lets flow to a slot what is known on a way of a conditional jump, if that may be gone.
+    fn send(
+        &mut self,
+        alloc: Global,
+        slot: u32,
+        dst: u8,
+        range: Option<Range>,
+    ) -> Result<(), AllocError>
+        requires slot { slot < length self.old.pending.items }
+        requires dst { dst ≤ 10 }
+        ensures kept { self.new.kept ≡ self.old.kept }
+        ensures len { length self.new.pending.items ≡ length self.old.pending.items }
+        ensures arrived { OnOk result ((s : ℕ) → pending_at self.new.pending.items s
+            ≡ arrived s (pending_at self.old.pending.items s) (target slot (option_map (λ range. with_kind self.old.current dst (Scalar range)) range))) }
+        ensures same { (kind : Kind) → with_kind self.new.current dst kind ≡ with_kind self.old.current dst kind }
+    {
+        if tell(&mut self.current, dst, range) {
+            enter(alloc, &mut self.pending, slot, &self.current)?;
+        }
+        Ok(())
+    }
+
     /// Lets `current` flow on both ways of a conditional jump. Where both lead to one slot, what falls
     /// through is joined first.
     fn part(&mut self, alloc: Global, fork: Fork) -> Result<(), AllocError>
@@ -166,32 +166,11 @@ impl Pass {
             jumped,
         } = fork;
         if next == jump {
-            send(
-                alloc,
-                &mut self.pending,
-                next,
-                &mut self.current,
-                dst,
-                fallen,
-            )?;
-            send(
-                alloc,
-                &mut self.pending,
-                jump,
-                &mut self.current,
-                dst,
-                jumped,
-            )?;
+            self.send(alloc, next, dst, fallen)?;
+            self.send(alloc, jump, dst, jumped)?;
             self.falls = false;
         } else {
-            send(
-                alloc,
-                &mut self.pending,
-                jump,
-                &mut self.current,
-                dst,
-                jumped,
-            )?;
+            self.send(alloc, jump, dst, jumped)?;
             self.falls = tell(&mut self.current, dst, fallen);
         }
         Ok(())

@@ -1,5 +1,5 @@
 -- Calls of lookups: which of them a description names, and what is known once the answer of one is.
-use Rattle.std.proofs.Common.{◌≡◌, ℕ, zero, suc, ◌<◌, ◌≤◌, ◌*◌, ◌==◌, ◌&&◌, ◌∙◌, ℤ, pos, ◌+ℤ◌, List, get_or, Option, Some, None, IfSome, Result, Ok, Err, inl, inr, refl, sym, ap, subst, arith}
+use Rattle.std.proofs.Common.{◌≡◌, ℕ, ◌<◌, ◌≤◌, ◌*◌, ◌==◌, ◌&&◌, ◌∙◌, ℤ, pos, ◌+ℤ◌, List, get_or, Option, Some, None, IfSome, Result, Ok, Err, inl, inr, refl, sym, ap, subst, arith}
 use Rattle.std.specs.Prelude.{IsSome, IsSomeAnd, option_map, if◌then◌else◌, ◌-ℤ◌}
 use Rattle.std.specs.Int.{cast_signed, w64}
 use Rattle.std.proofs.lemmas.Bool.{cases_Bool, cond_both, cond-true, cond-false, eqb-true}
@@ -21,7 +21,7 @@ use Rattle.verifier_kinds.specs.declared.description.Description.{Description}
 use Rattle.verifier_kinds.specs.Kinds.{Setting, Describes, IsAnswer, IsByElement, IsKind, IsNormalKind, IsOfCallBelow, IsOfKind, is_constant, join_of_kinds, least_align, shape_at}
 use Rattle.verifier_kinds.specs.Descriptions.{DescribesRegisters, DescribesSlot, DescribesStack, IsDescription, IsLawfulAt, IsNormalSlot, IsOfCallsBelow, IsSlot, IsSlotOfCallBelow, join_of, join_of_registers, join_of_slots, kept_or_bytes, register_of, settled, settled_kind, settled_slot, slot_of, start_description, with_kind, with_slot, with_unset}
 use Rattle.verifier_kinds.specs.Arithmetic.{arith_by, copied, displaced, displaced_value, kind_of, kind_with_dst, moved_number, range_of, signed_offset, within_value}
-use Rattle.verifier_kinds.proofs.Descriptions.{get_or-one, register_of-settled, settled_kind_has, set_has, settled_register_has, slot_of-settled}
+use Rattle.verifier_kinds.proofs.Descriptions.{get_or-one, start_registers, register_of-settled, settled_kind_has, set_has, settled_register_has, slot_of-settled}
 use Rattle.verifier_kinds.proofs.Joins.{register_of-join, same_maybe, slot_of-join}
 use Rattle.verifier_kinds.proofs.Moves.{moved_back_is, moved_is}
 use Rattle.verifier_kinds.proofs.Values.{move_is}
@@ -101,21 +101,7 @@ agreed_describes_stack slot setting other d stack agree below h = λ k. agreed_d
 
 -- at the start none
 pub start_names_none : IsOfCallsBelow 0 start_description
-start_names_none = record { registers = registers; stack = λ k. subst (IsSlotOfCallBelow 0) (sym (get_or-one 64 k (Bytes 0))) tt }
-  where
-    registers : (i : ℕ) → IfSome (register_of start_description i) (IsOfCallBelow 0)
-    registers zero = tt
-    registers (suc zero) = tt
-    registers (suc (suc zero)) = tt
-    registers (suc (suc (suc zero))) = tt
-    registers (suc (suc (suc (suc zero)))) = tt
-    registers (suc (suc (suc (suc (suc zero))))) = tt
-    registers (suc (suc (suc (suc (suc (suc zero)))))) = tt
-    registers (suc (suc (suc (suc (suc (suc (suc zero))))))) = tt
-    registers (suc (suc (suc (suc (suc (suc (suc (suc zero)))))))) = tt
-    registers (suc (suc (suc (suc (suc (suc (suc (suc (suc zero))))))))) = tt
-    registers (suc (suc (suc (suc (suc (suc (suc (suc (suc (suc zero)))))))))) = tt
-    registers (suc (suc (suc (suc (suc (suc (suc (suc (suc (suc (suc i))))))))))) = tt
+start_names_none = record { registers = start_registers (IsOfCallBelow 0) tt tt; stack = λ k. subst (IsSlotOfCallBelow 0) (sym (get_or-one 64 k (Bytes 0))) tt }
 
 -- calls below a slot are below each later one
 pub kind_names_later : (slot later : ℕ) (kind : Kind) → slot ≤ later → IsOfCallBelow slot kind → IsOfCallBelow later kind

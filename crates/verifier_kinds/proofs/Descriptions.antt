@@ -1,11 +1,11 @@
 -- What each description of the verifier meets, and that it is kept.
-use Rattle.std.proofs.Common.{◌≡◌, ℕ, zero, suc, ◌<◌, ◌==◌, ◌∙◌, pos, List, [], ◌∷◌, length, map, get_or, slice_set, replicate, Option, Some, None, IfSome, refl, sym, subst, arith}
+use Rattle.std.proofs.Common.{◌≡◌, ◌≢◌, ℕ, zero, suc, ◌+◌, ◌<◌, ◌==◌, ◌∙◌, pos, List, [], ◌∷◌, length, map, get_or, slice_set, replicate, Option, Some, None, IfSome, refl, sym, subst, arith, below_more}
 use Rattle.std.specs.Prelude.{option_map}
 use Rattle.std.proofs.lemmas.Int.{ints}
 use Rattle.std.proofs.lemmas.Bool.{cond_both}
-use Rattle.std.proofs.lemmas.List.{ext_get_or, length-map, length-set}
+use Rattle.std.proofs.lemmas.List.{ext_get_or, get_or-set_same, get_or-set_other, length-map, length-set}
 use Rattle.verifier_kinds.specs.declared.kind.Kind.{Kind}
-use Rattle.verifier_kinds.specs.declared.kind.Kind.TheVariants.{MaybeValue}
+use Rattle.verifier_kinds.specs.declared.kind.Kind.TheVariants.{Context, Stack, MaybeValue}
 use Rattle.verifier_kinds.specs.declared.description.StackSlot.{StackSlot}
 use Rattle.verifier_kinds.specs.declared.description.Description.{Description}
 use Rattle.verifier_kinds.specs.declared.description.StackSlot.TheVariants.{Kept, Bytes}
@@ -21,26 +21,27 @@ get_or-one (suc n) (suc k) x = get_or-one n k x
 pub zero_is_offset : IsOffset (pos 0)
 zero_is_offset = record { above = omega (arith, ints); below = omega (arith, ints) }
 
-start_kinds : (i : ℕ) → IfSome (register_of start_description i) IsKind
-start_kinds zero = tt
-start_kinds (suc zero) = zero_is_offset
-start_kinds (suc (suc zero)) = tt
-start_kinds (suc (suc (suc zero))) = tt
-start_kinds (suc (suc (suc (suc zero)))) = tt
-start_kinds (suc (suc (suc (suc (suc zero))))) = tt
-start_kinds (suc (suc (suc (suc (suc (suc zero)))))) = tt
-start_kinds (suc (suc (suc (suc (suc (suc (suc zero))))))) = tt
-start_kinds (suc (suc (suc (suc (suc (suc (suc (suc zero)))))))) = tt
-start_kinds (suc (suc (suc (suc (suc (suc (suc (suc (suc zero))))))))) = tt
-start_kinds (suc (suc (suc (suc (suc (suc (suc (suc (suc (suc zero)))))))))) = zero_is_offset
-start_kinds (suc (suc (suc (suc (suc (suc (suc (suc (suc (suc (suc i))))))))))) = tt
+-- at the start two registers are known: R1 points to the context, and R10 to the end of the stack
+pub start_registers : (P : Kind → Type 0) → P (Context (pos 0)) → P (Stack (pos 0)) → (i : ℕ) → IfSome (register_of start_description i) P
+start_registers P context stack zero = tt
+start_registers P context stack (suc zero) = context
+start_registers P context stack (suc (suc zero)) = tt
+start_registers P context stack (suc (suc (suc zero))) = tt
+start_registers P context stack (suc (suc (suc (suc zero)))) = tt
+start_registers P context stack (suc (suc (suc (suc (suc zero))))) = tt
+start_registers P context stack (suc (suc (suc (suc (suc (suc zero)))))) = tt
+start_registers P context stack (suc (suc (suc (suc (suc (suc (suc zero))))))) = tt
+start_registers P context stack (suc (suc (suc (suc (suc (suc (suc (suc zero)))))))) = tt
+start_registers P context stack (suc (suc (suc (suc (suc (suc (suc (suc (suc zero))))))))) = tt
+start_registers P context stack (suc (suc (suc (suc (suc (suc (suc (suc (suc (suc zero)))))))))) = stack
+start_registers P context stack (suc (suc (suc (suc (suc (suc (suc (suc (suc (suc (suc i))))))))))) = tt
 
 start_slots : (k : ℕ) → IsSlot (slot_of start_description k)
 start_slots k = subst IsSlot (sym (get_or-one 64 k (Bytes 0))) (omega arith)
 
 -- the description with which a program begins
 pub start_is_description : IsDescription start_description
-start_is_description = record { registers = refl; stack = refl; kinds = start_kinds; slots = start_slots }
+start_is_description = record { registers = refl; stack = refl; kinds = start_registers IsKind zero_is_offset zero_is_offset; slots = start_slots }
 
 -- ---- what is known of one register or one slot of the stack
 
@@ -83,6 +84,11 @@ pub get_or-mapped : {X : Type 0} (f : X → X) (d : X) → f d ≡ d → (xs : L
 get_or-mapped f d same [] i = sym same
 get_or-mapped f d same (x ∷ xs) zero = refl
 get_or-mapped f d same (x ∷ xs) (suc i) = get_or-mapped f d same xs i
+
+-- a list that is right below a place, and gets at that place what is right there, is right up to there
+pub filled_more : {X : Type 0} (f : ℕ → X) (d : X) (xs : List X) (i : ℕ) (x : X) → i < length xs → ((n : ℕ) → n < i → get_or xs n d ≡ f n) → x ≡ f i → (n : ℕ) → n < i + 1 → get_or (slice_set xs i x) n d ≡ f n
+filled_more f d xs i x within below here =
+    below_more _ _ (λ n h. let other : n ≢ i = omega arith in get_or-set_other xs i n x d other ∙ below n h) (get_or-set_same xs i x d within ∙ here)
 
 -- and is the list that has that at each place
 pub mapped_by_index : {X : Type 0} (f : X → X) (d : X) → f d ≡ d → (xs zs : List X) → length zs ≡ length xs → ((k : ℕ) → k < length zs → get_or zs k d ≡ f (get_or xs k d)) → zs ≡ map f xs

@@ -1,6 +1,6 @@
 -- What is described: numbers that a kind, a slot or a description describes are described by each that is
 -- above it.
-use Rattle.std.proofs.Common.{◌≡◌, ℕ, zero, suc, ◌*◌, ◌%◌, ◌^◌, ◌<◌, ◌≤◌, ◌∙◌, bit_and, List, [], ◌∷◌, length, get_or, inl, inr, Option, Some, None, refl, sym, ap, subst, arith}
+use Rattle.std.proofs.Common.{◌≡◌, ℕ, zero, suc, ◌*◌, ◌^◌, ◌<◌, ◌≤◌, ◌∙◌, bit_and, List, [], ◌∷◌, length, get_or, inl, inr, Option, Some, None, refl, sym, ap, subst, arith}
 use Rattle.std.specs.Prelude.{IsSome, IsSomeAnd, IsBitSet}
 use Rattle.std.proofs.lemmas.Nat.{and_assoc, and_comm, and_le_l, and_le_r}
 use Rattle.std.proofs.lemmas.Bool.{cases_lt}
@@ -8,8 +8,6 @@ use Rattle.std.proofs.lemmas.List.{get_or_past, length-take, length-drop}
 use Rattle.host_types.specs.declared.shape.Shape.{Shape}
 use Rattle.host_types.specs.Bytes.{part_of, number_of}
 use Rattle.host_types.specs.Memory.{◌>>=◌, all_set}
-use Rattle.verifier_kinds.specs.declared.kind.Align.{Align}
-use Rattle.verifier_kinds.specs.declared.kind.Align.TheVariants.{One, Two, Four, Eight}
 use Rattle.verifier_kinds.specs.declared.kind.Range.{Range}
 use Rattle.verifier_kinds.specs.declared.kind.Offsets.{Offsets}
 use Rattle.verifier_kinds.specs.declared.kind.Kind.{Kind}
@@ -17,35 +15,18 @@ use Rattle.verifier_kinds.specs.declared.kind.Kind.TheVariants.{Scalar, Context,
 use Rattle.verifier_kinds.specs.declared.description.StackSlot.{StackSlot}
 use Rattle.verifier_kinds.specs.declared.description.StackSlot.TheVariants.{Kept, Bytes}
 use Rattle.verifier_kinds.specs.declared.description.Description.{Description}
-use Rattle.verifier_kinds.specs.Kinds.{Setting, shape_at, range_in, factor, rank, IsIn, IsWithin, IsByElement, IsOfKind, IsKindBelow, IsBelow, Describes}
+use Rattle.verifier_kinds.specs.Kinds.{Setting, shape_at, range_in, IsIn, IsWithin, IsByElement, IsOfKind, IsKindBelow, IsBelow, Describes}
 use Rattle.verifier_kinds.specs.Descriptions.{IsDescription, IsSlotBelow, IsDescriptionBelow, DescribesSlot, DescribesRegisters, DescribesStack, register_of, slot_of}
+use Rattle.verifier_kinds.proofs.Ranges.{divided_less}
 
--- what an alignment divides, each lesser one divides
-pub divided_by_lesser : (a b : Align) (n : ℕ) → rank b ≤ rank a → n % factor a ≡ 0 → n % factor b ≡ 0
-divided_by_lesser One One n h e = omega arith
-divided_by_lesser One Two n h e = omega arith
-divided_by_lesser One Four n h e = omega arith
-divided_by_lesser One Eight n h e = omega arith
-divided_by_lesser Two One n h e = omega arith
-divided_by_lesser Two Two n h e = omega arith
-divided_by_lesser Two Four n h e = omega arith
-divided_by_lesser Two Eight n h e = omega arith
-divided_by_lesser Four One n h e = omega arith
-divided_by_lesser Four Two n h e = omega arith
-divided_by_lesser Four Four n h e = omega arith
-divided_by_lesser Four Eight n h e = omega arith
-divided_by_lesser Eight One n h e = omega arith
-divided_by_lesser Eight Two n h e = omega arith
-divided_by_lesser Eight Four n h e = omega arith
-divided_by_lesser Eight Eight n h e = omega arith
-
+-- a number of a range is one of each range around it
 pub in_above : (a b : Range) (n : ℕ) → IsWithin a b → IsIn a n → IsIn b n
 in_above a b n p q =
     let low = p.low in
     let high = p.high in
     let above = q.low in
     let below = q.high in
-    record { low = omega arith; high = omega arith; aligned = divided_by_lesser a.align b.align n p.aligned q.aligned }
+    record { low = omega arith; high = omega arith; aligned = divided_less b.align a.align n p.aligned q.aligned }
 
 -- what is said of a value that is there, something weaker is said of too
 pub some_and : {X : Type 0} (o : Option X) (P Q : X → Type 0) → ((x : X) → P x → Q x) → IsSomeAnd o P → IsSomeAnd o Q

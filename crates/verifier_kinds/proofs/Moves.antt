@@ -97,6 +97,14 @@ moved_down base offset n y k low high is whole small h =
     let same : (n + y) % 2 ^ 64 + 2 ^ 64 ≡ n + y = omega arith in
     omega (arith, ints)
 
+-- a number of 64 bits that is 2^63 or more stands for one below zero
+number_below_zero : (y : ℕ) → y < 2 ^ 64 → 2 ^ 63 ≤ y → (k : ℕ) × (k + 1 + y ≡ 2 ^ 64) × (k < 2 ^ 63) × (cast_signed w64 y ≡ negsuc k)
+number_below_zero y fits more =
+    let k : ℕ = 2 ^ 64 - suc y in
+    let small : k < 2 ^ 63 = omega arith in
+    let same : y ≡ 2 ^ 64 - suc k = omega arith in
+    (k, omega arith, small, ap (λ n. cast_signed w64 n) same ∙ to_z-neg w64 k small)
+
 -- Moving an address is adding a number modulo 2^64, of which 2^63 or more stands for itself less 2^64:
 -- the regions of memory are far from both ends of the addresses.
 pub moved_address : (base : ℕ) (offset : ℤ) (n y : ℕ) → 65536 ≤ base → base < 2 ^ 63 → pos n ≡ pos base +ℤ offset → y < 2 ^ 64 → IsOffset (offset +ℤ cast_signed w64 y) → pos ((n + y) % 2 ^ 64) ≡ pos base +ℤ (offset +ℤ cast_signed w64 y)
@@ -105,12 +113,8 @@ moved_address base offset n y low high is fits h = elim (cases_lt y (2 ^ 63)) [
       let number : cast_signed w64 y ≡ pos y = to_z_pos w64 y less in
       rw number (moved_up base offset n y low high is (subst (λ z. IsOffset (offset +ℤ z)) number h))
   | inr more ↦
-      let k : ℕ = 2 ^ 64 - suc y in
-      let whole : k + 1 + y ≡ 2 ^ 64 = omega arith in
-      let small : k < 2 ^ 63 = omega arith in
-      let same : y ≡ 2 ^ 64 - suc k = omega arith in
-      let number : cast_signed w64 y ≡ negsuc k = ap (λ n. cast_signed w64 n) same ∙ to_z-neg w64 k small in
-      rw number (moved_down base offset n y k low high is whole small (subst (λ z. IsOffset (offset +ℤ z)) number h))
+      let (k, least, small, number) = number_below_zero y fits more in
+      rw number (moved_down base offset n y k low high is least small (subst (λ z. IsOffset (offset +ℤ z)) number h))
 ]
 
 -- moving it back by a number below 2^63, and by one that lacks k + 1 to 2^64
@@ -137,10 +141,6 @@ moved_back_address base offset n y low high is fits whole h = elim (cases_lt y (
       let number : cast_signed w64 y ≡ pos y = to_z_pos w64 y less in
       rw number (back_down base offset n y low high is fits less (subst (λ z. IsOffset (offset -ℤ z)) number h))
   | inr more ↦
-      let k : ℕ = 2 ^ 64 - suc y in
-      let all : k + 1 + y ≡ 2 ^ 64 = omega arith in
-      let small : k < 2 ^ 63 = omega arith in
-      let same : y ≡ 2 ^ 64 - suc k = omega arith in
-      let number : cast_signed w64 y ≡ negsuc k = ap (λ n. cast_signed w64 n) same ∙ to_z-neg w64 k small in
-      rw number (back_up base offset n y k low high is all small (subst (λ z. IsOffset (offset -ℤ z)) number h))
+      let (k, least, small, number) = number_below_zero y whole more in
+      rw number (back_up base offset n y k low high is least small (subst (λ z. IsOffset (offset -ℤ z)) number h))
 ]

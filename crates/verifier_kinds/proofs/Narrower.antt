@@ -1,5 +1,5 @@
 -- Narrower ranges: of ranges that lie within others, arithmetic makes ranges that do.
-use Rattle.std.proofs.Common.{◌≡◌, ℕ, ◌+◌, ◌-◌, ◌*◌, ◌/◌, ◌%◌, ◌^◌, ◌<◌, ◌≤◌, ◌==◌, ◌&&◌, ◌∙◌, min, max, nat_lt, nat_le, suc, ℤ, Bool, true, false, inl, inr, sym, ap, subst, arith}
+use Rattle.std.proofs.Common.{◌≡◌, ℕ, ◌+◌, ◌-◌, ◌*◌, ◌/◌, ◌%◌, ◌^◌, ◌<◌, ◌≤◌, ◌==◌, ◌&&◌, ◌∙◌, min, max, nat_lt, nat_le, suc, ℤ, Bool, true, false, inl, inr, sym, ap, arith}
 use Rattle.std.specs.Prelude.{if◌then◌else◌}
 use Rattle.std.specs.Int.{leading_zeros, w64}
 use Rattle.std.proofs.lemmas.Bool.{cond_both, cond-true, cond-false, and_parts, eq-eqb, eqb-true, eqb-false, le-leb, leb-true, leb-false, lt-ltb, ltb-true, cases_lt}
@@ -18,7 +18,8 @@ use Rattle.verifier_kinds.specs.declared.kind.Align.TheVariants.{One, Two, Four,
 use Rattle.verifier_kinds.specs.declared.kind.Range.{Range}
 use Rattle.verifier_kinds.specs.Kinds.{factor, rank, of_rank, raised, least_align, greatest_align, align_of, is_constant, constant, IsIn, IsNormal, IsWithin}
 use Rattle.verifier_kinds.specs.Arithmetic.{between, all, normal_of, taken, unless_wrapped, sum_of, difference_of, product_of, quotient_of, remainder_of, and_of, ones_from, or_of, xor_of, shifted_left, left_shift_of, right_by, right_shift_of, greatest_of_bits, swapped_range, row, computed_range, range_of}
-use Rattle.verifier_kinds.proofs.Ranges.{first_below, first_divided, last_above, last_below, last_divided, divided_by_least_right}
+use Rattle.verifier_kinds.proofs.Ranges.{first_below, first_divided, last_above, last_below, last_divided, divided_less}
+use Rattle.verifier_kinds.proofs.Meaning.{in_above}
 use Rattle.verifier_kinds.proofs.Operands.{in_all, in_normal_of, all_is_normal, taken_below, modulus_positive, zero_divided}
 use Rattle.verifier_kinds.proofs.RowLaws.{quotient_order, at_least_one, not_zero}
 use Rattle.verifier_kinds.proofs.Joins.{least_below_left, least_below_right}
@@ -27,11 +28,6 @@ use Rattle.verifier_kinds.proofs.Refinement.{first_above}
 use Rattle.verifier_kinds.proofs.Order.{within_self}
 
 -- ---- alignments
-
--- what an alignment divides, each that says no more divides too
-pub divided_less : (d e : Align) (n : ℕ) → rank d ≤ rank e → n % factor e ≡ 0 → n % factor d ≡ 0
-divided_less d e n h p =
-    subst (λ a. n % factor a ≡ 0) (cond-true (nat_le (rank d) (rank e)) d e (le-leb (rank d) (rank e) h)) (divided_by_least_right d e n p)
 
 -- of those that divide a number the one that it is given says most
 pub greatest_divides : (d : Align) (n : ℕ) → n % factor d ≡ 0 → rank d ≤ rank (align_of n)
@@ -92,15 +88,6 @@ raised_more a m =
     rw (rank_of_exponent (rank a + m)) least
 
 -- ---- ranges within others
-
--- a number of a range is one of each range around it
-pub within_has : (a b : Range) (n : ℕ) → IsWithin a b → IsIn a n → IsIn b n
-within_has a b n w h =
-    let a_low = w.low in
-    let a_high = w.high in
-    let n_low = h.low in
-    let n_high = h.high in
-    record { low = omega arith; high = omega arith; aligned = divided_less b.align a.align n w.aligned h.aligned }
 
 -- the range of one number lies within each range that has it
 pub constant_within : (b : Range) (n : ℕ) → IsIn b n → IsWithin (constant n) b
@@ -249,12 +236,8 @@ unless_narrows width from to wide_from wide_to d e p q h =
 
 sum_narrows : (width : Width) (a b c d : Range) → IsRangeNarrower width a c → IsRangeNarrower width b d → IsWithin (sum_of width a b) (sum_of width c d)
 sum_narrows width a b c d p q =
-    let a_low = p.within.low in
-    let a_high = p.within.high in
-    let b_low = q.within.low in
-    let b_high = q.within.high in
     unless_narrows width (a.low + b.low) (a.high + b.high) (c.low + d.low) (c.high + d.high) (least_align a.align b.align) (least_align c.align d.align)
-    (omega arith) (omega arith) (rank_least c.align d.align a.align b.align p.within.aligned q.within.aligned)
+    (omega (arith, p.within.low, q.within.low)) (omega (arith, p.within.high, q.within.high)) (rank_least c.align d.align a.align b.align p.within.aligned q.within.aligned)
 
 difference_narrows : (width : Width) (a b c d : Range) → IsRangeNarrower width a c → IsRangeNarrower width b d → IsWithin (difference_of width a b) (difference_of width c d)
 difference_narrows width a b c d p q =
@@ -345,31 +328,24 @@ ones_order x y h fits =
     let order : 2 ^ m ≤ 2 ^ n = pow_mono (bits_order m n x y h y_below x_least) in
     rw (x_bits, y_bits) (omega arith)
 
+-- so the bits of two numbers of which either may be the larger end no earlier
+bits_narrow : (width : Width) (a b c d : Range) → IsRangeNarrower width a c → IsRangeNarrower width b d → ones_from (max a.high b.high) ≤ ones_from (max c.high d.high)
+bits_narrow width a b c d p q =
+    let a_high = p.within.high in
+    let b_high = q.within.high in
+    let c_fits = p.larger.fits in
+    let d_fits = q.larger.fits in
+    ones_order (max a.high b.high) (max c.high d.high) (omega arith) (omega arith)
+
 or_narrows : (width : Width) (a b c d : Range) → IsRangeNarrower width a c → IsRangeNarrower width b d → IsWithin (or_of a b) (or_of c d)
 or_narrows width a b c d p q =
     let a_low = p.within.low in
-    let a_high = p.within.high in
     let b_low = q.within.low in
-    let b_high = q.within.high in
-    let c_fits = p.larger.fits in
-    let d_fits = q.larger.fits in
-    record {
-      low = omega arith;
-      high = ones_order (max a.high b.high) (max c.high d.high) (omega arith) (omega arith);
-      aligned = rank_least c.align d.align a.align b.align p.within.aligned q.within.aligned;
-    }
+    record { low = omega arith; high = bits_narrow width a b c d p q; aligned = rank_least c.align d.align a.align b.align p.within.aligned q.within.aligned }
 
 xor_narrows : (width : Width) (a b c d : Range) → IsRangeNarrower width a c → IsRangeNarrower width b d → IsWithin (xor_of a b) (xor_of c d)
 xor_narrows width a b c d p q =
-    let a_high = p.within.high in
-    let b_high = q.within.high in
-    let c_fits = p.larger.fits in
-    let d_fits = q.larger.fits in
-    record {
-      low = omega arith;
-      high = ones_order (max a.high b.high) (max c.high d.high) (omega arith) (omega arith);
-      aligned = rank_least c.align d.align a.align b.align p.within.aligned q.within.aligned;
-    }
+    record { low = omega arith; high = bits_narrow width a b c d p q; aligned = rank_least c.align d.align a.align b.align p.within.aligned q.within.aligned }
 
 left_by_narrows : (width : Width) (bits : ℕ) (a c : Range) → IsWithin a c → IsWithin (shifted_left width bits a) (shifted_left width bits c)
 left_by_narrows width bits a c w =
@@ -418,33 +394,29 @@ swap_narrows width b d q =
     (λ _. record { low = omega arith; high = omega (arith, bits_small b.low); aligned = omega arith })
     (λ _. within_self (all Bits64 One)))
 
+-- and with an offset all is left open
+unless_offset : (width : Width) (offset : ℤ) (r wide : Range) → IsWithin r wide → IsWithin (if is offset 0 then r else all width One) (if is offset 0 then wide else all width One)
+unless_offset width offset r wide h = either (is offset 0)
+  where
+    either : (t : Bool) → IsWithin (if t then r else all width One) (if t then wide else all width One)
+    either true = h
+    either false = within_self (all width One)
+
 -- what a row makes of ranges lies within what it makes of wider ones
 row_narrows : (code : AluCode) (width : Width) (offset : ℤ) (a b c d : Range) → IsRangeNarrower width a c → IsRangeNarrower width b d → IsWithin (row code width offset a b) (row code width offset c d)
 unfolding row
 row_narrows Add width offset a b c d p q = sum_narrows width a b c d p q
 row_narrows Sub width offset a b c d p q = difference_narrows width a b c d p q
 row_narrows Mul width offset a b c d p q = product_narrows width a b c d p q
-row_narrows Div width offset a b c d p q = either (is offset 0) (quotient_narrows width a b c d p q)
-  where
-    either : (t : Bool) → IsWithin (quotient_of a b) (quotient_of c d) → IsWithin (if t then quotient_of a b else all width One) (if t then quotient_of c d else all width One)
-    either true h = h
-    either false h = within_self (all width One)
+row_narrows Div width offset a b c d p q = unless_offset width offset (quotient_of a b) (quotient_of c d) (quotient_narrows width a b c d p q)
 row_narrows Or width offset a b c d p q = or_narrows width a b c d p q
 row_narrows And width offset a b c d p q = and_narrows width a b c d p q
 row_narrows Lsh width offset a b c d p q = left_shift_narrows width a b c d p q
 row_narrows Rsh width offset a b c d p q = right_shift_narrows width a b c d p q
 row_narrows Neg width offset a b c d p q = within_self (all width One)
-row_narrows Mod width offset a b c d p q = either (is offset 0) (remainder_narrows width a b c d p q)
-  where
-    either : (t : Bool) → IsWithin (remainder_of a b) (remainder_of c d) → IsWithin (if t then remainder_of a b else all width One) (if t then remainder_of c d else all width One)
-    either true h = h
-    either false h = within_self (all width One)
+row_narrows Mod width offset a b c d p q = unless_offset width offset (remainder_of a b) (remainder_of c d) (remainder_narrows width a b c d p q)
 row_narrows Xor width offset a b c d p q = xor_narrows width a b c d p q
-row_narrows Mov width offset a b c d p q = either (is offset 0) q.within
-  where
-    either : (t : Bool) → IsWithin b d → IsWithin (if t then b else all width One) (if t then d else all width One)
-    either true h = h
-    either false h = within_self (all width One)
+row_narrows Mov width offset a b c d p q = unless_offset width offset b d q.within
 row_narrows Arsh width offset a b c d p q = within_self (all width One)
 row_narrows ToLittleEndian width offset a b c d p q = swap_narrows width b d q
 row_narrows ToBigEndian width offset a b c d p q = swap_narrows width b d q
@@ -478,7 +450,7 @@ computed_narrows code width offset a b c d p q =
     (λ _.
     cond_both (is_constant a && is_constant b) _ _ (λ r. IsWithin r (normal_of (row code width offset c d)))
     (λ _. constant_within (normal_of (row code width offset c d)) number
-    (in_normal_of (row code width offset c d) number (within_has (row code width offset a b) (row code width offset c d) number narrow has)))
+    (in_normal_of (row code width offset c d) number (in_above (row code width offset a b) (row code width offset c d) number narrow has)))
     (λ _. normal_narrows (row code width offset a b) (row code width offset c d) number has narrow))
 
 -- what arithmetic makes of ranges lies within what it makes of wider ones

@@ -1,6 +1,6 @@
 -- Narrower kinds: of kinds that are under others, arithmetic and conditional jumps make kinds that are, also
 -- where the others' offsets are `extra` more.
-use Rattle.std.proofs.Common.{◌≡◌, ℕ, ◌+◌, ◌-◌, ◌/◌, ◌*◌, ◌%◌, ◌^◌, ◌<◌, ◌≤◌, ◌==◌, min, max, nat_lt, nat_le, ℤ, pos, negsuc, ◌+ℤ◌, ◌-ℤ◌, ◌≤ℤ◌, ◌<ℤ◌, Bool, true, false, inl, inr, Option, Some, None, Result, Ok, Err, refl, subst, arith}
+use Rattle.std.proofs.Common.{◌≡◌, ℕ, ◌+◌, ◌-◌, ◌%◌, ◌^◌, ◌<◌, ◌≤◌, ◌==◌, min, max, nat_lt, nat_le, ℤ, pos, negsuc, ◌+ℤ◌, ◌-ℤ◌, ◌≤ℤ◌, ◌<ℤ◌, Bool, true, false, inl, inr, Option, Some, None, Result, Ok, Err, refl, subst, arith}
 use Rattle.std.specs.Prelude.{if◌then◌else◌, int_le, ◌&&◌}
 use Rattle.std.specs.Int.{cast_signed, w64}
 use Rattle.std.proofs.lemmas.Int.{ints, to_z_pos}
@@ -284,15 +284,14 @@ IsLeftWithin (Some r) None = ⊥
 
 some_narrows : (a b : Range) → IsWithin a b → IsLeftWithin (some_of a) (some_of b)
 some_narrows a b w =
-    let d : Align = a.align in
-    let first : ℕ = (a.low + (factor d - 1)) / factor d * factor d in
-    let last : ℕ = a.high / factor d * factor d in
-    let from : a.low ≤ first = first_above d a.low in
-    let to : last ≤ a.high = last_below d a.high in
+    let first : ℕ = (normal_of a).low in
+    let last : ℕ = (normal_of a).high in
+    let from : a.low ≤ first = first_above a.align a.low in
+    let to : last ≤ a.high = last_below a.align a.high in
     cond_both (nat_le first last) (Some (normal_of a)) None (λ o. IsLeftWithin o (some_of b))
     (λ t.
     let ordered : first ≤ last = leb-true first last t in
-    let has : IsIn a first = record { low = from; high = omega arith; aligned = first_divided d a.low } in
+    let has : IsIn a first = record { low = from; high = omega arith; aligned = first_divided a.align a.low } in
     let narrow : IsWithin (normal_of a) (normal_of b) = normal_narrows a b first has w in
     let low = narrow.low in
     let high = narrow.high in

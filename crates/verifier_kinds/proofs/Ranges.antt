@@ -1,9 +1,9 @@
 -- Alignments and normal ranges: which numbers they have, and that sums keep to them.
-use Rattle.std.proofs.Common.{◌≡◌, ℕ, ◌+◌, ◌-◌, ◌*◌, ◌/◌, ◌%◌, ◌^◌, ◌<◌, ◌≤◌, ◌==◌, refl, arith}
-use Rattle.std.proofs.lemmas.Bool.{cond_both, cond-true, eq-eqb, eqb-true}
+use Rattle.std.proofs.Common.{◌≡◌, ℕ, ◌+◌, ◌-◌, ◌*◌, ◌/◌, ◌%◌, ◌^◌, ◌<◌, ◌≤◌, ◌==◌, nat_le, refl, subst, arith}
+use Rattle.std.proofs.lemmas.Bool.{cond_both, cond-true, eq-eqb, eqb-true, le-leb}
 use Rattle.verifier_kinds.specs.declared.kind.Align.{Align}
 use Rattle.verifier_kinds.specs.declared.kind.Align.TheVariants.{One, Two, Four, Eight}
-use Rattle.verifier_kinds.specs.Kinds.{factor, least_align, align_of, normal, constant, full, IsIn, IsNormal}
+use Rattle.verifier_kinds.specs.Kinds.{factor, rank, least_align, align_of, normal, constant, full, IsIn, IsNormal}
 
 -- a number is divided by the greatest alignment that divides it
 pub divided_by_align_of : (n : ℕ) → n % factor (align_of n) ≡ 0
@@ -83,6 +83,11 @@ least_align_comm Eight Eight = refl
 
 pub divided_by_least_right : (a b : Align) (n : ℕ) → n % factor b ≡ 0 → n % factor (least_align a b) ≡ 0
 divided_by_least_right a b n e = rw (least_align_comm a b) (divided_by_least_left b a n e)
+
+-- what an alignment divides, each that says no more divides too
+pub divided_less : (d e : Align) (n : ℕ) → rank d ≤ rank e → n % factor e ≡ 0 → n % factor d ≡ 0
+divided_less d e n h p =
+    subst (λ a. n % factor a ≡ 0) (cond-true (nat_le (rank d) (rank e)) d e (le-leb (rank d) (rank e) h)) (divided_by_least_right d e n p)
 
 -- an alignment that divides two numbers divides their sum
 pub sum_divided : (d : Align) (x y : ℕ) → x % factor d ≡ 0 → y % factor d ≡ 0 → (x + y) % factor d ≡ 0

@@ -1,20 +1,13 @@
-use Rattle.std.proofs.Common.{◌≡◌, ◌≢◌, ◌<◌, length, get_or, None, refl, ◌∙◌, arith, rules, below_more}
-use Rattle.std.proofs.lemmas.List.{get_or-set_same, get_or-set_other}
+use Rattle.std.proofs.Common.{◌≡◌, get_or, None, refl, arith, rules}
 use Rattle.verifier_kinds.specs.Descriptions.{join_of_registers}
+use Rattle.verifier_kinds.proofs.Descriptions.{filled_more}
 use Rattle.verifier_kinds.proofs.Joins.{merged_by_index}
 use Rattle.verifier_kinds.proofs.description.joined_registers.Goals as goal
 
 pub loop-i-preserved : goal.loop-i-preserved
 loop-i-preserved c =
-    let registers = c.loop-i.registers in
-    let i = c.loop-i.i in
-    let within : i < length registers = omega (arith, c.loop-i.invariant.0) in
-    let here : c.joined.result ≡ join_of_registers (get_or c.args.a.now i None) (get_or c.args.b.now i None) = search rules in (
-      search rules,
-      below_more _ _
-          (λ n h. let other : n ≢ i = omega arith in get_or-set_other registers i n c.joined.result None other ∙ c.loop-i.invariant.1 n h)
-          (get_or-set_same registers i c.joined.result None within ∙ here),
-    )
+    let here : c.joined.result ≡ join_of_registers (get_or c.args.a.now c.loop-i.i None) (get_or c.args.b.now c.loop-i.i None) = search rules in
+    (search rules, filled_more (λ n. join_of_registers (get_or c.args.a.now n None) (get_or c.args.b.now n None)) None c.loop-i.registers c.loop-i.i c.joined.result (omega (arith, c.loop-i.invariant.0)) c.loop-i.invariant.1 here)
 
 pub returns : goal.returns
 returns c =

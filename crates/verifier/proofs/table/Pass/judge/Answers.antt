@@ -1,11 +1,13 @@
 use Rattle.std.proofs.Common.{◌≡◌, ◌+◌, ◌++◌, [], ◌∷◌, length, Some, None, inr, sym, ap, ◌∙◌}
 use Rattle.bpf_decode.specs.Text.{width_at}
 use Rattle.verifier.specs.Flow.{flow}
-use Rattle.verifier.specs.Table.{arrived}
+use Rattle.verifier.specs.Table.{arrived, IsRefusal}
 use Rattle.verifier.specs.Way.{ways_of}
+use Rattle.verifier.specs.Wide.{HasNoLawful}
 use Rattle.verifier.specs.Pass.{falling, pending_at}
 use Rattle.verifier.proofs.Passes.{falls_some, falls_none, known_description, known_refusal, known_incomplete, passed_unreached, passed_flow}
 use Rattle.verifier.proofs.table.Pass.judge.Goals as goal
+use Rattle.verifier.proofs.table.Pass.judge.Goals.{In-Err}
 
 pub returns-then-not-self-clause-passed : goal.returns-then-not-self-clause-passed
 returns-then-not-self-clause-passed c =
@@ -26,23 +28,23 @@ flow_in_place-requires-clause-description c =
     (known_description c.args.candidate.now before.kept.items before.pending.items (falling before.falls before.current) c.args.slot after.current c.requires.instruction c.requires.passed
     (sym (falls_some after.falls after.current c.if-not-self.false) ∙ c.arrive.ensures.known))
 
-pub returns-in-Err-clause-refused : goal.returns-in-Err-clause-refused
-returns-in-Err-clause-refused c =
+-- a rule that the instruction breaks is the text's refusal, and leaves no lawful table
+faulty : (c : In-Err) → IsRefusal c.args.candidate.now (record { number = c.in-Err.number; slot = c.args.slot }) × HasNoLawful c.args.candidate.now
+faulty c =
     let before = c.args.self.now in
     let after = c.arrive.new.self in
     let p = c.args.candidate.now in
-    inr (known_refusal p before.kept.items before.pending.items (falling before.falls before.current) c.args.slot c.in-Err.number after.current c.requires.instruction c.requires.passed
-    (sym (falls_some after.falls after.current c.if-not-self.false) ∙ c.arrive.ensures.known)
-    (ap (flow p c.args.slot) (sym c.in_ok-keep-2.ensures.current) ∙ sym c.in-Err.ensures.flow))
+    let known = sym (falls_some after.falls after.current c.if-not-self.false) ∙ c.arrive.ensures.known in
+    let broken = ap (flow p c.args.slot) (sym c.in_ok-keep-2.ensures.current) ∙ sym c.in-Err.ensures.flow in (
+      known_refusal p before.kept.items before.pending.items (falling before.falls before.current) c.args.slot c.in-Err.number after.current c.requires.instruction c.requires.passed known broken,
+      known_incomplete p before.kept.items before.pending.items (falling before.falls before.current) c.args.slot c.in-Err.number after.current c.requires.instruction c.requires.passed known broken,
+    )
+
+pub returns-in-Err-clause-refused : goal.returns-in-Err-clause-refused
+returns-in-Err-clause-refused c = inr (faulty (goal.at.returns-in-Err-clause-refused c).In-Err).0
 
 pub returns-in-Err-clause-complete : goal.returns-in-Err-clause-complete
-returns-in-Err-clause-complete c =
-    let before = c.args.self.now in
-    let after = c.arrive.new.self in
-    let p = c.args.candidate.now in
-    inr (known_incomplete p before.kept.items before.pending.items (falling before.falls before.current) c.args.slot c.in-Err.number after.current c.requires.instruction c.requires.passed
-    (sym (falls_some after.falls after.current c.if-not-self.false) ∙ c.arrive.ensures.known)
-    (ap (flow p c.args.slot) (sym c.in_ok-keep-2.ensures.current) ∙ sym c.in-Err.ensures.flow))
+returns-in-Err-clause-complete c = inr (faulty (goal.at.returns-in-Err-clause-complete c).In-Err).1
 
 pub returns-clause-passed : goal.returns-clause-passed
 returns-clause-passed c =
