@@ -216,19 +216,6 @@ module _ (t m : ℕ) (old : TenantView) (memory : MemoryState) where
 
     -- a drop that the memory refuses
     pub drop-not_there : (f : Fault) → t < length memory.tenants → RefusesDrop memory t m f → IsServed t old memory (DropMap t m) (Refused f) old memory
-    drop-not_there (Program refused) inside impossible = absurd impossible
-    drop-not_there (NoFrames need have) inside impossible = absurd impossible
-    drop-not_there TooManyMaps inside impossible = absurd impossible
-    drop-not_there BadShape inside impossible = absurd impossible
     drop-not_there NoMap inside (there, missing) = drop-missing missing
-    drop-not_there NoElement inside impossible = absurd impossible
-    drop-not_there Busy inside impossible = absurd impossible
-    drop-not_there NoRun inside impossible = absurd impossible
-    drop-not_there NoProgram inside impossible = absurd impossible
-    drop-not_there BadContext inside impossible = absurd impossible
-    drop-not_there BadOption inside impossible = absurd impossible
-    drop-not_there OutOfMemory inside impossible = absurd impossible
     drop-not_there BadTenant inside past = absurd (omega (arith, inside, past))
-    drop-not_there InUse inside impossible = absurd impossible
-    drop-not_there PagesShared inside impossible = absurd impossible
-    drop-not_there TooManyPrograms inside impossible = absurd impossible
+    drop-not_there fault inside impossible = absurd impossible

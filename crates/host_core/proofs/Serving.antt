@@ -189,22 +189,12 @@ create-made t old before after value_size entries mergeable m idle made x tenant
 
 module _ (memory : MemoryState) (x : System) (t : ℕ) (tenant : Tenant) (shape : Shape) (idle : IsNone tenant.run) (have : have_of memory ≡ have_in x) where
   refuses_create : (f : Fault) → RefusesNewMap (owned_by x.sharing t tenant) shape f → TellsHave memory f → HasFrames memory shape f → RefusesCreate x t tenant shape f
-  refuses_create (Program refused) refuses tells framed = absurd refuses
   refuses_create (NoFrames need most) refuses tells framed = (idle, refuses, tells ∙ have)
   refuses_create TooManyMaps refuses tells framed = (idle, refuses, tt)
   refuses_create BadShape refuses tells framed = (idle, refuses, tt)
-  refuses_create NoMap refuses tells framed = absurd refuses
-  refuses_create NoElement refuses tells framed = absurd refuses
-  refuses_create Busy refuses tells framed = absurd refuses
-  refuses_create NoRun refuses tells framed = absurd refuses
-  refuses_create NoProgram refuses tells framed = absurd refuses
-  refuses_create BadContext refuses tells framed = absurd refuses
-  refuses_create BadOption refuses tells framed = absurd refuses
   refuses_create OutOfMemory refuses tells framed = (idle, refuses, subst (λ n. page_count shape ≤ n) have framed)
   refuses_create BadTenant refuses tells framed = (idle, refuses, tt)
-  refuses_create InUse refuses tells framed = absurd refuses
-  refuses_create PagesShared refuses tells framed = absurd refuses
-  refuses_create TooManyPrograms refuses tells framed = absurd refuses
+  refuses_create fault refuses tells framed = absurd refuses
 
 -- a map that isn't made
 pub create-refused : (t : ℕ) (old : TenantView) (memory : MemoryState) (value_size entries : ℕ) (mergeable : Bool) (f : Fault) → is_some old.run ≡ false
@@ -279,22 +269,12 @@ update-done t old before after m key value idle made x tenant there stands holds
 
 module _ (memory : MemoryState) (x : System) (t : ℕ) (tenant : Tenant) (m key : ℕ) (value : List ℕ) (idle : IsNone tenant.run) (have : have_of memory ≡ have_in x) where
   refuses_update : (f : Fault) → RefusesUpdate (owned_by x.sharing t tenant) m key value f → TellsHave memory f → RefusesHostUpdate x t tenant m key value f
-  refuses_update (Program refused) refuses tells = absurd refuses
   refuses_update (NoFrames need most) refuses tells = (idle, refuses, tells ∙ have)
-  refuses_update TooManyMaps refuses tells = absurd refuses
   refuses_update BadShape refuses tells = (idle, refuses, tt)
   refuses_update NoMap refuses tells = (idle, refuses, tt)
   refuses_update NoElement refuses tells = (idle, refuses, tt)
-  refuses_update Busy refuses tells = absurd refuses
-  refuses_update NoRun refuses tells = absurd refuses
-  refuses_update NoProgram refuses tells = absurd refuses
-  refuses_update BadContext refuses tells = absurd refuses
-  refuses_update BadOption refuses tells = absurd refuses
-  refuses_update OutOfMemory refuses tells = absurd refuses
   refuses_update BadTenant refuses tells = (idle, refuses, tt)
-  refuses_update InUse refuses tells = absurd refuses
-  refuses_update PagesShared refuses tells = absurd refuses
-  refuses_update TooManyPrograms refuses tells = absurd refuses
+  refuses_update fault refuses tells = absurd refuses
 
 -- a value that isn't written
 pub update-refused : (t : ℕ) (old : TenantView) (memory : MemoryState) (m key : ℕ) (value : List ℕ) (f : Fault) → is_some old.run ≡ false

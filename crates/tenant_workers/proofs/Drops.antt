@@ -10,19 +10,6 @@ use Rattle.tenant_workers.specs.Calls.{LacksMap}
 -- it has no map of the number
 pub refused_there : (memory : MemoryState) (t m : ℕ) (fault : Fault) → length memory.maps ≡ length memory.tenants * 8 → length (part memory t).maps ≡ 8
     → RefusesDrop memory t m fault → LacksMap (part memory t) m fault
-refused_there memory t m (Program refused) all eight impossible = absurd impossible
-refused_there memory t m (NoFrames need have) all eight impossible = absurd impossible
-refused_there memory t m TooManyMaps all eight impossible = absurd impossible
-refused_there memory t m BadShape all eight impossible = absurd impossible
 refused_there memory t m NoMap all eight (inside, none) = (refl, none)
-refused_there memory t m NoElement all eight impossible = absurd impossible
-refused_there memory t m Busy all eight impossible = absurd impossible
-refused_there memory t m NoRun all eight impossible = absurd impossible
-refused_there memory t m NoProgram all eight impossible = absurd impossible
-refused_there memory t m BadContext all eight impossible = absurd impossible
-refused_there memory t m BadOption all eight impossible = absurd impossible
-refused_there memory t m OutOfMemory all eight impossible = absurd impossible
 refused_there memory t m BadTenant all eight past = absurd (tenant-missing memory t all past eight)
-refused_there memory t m InUse all eight impossible = absurd impossible
-refused_there memory t m PagesShared all eight impossible = absurd impossible
-refused_there memory t m TooManyPrograms all eight impossible = absurd impossible
+refused_there memory t m fault all eight impossible = absurd impossible
