@@ -1,6 +1,6 @@
 -- Why a run doesn't begin: what admission says of the memory, said of the program and of the frames told.
 use Rattle.host_types.specs.declared.fault.Fault.{Fault}
-use Rattle.host_types.specs.declared.fault.Fault.TheVariants.{Program, NoFrames, TooManyMaps, BadShape, NoMap, NoElement, Busy, NoRun, NoProgram, BadContext, BadOption, OutOfMemory, BadTenant, InUse, PagesShared, TooManyPrograms}
+use Rattle.host_types.specs.declared.fault.Fault.TheVariants.{NoFrames}
 use Rattle.host_types.specs.Tenant.{TenantPart}
 use Rattle.page_table.specs.State.{MemoryState}
 use Rattle.verifier.specs.Verified.{Accepted}

@@ -1,7 +1,7 @@
 -- Why a map isn't made: what a memory says of it, said of the tenant's part alone.
 use Rattle.std.proofs.Common.{◌≡◌, ℕ, ◌*◌, length}
 use Rattle.host_types.specs.declared.fault.Fault.{Fault}
-use Rattle.host_types.specs.declared.fault.Fault.TheVariants.{Program, NoFrames, TooManyMaps, BadShape, NoMap, NoElement, Busy, NoRun, NoProgram, BadContext, BadOption, OutOfMemory, BadTenant, InUse, PagesShared, TooManyPrograms}
+use Rattle.host_types.specs.declared.fault.Fault.TheVariants.{NoFrames, TooManyMaps, BadShape, OutOfMemory, BadTenant}
 use Rattle.host_types.specs.declared.shape.Shape.{Shape}
 use Rattle.page_table.specs.State.{MemoryState, part}
 use Rattle.page_table.specs.Changes.{RefusesMap}

@@ -67,8 +67,8 @@ asked c s start =
       n,
       more,
       asked_later v c.args.tenant followed.state n c.advance_on.result c.advance_on.new.self c.record.new.self c.advance_on.new.memory
-      (λ e. never_private_on (maps_of c.args.tenant) (HasFrames c.args.tenant) (HasStored c.args.tenant) v followed.state c.record.new.self c.advance_on.new.memory c.advance_on.new.self n finishing.verified (rw e at follows) (omega (arith, many e, all)))
-      c.in_default.not-Ended follows eight,
+          (λ e. never_private_on (maps_of c.args.tenant) (HasFrames c.args.tenant) (HasStored c.args.tenant) v followed.state c.record.new.self c.advance_on.new.memory c.advance_on.new.self n finishing.verified (rw e at follows) (omega (arith, many e, all)))
+          c.in_default.not-Ended follows eight,
     )
 
 pub respond-requires : goal.respond-requires
