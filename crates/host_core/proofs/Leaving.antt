@@ -7,14 +7,14 @@ use Rattle.std.proofs.lemmas.List.{length-set}
 use Rattle.std.proofs.lemmas.List.Elements.{All-set}
 use Rattle.std.proofs.lemmas.Option.{slice_get_within}
 use Rattle.host_types.specs.declared.fault.Fault.{Fault}
-use Rattle.host_types.specs.declared.fault.Fault.TheVariants.{Program, NoFrames, TooManyMaps, BadShape, NoMap, NoElement, Busy, NoRun, NoProgram, BadContext, BadOption, OutOfMemory, BadTenant, InUse, PagesShared, TooManyPrograms}
+use Rattle.host_types.specs.declared.fault.Fault.TheVariants.{NoMap, Busy, NoProgram, BadTenant, InUse}
 use Rattle.host_types.specs.declared.shape.Shape.{Shape}
 use Rattle.host_types.specs.Memory.{FlatMap, FlatMaps, map_at}
 use Rattle.host_types.specs.Pages.{map_place}
 use Rattle.host_types.specs.Sharing.{Sharing}
 use Rattle.host_types.specs.Tenant.{TenantPart, AreFlatMaps, part_dropped}
 use Rattle.host_types.specs.Visits.{dropped}
-use Rattle.page_table.specs.Changes.{IsKeptBut, AreMapsKeptBut, KeepsSettings, RefusesDrop, pages_of_map}
+use Rattle.page_table.specs.Changes.{AreMapsKeptBut, RefusesDrop, pages_of_map}
 use Rattle.page_table.specs.Reads.{ReadsAs}
 use Rattle.page_table.specs.State.{MemoryState, part}
 use Rattle.verifier.specs.Named.{names, named_shapes}

@@ -4,7 +4,7 @@ use Rattle.std.specs.List.{slice_get}
 use Rattle.std.specs.Option.{option_map}
 use Rattle.std.proofs.lemmas.List.{ext_get_or}
 use Rattle.host_types.specs.declared.fault.Fault.{Fault}
-use Rattle.host_types.specs.declared.fault.Fault.TheVariants.{Program, NoFrames, TooManyMaps, BadShape, NoMap, NoElement, Busy, NoRun, NoProgram, BadContext, BadOption, OutOfMemory, BadTenant, InUse, PagesShared, TooManyPrograms}
+use Rattle.host_types.specs.declared.fault.Fault.TheVariants.{NoFrames, Busy, NoProgram, BadContext, OutOfMemory}
 use Rattle.host_types.specs.Tenant.{TenantPart}
 use Rattle.bpf_decode.specs.Text.{slots_of}
 use Rattle.page_table.specs.Changes.{IsKeptBut, with_run, opened}

@@ -6,7 +6,7 @@ use Rattle.admission.specs.Reserve.{needed_from}
 use Rattle.interp.specs.declared.need.Need.{Need}
 use Rattle.interp.specs.declared.need.Need.TheVariants.{Private, Ended}
 use Rattle.interp.specs.Machine.{MachineState}
-use Rattle.interp.specs.OnMaps.{StandsOn, FollowsOn}
+use Rattle.interp.specs.OnMaps.{FollowsOn}
 use Rattle.page_table.specs.Changes.{IsKeptBut}
 use Rattle.page_table.specs.State.{MemoryState, part}
 use Rattle.tenant_runs.specs.Meeting.{KeepsSizes}

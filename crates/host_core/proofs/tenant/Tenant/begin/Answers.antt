@@ -1,5 +1,4 @@
 use Rattle.std.proofs.Common.{◌≡◌, option_copied, None, Some, is_some, true, false, ◌∙◌, sym, ap, subst}
-use Rattle.std.proofs.lemmas.Result.{err_from_is_err_and}
 use Rattle.host_types.specs.declared.fault.Fault.TheVariants.{NoProgram}
 use Rattle.host_core.specs.declared.event.Event.TheVariants.{Begin}
 use Rattle.host_core.specs.declared.event.Reply.TheVariants.{Begun, Refused}

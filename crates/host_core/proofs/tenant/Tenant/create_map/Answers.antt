@@ -1,8 +1,5 @@
-use Rattle.std.proofs.Common.{◌≡◌, is_some, true, false, ◌∙◌, sym, ap, subst}
-use Rattle.std.proofs.lemmas.Result.{err_from_is_err_and}
+use Rattle.std.proofs.Common.{true, false}
 use Rattle.host_core.specs.declared.event.Event.TheVariants.{CreateMap}
-use Rattle.host_core.specs.declared.event.Reply.TheVariants.{Refused}
-use Rattle.host_core.specs.HostView.{TenantView, IsServed}
 use Rattle.host_core.proofs.Serving.{run_is, passed_on, has_kept, create-busy, create-refused, create-made}
 use Rattle.host_core.proofs.tenant.Tenant.create_map.Goals as goal
 

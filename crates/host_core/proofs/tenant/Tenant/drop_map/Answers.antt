@@ -1,6 +1,5 @@
 use Rattle.std.proofs.Common.{◌≡◌, not, is_some, true, false, ◌∙◌, sym, ap, subst}
 use Rattle.std.specs.List.{list_any}
-use Rattle.std.proofs.lemmas.Result.{err_from_is_err_and}
 use Rattle.host_types.specs.declared.fault.Fault.TheVariants.{InUse}
 use Rattle.host_types.specs.Memory.{map_at}
 use Rattle.page_table.specs.State.{part}

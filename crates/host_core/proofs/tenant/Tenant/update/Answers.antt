@@ -1,8 +1,5 @@
-use Rattle.std.proofs.Common.{◌≡◌, is_some, true, false, ◌∙◌, sym, ap, subst}
-use Rattle.std.proofs.lemmas.Result.{err_from_is_err_and}
+use Rattle.std.proofs.Common.{true, false}
 use Rattle.host_core.specs.declared.event.Event.TheVariants.{HostUpdate}
-use Rattle.host_core.specs.declared.event.Reply.TheVariants.{Refused}
-use Rattle.host_core.specs.HostView.{TenantView, IsServed}
 use Rattle.host_core.proofs.Serving.{run_is, passed_on, has_kept, update-busy, update-refused, update-done}
 use Rattle.host_core.proofs.tenant.Tenant.update.Goals as goal
 
