@@ -1,5 +1,5 @@
 -- A run that a worker drives, from one step to the next.
-use Rattle.std.proofs.Common.{◌≡◌, ◌≤◌, ◌<◌, ◌+◌, ℕ, List, suc, Some, refl, sym, ap, ◌∙◌, arith}
+use Rattle.std.proofs.Common.{◌≡◌, ◌≤◌, ◌<◌, ◌+◌, ℕ, List, suc, Some, sym, ap, ◌∙◌, arith}
 use Rattle.host_types.specs.Tenant.{TenantPart}
 use Rattle.bpf_decode.specs.Text.{instructions_of}
 use Rattle.verifier.specs.Reserve.{reserve_from}
@@ -8,10 +8,10 @@ use Rattle.admission.specs.Reserve.{needed_from}
 use Rattle.admission.proofs.Falling.{needed_falls}
 use Rattle.verifier.specs.Verified.{Accepted, IsVerified}
 use Rattle.interp.specs.declared.need.Need.{Need}
-use Rattle.interp.specs.declared.need.Need.TheVariants.{Private, Ended, Load, Store, Lookup, Update, Delete}
+use Rattle.interp.specs.declared.need.Need.TheVariants.{Private, Ended}
 use Rattle.interp.specs.Machine.{MachineState, Next, Exits, step}
 use Rattle.interp.specs.Runs.{Reaches}
-use Rattle.interp.specs.StandsFor.{Running, StandsFor, IsBegun, Asks, Follows}
+use Rattle.interp.specs.StandsFor.{Running, StandsFor, IsBegun, Follows}
 use Rattle.interp.proofs.Following.{asks_of}
 use Rattle.tenant_runs.specs.UnderWay.{IsUnderWay, IsAsking}
 use Rattle.turn.specs.Seats.{SeatState}

@@ -1,7 +1,7 @@
 -- Why a map isn't dropped of a tenant that is there.
 use Rattle.std.proofs.Common.{◌≡◌, ℕ, ◌*◌, length, refl}
 use Rattle.host_types.specs.declared.fault.Fault.{Fault}
-use Rattle.host_types.specs.declared.fault.Fault.TheVariants.{Program, NoFrames, TooManyMaps, BadShape, NoMap, NoElement, Busy, NoRun, NoProgram, BadContext, BadOption, OutOfMemory, BadTenant, InUse, PagesShared, TooManyPrograms}
+use Rattle.host_types.specs.declared.fault.Fault.TheVariants.{NoMap, BadTenant}
 use Rattle.page_table.specs.State.{MemoryState, part}
 use Rattle.page_table.specs.Changes.{RefusesDrop}
 use Rattle.host_calls.proofs.Elements.{tenant-missing}
