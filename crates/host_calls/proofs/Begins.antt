@@ -1,6 +1,6 @@
 -- Why a run doesn't begin: what admission says of the memory, said of the program and of the frames told.
 use Rattle.host_types.specs.declared.fault.Fault.{Fault}
-use Rattle.host_types.specs.declared.fault.Fault.TheVariants.{Program, NoFrames, TooManyMaps, BadShape, NoMap, NoElement, Busy, NoRun, NoProgram, BadContext, BadOption, OutOfMemory, BadTenant, InUse, PagesShared, TooManyPrograms}
+use Rattle.host_types.specs.declared.fault.Fault.TheVariants.{NoFrames}
 use Rattle.host_types.specs.Tenant.{TenantPart}
 use Rattle.page_table.specs.State.{MemoryState}
 use Rattle.verifier.specs.Verified.{Accepted}
@@ -11,37 +11,9 @@ use Rattle.host_calls.specs.Programs.{RefusesBegin}
 
 module _ (memory : MemoryState) (v : Accepted) (owned : TenantPart) where
   pub begin_refused : (fault : Fault) → RefusesFrames memory (needed_from v owned 0) fault → RefusesBegin v owned fault
-  begin_refused (Program refused) impossible = absurd impossible
   begin_refused (NoFrames need have) (is_need, is_have, less) = (is_need, less)
-  begin_refused TooManyMaps impossible = absurd impossible
-  begin_refused BadShape impossible = absurd impossible
-  begin_refused NoMap impossible = absurd impossible
-  begin_refused NoElement impossible = absurd impossible
-  begin_refused Busy impossible = absurd impossible
-  begin_refused NoRun impossible = absurd impossible
-  begin_refused NoProgram impossible = absurd impossible
-  begin_refused BadContext impossible = absurd impossible
-  begin_refused BadOption impossible = absurd impossible
-  begin_refused OutOfMemory impossible = absurd impossible
-  begin_refused BadTenant impossible = absurd impossible
-  begin_refused InUse impossible = absurd impossible
-  begin_refused PagesShared impossible = absurd impossible
-  begin_refused TooManyPrograms impossible = absurd impossible
+  begin_refused fault impossible = absurd impossible
 
   pub begin_told : (fault : Fault) → RefusesFrames memory (needed_from v owned 0) fault → TellsHave memory fault
-  begin_told (Program refused) impossible = absurd impossible
   begin_told (NoFrames need have) (is_need, is_have, less) = is_have
-  begin_told TooManyMaps impossible = absurd impossible
-  begin_told BadShape impossible = absurd impossible
-  begin_told NoMap impossible = absurd impossible
-  begin_told NoElement impossible = absurd impossible
-  begin_told Busy impossible = absurd impossible
-  begin_told NoRun impossible = absurd impossible
-  begin_told NoProgram impossible = absurd impossible
-  begin_told BadContext impossible = absurd impossible
-  begin_told BadOption impossible = absurd impossible
-  begin_told OutOfMemory impossible = absurd impossible
-  begin_told BadTenant impossible = absurd impossible
-  begin_told InUse impossible = absurd impossible
-  begin_told PagesShared impossible = absurd impossible
-  begin_told TooManyPrograms impossible = absurd impossible
+  begin_told fault impossible = absurd impossible

@@ -7,14 +7,14 @@ use Rattle.std.proofs.lemmas.List.{length-set}
 use Rattle.std.proofs.lemmas.List.Elements.{All-set}
 use Rattle.std.proofs.lemmas.Option.{slice_get_within}
 use Rattle.host_types.specs.declared.fault.Fault.{Fault}
-use Rattle.host_types.specs.declared.fault.Fault.TheVariants.{Program, NoFrames, TooManyMaps, BadShape, NoMap, NoElement, Busy, NoRun, NoProgram, BadContext, BadOption, OutOfMemory, BadTenant, InUse, PagesShared, TooManyPrograms}
+use Rattle.host_types.specs.declared.fault.Fault.TheVariants.{NoMap, Busy, NoProgram, BadTenant, InUse}
 use Rattle.host_types.specs.declared.shape.Shape.{Shape}
 use Rattle.host_types.specs.Memory.{FlatMap, FlatMaps, map_at}
 use Rattle.host_types.specs.Pages.{map_place}
 use Rattle.host_types.specs.Sharing.{Sharing}
 use Rattle.host_types.specs.Tenant.{TenantPart, AreFlatMaps, part_dropped}
 use Rattle.host_types.specs.Visits.{dropped}
-use Rattle.page_table.specs.Changes.{IsKeptBut, AreMapsKeptBut, KeepsSettings, RefusesDrop, pages_of_map}
+use Rattle.page_table.specs.Changes.{AreMapsKeptBut, RefusesDrop, pages_of_map}
 use Rattle.page_table.specs.Reads.{ReadsAs}
 use Rattle.page_table.specs.State.{MemoryState, part}
 use Rattle.verifier.specs.Named.{names, named_shapes}
@@ -30,7 +30,7 @@ use Rattle.host_core.specs.HostView.{TenantView, EachProgram, StandsForTenant, I
 use Rattle.host_core.proofs.Places.{list_any-map, map-set, none-at}
 use Rattle.host_core.proofs.Worlds.{OfTenant-there, RefusedOr-refused, RefusedOr-else}
 use Rattle.host_core.proofs.Systems.{part_stands, many_stands, changed_stands}
-use Rattle.host_core.proofs.Serving.{is_some-run, served-same, still_idle, with_named_maps}
+use Rattle.host_core.proofs.Serving.{HasKept, is_some-run, served-same, still_idle, with_named_maps}
 use Rattle.host_core.proofs.Opening.{accepted_at, program_at-kept}
 use Rattle.host_core.proofs.Loading.{run-closed}
 
@@ -153,12 +153,8 @@ kept-inside t kept memory (x, tenant, there, stands, holds) =
 pub record HasDropped (t : ℕ) (before after : MemoryState) (m : ℕ) : Type 0 where
   pub there : is_some (map_at (part before t).maps m) ≡ true
   pub taken : part after t ≡ part_dropped (part before t) m
-  pub other_maps : AreMapsKeptBut m (part before t) (part after t)
-  pub others : IsKeptBut t before after
   pub sharing : after.sharing ≡ dropped before.sharing (map_place t m * 256) (pages_of_map (part before t) m)
-  pub settings : KeepsSettings before after
-  pub reads : ReadsAs after
-  pub flat : length (part after t).maps ≡ 8 → AreFlatMaps (part after t).maps
+  pub kept : HasKept t before after m
 
 -- a map that is dropped
 pub drop-done : (t : ℕ) (old : TenantView) (before after : MemoryState) (m : ℕ) → is_some old.run ≡ false → list_any (names_in m) old.programs ≡ false
@@ -170,8 +166,8 @@ drop-done t old before after m idle unused gone x tenant there stands holds =
     let became = gone.taken ∙ ap (λ o. part_dropped o m) owned in
     let is : part after t ≡ owned_by after.sharing t next = still_idle after t x.sharing tenant next.maps none (ap (λ (o : TenantPart). o.maps) became) (ap (λ (o : TenantPart). o.reserve) became) (ap (λ (o : TenantPart). o.running) became) in
     let eight : length next.maps ≡ 8 = length-set tenant.maps m None ∙ stands.meets.maps.eight in
-    let flat : AreFlatMaps next.maps = subst (λ (o : TenantPart). AreFlatMaps o.maps) is (gone.flat (ap (λ (o : TenantPart). length o.maps) is ∙ eight)) in
-    let others : (j : ℕ) → j ≢ m → map_at next.maps j ≡ map_at tenant.maps j = subst (λ o. AreMapsKeptBut m o (owned_by after.sharing t next)) owned (subst (λ o. AreMapsKeptBut m (part before t) o) is gone.other_maps) in
+    let flat : AreFlatMaps next.maps = subst (λ (o : TenantPart). AreFlatMaps o.maps) is (gone.kept.flat (ap (λ (o : TenantPart). length o.maps) is ∙ eight)) in
+    let others : (j : ℕ) → j ≢ m → map_at next.maps j ≡ map_at tenant.maps j = subst (λ o. AreMapsKeptBut m o (owned_by after.sharing t next)) owned (subst (λ o. AreMapsKeptBut m (part before t) o) is gone.kept.other_maps) in
     let sharing : Sharing = dropped x.sharing (map_place t m * 256) (pages_of_map (owned_by x.sharing t tenant) m) in
     let shares : after.sharing ≡ sharing =
     gone.sharing ∙ ap (λ o. dropped before.sharing (map_place t m * 256) (pages_of_map o m)) owned ∙ ap (λ s. dropped s (map_place t m * 256) (pages_of_map (owned_by x.sharing t tenant) m)) holds.sharing in
@@ -181,7 +177,7 @@ drop-done t old before after m idle unused gone x tenant there stands holds =
       next,
       sharing,
       with_named_maps old tenant next.maps none stands flat (each_kept old.programs tenant.maps next.maps m unused others stands.shapes),
-      changed_stands before after x t tenant next sharing after.sharing holds there (ap length gone.settings.tenants) gone.settings.frames gone.reads eight is gone.others shares,
+      changed_stands before after x t tenant next sharing after.sharing holds there (ap length gone.kept.settings.tenants) gone.kept.settings.frames gone.kept.reads eight is gone.kept.others shares,
       OfTenant-there x t Done x' _ tenant there (RefusedOr-else (drop_refusal tenant m) x Done x' _ allowed (refl, refl)),
       tt,
     )
@@ -216,19 +212,6 @@ module _ (t m : ℕ) (old : TenantView) (memory : MemoryState) where
 
     -- a drop that the memory refuses
     pub drop-not_there : (f : Fault) → t < length memory.tenants → RefusesDrop memory t m f → IsServed t old memory (DropMap t m) (Refused f) old memory
-    drop-not_there (Program refused) inside impossible = absurd impossible
-    drop-not_there (NoFrames need have) inside impossible = absurd impossible
-    drop-not_there TooManyMaps inside impossible = absurd impossible
-    drop-not_there BadShape inside impossible = absurd impossible
     drop-not_there NoMap inside (there, missing) = drop-missing missing
-    drop-not_there NoElement inside impossible = absurd impossible
-    drop-not_there Busy inside impossible = absurd impossible
-    drop-not_there NoRun inside impossible = absurd impossible
-    drop-not_there NoProgram inside impossible = absurd impossible
-    drop-not_there BadContext inside impossible = absurd impossible
-    drop-not_there BadOption inside impossible = absurd impossible
-    drop-not_there OutOfMemory inside impossible = absurd impossible
     drop-not_there BadTenant inside past = absurd (omega (arith, inside, past))
-    drop-not_there InUse inside impossible = absurd impossible
-    drop-not_there PagesShared inside impossible = absurd impossible
-    drop-not_there TooManyPrograms inside impossible = absurd impossible
+    drop-not_there fault inside impossible = absurd impossible

@@ -4,7 +4,7 @@ use Rattle.std.specs.List.{slice_get}
 use Rattle.std.specs.Option.{option_map}
 use Rattle.std.proofs.lemmas.List.{ext_get_or}
 use Rattle.host_types.specs.declared.fault.Fault.{Fault}
-use Rattle.host_types.specs.declared.fault.Fault.TheVariants.{Program, NoFrames, TooManyMaps, BadShape, NoMap, NoElement, Busy, NoRun, NoProgram, BadContext, BadOption, OutOfMemory, BadTenant, InUse, PagesShared, TooManyPrograms}
+use Rattle.host_types.specs.declared.fault.Fault.TheVariants.{NoFrames, Busy, NoProgram, BadContext, OutOfMemory}
 use Rattle.host_types.specs.Tenant.{TenantPart}
 use Rattle.bpf_decode.specs.Text.{slots_of}
 use Rattle.page_table.specs.Changes.{IsKeptBut, with_run, opened}
@@ -161,22 +161,10 @@ module _ (t k : ℕ) (old : TenantView) (context : List ℕ) (v : Accepted) (idl
 
   -- a run that isn't opened
   pub begin-not_opened : (memory : MemoryState) (f : Fault) → RefusesOpen v context memory t f → IsServed t old memory (Begin t k context) (Refused f) old memory
-  begin-not_opened memory (Program refused) refuses = absurd refuses
   begin-not_opened memory (NoFrames need have) (fits, needs, has, less) = begin-lacks_frames memory need have fits needs has less
-  begin-not_opened memory TooManyMaps refuses = absurd refuses
-  begin-not_opened memory BadShape refuses = absurd refuses
-  begin-not_opened memory NoMap refuses = absurd refuses
-  begin-not_opened memory NoElement refuses = absurd refuses
-  begin-not_opened memory Busy refuses = absurd refuses
-  begin-not_opened memory NoRun refuses = absurd refuses
-  begin-not_opened memory NoProgram refuses = absurd refuses
   begin-not_opened memory BadContext other = begin-context memory other
-  begin-not_opened memory BadOption refuses = absurd refuses
   begin-not_opened memory OutOfMemory (fits, enough) = begin-lacks_memory memory fits enough
-  begin-not_opened memory BadTenant refuses = absurd refuses
-  begin-not_opened memory InUse refuses = absurd refuses
-  begin-not_opened memory PagesShared refuses = absurd refuses
-  begin-not_opened memory TooManyPrograms refuses = absurd refuses
+  begin-not_opened memory fault refuses = absurd refuses
 
 -- what is known once a run was admitted
 pub record HasAdmitted (t : ℕ) (before after : MemoryState) (v : Accepted) : Type 0 where

@@ -1,12 +1,13 @@
 -- What a tenant's events on its maps do to it and to each system that it stands in.
-use Rattle.std.proofs.Common.{◌≡◌, ◌≢◌, ℕ, zero, suc, ◌*◌, ◌≤◌, ◌==◌, if◌then◌else◌, Bool, true, false, List, [], ◌∷◌, length, slice_index_or, slice_set, inl, inr, Option, Some, None, is_some, is_none, option_map, IsNone, IsSome, IfSome, IsSomeAnd, sym, ap, refl, ◌∙◌, subst}
+use Rattle.std.proofs.Common.{◌≡◌, ◌≢◌, ℕ, zero, suc, ◌*◌, ◌≤◌, ◌==◌, if◌then◌else◌, Bool, true, false, List, [], ◌∷◌, length, slice_index_or, slice_set, inl, inr, Option, Some, None, is_some, is_none, option_map, Result, IsErrAnd, IsNone, IsSome, IfSome, IsSomeAnd, sym, ap, refl, ◌∙◌, subst}
 use Rattle.std.specs.List.{slice_get}
 use Rattle.std.proofs.lemmas.Bool.Decides.{eqb_tells}
 use Rattle.std.proofs.lemmas.List.{length-set}
 use Rattle.std.proofs.lemmas.List.Quantifiers.{position-Some}
 use Rattle.std.proofs.lemmas.Option.{IfSome_then}
+use Rattle.std.proofs.lemmas.Result.{err_from_is_err_and}
 use Rattle.host_types.specs.declared.fault.Fault.{Fault}
-use Rattle.host_types.specs.declared.fault.Fault.TheVariants.{Program, NoFrames, TooManyMaps, BadShape, NoMap, NoElement, Busy, NoRun, NoProgram, BadContext, BadOption, OutOfMemory, BadTenant, InUse, PagesShared, TooManyPrograms}
+use Rattle.host_types.specs.declared.fault.Fault.TheVariants.{NoFrames, TooManyMaps, BadShape, NoMap, NoElement, Busy, OutOfMemory, BadTenant}
 use Rattle.host_types.specs.declared.helper.MapHelper.TheVariants.{Update}
 use Rattle.host_types.specs.declared.shape.Shape.{Shape}
 use Rattle.host_types.specs.Bytes.{with_part}
@@ -32,7 +33,7 @@ use Rattle.host_core.specs.declared.event.Reply.TheVariants.{Map, Done, Value, R
 use Rattle.host_core.specs.declared.tenant.OpenRun.{OpenRun as KeptRun}
 use Rattle.host_core.specs.World.{OpenRun, Tenant, System, pins_of, owned_by, have_in}
 use Rattle.host_core.specs.Happens.{Happens, IsPromised, RefusesCreate, RefusesHostUpdate, changed_system}
-use Rattle.host_core.specs.HostView.{TenantView, EachProgram, StandsForAnyRun, StandsForTenant, StandsForMemory, IsKept, IsServed}
+use Rattle.host_core.specs.HostView.{TenantView, reply_of, EachProgram, StandsForAnyRun, StandsForTenant, StandsForMemory, IsKept, IsServed}
 use Rattle.host_core.proofs.Worlds.{changed_system-same, OfTenant-there}
 use Rattle.host_core.proofs.Memories.{reserve-idle, owned-idle}
 use Rattle.host_core.proofs.Systems.{part_stands, have_stands, changed_stands}
@@ -43,6 +44,17 @@ is_some-run programs None None stands = refl
 is_some-run programs None (Some r) stands = absurd stands
 is_some-run programs (Some kept) None stands = absurd stands
 is_some-run programs (Some kept) (Some r) stands = refl
+
+-- what a call was told of the open run of a tenant that it sees so
+pub run_is : (old : TenantView) (programs : List (Option Accepted)) (run : Option KeptRun) (told b : Bool) → ◌≡◌ {A = TenantView} (record { programs = programs; run = run }) old → told ≡ is_some run → told ≡ b → is_some old.run ≡ b
+run_is old programs run told b seen asked is = sym (ap (λ (kept : TenantView). is_some kept.run) seen) ∙ sym asked ∙ is
+
+-- a refusal that a call passes on, and that changed nothing
+pub passed_on : (t : ℕ) (old : TenantView) (before after : MemoryState) (event : Event) (f : Fault) (result : Result Reply Fault) → IsErrAnd result (λ e. e ≡ f) → after ≡ before
+    → IsServed t old before event (Refused f) old before → IsServed t old before event (reply_of result) old after
+passed_on t old before after event f result passed unchanged served =
+    let p = err_from_is_err_and result passed in
+    rw (p.1, p.2, unchanged) served
 
 -- what is said of a run holds where there is none
 if_idle : (r : Option OpenRun) (P : OpenRun → Type 0) → IsNone r → IfSome r P
@@ -146,18 +158,26 @@ still_idle memory t seen tenant maps idle has reserve running =
     closed None idle = refl
     closed (Some r) idle = absurd (cc)
 
+-- what a call that changes one of a tenant's maps keeps, and what is known of the memory after it
+pub record HasKept (t : ℕ) (before after : MemoryState) (m : ℕ) : Type 0 where
+  pub other_maps : AreMapsKeptBut m (part before t) (part after t)
+  pub others : IsKeptBut t before after
+  pub settings : KeepsSettings before after
+  pub reads : ReadsAs after
+  pub flat : length (part after t).maps ≡ 8 → AreFlatMaps (part after t).maps
+
+pub has_kept : (t : ℕ) (before after : MemoryState) (m : ℕ) → AreMapsKeptBut m (part before t) (part after t) → IsKeptBut t before after → KeepsSettings before after → ReadsAs after
+    → (length (part after t).maps ≡ 8 → AreFlatMaps (part after t).maps) → HasKept t before after m
+has_kept t before after m other_maps others settings reads flat = record { other_maps = other_maps; others = others; settings = settings; reads = reads; flat = flat }
+
 -- what is known once a map was made
 pub record HasCreated (t : ℕ) (before after : MemoryState) (shape : Shape) (mergeable : Bool) (m : ℕ) : Type 0 where
   pub fits : FitsNewMap (part before t) shape
   pub enough : page_count shape ≤ have_of before
   pub number : free_number (part before t) ≡ Some m
   pub created : part after t ≡ part_created (part before t) m shape
-  pub other_maps : AreMapsKeptBut m (part before t) (part after t)
-  pub others : IsKeptBut t before after
   pub sharing : after.sharing ≡ with_new_pages before.sharing (map_place t m * 256) (page_count shape) mergeable
-  pub settings : KeepsSettings before after
-  pub reads : ReadsAs after
-  pub flat : length (part after t).maps ≡ 8 → AreFlatMaps (part after t).maps
+  pub kept : HasKept t before after m
 
 -- a map that is made
 pub create-made : (t : ℕ) (old : TenantView) (before after : MemoryState) (value_size entries : ℕ) (mergeable : Bool) (m : ℕ) → is_some old.run ≡ false
@@ -170,9 +190,9 @@ create-made t old before after value_size entries mergeable m idle made x tenant
     let became = made.created ∙ ap (λ o. part_created o m shape) owned in
     let is : part after t ≡ owned_by after.sharing t next = still_idle after t x.sharing tenant next.maps none (ap (λ (o : TenantPart). o.maps) became) (ap (λ (o : TenantPart). o.reserve) became) (ap (λ (o : TenantPart). o.running) became) in
     let eight : length next.maps ≡ 8 = length-set tenant.maps m (Some (zero_map shape)) ∙ stands.meets.maps.eight in
-    let flat : AreFlatMaps next.maps = subst (λ (o : TenantPart). AreFlatMaps o.maps) is (made.flat (ap (λ (o : TenantPart). length o.maps) is ∙ eight)) in
+    let flat : AreFlatMaps next.maps = subst (λ (o : TenantPart). AreFlatMaps o.maps) is (made.kept.flat (ap (λ (o : TenantPart). length o.maps) is ∙ eight)) in
     let free : free_number (owned_by x.sharing t tenant) ≡ Some m = subst (λ o. free_number o ≡ Some m) owned made.number in
-    let others : (j : ℕ) → j ≢ m → map_at next.maps j ≡ map_at tenant.maps j = subst (λ o. AreMapsKeptBut m o (owned_by after.sharing t next)) owned (subst (λ o. AreMapsKeptBut m (part before t) o) is made.other_maps) in
+    let others : (j : ℕ) → j ≢ m → map_at next.maps j ≡ map_at tenant.maps j = subst (λ o. AreMapsKeptBut m o (owned_by after.sharing t next)) owned (subst (λ o. AreMapsKeptBut m (part before t) o) is made.kept.other_maps) in
     let have : (shapes : List (Option Shape)) → HaveShapes shapes tenant.maps → HaveShapes shapes next.maps =
     λ shapes. shapes_kept shapes tenant.maps next.maps m others (λ s had. absurd (free_shapeless (owned_by x.sharing t tenant) m s free had)) in
     let sharing : Sharing = with_new_pages x.sharing (map_place t m * 256) (page_count shape) mergeable in
@@ -182,29 +202,19 @@ create-made t old before after value_size entries mergeable m idle made x tenant
       next,
       sharing,
       with_maps old tenant next.maps none stands flat have,
-      changed_stands before after x t tenant next sharing after.sharing holds there (ap length made.settings.tenants) made.settings.frames made.reads eight is made.others shares,
+      changed_stands before after x t tenant next sharing after.sharing holds there (ap length made.kept.settings.tenants) made.kept.settings.frames made.kept.reads eight is made.kept.others shares,
       OfTenant-there x t (Map m) (changed_system x t next sharing) _ tenant there (inr (none, fits, enough, (m, free, (refl, refl)))),
       tt,
     )
 
 module _ (memory : MemoryState) (x : System) (t : ℕ) (tenant : Tenant) (shape : Shape) (idle : IsNone tenant.run) (have : have_of memory ≡ have_in x) where
   refuses_create : (f : Fault) → RefusesNewMap (owned_by x.sharing t tenant) shape f → TellsHave memory f → HasFrames memory shape f → RefusesCreate x t tenant shape f
-  refuses_create (Program refused) refuses tells framed = absurd refuses
   refuses_create (NoFrames need most) refuses tells framed = (idle, refuses, tells ∙ have)
   refuses_create TooManyMaps refuses tells framed = (idle, refuses, tt)
   refuses_create BadShape refuses tells framed = (idle, refuses, tt)
-  refuses_create NoMap refuses tells framed = absurd refuses
-  refuses_create NoElement refuses tells framed = absurd refuses
-  refuses_create Busy refuses tells framed = absurd refuses
-  refuses_create NoRun refuses tells framed = absurd refuses
-  refuses_create NoProgram refuses tells framed = absurd refuses
-  refuses_create BadContext refuses tells framed = absurd refuses
-  refuses_create BadOption refuses tells framed = absurd refuses
   refuses_create OutOfMemory refuses tells framed = (idle, refuses, subst (λ n. page_count shape ≤ n) have framed)
   refuses_create BadTenant refuses tells framed = (idle, refuses, tt)
-  refuses_create InUse refuses tells framed = absurd refuses
-  refuses_create PagesShared refuses tells framed = absurd refuses
-  refuses_create TooManyPrograms refuses tells framed = absurd refuses
+  refuses_create fault refuses tells framed = absurd refuses
 
 -- a map that isn't made
 pub create-refused : (t : ℕ) (old : TenantView) (memory : MemoryState) (value_size entries : ℕ) (mergeable : Bool) (f : Fault) → is_some old.run ≡ false
@@ -231,12 +241,8 @@ pub record HasUpdated (t : ℕ) (before after : MemoryState) (m key : ℕ) (valu
   pub charged : IsCharged (part before t) m (have_of before)
   pub updated : part after t ≡ pinned_as after.sharing t (part_updated (part before t) m key value 0)
   pub helped : helper Update (part before t).maps m key value 0 ≡ Some (0, (part after t).maps)
-  pub other_maps : AreMapsKeptBut m (part before t) (part after t)
-  pub others : IsKeptBut t before after
   pub sharing : after.sharing ≡ updated_sharing (part before t) before.sharing t m key 0
-  pub settings : KeepsSettings before after
-  pub reads : ReadsAs after
-  pub flat : length (part after t).maps ≡ 8 → AreFlatMaps (part after t).maps
+  pub kept : HasKept t before after m
 
 -- an update keeps the number of maps
 length-updated : (maps : FlatMaps) (m key : ℕ) (value : List ℕ) → length (maps_updated maps m key value 0) ≡ length maps
@@ -258,8 +264,8 @@ update-done t old before after m key value idle made x tenant there stands holds
     let became = made.updated ∙ ap (λ o. pinned_as after.sharing t (part_updated o m key value 0)) owned in
     let is : part after t ≡ owned_by after.sharing t next = still_idle after t x.sharing tenant next.maps none (ap (λ (o : TenantPart). o.maps) became) (ap (λ (o : TenantPart). o.reserve) became) (ap (λ (o : TenantPart). o.running) became) in
     let eight : length next.maps ≡ 8 = length-updated tenant.maps m key value ∙ stands.meets.maps.eight in
-    let flat : AreFlatMaps next.maps = subst (λ (o : TenantPart). AreFlatMaps o.maps) is (made.flat (ap (λ (o : TenantPart). length o.maps) is ∙ eight)) in
-    let others : (j : ℕ) → j ≢ m → map_at next.maps j ≡ map_at tenant.maps j = subst (λ o. AreMapsKeptBut m o (owned_by after.sharing t next)) owned (subst (λ o. AreMapsKeptBut m (part before t) o) is made.other_maps) in
+    let flat : AreFlatMaps next.maps = subst (λ (o : TenantPart). AreFlatMaps o.maps) is (made.kept.flat (ap (λ (o : TenantPart). length o.maps) is ∙ eight)) in
+    let others : (j : ℕ) → j ≢ m → map_at next.maps j ≡ map_at tenant.maps j = subst (λ o. AreMapsKeptBut m o (owned_by after.sharing t next)) owned (subst (λ o. AreMapsKeptBut m (part before t) o) is made.kept.other_maps) in
     let have : (shapes : List (Option Shape)) → HaveShapes shapes tenant.maps → HaveShapes shapes next.maps =
     λ shapes. shapes_kept shapes tenant.maps next.maps m others (λ s had. updated_shapes tenant.maps m key value s had) in
     let sharing : Sharing = updated_sharing (owned_by x.sharing t tenant) x.sharing t m key 0 in
@@ -272,29 +278,19 @@ update-done t old before after m key value idle made x tenant there stands holds
       next,
       sharing,
       with_maps old tenant next.maps none stands flat have,
-      changed_stands before after x t tenant next sharing after.sharing holds there (ap length made.settings.tenants) made.settings.frames made.reads eight is made.others shares,
+      changed_stands before after x t tenant next sharing after.sharing holds there (ap length made.kept.settings.tenants) made.kept.settings.frames made.kept.reads eight is made.kept.others shares,
       OfTenant-there x t Done (changed_system x t next sharing) _ tenant there (inr (none, fits, charged, (next.maps, helped, (refl, refl)))),
       tt,
     )
 
 module _ (memory : MemoryState) (x : System) (t : ℕ) (tenant : Tenant) (m key : ℕ) (value : List ℕ) (idle : IsNone tenant.run) (have : have_of memory ≡ have_in x) where
   refuses_update : (f : Fault) → RefusesUpdate (owned_by x.sharing t tenant) m key value f → TellsHave memory f → RefusesHostUpdate x t tenant m key value f
-  refuses_update (Program refused) refuses tells = absurd refuses
   refuses_update (NoFrames need most) refuses tells = (idle, refuses, tells ∙ have)
-  refuses_update TooManyMaps refuses tells = absurd refuses
   refuses_update BadShape refuses tells = (idle, refuses, tt)
   refuses_update NoMap refuses tells = (idle, refuses, tt)
   refuses_update NoElement refuses tells = (idle, refuses, tt)
-  refuses_update Busy refuses tells = absurd refuses
-  refuses_update NoRun refuses tells = absurd refuses
-  refuses_update NoProgram refuses tells = absurd refuses
-  refuses_update BadContext refuses tells = absurd refuses
-  refuses_update BadOption refuses tells = absurd refuses
-  refuses_update OutOfMemory refuses tells = absurd refuses
   refuses_update BadTenant refuses tells = (idle, refuses, tt)
-  refuses_update InUse refuses tells = absurd refuses
-  refuses_update PagesShared refuses tells = absurd refuses
-  refuses_update TooManyPrograms refuses tells = absurd refuses
+  refuses_update fault refuses tells = absurd refuses
 
 -- a value that isn't written
 pub update-refused : (t : ℕ) (old : TenantView) (memory : MemoryState) (m key : ℕ) (value : List ℕ) (f : Fault) → is_some old.run ≡ false

@@ -332,123 +332,105 @@ made-in programs kept t n before x tenant r u after stood stands is_open run mad
     ap (λ s. needed_in v t s r.state) stands.sharing ∙ ap (λ q. needed_in q t x.sharing r.state) (sym same) ∙ sym (mine-open x.sharing t tenant r is_open (maps_of_run tenant r stood.meets is_open)) in
     made-moved v (accepted_of r.program) t (reserved_of before) (reserved_in x) (needed_in v t before.sharing r.state) (owned_by x.sharing t tenant).reserve _ x.frames r.state before.sharing x.sharing n u after (sym same) all mine stands.frames stands.sharing made
 
--- steps of a kept run
-made-goes_on : (programs : List (Option Accepted)) (kept after : KeptRun) (t n : ℕ) (before later : MemoryState) (x : System) (tenant : Tenant) (r : OpenRun)
-    → slice_get x.world t ≡ Some tenant → StandsForTenant (record { programs = programs; run = Some kept }) tenant → StandsForMemory before x → tenant.run ≡ Some r → (run : StandsForRun programs kept r)
-    → ReadsAs later → IsKeptBut t before later → KeepsSizes before later → after.program ≡ kept.program → after.run.steps ≡ kept.run.steps + n
-    → IsOn run.accepted r.state n t before after.run later
-    → (next : Tenant) × (sharing : Sharing) × StandsForTenant (record { programs = programs; run = Some after }) next × StandsForMemory later (changed_system x t next sharing) × StepsHappen x t n None (changed_system x t next sharing)
-made-goes_on programs kept after t n before later x tenant r there stood stands is_open run reads' others sizes same_program made did =
-    let u = did.next in
-    let v = run.accepted in
-    let same = program-same programs kept r stood.verified run in
-    let verified = verified-at programs kept.program v stood.verified run.numbered in
-    let maps = maps_of_run tenant r stood.meets is_open in
-    let counted : after.run.steps ≡ r.steps + n = made ∙ ap (λ k. k + n) run.steps in
-    let most = some_instruction v after.run u verified did.stands in
-    let few : r.steps + n < instructions_of r.program.text = subst (λ q. r.steps + n < instructions_of q.text) (sym run.program) (omega (arith, most, counted)) in
-    let led = made-in programs kept t n before x tenant r u later.sharing stood stands is_open run did.reached in
-    let (happen, come, shapes, pins) = steps-on x t tenant r n u later.sharing there is_open maps (run_reached tenant r stood.meets is_open).reached led few in
-    let next = tenant_at tenant r (r.steps + n) u in
-    let stood' = stood-on programs kept after tenant r (r.steps + n) u stood run same_program did.stands shapes counted come in
-    let stands' = changed_stands before later x t tenant next later.sharing later.sharing stands there sizes.tenants sizes.frames reads' did.stands.state.maps.eight (did.owned ∙ owned-on tenant r v (r.steps + n) t later.sharing u same) others refl in
-    (next, later.sharing, stood', stands', (replicate n (Step t), replicate n Stepped, (refl, refl), happen))
+-- Steps of a kept run in a system in which its tenant stands, and a later memory in which the others stand as they did.
+module _ (programs : List (Option Accepted)) (kept : KeptRun) (t n : ℕ) (before later : MemoryState) (x : System) (tenant : Tenant) (r : OpenRun)
+    (there : slice_get x.world t ≡ Some tenant) (stood : StandsForTenant (record { programs = programs; run = Some kept }) tenant) (stands : StandsForMemory before x) (is_open : tenant.run ≡ Some r)
+    (run : StandsForRun programs kept r) (reads' : ReadsAs later) (others : IsKeptBut t before later) (sizes : KeepsSizes before later) where
+  -- the run goes on
+  module _ (after : KeptRun) (same_program : after.program ≡ kept.program) (made : after.run.steps ≡ kept.run.steps + n) where
+    -- steps that ask nothing of its maps
+    made-goes_on : IsOn run.accepted r.state n t before after.run later → MadeSteps x t n None (record { programs = programs; run = Some after }) later
+    made-goes_on did =
+        let u = did.next in
+        let v = run.accepted in
+        let same = program-same programs kept r stood.verified run in
+        let verified = verified-at programs kept.program v stood.verified run.numbered in
+        let maps = maps_of_run tenant r stood.meets is_open in
+        let counted : after.run.steps ≡ r.steps + n = made ∙ ap (λ k. k + n) run.steps in
+        let most = some_instruction v after.run u verified did.stands in
+        let few : r.steps + n < instructions_of r.program.text = subst (λ q. r.steps + n < instructions_of q.text) (sym run.program) (omega (arith, most, counted)) in
+        let led = made-in programs kept t n before x tenant r u later.sharing stood stands is_open run did.reached in
+        let (happen, come, shapes, pins) = steps-on x t tenant r n u later.sharing there is_open maps (run_reached tenant r stood.meets is_open).reached led few in
+        let next = tenant_at tenant r (r.steps + n) u in
+        let stood' = stood-on programs kept after tenant r (r.steps + n) u stood run same_program did.stands shapes counted come in
+        let stands' = changed_stands before later x t tenant next later.sharing later.sharing stands there sizes.tenants sizes.frames reads' did.stands.state.maps.eight (did.owned ∙ owned-on tenant r v (r.steps + n) t later.sharing u same) others refl in
+        (next, later.sharing, stood', stands', (replicate n (Step t), replicate n Stepped, (refl, refl), happen))
 
--- steps, and one more that asks something of the tenant's maps
-made-answered : (programs : List (Option Accepted)) (kept after : KeptRun) (t n : ℕ) (before later : MemoryState) (x : System) (tenant : Tenant) (r : OpenRun)
-    → slice_get x.world t ≡ Some tenant → StandsForTenant (record { programs = programs; run = Some kept }) tenant → StandsForMemory before x → tenant.run ≡ Some r → (run : StandsForRun programs kept r)
-    → ReadsAs later → IsKeptBut t before later → KeepsSizes before later → after.program ≡ kept.program → after.run.steps ≡ kept.run.steps + n
-    → IsAnswered run.accepted r.state n t before after.run later
-    → (next : Tenant) × (sharing : Sharing) × StandsForTenant (record { programs = programs; run = Some after }) next × StandsForMemory later (changed_system x t next sharing) × StepsHappen x t n None (changed_system x t next sharing)
-made-answered programs kept after t n before later x tenant r there stood stands is_open run reads' others sizes same_program made did =
-    let m = did.made in
-    let h = did.here in
-    let u = did.next in
-    let v = run.accepted in
-    let last = did.last in
-    let same = program-same programs kept r stood.verified run in
-    let verified = verified-at programs kept.program v stood.verified run.numbered in
-    let maps = maps_of_run tenant r stood.meets is_open in
-    let counted : after.run.steps ≡ suc (r.steps + m) = let stepped = run.steps in omega (arith, made, last, stepped) in
-    let most = some_instruction v after.run u verified did.stands in
-    let few : suc (r.steps + m) < instructions_of r.program.text = subst (λ q. suc (r.steps + m) < instructions_of q.text) (sym run.program) (omega (arith, most, counted)) in
-    let led = made-in programs kept t m before x tenant r h did.between stood stands is_open run did.reached in
-    let (happen, come, shaped, pins) = steps-on x t tenant r m h did.between there is_open maps (run_reached tenant r stood.meets is_open).reached led (omega (arith, few)) in
-    let makes = subst (λ q. step q.text h ≡ Some (Next u)) (sym run.program) did.makes in
-    let middle = tenant_at tenant r (r.steps + m) h in
-    let next = tenant_at tenant r (suc (r.steps + m)) u in
-    let sharing = sharing_after did.between t (written r.program.text h) in
-    let shares : later.sharing ≡ sharing = did.sharing ∙ ap (λ q. sharing_after did.between t (written q.text h)) (sym run.program) in
-    let one = step-on (changed_system x t middle did.between) t middle (run_at r (r.steps + m) h) u sharing (slice_get-set x.world t tenant middle there) refl come makes refl few in
-    let twice = changed_system-twice x t middle next did.between sharing in
-    let shapes : (j : ℕ) → shape_in u.memory.maps j ≡ shape_in tenant.maps j = λ j. ap (λ m. shape_in m j) did.writes ∙ after_shapes did.need did.value h.memory.maps j ∙ shaped j in
-    let stood' = stood-on programs kept after tenant r (suc (r.steps + m)) u stood run same_program did.stands shapes counted (led-more r.program.text r.beginning (r.steps + m) h (Next u) come makes) in
-    let stands' = changed_stands before later x t tenant next sharing later.sharing stands there sizes.tenants sizes.frames reads' did.stands.state.maps.eight (did.owned ∙ owned-on tenant r v (suc (r.steps + m)) t later.sharing u same) others shares in
-    let covers = subst IsCovered (sym twice) (covered later (changed_system x t next sharing) reads' stands') in
-    let all = push-same x (changed_system x t middle did.between) (changed_system (changed_system x t middle did.between) t next sharing) m (Step t) Stepped happen one covers in
-    let all' = subst (λ y. AllHappen x (replicate (suc m) (Step t)) (replicate (suc m) Stepped) y) twice all in
-    (next, sharing, stood', stands', (replicate n (Step t), replicate n Stepped, (refl, refl), subst (λ k. AllHappen x (replicate k (Step t)) (replicate k Stepped) (changed_system x t next sharing)) (sym last) all'))
+    -- steps, and one more that asks something of the tenant's maps
+    made-answered : IsAnswered run.accepted r.state n t before after.run later → MadeSteps x t n None (record { programs = programs; run = Some after }) later
+    made-answered did =
+        let m = did.made in
+        let h = did.here in
+        let u = did.next in
+        let v = run.accepted in
+        let last = did.last in
+        let same = program-same programs kept r stood.verified run in
+        let verified = verified-at programs kept.program v stood.verified run.numbered in
+        let maps = maps_of_run tenant r stood.meets is_open in
+        let counted : after.run.steps ≡ suc (r.steps + m) = let stepped = run.steps in omega (arith, made, last, stepped) in
+        let most = some_instruction v after.run u verified did.stands in
+        let few : suc (r.steps + m) < instructions_of r.program.text = subst (λ q. suc (r.steps + m) < instructions_of q.text) (sym run.program) (omega (arith, most, counted)) in
+        let led = made-in programs kept t m before x tenant r h did.between stood stands is_open run did.reached in
+        let (happen, come, shaped, pins) = steps-on x t tenant r m h did.between there is_open maps (run_reached tenant r stood.meets is_open).reached led (omega (arith, few)) in
+        let makes = subst (λ q. step q.text h ≡ Some (Next u)) (sym run.program) did.makes in
+        let middle = tenant_at tenant r (r.steps + m) h in
+        let next = tenant_at tenant r (suc (r.steps + m)) u in
+        let sharing = sharing_after did.between t (written r.program.text h) in
+        let shares : later.sharing ≡ sharing = did.sharing ∙ ap (λ q. sharing_after did.between t (written q.text h)) (sym run.program) in
+        let one = step-on (changed_system x t middle did.between) t middle (run_at r (r.steps + m) h) u sharing (slice_get-set x.world t tenant middle there) refl come makes refl few in
+        let twice = changed_system-twice x t middle next did.between sharing in
+        let shapes : (j : ℕ) → shape_in u.memory.maps j ≡ shape_in tenant.maps j = λ j. ap (λ m. shape_in m j) did.writes ∙ after_shapes did.need did.value h.memory.maps j ∙ shaped j in
+        let stood' = stood-on programs kept after tenant r (suc (r.steps + m)) u stood run same_program did.stands shapes counted (led-more r.program.text r.beginning (r.steps + m) h (Next u) come makes) in
+        let stands' = changed_stands before later x t tenant next sharing later.sharing stands there sizes.tenants sizes.frames reads' did.stands.state.maps.eight (did.owned ∙ owned-on tenant r v (suc (r.steps + m)) t later.sharing u same) others shares in
+        let covers = subst IsCovered (sym twice) (covered later (changed_system x t next sharing) reads' stands') in
+        let all = push-same x (changed_system x t middle did.between) (changed_system (changed_system x t middle did.between) t next sharing) m (Step t) Stepped happen one covers in
+        let all' = subst (λ y. AllHappen x (replicate (suc m) (Step t)) (replicate (suc m) Stepped) y) twice all in
+        (next, sharing, stood', stands', (replicate n (Step t), replicate n Stepped, (refl, refl), subst (λ k. AllHappen x (replicate k (Step t)) (replicate k Stepped) (changed_system x t next sharing)) (sym last) all'))
 
--- steps, and one more with which the run ends
-made-ended : (programs : List (Option Accepted)) (kept : KeptRun) (run_after : Running) (t n number steps : ℕ) (before later : MemoryState) (x : System) (tenant : Tenant) (r : OpenRun)
-    → slice_get x.world t ≡ Some tenant → StandsForTenant (record { programs = programs; run = Some kept }) tenant → StandsForMemory before x → tenant.run ≡ Some r → (run : StandsForRun programs kept r)
-    → ReadsAs later → IsKeptBut t before later → KeepsSizes before later → run_after.steps ≡ kept.run.steps + n → steps ≡ run_after.steps
-    → IsEnded run.accepted r.state n t number before run_after later
-    → (next : Tenant) × (sharing : Sharing) × StandsForTenant (record { programs = programs; run = None }) next × StandsForMemory later (changed_system x t next sharing) × StepsHappen x t n (Some (Ended number steps)) (changed_system x t next sharing)
-made-ended programs kept run_after t n number steps before later x tenant r there stood stands is_open run reads' others sizes made told did =
-    let m = did.made in
-    let h = did.here in
-    let v = run.accepted in
-    let last = did.last in
-    let final = h.memory.maps in
-    let maps = maps_of_run tenant r stood.meets is_open in
-    let counted : run_after.steps ≡ suc (r.steps + m) = let stepped = run.steps in omega (arith, made, last, stepped) in
-    let few' = did.few in
-    let few : suc (r.steps + m) ≤ instructions_of r.program.text = subst (λ q. suc (r.steps + m) ≤ instructions_of q.text) (sym run.program) (omega (arith, few', counted)) in
-    let sharing = later.sharing in
-    let between = did.between in
-    let led = made-in programs kept t m before x tenant r h between stood stands is_open run did.reached in
-    let (happen, come, shapes, pins) = steps-on x t tenant r m h between there is_open maps (run_reached tenant r stood.meets is_open).reached led (omega (arith, few)) in
-    let makes = subst (λ q. step q.text h ≡ Some (Exits number final)) (sym run.program) did.makes in
-    let middle = tenant_at tenant r (r.steps + m) h in
-    let next = tenant_after tenant final in
-    let one = step-last (changed_system x t middle between) t middle (run_at r (r.steps + m) h) number final sharing (slice_get-set x.world t tenant middle there) refl come makes did.sharing few in
-    let twice = changed_system-twice x t middle next between sharing in
-    let stood' : StandsForTenant (record { programs = programs; run = None }) next = record {
-      programs = stood.programs;
-      verified = stood.verified;
-      shapes = all_have_alike programs tenant.maps final shapes stood.shapes;
-      run = tt;
-      meets = record { maps = did.flat; places = stood.meets.places; run = tt; same = tt };
-    } in
-    let owned = owned-idle later t next refl (ap (λ (o : TenantPart). o.maps) did.owned) (ap (λ (o : TenantPart). o.reserve) did.owned) (ap (λ (o : TenantPart). o.running) did.owned) in
-    let stands' = changed_stands before later x t tenant next sharing sharing stands there sizes.tenants sizes.frames reads' stood'.meets.maps.eight owned others refl in
-    let covers = subst IsCovered (sym twice) (covered later (changed_system x t next sharing) reads' stands') in
-    let all = AllHappen-push x (changed_system x t middle between) (changed_system (changed_system x t middle between) t next sharing) (replicate m (Step t)) (replicate m Stepped) (Step t) (Ended number (suc (r.steps + m))) happen one covers in
-    let all' = subst (λ y. AllHappen x (replicate m (Step t) ++ Step t ∷ []) (replicate m Stepped ++ Ended number (suc (r.steps + m)) ∷ []) y) twice all in
-    let tells : suc (r.steps + m) ≡ steps = sym counted ∙ sym told in
-    let happened = subst (λ k. AllHappen x (replicate m (Step t) ++ Step t ∷ []) (replicate m Stepped ++ Ended number k ∷ []) (changed_system x t next sharing)) tells all' in
-    (next, sharing, stood', stands', (replicate m (Step t) ++ Step t ∷ [], replicate m Stepped ++ Ended number steps ∷ [], (m, omega (arith, last), (λ e. cc), refl, refl), happened))
+    made-on : HasDone run.accepted r.state n t before after.run later None → MadeSteps x t n None (record { programs = programs; run = Some after }) later
+    made-on (went_on did) = made-goes_on did
+    made-on (answered did) = made-answered did
 
--- steps after which a run goes on
-made-on : (programs : List (Option Accepted)) (kept after : KeptRun) (t n : ℕ) (before later : MemoryState) (x : System) (tenant : Tenant) (r : OpenRun)
-    → slice_get x.world t ≡ Some tenant → StandsForTenant (record { programs = programs; run = Some kept }) tenant → StandsForMemory before x → tenant.run ≡ Some r → (run : StandsForRun programs kept r)
-    → ReadsAs later → IsKeptBut t before later → KeepsSizes before later → after.program ≡ kept.program → after.run.steps ≡ kept.run.steps + n
-    → HasDone run.accepted r.state n t before after.run later None
-    → MadeSteps x t n None (record { programs = programs; run = Some after }) later
-made-on programs kept after t n before later x tenant r there stood stands is_open run reads' others sizes same_program made (went_on did) =
-    made-goes_on programs kept after t n before later x tenant r there stood stands is_open run reads' others sizes same_program made did
-made-on programs kept after t n before later x tenant r there stood stands is_open run reads' others sizes same_program made (answered did) =
-    made-answered programs kept after t n before later x tenant r there stood stands is_open run reads' others sizes same_program made did
+  -- steps, and one more with which the run ends
+  module _ (run_after : Running) (steps : ℕ) (made : run_after.steps ≡ kept.run.steps + n) (told : steps ≡ run_after.steps) where
+    made-ended : (number : ℕ) → IsEnded run.accepted r.state n t number before run_after later → MadeSteps x t n (Some (Ended number steps)) (record { programs = programs; run = None }) later
+    made-ended number did =
+        let m = did.made in
+        let h = did.here in
+        let v = run.accepted in
+        let last = did.last in
+        let final = h.memory.maps in
+        let maps = maps_of_run tenant r stood.meets is_open in
+        let counted : run_after.steps ≡ suc (r.steps + m) = let stepped = run.steps in omega (arith, made, last, stepped) in
+        let few' = did.few in
+        let few : suc (r.steps + m) ≤ instructions_of r.program.text = subst (λ q. suc (r.steps + m) ≤ instructions_of q.text) (sym run.program) (omega (arith, few', counted)) in
+        let sharing = later.sharing in
+        let between = did.between in
+        let led = made-in programs kept t m before x tenant r h between stood stands is_open run did.reached in
+        let (happen, come, shapes, pins) = steps-on x t tenant r m h between there is_open maps (run_reached tenant r stood.meets is_open).reached led (omega (arith, few)) in
+        let makes = subst (λ q. step q.text h ≡ Some (Exits number final)) (sym run.program) did.makes in
+        let middle = tenant_at tenant r (r.steps + m) h in
+        let next = tenant_after tenant final in
+        let one = step-last (changed_system x t middle between) t middle (run_at r (r.steps + m) h) number final sharing (slice_get-set x.world t tenant middle there) refl come makes did.sharing few in
+        let twice = changed_system-twice x t middle next between sharing in
+        let stood' : StandsForTenant (record { programs = programs; run = None }) next = record {
+          programs = stood.programs;
+          verified = stood.verified;
+          shapes = all_have_alike programs tenant.maps final shapes stood.shapes;
+          run = tt;
+          meets = record { maps = did.flat; places = stood.meets.places; run = tt; same = tt };
+        } in
+        let owned = owned-idle later t next refl (ap (λ (o : TenantPart). o.maps) did.owned) (ap (λ (o : TenantPart). o.reserve) did.owned) (ap (λ (o : TenantPart). o.running) did.owned) in
+        let stands' = changed_stands before later x t tenant next sharing sharing stands there sizes.tenants sizes.frames reads' stood'.meets.maps.eight owned others refl in
+        let covers = subst IsCovered (sym twice) (covered later (changed_system x t next sharing) reads' stands') in
+        let all = AllHappen-push x (changed_system x t middle between) (changed_system (changed_system x t middle between) t next sharing) (replicate m (Step t)) (replicate m Stepped) (Step t) (Ended number (suc (r.steps + m))) happen one covers in
+        let all' = subst (λ y. AllHappen x (replicate m (Step t) ++ Step t ∷ []) (replicate m Stepped ++ Ended number (suc (r.steps + m)) ∷ []) y) twice all in
+        let tells : suc (r.steps + m) ≡ steps = sym counted ∙ sym told in
+        let happened = subst (λ k. AllHappen x (replicate m (Step t) ++ Step t ∷ []) (replicate m Stepped ++ Ended number k ∷ []) (changed_system x t next sharing)) tells all' in
+        (next, sharing, stood', stands', (replicate m (Step t) ++ Step t ∷ [], replicate m Stepped ++ Ended number steps ∷ [], (m, omega (arith, last), (λ e. cc), refl, refl), happened))
 
--- steps with the last of which it ends
-made-off : (programs : List (Option Accepted)) (kept : KeptRun) (run_after : Running) (t n number steps : ℕ) (before later : MemoryState) (x : System) (tenant : Tenant) (r : OpenRun)
-    → slice_get x.world t ≡ Some tenant → StandsForTenant (record { programs = programs; run = Some kept }) tenant → StandsForMemory before x → tenant.run ≡ Some r → (run : StandsForRun programs kept r)
-    → ReadsAs later → IsKeptBut t before later → KeepsSizes before later → run_after.steps ≡ kept.run.steps + n → steps ≡ run_after.steps
-    → HasDone run.accepted r.state n t before run_after later (Some number)
-    → MadeSteps x t n (Some (Ended number steps)) (record { programs = programs; run = None }) later
-made-off programs kept run_after t n number steps before later x tenant r there stood stands is_open run reads' others sizes made told (ended k did) =
-    made-ended programs kept run_after t n k steps before later x tenant r there stood stands is_open run reads' others sizes made told did
+    made-off : (number : ℕ) → HasDone run.accepted r.state n t before run_after later (Some number) → MadeSteps x t n (Some (Ended number steps)) (record { programs = programs; run = None }) later
+    made-off number (ended k did) = made-ended k did
 
 -- steps that were made in one go, after which a kept run goes on
 pub made-steps : (programs : List (Option Accepted)) (kept after : KeptRun) (t limit steps : ℕ) (before later : MemoryState)
@@ -460,7 +442,7 @@ made-steps programs kept after t limit steps before later reads reads' others si
     let (n, some, few, made, done) = advanced run.accepted r.state (under-way programs kept t before x tenant r there stood stands is_open run) in
     let whole : n ≡ steps = omega (arith, made, counted) in
     subst (λ k. MadeSteps x t k None (record { programs = programs; run = Some after }) later) whole
-    (made-on programs kept after t n before later x tenant r there stood stands is_open run reads' others sizes same_program made done)
+    (made-on programs kept t n before later x tenant r there stood stands is_open run reads' others sizes after same_program made done)
 
 -- steps that were made in one go, with the last of which it ended
 pub made-last_step : (programs : List (Option Accepted)) (kept : KeptRun) (run_after : Running) (t limit number made total : ℕ) (before later : MemoryState)
@@ -472,7 +454,7 @@ made-last_step programs kept run_after t limit number made total before later re
     let (n, some, few, stepped, done) = advanced run.accepted r.state (under-way programs kept t before x tenant r there stood stands is_open run) in
     let whole : n ≡ made = omega (arith, stepped, counted) in
     subst (λ k. MadeSteps x t k (Some (Ended number total)) (record { programs = programs; run = None }) later) whole
-    (made-off programs kept run_after t n number total before later x tenant r there stood stands is_open run reads' others sizes stepped told done)
+    (made-off programs kept t n before later x tenant r there stood stands is_open run reads' others sizes run_after total stepped told number done)
 
 -- a kept run that advanced made one step at least, and no more than its limit
 pub advanced-some : (programs : List (Option Accepted)) (kept : KeptRun) (after : Running) (t limit : ℕ) (last : Option ℕ) (before later : MemoryState)

@@ -1,5 +1,5 @@
 -- A run that a worker drives, from one step to the next.
-use Rattle.std.proofs.Common.{◌≡◌, ◌≤◌, ◌<◌, ◌+◌, ℕ, List, suc, Some, refl, sym, ap, ◌∙◌, arith}
+use Rattle.std.proofs.Common.{◌≡◌, ◌≤◌, ◌<◌, ◌+◌, ℕ, List, suc, Some, sym, ap, ◌∙◌, arith}
 use Rattle.host_types.specs.Tenant.{TenantPart}
 use Rattle.bpf_decode.specs.Text.{instructions_of}
 use Rattle.verifier.specs.Reserve.{reserve_from}
@@ -8,10 +8,11 @@ use Rattle.admission.specs.Reserve.{needed_from}
 use Rattle.admission.proofs.Falling.{needed_falls}
 use Rattle.verifier.specs.Verified.{Accepted, IsVerified}
 use Rattle.interp.specs.declared.need.Need.{Need}
-use Rattle.interp.specs.declared.need.Need.TheVariants.{Private, Ended, Load, Store, Lookup, Update, Delete}
+use Rattle.interp.specs.declared.need.Need.TheVariants.{Private, Ended}
 use Rattle.interp.specs.Machine.{MachineState, Next, Exits, step}
 use Rattle.interp.specs.Runs.{Reaches}
-use Rattle.interp.specs.StandsFor.{Running, StandsFor, IsBegun, Asks, Follows}
+use Rattle.interp.specs.StandsFor.{Running, StandsFor, IsBegun, Follows}
+use Rattle.interp.proofs.Following.{asks_of}
 use Rattle.tenant_runs.specs.UnderWay.{IsUnderWay, IsAsking}
 use Rattle.turn.specs.Seats.{SeatState}
 use Rattle.tenant_workers.specs.Calls.{IsSameSeat, resting_with}
@@ -47,15 +48,6 @@ private_on v start run after s now followed (t, makes, maps, quiet, less, stands
         reserve = rw slot (omega (arith, falls, reserve));
       };
     }
-
-asks_of : (v : Accepted) (s : MachineState) (need : Need) (after : Running) → (need ≡ Private → ⊥) → ((number : ℕ) → need ≡ Ended number → ⊥) → Follows v s need after → Asks v s need after
-asks_of v s Private after some going follows = absurd (some refl)
-asks_of v s (Ended number) after some going follows = absurd (going number refl)
-asks_of v s (Load m at size) after some going follows = follows
-asks_of v s (Store m at size number) after some going follows = follows
-asks_of v s (Lookup m key) after some going follows = follows
-asks_of v s (Update m key flags) after some going follows = follows
-asks_of v s (Delete m key) after some going follows = follows
 
 -- what a run asks in the state that it stood for
 pub asks_now : (v : Accepted) (run after : Running) (s : MachineState) (need : Need) (now : TenantPart) → IsUnderWay v run s now → (need ≡ Private → ⊥) → ((number : ℕ) → need ≡ Ended number → ⊥) → Follows v s need after

@@ -52,21 +52,9 @@ take_wins id me s r home there =
 take_loses : (id : ℕ) (me : Me (Option MemoryState) SeatView) (s : State (Option MemoryState) SeatView) (r : IsInTurn s)
     → IsOut s r.memory → get_elem? s.views id ≡ some me.0 → CanTake id me s
 take_loses id me s r out there =
-    let same : IsInTurn (state (1 ∷ []) (none ∷ []) s.views) = record {
-      memory = r.memory;
-      apart = r.apart;
-      agree = r.agree;
-      place = inr (record {
-        word = refl;
-        slot = refl;
-        holder = out.holder;
-        view = out.view;
-        there = out.there;
-        holds = out.holds;
-        seen = out.seen;
-        alone = out.alone;
-      });
-    } in
+    let same : IsInTurn (state (1 ∷ []) (none ∷ []) s.views) =
+    subst (λ (homes : List (mathlib.Core.Option.Option (Option MemoryState))). IsInTurn (state (1 ∷ []) homes s.views)) out.slot
+    (subst (λ (words : List ℕ). IsInTurn (state words s.homes s.views)) out.word r) in
     let next : IsInTurn (state (1 ∷ []) (none ∷ []) (set s.views id me.0)) =
     subst (λ (views : List SeatView). IsInTurn (state (1 ∷ []) (none ∷ []) views)) (sym (set_again s.views id me.0 there)) same in
     let found : CanTake id me (state (1 ∷ []) (none ∷ []) s.views) =

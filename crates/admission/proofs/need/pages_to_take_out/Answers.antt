@@ -12,17 +12,13 @@ loop-map-init c =
     (unpinned_none (writes_from c.args.program.now c.args.slot) (pages_of_map owned) owned.pins, omega arith)
 
 pub overflow_add-pages : goal.overflow_add-pages
-overflow_add-pages c =
-    let (sum, few) = c.loop-map.invariant in
-    let one = c.may_take_out-pages.ensures.few in
-    omega (arith, few, one, c.loop-map-test.true)
+overflow_add-pages c = omega (arith, c.loop-map.invariant.1, c.may_take_out-pages.ensures.few, c.loop-map-test.true)
 
 pub loop-map-preserved : goal.loop-map-preserved
 loop-map-preserved c =
     let owned = part c.args.memory.now c.args.tenant in
     let (sum, few) = c.loop-map.invariant in
-    let one = c.may_take_out-pages.ensures.few in
-    (unpinned_next (writes_from c.args.program.now c.args.slot) (pages_of_map owned) owned.pins c.loop-map.map c.loop-map.pages c.may_take_out-pages.result sum c.may_take_out-pages.ensures.number, omega (arith, few, one))
+    (unpinned_next (writes_from c.args.program.now c.args.slot) (pages_of_map owned) owned.pins c.loop-map.map c.loop-map.pages c.may_take_out-pages.result sum c.may_take_out-pages.ensures.number, omega (arith, few, c.may_take_out-pages.ensures.few))
 
 pub returns : goal.returns
 returns c =

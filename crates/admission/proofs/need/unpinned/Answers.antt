@@ -10,17 +10,13 @@ pub loop-map-init : goal.loop-map-init
 loop-map-init c = (unpinned_none (writes_from c.args.program.now 0) (pages_asked c.args.program.now.subject) (replicate 2048 false), omega arith)
 
 pub overflow_add-pages : goal.overflow_add-pages
-overflow_add-pages c =
-    let (sum, few) = c.loop-map.invariant in
-    let one = c.may_write-pages.ensures.few in
-    omega (arith, few, one, c.loop-map-test.true)
+overflow_add-pages c = omega (arith, c.loop-map.invariant.1, c.may_write-pages.ensures.few, c.loop-map-test.true)
 
 pub loop-map-preserved : goal.loop-map-preserved
 loop-map-preserved c =
     let v = c.args.program.now in
     let (sum, few) = c.loop-map.invariant in
-    let one = c.may_write-pages.ensures.few in
-    (unpinned_next (writes_from v 0) (pages_asked v.subject) (replicate 2048 false) c.loop-map.map c.loop-map.pages c.may_write-pages.result sum c.may_write-pages.ensures.number, omega (arith, few, one))
+    (unpinned_next (writes_from v 0) (pages_asked v.subject) (replicate 2048 false) c.loop-map.map c.loop-map.pages c.may_write-pages.result sum c.may_write-pages.ensures.number, omega (arith, few, c.may_write-pages.ensures.few))
 
 pub returns : goal.returns
 returns c =

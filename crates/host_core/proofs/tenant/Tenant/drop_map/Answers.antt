@@ -1,23 +1,23 @@
 use Rattle.std.proofs.Common.{◌≡◌, not, is_some, true, false, ◌∙◌, sym, ap, subst}
 use Rattle.std.specs.List.{list_any}
-use Rattle.std.proofs.lemmas.Result.{err_from_is_err_and}
 use Rattle.host_types.specs.declared.fault.Fault.TheVariants.{InUse}
 use Rattle.host_types.specs.Memory.{map_at}
 use Rattle.page_table.specs.State.{part}
 use Rattle.host_core.specs.declared.event.Event.TheVariants.{DropMap}
 use Rattle.host_core.specs.declared.event.Reply.TheVariants.{Done, Refused}
 use Rattle.host_core.specs.HostView.{TenantView, IsServed, names_in}
+use Rattle.host_core.proofs.Serving.{run_is, passed_on, has_kept}
 use Rattle.host_core.proofs.Leaving.{drop-busy, drop-missing, drop-in_use, drop-not_there, drop-done, kept-inside, shape-found, lent-used}
 use Rattle.host_core.proofs.tenant.Tenant.drop_map.Goals as goal
 
 pub returns-then-is_some : goal.returns-then-is_some
 returns-then-is_some c =
-    let busy : is_some c.args.self.now.run ≡ true = sym (ap (λ (kept : TenantView). is_some kept.run) c.self.view_is) ∙ sym c.is_some.ensures ∙ c.if-is_some.true in
+    let busy = run_is c.args.self.now c.self.inside.programs c.self.inside.run c.is_some.result true c.self.view_is c.is_some.ensures c.if-is_some.true in
     drop-busy c.args.number c.args.map c.args.self.now c.args.memory.now busy
 
 pub returns-then-is_none : goal.returns-then-is_none
 returns-then-is_none c =
-    let idle : is_some c.args.self.now.run ≡ false = sym (ap (λ (kept : TenantView). is_some kept.run) c.self.view_is) ∙ sym c.is_some.ensures ∙ c.if-is_some.false in
+    let idle = run_is c.args.self.now c.self.inside.programs c.self.inside.run c.is_some.result false c.self.view_is c.is_some.ensures c.if-is_some.false in
     let found = map_at (part c.args.memory.now c.args.number).maps c.args.map in
     let missing : is_some found ≡ false = sym (shape-found found) ∙ ap is_some (sym c.shape.ensures.shape) ∙ c.is_none.ensures ∙ ap not c.if-is_none.true in
     drop-missing c.args.number c.args.map c.args.self.now c.args.memory.now idle missing
@@ -34,14 +34,12 @@ returns-then-is_used c =
 
 pub returns-in_err-drop_map : goal.returns-in_err-drop_map
 returns-in_err-drop_map c =
-    let idle : is_some c.args.self.now.run ≡ false = sym (ap (λ (kept : TenantView). is_some kept.run) c.self.view_is) ∙ sym c.is_some.ensures ∙ c.if-is_some.false in
+    let idle = run_is c.args.self.now c.self.inside.programs c.self.inside.run c.is_some.result false c.self.view_is c.is_some.ensures c.if-is_some.false in
     let event = DropMap c.args.number c.args.map in
     let call = c.in_err-drop_map.ensures in
     let inside = kept-inside c.args.number c.args.self.now c.args.memory.now c.requires.kept in
-    let served = drop-not_there c.args.number c.args.map c.args.self.now c.args.memory.now idle c.in_err-drop_map.field-0.0 inside call.err in
-    let unchanged = subst (λ after. IsServed c.args.number c.args.self.now c.args.memory.now event (Refused c.in_err-drop_map.field-0.0) c.args.self.now after) (sym call.unchanged) served in
-    let p = err_from_is_err_and c.from_residual.result c.from_residual.ensures.1 in
-    rw (p.1, p.2) unchanged
+    passed_on c.args.number c.args.self.now c.args.memory.now c.drop_map.new.self event c.in_err-drop_map.field-0.0 c.from_residual.result c.from_residual.ensures.1 call.unchanged
+    (drop-not_there c.args.number c.args.map c.args.self.now c.args.memory.now idle c.in_err-drop_map.field-0.0 inside call.err)
 
 pub returns : goal.returns
 returns c =
@@ -52,11 +50,7 @@ returns c =
     let served = drop-done c.args.number kept c.args.memory.now c.drop_map.new.self c.args.map idle unused (record {
       there = call.there;
       taken = call.dropped;
-      other_maps = call.other_maps;
-      others = call.others;
       sharing = call.sharing;
-      settings = call.settings;
-      reads = c.facts.ensures;
-      flat = c.maps_are_flat.ensures.flat c.args.number;
+      kept = has_kept c.args.number c.args.memory.now c.drop_map.new.self c.args.map call.other_maps call.others call.settings c.facts.ensures (c.maps_are_flat.ensures.flat c.args.number);
     }) in
     subst (λ seen. IsServed c.args.number seen c.args.memory.now (DropMap c.args.number c.args.map) Done seen c.drop_map.new.self) c.self.view_is served

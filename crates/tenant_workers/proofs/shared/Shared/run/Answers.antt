@@ -5,7 +5,6 @@ use Rattle.page_table.specs.Changes.{with_run}
 use Rattle.admission.specs.Reserve.{needed_from}
 use Rattle.interp.specs.Fits.{HaveShapes}
 use Rattle.interp.specs.Machine.{start_state}
-use Rattle.interp.specs.Runs.{Runs}
 use Rattle.tenant_runs.specs.UnderWay.{IsUnderWay}
 use Rattle.turn.specs.Seats.{own_part}
 use Rattle.tenant_workers.proofs.shared.Shared.run.Goals as goal
