@@ -6,8 +6,6 @@ mod event;
 mod host;
 mod instruction;
 mod program;
-#[cfg(test)]
-mod tests;
 
 ghost use Rattle.std.specs.Prelude.{◌↔◌, IsSome, IsTrue};
 ghost use Rattle.advice.specs.Answered.{is_answered};

@@ -5,7 +5,7 @@ use Rattle.host_types.specs.Pins.{released}
 use Rattle.host_types.specs.Tenant.{TenantPart}
 use Rattle.page_table.specs.Changes.{with_reserve, without_run}
 use Rattle.page_table.specs.Reads.{ReadsAs}
-use Rattle.page_table.specs.State.{MemoryState, part, have_of, free_of}
+use Rattle.page_table.specs.State.{MemoryState, part, free_of}
 use Rattle.verifier.specs.Reserve.{reserve_from}
 use Rattle.verifier.specs.Writes.{writes_from}
 use Rattle.verifier.specs.Verified.{Accepted}
@@ -54,13 +54,15 @@ needed_behind programs kept v s next t before under less =
     let reserve = under.reserve in
     omega (arith, falls, reserve)
 
--- so that may be recorded
-pub step_room : (programs : List (Option Accepted)) (kept : KeptRun) (v : Accepted) (s : MachineState) (t : ℕ) (run : Running) (before : MemoryState)
-    → IsUnderWayAt programs kept v s (part before t) → Follows v s Private run → needed_from v (part before t) run.slot ≤ have_of before + (part before t).reserve
-step_room programs kept v s t run before under (next, makes, maps, quiet, less, stands) =
-    let falls : needed_from v (part before t) run.slot ≤ (part before t).reserve =
-    subst (λ slot. needed_from v (part before t) slot ≤ (part before t).reserve) (sym stands.slot) (needed_behind programs kept v s next t before under less) in
-    omega (arith, falls)
+-- so what is recorded needs to be lowered alone
+pub step_behind : (programs : List (Option Accepted)) (kept : KeptRun) (v : Accepted) (s : MachineState) (t : ℕ) (run : Running) (before : MemoryState)
+    → IsUnderWayAt programs kept v s (part before t) → Follows v s Private run → needed_from v (part before t) run.slot ≤ (part before t).reserve
+step_behind programs kept v s t run before under (next, makes, maps, quiet, less, stands) =
+    subst (λ slot. needed_from v (part before t) slot ≤ (part before t).reserve) (sym stands.slot) (needed_behind programs kept v s next t before under less)
+
+-- and where nothing is reserved, nothing has to be
+pub none_left : (owned : TenantPart) (n : ℕ) → n ≤ owned.reserve → owned.reserve ≡ 0 → owned ≡ with_reserve n owned
+none_left owned n le none = let same : n ≡ owned.reserve = omega (arith, le, none) in rw same refl
 
 -- a step that asks nothing, after which just what is left of the run is reserved
 pub step_private : (programs : List (Option Accepted)) (kept : KeptRun) (v : Accepted) (s : MachineState) (t : ℕ) (run : Running) (before after : MemoryState)

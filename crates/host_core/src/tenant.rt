@@ -380,6 +380,10 @@ impl OpenRun {
         memory.facts();
         match self.run.next(program) {
             Need::Private => {
+                // Most steps have no store ahead of them: nothing is reserved then, and there is nothing to lower.
+                if memory.reserve(tenant) == 0 {
+                    return None;
+                }
                 let left = needed(program, memory, tenant, self.run.slot());
                 memory.record(tenant, left);
                 None

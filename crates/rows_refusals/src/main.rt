@@ -1,4 +1,4 @@
-//! Prints the table of refusals, to which docs/GUIDE.md refers. The gate compares what is printed with
+//! Prints the tables of refusals, to which docs/GUIDE.md refers. The gate compares what is printed with
 //! the file `stdout` of this crate, which is the document.
 #![tactic(auto)]
 
@@ -6,9 +6,12 @@ ghost use Rattle.std.specs.Prelude.{◌≡◌, ◌↔◌, IfSome, IsSome, IsTrue
 ghost use Rattle.advice.specs.Answered.{is_answered};
 ghost use Rattle.host_types.specs.Refusals.{fault_number};
 
+mod text;
+
 use advice::advice_on;
 use host_types::{Fault, Refused};
 use std::io;
+use text::print_instructions;
 
 /// What stands above the rows.
 const HEAD: &str = "# Refusals\n\n\
@@ -56,5 +59,5 @@ fn main(rt: HostRuntime) -> io::Result<()> {
             println!(rt; "| {number} | {name} | {wrong} | {mend} |")?;
         }
     }
-    Ok(())
+    print_instructions(&rt)
 }

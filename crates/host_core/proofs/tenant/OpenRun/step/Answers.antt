@@ -1,4 +1,4 @@
-use Rattle.std.proofs.Common.{◌≡◌, ◌∙◌, None, Some, sym, subst, refl, ap}
+use Rattle.std.proofs.Common.{◌≡◌, ◌∙◌, None, Some, sym, subst, refl, ap, arith}
 use Rattle.host_types.specs.Pins.{released}
 use Rattle.admission.specs.Reserve.{needed_from}
 use Rattle.interp.specs.declared.need.Need.{Need}
@@ -9,7 +9,7 @@ use Rattle.page_table.specs.State.{MemoryState, part}
 use Rattle.tenant_runs.proofs.Rooms.{record_keeps, ended_keeps}
 use Rattle.host_core.specs.Stretches.{IsUnderWayAt, HasAdvanced}
 use Rattle.host_core.proofs.Advances.{program_is}
-use Rattle.host_core.proofs.OneStep.{asks_of, step_asking, step_room, step_private, step_ended, step_answered}
+use Rattle.host_core.proofs.OneStep.{asks_of, step_asking, step_behind, none_left, step_private, step_ended, step_answered}
 use Rattle.host_core.proofs.tenant.OpenRun.step.Goals as goal
 use Rattle.host_core.proofs.tenant.OpenRun.step.Goals.{In-Some}
 
@@ -38,8 +38,8 @@ record-requires-clause-room c =
     let at = here (goal.at.record-requires-clause-room c).In-Some v s under in
     let follows = c.next.ensures.follows s at.stands in
     let private = subst (λ (need : Need). Follows c.in-Some.program s need c.next.new.self) c.in-Private.is follows in
-    let room = step_room c.args.programs.now c.args.self.now c.in-Some.program s c.args.tenant c.next.new.self c.args.memory.now at private in
-    rw (c.needed-left.ensures, c.slot.ensures) room
+    let behind = step_behind c.args.programs.now c.args.self.now c.in-Some.program s c.args.tenant c.next.new.self c.args.memory.now at private in
+    rw (c.needed-left.ensures, c.slot.ensures) (omega (arith, behind))
 
 pub release-requires : goal.release-requires
 release-requires c =
@@ -53,9 +53,9 @@ answer-requires c =
     let asks = asks_of c.in-Some.program s c.next.result c.next.new.self c.in_default-next.not-Private c.in_default-next.not-Ended (c.next.ensures.follows s at.stands) in
     record { asks = (s, step_asking c.args.programs.now c.args.self.now c.in-Some.program s c.args.tenant c.next.result c.next.new.self c.args.memory.now at asks) }
 
-pub returns-in-Private-clause-advanced : goal.returns-in-Private-clause-advanced
-returns-in-Private-clause-advanced c v s under =
-    let place = (goal.at.returns-in-Private-clause-advanced c).In-Some in
+pub returns-else-reserve-eq0-clause-advanced : goal.returns-else-reserve-eq0-clause-advanced
+returns-else-reserve-eq0-clause-advanced c v s under =
+    let place = (goal.at.returns-else-reserve-eq0-clause-advanced c).In-Some in
     let at = here place v s under in
     let private = subst (λ (need : Need). Follows c.in-Some.program s need c.next.new.self) c.in-Private.is (c.next.ensures.follows s at.stands) in
     let left : c.needed-left.result ≡ needed_from c.in-Some.program (part c.args.memory.now c.args.tenant) c.next.new.self.slot =
@@ -65,11 +65,23 @@ returns-in-Private-clause-advanced c v s under =
     (step_private c.args.programs.now c.args.self.now c.in-Some.program s c.args.tenant c.next.new.self c.args.memory.now c.record.new.self
     at c.facts-2.ensures private c.next.ensures.steps (rw left at c.record.ensures.recorded) sharing)
 
-pub returns-in-Private-clause-others : goal.returns-in-Private-clause-others
-returns-in-Private-clause-others c = c.record.ensures.others
+pub returns-else-reserve-eq0-clause-others : goal.returns-else-reserve-eq0-clause-others
+returns-else-reserve-eq0-clause-others c = c.record.ensures.others
 
-pub returns-in-Private-clause-sizes : goal.returns-in-Private-clause-sizes
-returns-in-Private-clause-sizes c = record_keeps c.args.memory.now c.record.new.self c.args.tenant _ c.record.ensures.all
+pub returns-else-reserve-eq0-clause-sizes : goal.returns-else-reserve-eq0-clause-sizes
+returns-else-reserve-eq0-clause-sizes c = record_keeps c.args.memory.now c.record.new.self c.args.tenant _ c.record.ensures.all
+
+pub returns-then-reserve-eq0-clause-advanced : goal.returns-then-reserve-eq0-clause-advanced
+returns-then-reserve-eq0-clause-advanced c v s under =
+    let place = (goal.at.returns-then-reserve-eq0-clause-advanced c).In-Some in
+    let at = here place v s under in
+    let private = subst (λ (need : Need). Follows c.in-Some.program s need c.next.new.self) c.in-Private.is (c.next.ensures.follows s at.stands) in
+    let owned = part c.args.memory.now c.args.tenant in
+    let behind = step_behind c.args.programs.now c.args.self.now c.in-Some.program s c.args.tenant c.next.new.self c.args.memory.now at private in
+    let none : owned.reserve ≡ 0 = omega (arith, c.reserve.ensures, c.if-reserve-eq0.true) in
+    subst (λ p. HasAdvanced p s c.args.tenant 1 c.args.self.now.run c.args.memory.now None c.next.new.self c.args.memory.now) (same place v s under)
+    (step_private c.args.programs.now c.args.self.now c.in-Some.program s c.args.tenant c.next.new.self c.args.memory.now c.args.memory.now
+    at c.facts-2.ensures private c.next.ensures.steps (none_left owned _ behind none) refl)
 
 pub returns-in-Ended-clause-advanced : goal.returns-in-Ended-clause-advanced
 returns-in-Ended-clause-advanced c v s under =
