@@ -12,6 +12,9 @@ use std::simd::prelude::*;
 /// How many bytes are looked at between two branches.
 const STEP: usize = 256;
 
+/// How many bytes are looked at before all others: where two pages differ, they mostly do there.
+const HEAD: usize = 8;
+
 /// Whether two lists of bytes, of one length, are the same.
 pub(crate) fn same(a: &[u8], b: &[u8]) -> bool
     requires { length a.now ≡ length b.now }
@@ -23,6 +26,20 @@ pub(crate) fn same(a: &[u8], b: &[u8]) -> bool
 
 /// How two lists of bytes, of one length, compare, byte by byte from the first.
 pub(crate) fn order(a: &[u8], b: &[u8]) -> Ordering
+    requires { length a.now ≡ length b.now }
+    ensures { result ≡ slice_cmp nat_cmp a.now b.now }
+{
+    let head = a.len().min(HEAD);
+    let first = a[..head].cmp(&b[..head]);
+    if first != Ordering::Equal {
+        return first;
+    }
+    order_by_steps(a, b)
+}
+
+/// The same where the first bytes are mostly alike. It stands apart, so that `order` needs no registers for it.
+#[inline(never)]
+fn order_by_steps(a: &[u8], b: &[u8]) -> Ordering
     requires { length a.now ≡ length b.now }
     ensures { result ≡ slice_cmp nat_cmp a.now b.now }
 {

@@ -18,6 +18,7 @@ pub enum Entered {
 }
 
 /// How the content of a place stands to a frame's, by one look at most: a frame isn't compared with itself.
+#[inline(always)]
 pub(crate) fn order_at(frames: &[u32], arena: &mut Counted, at: u32, frame: u32) -> Ordering
     requires inside { at < length frames.now }
     requires framed { slice_index_or frames.now at 0 < length arena.old.pages }
@@ -48,15 +49,16 @@ pub fn find(
     ensures pages { arena.new.pages ≡ arena.old.pages }
     ensures few { arena.new.steps ≤ arena.old.steps + height_at nodes.now link }
 {
-    if link == NONE {
-        return None;
+    let mut at = link;
+    while at != NONE {
+        let node = nodes[at as usize];
+        match order_at(frames, arena, at, frame) {
+            Ordering::Less => at = node.right,
+            Ordering::Equal => return Some(at),
+            Ordering::Greater => at = node.left,
+        }
     }
-    let node = nodes[link as usize];
-    match order_at(frames, arena, link, frame) {
-        Ordering::Less => find(nodes, frames, arena, node.right, frame),
-        Ordering::Equal => Some(link),
-        Ordering::Greater => find(nodes, frames, arena, node.left, frame),
-    }
+    None
 }
 
 /// Puts a place into what hangs at a link, unless the content of its frame is there.
