@@ -36,11 +36,11 @@ by_both P none more (suc n) (x ∷ xs) (y ∷ ys) p q = more n x y xs ys (by_bot
 
 pub zeros-xor : (n : ℕ) (xs ys : List ℕ) → length xs ≡ n → length ys ≡ n → (zip2 bit_xor xs ys ≡ replicate n 0) ↔ (xs ≡ ys)
 zeros-xor = by_both (λ n xs ys. (zip2 bit_xor xs ys ≡ replicate n 0) ↔ (xs ≡ ys)) (λ _. refl, λ _. refl) (
-  λ n x y xs ys rest. (
-    λ e. let first : x ≡ y = same_from_xor x y (ap head_of e) in let later : xs ≡ ys = rest.0 (ap (drop 1) e) in rw (first, later) refl,
-    λ e. let first : x ≡ y = ap head_of e in let later : xs ≡ ys = ap (drop 1) e in
-        let none : bit_xor x y ≡ 0 = rw first (xor_self y) in rw (none, rest.1 later) refl,
-  ))
+    λ n x y xs ys rest. (
+      λ e. let first : x ≡ y = same_from_xor x y (ap head_of e) in let later : xs ≡ ys = rest.0 (ap (drop 1) e) in rw (first, later) refl,
+      λ e. let first : x ≡ y = ap head_of e in let later : xs ≡ ys = ap (drop 1) e in
+          let none : bit_xor x y ≡ 0 = rw first (xor_self y) in rw (none, rest.1 later) refl,
+    ))
 
 -- bits of two numbers together are none where both have none
 zero_from_or : (x y : ℕ) → bit_or x y ≡ 0 → (x ≡ 0) × (y ≡ 0)
@@ -48,11 +48,11 @@ zero_from_or x y e = (omega (arith, e, le_or_l x y), omega (arith, e, le_or_r x 
 
 pub zeros-or : (n : ℕ) (xs ys : List ℕ) → length xs ≡ n → length ys ≡ n → (zip2 bit_or xs ys ≡ replicate n 0) ↔ ((xs ≡ replicate n 0) × (ys ≡ replicate n 0))
 zeros-or = by_both (λ n xs ys. (zip2 bit_or xs ys ≡ replicate n 0) ↔ ((xs ≡ replicate n 0) × (ys ≡ replicate n 0))) (λ _. (refl, refl), λ _. refl) (
-  λ n x y xs ys rest. (
-    λ e. let first = zero_from_or x y (ap head_of e) in let later = rest.0 (ap (drop 1) e) in (rw (first.0, later.0) refl, rw (first.1, later.1) refl),
-    λ e. let x_none : x ≡ 0 = ap head_of e.0 in let y_none : y ≡ 0 = ap head_of e.1 in
-        rw (x_none, y_none, rest.1 (ap (drop 1) e.0, ap (drop 1) e.1)) refl,
-  ))
+    λ n x y xs ys rest. (
+      λ e. let first = zero_from_or x y (ap head_of e) in let later = rest.0 (ap (drop 1) e) in (rw (first.0, later.0) refl, rw (first.1, later.1) refl),
+      λ e. let x_none : x ≡ 0 = ap head_of e.0 in let y_none : y ≡ 0 = ap head_of e.1 in
+          rw (x_none, y_none, rest.1 (ap (drop 1) e.0, ap (drop 1) e.1)) refl,
+    ))
 
 -- four vectors
 pub zeros-or_four : (n : ℕ) (first second third fourth : List ℕ) → length first ≡ n → length second ≡ n → length third ≡ n → length fourth ≡ n
