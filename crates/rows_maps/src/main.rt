@@ -26,19 +26,14 @@ use std::alloc::{AllocError, Global};
 use std::io;
 use tests_inputs::rounds_of;
 
-/// What is asked of the texts that a row's program becomes by a change.
-trait Texts {
-    /// Compares the texts of a row whose program does as the row says.
-    fn judge(&mut self, alloc: Global, row: &Row) -> Result<Finding, AllocError>;
-}
-
-/// The rows: of each its program is compared, and then its texts.
+/// How many changed texts are refused or go alike.
 #[derive(Drop)]
-struct Compared<'a, T> {
-    texts: &'a mut T,
+struct Changed {
+    texts: usize,
 }
 
-impl<T: Texts> Rows for Compared<'_, T> {
+impl Rows for Changed {
+    /// Compares the programs of a row.
     fn compare(
         &mut self,
         alloc: Global,
@@ -46,21 +41,15 @@ impl<T: Texts> Rows for Compared<'_, T> {
         _number: usize,
     ) -> Result<Finding, AllocError> {
         match Row::parse(alloc, line) {
-            Some(row) if agrees(alloc, &row) => self.texts.judge(alloc, &row),
+            Some(row) if agrees(alloc, &row) => self.changed(alloc, &row),
             _ => Ok(Finding::Differs),
         }
     }
 }
 
-/// How many changed texts are refused or go alike.
-#[derive(Drop)]
-struct Changed {
-    texts: usize,
-}
-
-impl Texts for Changed {
+impl Changed {
     /// Compares the texts that a row's program becomes, and counts those that go alike.
-    fn judge(&mut self, alloc: Global, row: &Row) -> Result<Finding, AllocError> {
+    fn changed(&mut self, alloc: Global, row: &Row) -> Result<Finding, AllocError> {
         if !is_small(&row.setting) {
             return Ok(Finding::Agrees);
         }
@@ -81,9 +70,24 @@ struct Drawing {
     drawn: Drawn,
 }
 
-impl Texts for Drawing {
+impl Rows for Drawing {
+    /// Draws texts of an accepted program of a row.
+    fn compare(
+        &mut self,
+        alloc: Global,
+        line: &str,
+        _number: usize,
+    ) -> Result<Finding, AllocError> {
+        match Row::parse(alloc, line) {
+            Some(row) if agrees(alloc, &row) => self.draw(alloc, &row),
+            _ => Ok(Finding::Differs),
+        }
+    }
+}
+
+impl Drawing {
     /// Draws texts of a row's program, where it is accepted on small maps.
-    fn judge(&mut self, alloc: Global, row: &Row) -> Result<Finding, AllocError> {
+    fn draw(&mut self, alloc: Global, row: &Row) -> Result<Finding, AllocError> {
         if !is_small(&row.setting) || matches!(row.wanted, Outcome::Refused(_)) {
             return Ok(Finding::Agrees);
         }
@@ -102,21 +106,11 @@ fn main(rt: HostRuntime) -> io::Result<()> {
             texts,
             drawn: Drawn::new(),
         };
-        compare_rows(
-            &rt,
-            &mut Compared {
-                texts: &mut drawing,
-            },
-        )?;
+        compare_rows(&rt, &mut drawing)?;
         return drawing.drawn.print(&rt);
     }
     let mut changed = Changed { texts: 0 };
-    compare_rows(
-        &rt,
-        &mut Compared {
-            texts: &mut changed,
-        },
-    )?;
+    compare_rows(&rt, &mut changed)?;
     println!(rt; "{} changed texts are refused or agree", changed.texts)?;
     let offsets = agreeing_offsets(rt.alloc());
     println!(rt; "{offsets} of 52 offsets in a first value agree")
