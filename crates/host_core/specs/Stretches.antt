@@ -12,7 +12,7 @@ use Rattle.admission.specs.Reserve.{needed_from}
 use Rattle.interp.specs.declared.need.Need.{Need}
 use Rattle.interp.specs.Needs.{maps_after}
 use Rattle.interp.specs.Machine.{MachineState, Next, Exits, step}
-use Rattle.interp.specs.StandsFor.{Running, StandsFor}
+use Rattle.interp.specs.StandsFor.{Running, StandsFor, Follows}
 use Rattle.interp.specs.Written.{written}
 use Rattle.host_core.specs.declared.tenant.OpenRun.{OpenRun as KeptRun}
 use Rattle.host_core.specs.World.{pins_of}
@@ -26,6 +26,12 @@ pub record IsUnderWayAt (programs : List (Option Accepted)) (kept : KeptRun) (v 
   pub maps : owned.maps ≡ s.memory.maps
   pub running : owned.running ≡ true
   pub reserve : owned.reserve ≡ needed_from v owned s.slot
+
+-- An open run that stood for a state made one step: what it asks, or its end, is still to be done.
+pub record HasMadeStep (programs : List (Option Accepted)) (kept : KeptRun) (v : Accepted) (s : MachineState) (need : Need) (run : Running) (owned : TenantPart) : Type 0 where
+  pub under : IsUnderWayAt programs kept v s owned
+  pub follows : Follows v s need run
+  pub counted : run.steps ≡ kept.run.steps + 1
 
 -- how many frames the rest of an open run of the tenant t may need that stands for a state
 abbrev pub needed_in : Accepted → ℕ → Sharing → MachineState → ℕ

@@ -350,13 +350,14 @@ impl Tenant {
 }
 
 impl OpenRun {
-    ghost use Rattle.std.specs.Prelude.{◌≡◌, ◌<◌, slice_get, Some};
+    ghost use Rattle.std.specs.Prelude.{◌≡◌, ◌<◌, slice_get, List, Option, Some};
     ghost use Rattle.verifier.specs.Verified.{Accepted};
     ghost use Rattle.interp.specs.Machine.{MachineState};
     ghost use Rattle.page_table.specs.State.{part};
     ghost use Rattle.page_table.specs.Changes.{IsKeptBut};
     ghost use Rattle.tenant_runs.specs.Meeting.{KeepsSizes};
-    ghost use Rattle.host_core.specs.Stretches.{IsUnderWayAt, HasAdvanced};
+    ghost use Rattle.host_core.specs.Stretches.{IsUnderWayAt, HasMadeStep, HasAdvanced};
+    ghost use Rattle.host_core.specs.declared.tenant.OpenRun.{OpenRun as KeptRun};
 
     /// Makes one step: what the run returned, if it ended with it. What is reserved afterwards is what the rest of the run may
     /// need. It stands apart from the loop over many steps, which keeps more at hand than one step pays for.
@@ -378,12 +379,38 @@ impl OpenRun {
         };
         program.facts();
         memory.facts();
-        match self.run.next(program) {
+        let need = self.run.next(program);
+        if let Need::Private = need {
+            // Most steps have no store ahead of them: nothing is reserved then, and there is nothing to lower.
+            if memory.reserve(tenant) == 0 {
+                return None;
+            }
+        }
+        self.settle(program, memory, tenant, need)
+    }
+
+    /// Does what is left of a step that was made: what it asks, or its end, and what is reserved afterwards. It stands apart,
+    /// so that a step of which nothing is left keeps nothing at hand for it.
+    #[inline(never)]
+    fn settle(
+        &mut self,
+        program: &Verified,
+        memory: &mut Memory,
+        tenant: u32,
+        need: Need,
+    ) -> Option<u64>
+        requires made { (programs : List (Option Accepted)) × (kept : KeptRun) × (s : MachineState)
+            × HasMadeStep programs kept program.now s need self.old.run (part memory.old tenant) }
+        ensures program { self.new.program ≡ self.old.program }
+        ensures advanced { (programs : List (Option Accepted)) (kept : KeptRun) (s : MachineState)
+            → HasMadeStep programs kept program.now s need self.old.run (part memory.old tenant)
+            → HasAdvanced program.now s tenant 1 kept.run memory.old result self.new.run memory.new }
+        ensures others { IsKeptBut tenant memory.old memory.new }
+        ensures sizes { KeepsSizes memory.old memory.new }
+    {
+        memory.facts();
+        match need {
             Need::Private => {
-                // Most steps have no store ahead of them: nothing is reserved then, and there is nothing to lower.
-                if memory.reserve(tenant) == 0 {
-                    return None;
-                }
                 let left = needed(program, memory, tenant, self.run.slot());
                 memory.record(tenant, left);
                 None
