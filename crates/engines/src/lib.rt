@@ -2,6 +2,7 @@
 //! reader and writer.
 #![tactic(auto)]
 
+mod arguments;
 pub mod check;
 mod explanation;
 mod fault;
@@ -9,11 +10,10 @@ mod lines;
 pub mod replay;
 mod session;
 mod watch;
-mod words;
 
+pub use arguments::words_from;
 pub use fault::{status_of, write_fault, written};
 pub use lines::write_reply;
 pub use replay::{file_from, refuse};
 pub use session::explain_at;
 pub use watch::{Unwatched, Watch};
-pub use words::words_from;
