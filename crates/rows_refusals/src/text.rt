@@ -10,8 +10,8 @@ const HEAD: &str = "\n## Of a text\n\n\
     | number | slot | what is wrong |\n\
     |---|---|---|";
 
-/// The bytes of texts that are too long, or no whole number of slots.
-const BYTES: [u8; 32776] = [0; 32776];
+/// How many bytes a text has that is one slot too long.
+const TOO_LONG: usize = 32776;
 
 /// A refusal's number, and a slot that is refused with it.
 type Row = (u32, u64);
@@ -49,8 +49,9 @@ fn rows() -> [Row; 24] {
 /// Prints a row for each slot, and for each kind of length that no text has.
 pub fn print_instructions<R: AllocGlobal + Print>(rt: &R) -> io::Result<()> {
     println!(rt; "{HEAD}")?;
-    for length in [0, 12, BYTES.len()] {
-        let bytes = BYTES.get(..length).unwrap_or(&[]);
+    let bytes = [0; TOO_LONG];
+    for length in [0, 12, TOO_LONG] {
+        let bytes = bytes.get(..length).unwrap_or(&[]);
         println!(rt; "| 1 | {length} bytes | {} |", wrong_with(1, bytes))?;
     }
     for (number, slot) in rows() {
