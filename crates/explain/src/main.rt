@@ -6,12 +6,13 @@ mod source;
 
 use command_line::{ToExplain, WrongWords, explained_of};
 use engines::check::{check, question_of};
-use engines::{status_of, words_from, write_fault, written};
+use engines::{status_of, write_fault, written};
 use findings::Judged;
 use host_file::FileFault;
 use listing::{Detail, Listing, Paint, fold};
 use source::hex_of;
 use std::alloc::{AllocError, Global};
+use std::env;
 use std::io::{self, BufWriter, Input, IsTerminal, Write};
 use std::process::ExitCode;
 use std::rt::{Env, Files};
@@ -38,7 +39,13 @@ fn run<R: AllocGlobal + Env + Files + Input + Print>(
     paint: Paint,
 ) -> Result<u8, FileFault> {
     let alloc = rt.alloc();
-    let words = words_from(rt)?;
+    let words: Vec<String> = match env::args(rt) {
+        Ok(words) => words.collect(alloc)?,
+        Err(error) if error.kind() == io::ErrorKind::OutOfMemory => {
+            return Err(FileFault::OutOfMemory(AllocError));
+        }
+        Err(_) => return Err(FileFault::Usage(String::from_str(alloc, "the words can't be read")?)),
+    };
     let output = BufWriter::new(alloc, io::writer(rt));
     let mut output = output.map_err(|_| FileFault::OutOfMemory(AllocError))?;
     if words.len() < 2 {
