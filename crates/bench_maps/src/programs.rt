@@ -24,6 +24,8 @@ pub(crate) enum Work {
     Counter,
     /// Looks an element up.
     Lookup,
+    /// Looks an element up, and asks whether it was there.
+    CheckedLookup,
     /// Updates an element.
     Update,
     /// One update.
@@ -31,12 +33,13 @@ pub(crate) enum Work {
 }
 
 /// What is measured.
-pub(crate) const WORKS: [Work; 7] = [
+pub(crate) const WORKS: [Work; 8] = [
     Work::Arithmetic,
     Work::Access,
     Work::OneAccess,
     Work::Counter,
     Work::Lookup,
+    Work::CheckedLookup,
     Work::Update,
     Work::OneUpdate,
 ];
@@ -90,6 +93,15 @@ const LOOKUP: [u64; 4] = [
     0x85000000_01000000,
 ];
 
+/// Lookup of key 0, and whether there is none; both ways lead on.
+const CHECKED_LOOKUP: [u64; 5] = [
+    0x18110000_00000000,
+    0,
+    0xbf620000_00000000,
+    0x85000000_01000000,
+    0x55000000_00000000,
+];
+
 /// Update of key 0 to zeros.
 const UPDATE: [u64; 6] = [
     0x18110000_00000000,
@@ -109,6 +121,7 @@ impl Work {
             Work::OneAccess => "one lookup, load and store",
             Work::Counter => "the counter",
             Work::Lookup => "lookups, with two moves each",
+            Work::CheckedLookup => "lookups, with two moves and a null check each",
             Work::Update => "updates, with four moves each",
             Work::OneUpdate => "one update",
         }
@@ -122,6 +135,7 @@ impl Work {
             Work::OneAccess => (&FIND, &ACCESS, 1),
             Work::Counter => (&FIND, &COUNT, 1),
             Work::Lookup => (&[], &LOOKUP, 700),
+            Work::CheckedLookup => (&[], &CHECKED_LOOKUP, 600),
             Work::Update => (&[], &UPDATE, 500),
             Work::OneUpdate => (&[], &UPDATE, 1),
         }
