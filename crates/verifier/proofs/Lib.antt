@@ -1,5 +1,4 @@
 pub mod Registers
-pub mod Counts
 pub mod Shapes
 pub mod Places
 pub mod Ways

@@ -30,7 +30,7 @@ impl Candidate {
     ghost use Rattle.verifier_kinds.specs.Kinds.{shape_at};
     ghost use Rattle.verifier.specs.Flow.{value_size_of};
     ghost use Rattle.bpf_decode.specs.Opcodes.{operation_of};
-    ghost use Rattle.bpf_decode.specs.Text.{slots_of, insn_at, is_instruction, instructions_of, IsInstruction};
+    ghost use Rattle.bpf_decode.specs.Text.{slots_of, insn_at, is_instruction, IsInstruction};
     ghost use Rattle.verifier.specs.Subject.{IsContextSize, padded};
     ghost use Rattle.verifier.specs.Verified.{IsSubject, AreShapes};
 
@@ -127,23 +127,5 @@ impl Candidate {
         ensures { result ≡ self.now.context_size }
     {
         self.ctx_size
-    }
-
-    /// How many instructions the text has.
-    #[tactic(auto, using(crate::proofs::Counts::count_steps), unfolding(bpf_decode::specs::Text::insn_at))]
-    pub(crate) fn count_instructions(&self) -> u32
-        ensures { result ≡ instructions_of self.now.text }
-    {
-        let mut count = 0;
-        let mut begins = true;
-        for slot in 0..self.slots() {
-            if begins {
-                count += 1;
-                begins = self.insn(slot).slots() == 1;
-            } else {
-                begins = true;
-            }
-        }
-        count
     }
 }

@@ -28,15 +28,14 @@ use verifier_kinds::Kind;
 pub struct Verified {
     candidate: Candidate,
     kept: Vec<Option<Registers>>,
-    instructions: u32,
     named: [bool; MAX_MAPS],
     reserves: Vec<u32>,
-    lasts: [u32; MAX_MAPS],
+    lasts: [u16; MAX_MAPS],
 }
 
 impl Model for Verified {
     ghost use Rattle.std.specs.Prelude.{◌≡◌, map};
-    ghost use Rattle.bpf_decode.specs.Text.{slots_of, instructions_of};
+    ghost use Rattle.bpf_decode.specs.Text.{slots_of};
     ghost use Rattle.verifier.specs.Named.{AreNamed};
     ghost use Rattle.verifier.specs.Table.{tight_table};
     ghost use Rattle.verifier.specs.Pass.{kinds_in};
@@ -51,7 +50,6 @@ impl Model for Verified {
     ghost invariant = { λ v. record {
       verified : IsVerified (record { subject = v.candidate; table = tight_table v.candidate });
       kept : v.kept.items ≡ map kinds_in (tight_table v.candidate);
-      counted : v.instructions ≡ instructions_of v.candidate.text;
       named : AreNamed v.candidate.text (slots_of v.candidate.text) v.named;
       reserved : AreReserves (record { subject = v.candidate; table = tight_table v.candidate }) v.reserves.items;
       written : AreLastWrites (record { subject = v.candidate; table = tight_table v.candidate }) (slots_of v.candidate.text) v.lasts;
@@ -77,7 +75,8 @@ impl Verified {
     pub fn instructions(&self) -> u32
         ensures { result ≡ instructions_of self.now.subject.text }
     {
-        self.instructions
+        self.facts();
+        self.program().code().len() as u32
     }
 
     /// The instruction at a slot at which one begins.
@@ -131,7 +130,7 @@ impl Verified {
         requires { map < 8 }
         ensures { result ≡ writes_from self.now slot map }
     {
-        slot < self.lasts[map as usize]
+        slot < u32::from(self.lasts[map as usize])
     }
 
     /// The shapes of the maps that the program may use, by number: eight, of which each is there or
@@ -196,7 +195,6 @@ pub fn verify(
 {
     let candidate = Candidate::new(program, shapes, ctx_size);
     let kept = kept_kinds(alloc, &candidate)?;
-    let instructions = candidate.count_instructions();
     let named = candidate.named_maps();
     let lasts = last_writes(&candidate, &kept);
     let Ok(reserves) = reserves(alloc, &candidate, &kept) else {
@@ -205,7 +203,6 @@ pub fn verify(
     Ok(Verified {
         candidate,
         kept,
-        instructions,
         named,
         reserves,
         lasts,

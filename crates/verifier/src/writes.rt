@@ -75,7 +75,7 @@ impl Candidate {
 }
 
 /// Notes of a map that is written, if that is one of the numbers 0 to 7, the end up to which it is.
-fn note(lasts: &mut [u32; MAX_MAPS], written: Option<MapNo>, end: u32)
+fn note(lasts: &mut [u16; MAX_MAPS], written: Option<MapNo>, end: u16)
     ensures { (m : ℕ) → m < 8 → slice_index_or lasts.new m 0 ≡ (if is_map written m then end else slice_index_or lasts.old m 0) }
 {
     if let Some(map) = written {
@@ -86,7 +86,7 @@ fn note(lasts: &mut [u32; MAX_MAPS], written: Option<MapNo>, end: u32)
 }
 
 /// For each map one more than the last slot that writes it, and 0 where none does.
-pub(crate) fn last_writes(candidate: &Candidate, kept: &[Option<Registers>]) -> [u32; MAX_MAPS]
+pub(crate) fn last_writes(candidate: &Candidate, kept: &[Option<Registers>]) -> [u16; MAX_MAPS]
     requires { kept.now ≡ map kinds_in (tight_table candidate.now) }
     ensures { AreLastWrites (record { subject = candidate.now; table = tight_table candidate.now }) (slots_of candidate.now.text) result }
 {
@@ -94,7 +94,7 @@ pub(crate) fn last_writes(candidate: &Candidate, kept: &[Option<Registers>]) -> 
     let mut lasts = [0; MAX_MAPS];
     for slot in 0..slots {
         let written = candidate.written_map(slot, &kept[slot as usize]);
-        note(&mut lasts, written, slot + 1);
+        note(&mut lasts, written, (slot + 1) as u16);
     }
     lasts
 }
