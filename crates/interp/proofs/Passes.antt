@@ -1,5 +1,5 @@
 -- What is known of questions that broke no rule.
-use Rattle.std.specs.Prelude.{◌≡◌, ℕ, ◌+◌, ◌%◌, ◌≤◌, nat_lt, nat_le, ◌==◌, ℤ, pos, negsuc, ◌+ℤ◌, Bool, true, false, not, if◌then◌else◌, is_some, Result, Ok, Err, refl}
+use Rattle.std.specs.Prelude.{◌≡◌, ℕ, ◌+◌, ◌%◌, ◌≤◌, nat_lt, ◌==◌, ℤ, pos, negsuc, ◌+ℤ◌, Bool, true, false, not, is_some, Result, Ok, refl}
 use Rattle.std.proofs.Common.{arith}
 use Rattle.std.proofs.lemmas.Bool.Decides.{nat_tests}
 use Rattle.bpf_decode.specs.declared.insn.Insn.{Insn}
@@ -9,7 +9,7 @@ use Rattle.verifier_kinds.specs.declared.kind.Kind.TheVariants.{Scalar, MapName,
 use Rattle.verifier_kinds.specs.declared.description.Description.{Description}
 use Rattle.verifier_kinds.specs.Kinds.{constant, shape_at}
 use Rattle.verifier_kinds.specs.Descriptions.{with_kind}
-use Rattle.verifier.specs.Flow.{◌>>=◌, both, holds_or, writable, write_kind, lies_below, aligned, context_place, stack_place, value_size_of, name_kind, at_offset, first_value_kind, wide_kind}
+use Rattle.verifier.specs.Flow.{holds_or, write_kind, lies_below, aligned, context_place, stack_place, value_size_of, at_offset, wide_kind}
 use Rattle.verifier.specs.Subject.{Subject}
 use Rattle.verifier.proofs.Flows.{both_ok, then_ok}
 
