@@ -29,12 +29,7 @@ use Rattle.verifier_kinds.proofs.Values.{move_is}
 -- ---- once the answer of a call is known
 
 settled_of_kind : (setting : Setting) (call : ℕ) (to kind : Kind) (n : ℕ) → IsOfKind setting to (setting.answers call) → IsOfKind setting kind n → IsOfKind setting (settled_kind call to kind) n
-settled_of_kind setting call to (MaybeValue m id) n p (answer, same) =
-    cond_both (id == call) to (MaybeValue m id) (λ k. IsOfKind setting k n)
-    (λ t.
-    let one : n ≡ setting.answers call = same ∙ ap setting.answers (eqb-true id call t) in
-    subst (IsOfKind setting to) (sym one) p)
-    (λ _. (answer, same))
+settled_of_kind setting call to (MaybeValue m id) n p (answer, same) = grind (arith, cond_both, eqb-true)
 settled_of_kind setting call to kind n p h = h
 
 settled_describes : (setting : Setting) (call : ℕ) (to : Kind) (known : Option Kind) (x : Option ℕ) → IsOfKind setting to (setting.answers call) → Describes setting known x → Describes setting (option_map (settled_kind call to) known) x
@@ -65,10 +60,7 @@ abbrev pub with_answer : Setting → ℕ → ℕ → Setting
 with_answer setting call answer = record setting { answers = λ id. if id == call then answer else setting.answers id }
 
 pub another_answer_agrees : (setting : Setting) (slot answer : ℕ) → AgreeBelow slot setting (with_answer setting slot answer)
-another_answer_agrees setting slot answer = record {
-  shapes = refl;
-  answers = λ call h. cond_both (call == slot) answer (setting.answers call) (λ n. setting.answers call ≡ n) (λ t. absurd (omega (arith, eqb-true call slot t))) (λ _. refl);
-}
+another_answer_agrees setting slot answer = grind (arith, cond_both, eqb-true)
 
 agreed_of_kind : (slot : ℕ) (setting other : Setting) (kind : Kind) (n : ℕ) → AgreeBelow slot setting other → IsOfCallBelow slot kind → IsOfKind setting kind n → IsOfKind other kind n
 agreed_of_kind slot setting other (Scalar range) n agree below h = h
@@ -117,10 +109,7 @@ slot_names_later slot later (Kept kind) h below = kind_names_later slot later ki
 slot_names_later slot later (Bytes set) h below = tt
 
 pub names_later : (slot later : ℕ) (d : Description) → IsOfCallsBelow slot d → slot ≤ later → IsOfCallsBelow later d
-names_later slot later d below h = record {
-  registers = λ i. register_names_later slot later (register_of d i) h (below.registers i);
-  stack = λ k. slot_names_later slot later (slot_of d k) h (below.stack k);
-}
+names_later slot later d below h = grind (arith, register_names_later, slot_names_later)
 
 pub with_kind_names : (slot : ℕ) (d : Description) (i : ℕ) (kind : Kind) → IsOfCallBelow slot kind → IsOfCallsBelow slot d → IsOfCallsBelow slot (with_kind d i kind)
 with_kind_names slot d i kind p below = record {
@@ -145,10 +134,7 @@ settled_slot_names slot call to (Kept kind) p h = settled_kind_has (IsOfCallBelo
 settled_slot_names slot call to (Bytes set) p h = tt
 
 pub settled_names : (slot call : ℕ) (to : Kind) (d : Description) → IsOfCallBelow slot to → IsOfCallsBelow slot d → IsOfCallsBelow slot (settled call to d)
-settled_names slot call to d p below = record {
-  registers = λ i. rw (register_of-settled call to d i) (settled_register_has (IsOfCallBelow slot) call to (register_of d i) p (below.registers i));
-  stack = λ k. rw (slot_of-settled call to d k) (settled_slot_names slot call to (slot_of d k) p (below.stack k));
-}
+settled_names slot call to d p below = grind (arith, register_of-settled, settled_register_has, slot_of-settled, settled_slot_names)
 
 -- ---- joins
 
@@ -197,16 +183,10 @@ slots_join_names_right slot (Kept a) (Bytes set) h = tt
 slots_join_names_right slot (Bytes set) b h = tt
 
 pub join_names_of_left : (slot : ℕ) (d e : Description) → IsDescription d → IsDescription e → IsOfCallsBelow slot d → IsOfCallsBelow slot (join_of d e)
-join_names_of_left slot d e p q below = record {
-  registers = λ i. rw (register_of-join d e p q i) (registers_join_names_left slot (register_of d i) (register_of e i) (below.registers i));
-  stack = λ k. rw (slot_of-join d e p q k) (slots_join_names_left slot (slot_of d k) (slot_of e k) (below.stack k));
-}
+join_names_of_left slot d e p q below = grind (arith, register_of-join, registers_join_names_left, slot_of-join, slots_join_names_left)
 
 pub join_names_of_right : (slot : ℕ) (d e : Description) → IsDescription d → IsDescription e → IsOfCallsBelow slot e → IsOfCallsBelow slot (join_of d e)
-join_names_of_right slot d e p q below = record {
-  registers = λ i. rw (register_of-join d e p q i) (registers_join_names_right slot (register_of d i) (register_of e i) (below.registers i));
-  stack = λ k. rw (slot_of-join d e p q k) (slots_join_names_right slot (slot_of d k) (slot_of e k) (below.stack k));
-}
+join_names_of_right slot d e p q below = grind (arith, register_of-join, registers_join_names_right, slot_of-join, slots_join_names_right)
 
 -- ---- lawful descriptions
 
@@ -225,13 +205,7 @@ slot_is_normal (Bytes set) h = h
 
 -- what the verifier knows is lawful
 pub description_is_lawful : (slot : ℕ) (d : Description) → IsDescription d → IsOfCallsBelow slot d → IsLawfulAt slot d
-description_is_lawful slot d p below = record {
-  registers = p.registers;
-  stack = p.stack;
-  kinds = λ i. register_is_normal (register_of d i) (p.kinds i);
-  slots = λ k. slot_is_normal (slot_of d k) (p.slots k);
-  calls = below;
-}
+description_is_lawful slot d p below = grind (arith, register_is_normal, slot_is_normal)
 
 -- ---- arithmetic
 
@@ -244,26 +218,12 @@ displaced_names slot Sub Bits64 kind rule offset by result each e =
 displaced_names slot code width kind rule offset by result each e = cc
 
 value_names : (slot : ℕ) (code : AluCode) (width : Width) (m : ℕ) (offsets : Offsets) (by : Range) (result : Kind) → displaced_value m code width offsets by ≡ Ok result → IsOfCallBelow slot result
-value_names slot Add Bits64 m offsets by result e =
-    let move = move_is m (least_align offsets.align by.align) (pos offsets.low +ℤ signed_offset by by.low) (pos offsets.high +ℤ signed_offset by by.high) result e in
-    subst (IsOfCallBelow slot) (sym move.is) tt
-value_names slot Sub Bits64 m offsets by result e = elim (cases_Bool (is_constant by)) [
-  | inl t ↦
-      let align : Align = least_align offsets.align by.align in
-      let low : ℤ = pos offsets.low -ℤ cast_signed w64 by.low in
-      let high : ℤ = pos offsets.high -ℤ cast_signed w64 by.low in
-      let move = move_is m align low high result (sym (cond-true (is_constant by) (within_value m align low high) (Err wrong_kind) t) ∙ e) in
-      subst (IsOfCallBelow slot) (sym move.is) tt
-  | inr f ↦
-      let none : ◌≡◌ {A = Result Kind ℕ} (Err wrong_kind) (Ok result) = sym (cond-false (is_constant by) _ (Err wrong_kind) f) ∙ e in
-      cc
-]
+value_names slot Add Bits64 m offsets by result e = grind (arith, move_is, pos)
+value_names slot Sub Bits64 m offsets by result e = grind (arith, cases_Bool, inl, pos, move_is, cond-true, inr, cond-false)
 value_names slot code width m offsets by result e = cc
 
 kinds_name : (slot : ℕ) (code : AluCode) (width : Width) (offset : ℤ) (a b kind : Kind) → kind_of code width offset a b ≡ Ok kind → IsOfCallBelow slot kind
-kinds_name slot code width offset (Scalar a) (Scalar b) kind e =
-    let same : Scalar (range_of code width offset a b) ≡ kind = cc in
-    subst (IsOfCallBelow slot) same tt
+kinds_name slot code width offset (Scalar a) (Scalar b) kind e = grind (arith)
 kinds_name slot code width offset (Context k) (Scalar by) kind e = displaced_names slot code width Context 16 k by kind (λ _. tt) e
 kinds_name slot code width offset (Stack k) (Scalar by) kind e = displaced_names slot code width Stack 17 k by kind (λ _. tt) e
 kinds_name slot code width offset (MapValue m offsets) (Scalar by) kind e = value_names slot code width m offsets by kind e
@@ -276,21 +236,13 @@ with_dst_names slot code width offset None b kind e = cc
 
 -- nor does a move of a number
 moved_number_names : (slot : ℕ) (width : Width) (offset : ℤ) (b kind : Kind) → moved_number width offset b ≡ Ok kind → IsOfCallBelow slot kind
-moved_number_names slot width offset (Scalar b) kind e =
-    let same : Scalar (range_of Mov width offset b b) ≡ kind = cc in
-    subst (IsOfCallBelow slot) same tt
+moved_number_names slot width offset (Scalar b) kind e = grind (arith)
 moved_number_names slot width offset b kind e = cc
 
 -- and a copy names what is copied
 copied_names : (slot : ℕ) (width : Width) (offset : ℤ) (b kind : Kind) → copied width offset b ≡ Ok kind → IsOfCallBelow slot b → IsOfCallBelow slot kind
 copied_names slot Bits32 offset b kind e below = moved_number_names slot Bits32 offset b kind e
-copied_names slot Bits64 offset b kind e below = elim (cases_Bool (is offset 0)) [
-  | inl t ↦
-      let copy : ◌≡◌ {A = Result Kind ℕ} (Ok b) (Ok kind) = sym (cond-true (is offset 0) (Ok b) (moved_number Bits64 offset b) t) ∙ e in
-      let same : b ≡ kind = cc in
-      subst (IsOfCallBelow slot) same below
-  | inr f ↦ moved_number_names slot Bits64 offset b kind (sym (cond-false (is offset 0) (Ok b) (moved_number Bits64 offset b) f) ∙ e)
-]
+copied_names slot Bits64 offset b kind e below = grind (arith, cases_Bool, inl, cond-true, inr, moved_number_names, cond-false)
 
 -- what arithmetic makes of kinds names no call but one that the second operand names
 pub arithmetic_names : (slot : ℕ) (code : AluCode) (width : Width) (offset : ℤ) (a : Option Kind) (b kind : Kind) → arith_by code width offset a b ≡ Ok kind → IsOfCallBelow slot b → IsOfCallBelow slot kind

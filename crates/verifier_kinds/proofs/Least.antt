@@ -25,9 +25,7 @@ pub join_within : (a b c : Range) → IsWithin a c → IsWithin b c → IsWithin
 join_within a b c p q = record { low = omega arith; high = omega arith; aligned = above_least a.align b.align c.align p.aligned q.aligned }
 
 same_as_itself : (a : ℤ) → is_same a a ≡ true
-same_as_itself a =
-    let same : int_le a a ≡ true = int_le_true a a (omega (arith, ints)) in
-    and_from (int_le a a) (int_le a a) same same
+same_as_itself a = grind (arith, true, int_le_true, ints, and_from)
 
 -- the join of two pointers to the values of one map
 pub join_of_values : (m : ℕ) (a b : Offsets) → join_of_kinds (MapValue m a) (MapValue m b) ≡ Some (MapValue m (offsets_in (join_of_ranges (range_in a) (range_in b))))
