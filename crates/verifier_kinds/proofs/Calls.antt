@@ -148,25 +148,10 @@ join_names_left slot (MaybeValue m i) (MaybeValue n j) h = cond_both ((m == n) &
 join_names_left slot (MapName m) (MapName n) h = cond_both (m == n) (Some (MapName m)) None (λ o. IfSome o (IsOfCallBelow slot)) (λ _. tt) (λ _. tt)
 join_names_left slot a b h = tt
 
-join_names_right : (slot : ℕ) (a b : Kind) → IsOfCallBelow slot b → IfSome (join_of_kinds a b) (IsOfCallBelow slot)
-join_names_right slot (Scalar a) (Scalar b) h = tt
-join_names_right slot (Context a) (Context b) h = cond_both _ (Some (Context a)) None (λ o. IfSome o (IsOfCallBelow slot)) (λ _. tt) (λ _. tt)
-join_names_right slot (Stack a) (Stack b) h = cond_both _ (Some (Stack a)) None (λ o. IfSome o (IsOfCallBelow slot)) (λ _. tt) (λ _. tt)
-join_names_right slot (MapValue m a) (MapValue n b) h = cond_both (m == n) _ None (λ o. IfSome o (IsOfCallBelow slot)) (λ _. tt) (λ _. tt)
-join_names_right slot (MaybeValue m i) (MaybeValue n j) h =
-    cond_both ((m == n) && (i == j)) (Some (MaybeValue m i)) None (λ o. IfSome o (IsOfCallBelow slot)) (λ t. subst (IsOfCallBelow slot) (same_maybe m n i j t) h) (λ _. tt)
-join_names_right slot (MapName m) (MapName n) h = cond_both (m == n) (Some (MapName m)) None (λ o. IfSome o (IsOfCallBelow slot)) (λ _. tt) (λ _. tt)
-join_names_right slot a b h = tt
-
 registers_join_names_left : (slot : ℕ) (a b : Option Kind) → IfSome a (IsOfCallBelow slot) → IfSome (join_of_registers a b) (IsOfCallBelow slot)
 registers_join_names_left slot (Some a) (Some b) h = join_names_left slot a b h
 registers_join_names_left slot (Some a) None h = tt
 registers_join_names_left slot None b h = tt
-
-registers_join_names_right : (slot : ℕ) (a b : Option Kind) → IfSome b (IsOfCallBelow slot) → IfSome (join_of_registers a b) (IsOfCallBelow slot)
-registers_join_names_right slot (Some a) (Some b) h = join_names_right slot a b h
-registers_join_names_right slot (Some a) None h = tt
-registers_join_names_right slot None b h = tt
 
 kept_names : (slot : ℕ) (o : Option Kind) → IfSome o (IsOfCallBelow slot) → IsSlotOfCallBelow slot (kept_or_bytes o 0)
 kept_names slot (Some kind) h = h
@@ -177,16 +162,8 @@ slots_join_names_left slot (Kept a) (Kept b) h = kept_names slot (join_of_kinds 
 slots_join_names_left slot (Kept a) (Bytes set) h = tt
 slots_join_names_left slot (Bytes set) b h = tt
 
-slots_join_names_right : (slot : ℕ) (a b : StackSlot) → IsSlotOfCallBelow slot b → IsSlotOfCallBelow slot (join_of_slots a b)
-slots_join_names_right slot (Kept a) (Kept b) h = kept_names slot (join_of_kinds a b) (join_names_right slot a b h)
-slots_join_names_right slot (Kept a) (Bytes set) h = tt
-slots_join_names_right slot (Bytes set) b h = tt
-
 pub join_names_of_left : (slot : ℕ) (d e : Description) → IsDescription d → IsDescription e → IsOfCallsBelow slot d → IsOfCallsBelow slot (join_of d e)
 join_names_of_left slot d e p q below = grind (arith, register_of-join, registers_join_names_left, slot_of-join, slots_join_names_left)
-
-pub join_names_of_right : (slot : ℕ) (d e : Description) → IsDescription d → IsDescription e → IsOfCallsBelow slot e → IsOfCallsBelow slot (join_of d e)
-join_names_of_right slot d e p q below = grind (arith, register_of-join, registers_join_names_right, slot_of-join, slots_join_names_right)
 
 -- ---- lawful descriptions
 

@@ -77,15 +77,3 @@ slot_described_above setting (Kept pointer) (Bytes set) bytes n e h = λ i small
 
 -- ---- descriptions
 
-pub registers_described_above : (setting : Setting) (d e : Description) (registers : List (Option ℕ)) → IsDescriptionBelow d e → DescribesRegisters setting d registers → DescribesRegisters setting e registers
-registers_described_above setting d e registers p h = λ i. described_above setting (register_of d i) (register_of e i) (get_or registers i None) (p.registers i) (h i)
-
-slot_bytes : (stack : List (Option ℕ)) (k : ℕ) → length stack ≡ 512 → k < 64 → length (part_of stack (8 * k) 8) ≡ 8
-unfolding part_of
-slot_bytes stack k n h = simp (length-take, length-drop) (omega arith)
-
-past_stack : (setting : Setting) (e : Description) (k : ℕ) (bytes : List (Option ℕ)) → IsDescription e → 64 ≤ k → DescribesSlot setting (slot_of e k) bytes
-past_stack setting e k bytes q more = grind (arith, get_or_past, no_bits)
-
-pub stack_described_above : (setting : Setting) (d e : Description) (stack : List (Option ℕ)) → IsDescription e → length stack ≡ 512 → IsDescriptionBelow d e → DescribesStack setting d stack → DescribesStack setting e stack
-stack_described_above setting d e stack q n p h = grind (arith, cases_lt, inl, slot_described_above, slot_bytes, inr, past_stack)

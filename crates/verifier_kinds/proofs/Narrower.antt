@@ -296,10 +296,6 @@ row_narrows SwapBytes width offset a b c d p q = swap_narrows width b d q
 
 -- ---- what is computed
 
--- the lower end of a normal range is one of its numbers
-end_in : (r : Range) → IsNormal r → IsIn r r.low
-end_in r p = record { low = omega arith; high = p.ordered; aligned = p.low }
-
 -- what the machine computes of the lower ends is a number of the row, also of that of wider ranges
 ends_in_row : (code : AluCode) (width : Width) (offset : ℤ) (a b c d : Range) → IsRangeNarrower width a c → IsRangeNarrower width b d → IsIn (row code width offset a b) (alu code width offset a.low b.low)
 ends_in_row code width offset a b c d p q = grind (arith, in_row_of_ends)

@@ -78,11 +78,6 @@ kept_is_normal comparison a b p q = p
 pub refined_is_normal : (comparison : Comparison) (width : Width) (taken : Bool) (a b : Range) → IsNormal a → IsNormal b → IfSome (refined comparison width taken a b) IsNormal
 refined_is_normal comparison width taken a b p q = grind (arith, cond_both, kept_is_normal)
 
--- a way that is let through has a normal range
-pub refined_normal : (comparison : Comparison) (width : Width) (taken : Bool) (a b r : Range) → IsNormal a → IsNormal b → refined comparison width taken a b ≡ Some r → IsNormal r
-refined_normal comparison width taken a b r p q e =
-    subst (λ o. IfSome o IsNormal) e (refined_is_normal comparison width taken a b p q)
-
 -- ---- each number that goes a way is left there
 
 -- something is left, and has the number
