@@ -1,16 +1,12 @@
 -- Calls of lookups: which of them a description names, and what is known once the answer of one is.
-use Rattle.std.proofs.Common.{◌≡◌, ℕ, ◌<◌, ◌≤◌, ◌*◌, ◌==◌, ◌&&◌, ◌∙◌, ℤ, pos, ◌+ℤ◌, List, get_or, Option, Some, None, IfSome, Result, Ok, Err, inl, inr, refl, sym, ap, subst, arith}
-use Rattle.std.specs.Prelude.{IsSome, IsSomeAnd, option_map, if◌then◌else◌, ◌-ℤ◌}
-use Rattle.std.specs.Int.{cast_signed, w64}
+use Rattle.std.proofs.Common.{◌≡◌, ℕ, ◌<◌, ◌≤◌, ◌*◌, ◌==◌, ◌&&◌, ◌∙◌, ℤ, pos, List, get_or, Option, Some, None, IfSome, Ok, inl, inr, sym, subst, arith}
+use Rattle.std.specs.Prelude.{IsSome, IsSomeAnd, option_map, if◌then◌else◌}
 use Rattle.std.proofs.lemmas.Bool.{cases_Bool, cond_both, cond-true, cond-false, eqb-true}
 use Rattle.bpf_decode.specs.declared.operation.Width.{Width}
 use Rattle.bpf_decode.specs.declared.operation.Width.TheVariants.{Bits32, Bits64}
 use Rattle.bpf_decode.specs.declared.operation.AluCode.{AluCode}
 use Rattle.bpf_decode.specs.declared.operation.AluCode.TheVariants.{Add, Sub, Mov}
-use Rattle.bpf_decode.specs.Opcodes.{is}
-use Rattle.host_types.specs.Rules.{wrong_kind}
 use Rattle.host_types.specs.Bytes.{number_of, part_of}
-use Rattle.verifier_kinds.specs.declared.kind.Align.{Align}
 use Rattle.verifier_kinds.specs.declared.kind.Range.{Range}
 use Rattle.verifier_kinds.specs.declared.kind.Offsets.{Offsets}
 use Rattle.verifier_kinds.specs.declared.kind.Kind.{Kind}
@@ -18,11 +14,11 @@ use Rattle.verifier_kinds.specs.declared.kind.Kind.TheVariants.{Scalar, Context,
 use Rattle.verifier_kinds.specs.declared.description.StackSlot.{StackSlot}
 use Rattle.verifier_kinds.specs.declared.description.StackSlot.TheVariants.{Kept, Bytes}
 use Rattle.verifier_kinds.specs.declared.description.Description.{Description}
-use Rattle.verifier_kinds.specs.Kinds.{Setting, Describes, IsAnswer, IsByElement, IsKind, IsNormalKind, IsOfCallBelow, IsOfKind, is_constant, join_of_kinds, least_align, shape_at}
+use Rattle.verifier_kinds.specs.Kinds.{Setting, Describes, IsAnswer, IsByElement, IsKind, IsNormalKind, IsOfCallBelow, IsOfKind, join_of_kinds, shape_at}
 use Rattle.verifier_kinds.specs.Descriptions.{DescribesRegisters, DescribesSlot, DescribesStack, IsDescription, IsLawfulAt, IsNormalSlot, IsOfCallsBelow, IsSlot, IsSlotOfCallBelow, join_of, join_of_registers, join_of_slots, kept_or_bytes, register_of, settled, settled_kind, settled_slot, slot_of, start_description, with_kind, with_slot, with_unset}
-use Rattle.verifier_kinds.specs.Arithmetic.{arith_by, copied, displaced, displaced_value, kind_of, kind_with_dst, moved_number, range_of, signed_offset, within_value}
+use Rattle.verifier_kinds.specs.Arithmetic.{arith_by, copied, displaced, displaced_value, kind_of, kind_with_dst, moved_number}
 use Rattle.verifier_kinds.proofs.Descriptions.{get_or-one, start_registers, register_of-settled, settled_kind_has, set_has, settled_register_has, slot_of-settled}
-use Rattle.verifier_kinds.proofs.Joins.{register_of-join, same_maybe, slot_of-join}
+use Rattle.verifier_kinds.proofs.Joins.{register_of-join, slot_of-join}
 use Rattle.verifier_kinds.proofs.Moves.{moved_back_is, moved_is}
 use Rattle.verifier_kinds.proofs.Values.{move_is}
 

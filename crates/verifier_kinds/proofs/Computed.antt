@@ -1,5 +1,5 @@
 -- What arithmetic makes of ranges: it is normal, and has each number that the machine computes.
-use Rattle.std.proofs.Common.{◌≡◌, ℕ, ◌+◌, ◌-◌, ◌*◌, ◌%◌, ◌^◌, ◌<◌, ◌≤◌, ◌==◌, ◌&&◌, min, max, nat_lt, nat_le, ℤ, true, false, inl, inr, refl, subst, arith}
+use Rattle.std.proofs.Common.{◌≡◌, ℕ, ◌+◌, ◌-◌, ◌*◌, ◌^◌, ◌<◌, ◌&&◌, min, max, nat_lt, nat_le, ℤ, true, false, inl, inr, refl, subst, arith}
 use Rattle.std.proofs.lemmas.Bool.{cond_both, cases_Bool, and_parts, ltb-true}
 use Rattle.std.proofs.lemmas.Nat.{shr_le}
 use Rattle.std.proofs.Math.Nat.{div-le_self}
@@ -8,10 +8,10 @@ use Rattle.bpf_decode.specs.declared.operation.Width.TheVariants.{Bits64}
 use Rattle.bpf_decode.specs.declared.operation.AluCode.{AluCode}
 use Rattle.bpf_decode.specs.declared.operation.AluCode.TheVariants.{Add, Sub, Mul, Div, Or, And, Lsh, Rsh, Neg, Mod, Xor, Mov, Arsh, ToLittleEndian, ToBigEndian, SwapBytes}
 use Rattle.bpf_decode.specs.Opcodes.{is}
-use Rattle.insn_alu.specs.Arithmetic.{alu, low, modulus, count, is_swap}
+use Rattle.insn_alu.specs.Arithmetic.{alu, low, modulus, is_swap}
 use Rattle.insn_alu.proofs.Small.{low_fits, width_small, alu_small, alu_in_width, alu_of_lows, swap_at_most, bits_small}
 use Rattle.verifier_kinds.specs.declared.kind.Align.{Align}
-use Rattle.verifier_kinds.specs.declared.kind.Align.TheVariants.{One, Two, Four, Eight}
+use Rattle.verifier_kinds.specs.declared.kind.Align.TheVariants.{One}
 use Rattle.verifier_kinds.specs.declared.kind.Range.{Range}
 use Rattle.verifier_kinds.specs.Kinds.{factor, rank, least_align, raised, is_constant, IsIn, IsNormal}
 use Rattle.verifier_kinds.specs.Arithmetic.{all, normal_of, taken, unless_wrapped, swapped_range, row, computed_range, range_of}

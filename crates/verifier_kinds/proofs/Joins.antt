@@ -1,6 +1,5 @@
 -- Joins: a join is above both, and keeps what each description meets.
 use Rattle.std.proofs.Common.{◌≡◌, ℕ, zero, suc, ◌%◌, ◌<◌, ◌≤◌, ◌∙◌, ◌==◌, ◌&&◌, true, min, max, nat_le, bit_and, List, [], ◌∷◌, length, get_or, Option, Some, None, IfSome, ℤ, refl, sym, ap, arith}
-use Rattle.std.specs.Prelude.{int_le}
 use Rattle.std.specs.Int.Bits.{and_self}
 use Rattle.std.proofs.lemmas.Nat.{and_assoc, and_comm, and_le_l, and_le_r}
 use Rattle.std.proofs.lemmas.Int.{ints}
@@ -16,7 +15,7 @@ use Rattle.verifier_kinds.specs.declared.kind.Kind.TheVariants.{Scalar, Context,
 use Rattle.verifier_kinds.specs.declared.description.StackSlot.{StackSlot}
 use Rattle.verifier_kinds.specs.declared.description.StackSlot.TheVariants.{Kept, Bytes}
 use Rattle.verifier_kinds.specs.declared.description.Description.{Description}
-use Rattle.verifier_kinds.specs.Kinds.{IsWithin, IsBelow, IsKind, IsNormal, AreOffsets, align_of, factor, rank, least_align, is_same, range_in, offsets_in, join_of_ranges, join_of_kinds}
+use Rattle.verifier_kinds.specs.Kinds.{IsWithin, IsBelow, IsKind, IsNormal, AreOffsets, factor, rank, least_align, is_same, range_in, offsets_in, join_of_ranges, join_of_kinds}
 use Rattle.verifier_kinds.specs.Descriptions.{IsDescription, IsSlot, IsSlotBelow, IsDescriptionBelow, number_bytes, register_of, slot_of, merged, kept_or_bytes, join_of_registers, join_of_slots, join_of}
 use Rattle.verifier_kinds.proofs.Moves.{true_int_le}
 use Rattle.verifier_kinds.proofs.Ranges.{divided_by_least_left, divided_by_least_right, least_align_comm}

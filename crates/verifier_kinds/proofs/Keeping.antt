@@ -1,23 +1,21 @@
 -- What arithmetic makes of kinds of the verifier is one.
-use Rattle.std.proofs.Common.{◌≡◌, ℕ, ◌%◌, ◌<◌, ◌≤◌, ◌&&◌, nat_le, ℤ, pos, negsuc, ◌+ℤ◌, ◌-ℤ◌, ◌≤ℤ◌, IfSome, Option, Some, None, Ok, Err, refl, arith}
-use Rattle.std.specs.Prelude.{int_le, IfOk}
-use Rattle.std.specs.Int.{cast_signed, w64}
+use Rattle.std.proofs.Common.{◌≡◌, ℕ, ◌%◌, ◌<◌, ◌≤◌, ◌&&◌, nat_le, ℤ, pos, negsuc, ◌+ℤ◌, ◌≤ℤ◌, IfSome, Option, Some, None, Ok, arith}
+use Rattle.std.specs.Prelude.{IfOk}
 use Rattle.std.proofs.lemmas.Int.{ints}
 use Rattle.std.proofs.lemmas.Bool.{cond_both, and_parts, leb-true}
-use Rattle.host_types.specs.Rules.{wrong_kind, outside_map}
 use Rattle.bpf_decode.specs.declared.operation.Width.{Width}
 use Rattle.bpf_decode.specs.declared.operation.Width.TheVariants.{Bits32, Bits64}
 use Rattle.bpf_decode.specs.declared.operation.AluCode.{AluCode}
 use Rattle.bpf_decode.specs.declared.operation.AluCode.TheVariants.{Add, Sub, Mov}
 use Rattle.bpf_decode.specs.Opcodes.{is}
-use Rattle.insn_alu.specs.Arithmetic.{alu, modulus, reads_dst}
+use Rattle.insn_alu.specs.Arithmetic.{alu, modulus}
 use Rattle.insn_alu.proofs.Small.{alu_small, width_small}
 use Rattle.verifier_kinds.specs.declared.kind.Align.{Align}
 use Rattle.verifier_kinds.specs.declared.kind.Range.{Range}
 use Rattle.verifier_kinds.specs.declared.kind.Offsets.{Offsets}
 use Rattle.verifier_kinds.specs.declared.kind.Kind.{Kind}
 use Rattle.verifier_kinds.specs.declared.kind.Kind.TheVariants.{Scalar, Context, Stack, MapValue, MaybeValue, MapName}
-use Rattle.verifier_kinds.specs.Kinds.{factor, is_constant, least_align, normal, offsets_in, range_in, IsKind, IsNormal, IsOffset}
+use Rattle.verifier_kinds.specs.Kinds.{factor, is_constant, least_align, range_in, IsKind, IsNormal, IsOffset}
 use Rattle.verifier_kinds.specs.Arithmetic.{taken, computed_range, range_of, within_offsets, displaced, signed_offset, within_value, displaced_value, kind_of, kind_with_dst, moved_number, copied, arith_by}
 use Rattle.verifier_kinds.proofs.Ranges.{constant_is_normal}
 use Rattle.verifier_kinds.proofs.Operands.{taken_below}

@@ -1,7 +1,6 @@
 -- A join is the least above both: it is below all that is above both.
 use Rattle.std.proofs.Common.{◌≡◌, ℕ, ◌≤◌, ◌∙◌, ◌==◌, ◌&&◌, true, nat_le, bit_and, Option, Some, None, ℤ, refl, ap, arith}
 use Rattle.std.proofs.lemmas.Nat.{and_assoc}
-use Rattle.std.specs.Prelude.{int_le}
 use Rattle.std.proofs.lemmas.Int.{ints}
 use Rattle.std.proofs.lemmas.Bool.{and_from, cond_both, cond-true, eq-eqb}
 use Rattle.verifier_kinds.specs.declared.kind.Align.{Align}

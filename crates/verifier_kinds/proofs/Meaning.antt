@@ -1,12 +1,9 @@
 -- What is described: numbers that a kind, a slot or a description describes are described by each that is
 -- above it.
-use Rattle.std.proofs.Common.{◌≡◌, ℕ, zero, suc, ◌*◌, ◌^◌, ◌<◌, ◌≤◌, ◌∙◌, bit_and, List, [], ◌∷◌, length, get_or, inl, inr, Option, Some, None, refl, sym, ap, subst, arith}
+use Rattle.std.proofs.Common.{◌≡◌, ℕ, zero, suc, ◌^◌, ◌<◌, ◌∙◌, bit_and, List, [], ◌∷◌, length, get_or, Option, Some, None, refl, sym, ap, subst, arith}
 use Rattle.std.specs.Prelude.{IsSome, IsSomeAnd, IsBitSet}
 use Rattle.std.proofs.lemmas.Nat.{and_assoc, and_comm, and_le_l, and_le_r}
-use Rattle.std.proofs.lemmas.Bool.{cases_lt}
-use Rattle.std.proofs.lemmas.List.{get_or_past, length-take, length-drop}
 use Rattle.host_types.specs.declared.shape.Shape.{Shape}
-use Rattle.host_types.specs.Bytes.{part_of, number_of}
 use Rattle.host_types.specs.Memory.{◌>>=◌, all_set}
 use Rattle.verifier_kinds.specs.declared.kind.Range.{Range}
 use Rattle.verifier_kinds.specs.declared.kind.Offsets.{Offsets}
@@ -14,9 +11,8 @@ use Rattle.verifier_kinds.specs.declared.kind.Kind.{Kind}
 use Rattle.verifier_kinds.specs.declared.kind.Kind.TheVariants.{Scalar, Context, Stack, MapValue, MaybeValue, MapName}
 use Rattle.verifier_kinds.specs.declared.description.StackSlot.{StackSlot}
 use Rattle.verifier_kinds.specs.declared.description.StackSlot.TheVariants.{Kept, Bytes}
-use Rattle.verifier_kinds.specs.declared.description.Description.{Description}
-use Rattle.verifier_kinds.specs.Kinds.{Setting, shape_at, range_in, IsIn, IsWithin, IsByElement, IsOfKind, IsKindBelow, IsBelow, Describes}
-use Rattle.verifier_kinds.specs.Descriptions.{IsDescription, IsSlotBelow, IsDescriptionBelow, DescribesSlot, DescribesRegisters, DescribesStack, register_of, slot_of}
+use Rattle.verifier_kinds.specs.Kinds.{Setting, range_in, IsIn, IsWithin, IsByElement, IsOfKind, IsKindBelow, IsBelow, Describes}
+use Rattle.verifier_kinds.specs.Descriptions.{IsSlotBelow, DescribesSlot}
 use Rattle.verifier_kinds.proofs.Ranges.{divided_less}
 
 -- a number of a range is one of each range around it
@@ -76,4 +72,3 @@ slot_described_above setting (Kept (Scalar range)) (Bytes set) bytes n e h = λ 
 slot_described_above setting (Kept pointer) (Bytes set) bytes n e h = λ i small in_set. absurd (in_set (ap (λ s. bit_and s (2 ^ i)) (sym e ∙ no_bits set) ∙ no_bits (2 ^ i)))
 
 -- ---- descriptions
-

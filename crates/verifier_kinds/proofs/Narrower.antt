@@ -1,5 +1,5 @@
 -- Narrower ranges: of ranges that lie within others, arithmetic makes ranges that do.
-use Rattle.std.proofs.Common.{◌≡◌, ℕ, ◌+◌, ◌-◌, ◌*◌, ◌/◌, ◌%◌, ◌^◌, ◌<◌, ◌≤◌, ◌==◌, ◌&&◌, ◌∙◌, min, max, nat_lt, nat_le, suc, ℤ, Bool, true, false, inl, inr, sym, ap, arith}
+use Rattle.std.proofs.Common.{◌≡◌, ℕ, ◌+◌, ◌-◌, ◌*◌, ◌/◌, ◌%◌, ◌^◌, ◌<◌, ◌≤◌, ◌==◌, ◌&&◌, min, max, nat_lt, nat_le, suc, ℤ, true, false, inl, inr, arith}
 use Rattle.std.specs.Prelude.{if◌then◌else◌}
 use Rattle.std.specs.Int.{leading_zeros, w64}
 use Rattle.std.proofs.lemmas.Bool.{cond_both, cond-true, cond-false, and_parts, eq-eqb, eqb-true, eqb-false, le-leb, leb-true, leb-false, lt-ltb, ltb-true, cases_lt}

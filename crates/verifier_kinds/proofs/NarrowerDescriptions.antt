@@ -1,9 +1,9 @@
 -- Narrower descriptions: what is under others, whose offsets may be `extra` more, stays so once a register or a
 -- slot of the stack is replaced, and once it is known of what kind the answer of a call is.
-use Rattle.std.proofs.Common.{◌≡◌, ℕ, ◌%◌, zero, suc, ◌∙◌, ◌==◌, min, bit_and, bit_or, List, [], ◌∷◌, length, get_or, slice_set, Option, Some, None, IfSome, refl, sym, ap, subst, arith}
-use Rattle.std.specs.Prelude.{Bool, true, false, if◌then◌else◌, option_map}
+use Rattle.std.proofs.Common.{◌≡◌, ℕ, ◌%◌, zero, suc, ◌∙◌, min, bit_and, bit_or, List, [], ◌∷◌, length, get_or, slice_set, Option, Some, None, IfSome, refl, sym, ap, subst, arith}
+use Rattle.std.specs.Prelude.{option_map}
 use Rattle.std.specs.Int.{bit_at}
-use Rattle.std.specs.Int.Bits.{and_self, and_zero_l}
+use Rattle.std.specs.Int.Bits.{and_zero_l}
 use Rattle.std.proofs.lemmas.Nat.{and_assoc, and_le_r}
 use Rattle.std.proofs.lemmas.Nat.Bits.{bit_at_and, bit_at_or, same_from_bits}
 use Rattle.std.proofs.lemmas.Bool.{cond_both}

@@ -1,7 +1,7 @@
 -- Narrower kinds: of kinds that are under others, arithmetic and conditional jumps make kinds that are, also
 -- where the others' offsets are `extra` more.
 use Rattle.std.proofs.Common.{◌≡◌, ℕ, ◌+◌, ◌-◌, ◌%◌, ◌^◌, ◌<◌, ◌≤◌, ◌==◌, min, max, nat_lt, nat_le, ℤ, pos, negsuc, ◌+ℤ◌, ◌-ℤ◌, ◌≤ℤ◌, ◌<ℤ◌, Bool, true, false, inl, inr, Option, Some, None, Result, Ok, Err, refl, subst, arith}
-use Rattle.std.specs.Prelude.{if◌then◌else◌, int_le, ◌&&◌}
+use Rattle.std.specs.Prelude.{if◌then◌else◌, ◌&&◌}
 use Rattle.std.specs.Int.{cast_signed, w64}
 use Rattle.std.proofs.lemmas.Int.{ints, to_z_pos}
 use Rattle.std.proofs.lemmas.Bool.{cases_Bool, cases_lt, cond_both, cond-true, cond-false, and_parts, and_from, eqb-true, eqb-false, le-leb, leb-true, lt-ltb, ltb-true}
@@ -10,20 +10,20 @@ use Rattle.host_types.specs.Rules.{wrong_kind, outside_map}
 use Rattle.bpf_decode.specs.declared.operation.Width.{Width}
 use Rattle.bpf_decode.specs.declared.operation.Width.TheVariants.{Bits32, Bits64}
 use Rattle.bpf_decode.specs.declared.operation.AluCode.{AluCode}
-use Rattle.bpf_decode.specs.declared.operation.AluCode.TheVariants.{Add, Sub, Mov}
+use Rattle.bpf_decode.specs.declared.operation.AluCode.TheVariants.{Add, Sub}
 use Rattle.bpf_decode.specs.declared.operation.Comparison.{Comparison}
 use Rattle.bpf_decode.specs.declared.operation.Comparison.TheVariants.{Equal, NotEqual, Greater, GreaterOrEqual, Less, LessOrEqual}
 use Rattle.bpf_decode.specs.Opcodes.{is}
-use Rattle.insn_alu.specs.Arithmetic.{modulus, reads_dst}
+use Rattle.insn_alu.specs.Arithmetic.{reads_dst}
 use Rattle.verifier_kinds.specs.declared.kind.Align.{Align}
 use Rattle.verifier_kinds.specs.declared.kind.Range.{Range}
 use Rattle.verifier_kinds.specs.declared.kind.Offsets.{Offsets}
 use Rattle.verifier_kinds.specs.declared.kind.Kind.{Kind}
 use Rattle.verifier_kinds.specs.declared.kind.Kind.TheVariants.{Scalar, Context, Stack, MapValue, MaybeValue}
-use Rattle.verifier_kinds.specs.Kinds.{factor, rank, least_align, greatest_align, is_constant, normal, range_in, offsets_in, IsIn, IsNormal, IsNormalKind, IsWithin}
-use Rattle.verifier_kinds.specs.Arithmetic.{between, normal_of, range_of, within_offsets, displaced, signed_offset, within_value, displaced_value, kind_of, kind_with_dst, moved_number, copied, arith_by}
+use Rattle.verifier_kinds.specs.Kinds.{factor, rank, least_align, greatest_align, is_constant, normal, range_in, offsets_in, IsNormal, IsNormalKind, IsWithin}
+use Rattle.verifier_kinds.specs.Arithmetic.{between, range_of, displaced, signed_offset, within_value, displaced_value, kind_of, kind_with_dst, moved_number, copied, arith_by}
 use Rattle.verifier_kinds.specs.Wide.{raised, within_value_at, displaced_value_at, kind_of_at, kind_with_dst_at, arith_by_at, IsWideKind}
-use Rattle.verifier_kinds.specs.Refinement.{some_of, without_end, negated, kept_by, is_told, refined}
+use Rattle.verifier_kinds.specs.Refinement.{some_of, without_end, kept_by, refined}
 use Rattle.verifier_kinds.proofs.Ranges.{first_divided, last_below}
 use Rattle.verifier_kinds.proofs.Order.{within_trans}
 use Rattle.verifier_kinds.proofs.Under.{raised_divided, raised_normal, IsKindUnder}

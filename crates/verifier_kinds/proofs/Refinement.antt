@@ -1,5 +1,5 @@
 -- What a conditional jump tells of dst: the ways that it lets through are normal, and have each number that goes there.
-use Rattle.std.proofs.Common.{◌≡◌, ℕ, ◌+◌, ◌-◌, ◌/◌, ◌*◌, ◌%◌, ◌^◌, ◌<◌, ◌≤◌, ◌==◌, ◌∙◌, nat_lt, nat_le, min, max, Bool, true, false, not, if◌then◌else◌, Option, Some, None, IfSome, refl, sym, subst, arith}
+use Rattle.std.proofs.Common.{◌≡◌, ℕ, ◌+◌, ◌-◌, ◌/◌, ◌*◌, ◌%◌, ◌^◌, ◌<◌, ◌≤◌, ◌==◌, ◌∙◌, nat_lt, nat_le, min, max, Bool, true, false, not, if◌then◌else◌, Option, Some, None, IfSome, refl, sym, arith}
 use Rattle.std.specs.Prelude.{option_map}
 use Rattle.std.proofs.lemmas.Bool.{and_parts, cond_both, eqb-true, eqb-false, leb-true, leb-false, ltb-true, ltb-false}
 use Rattle.bpf_decode.specs.declared.operation.Width.{Width}

@@ -11,7 +11,7 @@ use Rattle.bpf_decode.specs.declared.operation.Width.{Width}
 use Rattle.bpf_decode.specs.declared.operation.Width.TheVariants.{Bits32, Bits64}
 use Rattle.bpf_decode.specs.declared.operation.AluCode.TheVariants.{Add, Sub, Mul, Div, Or, And, Lsh, Rsh, Mod, Xor, Mov}
 use Rattle.bpf_decode.specs.Opcodes.{is}
-use Rattle.insn_alu.specs.Arithmetic.{alu, low, modulus, count, quotient, remainder}
+use Rattle.insn_alu.specs.Arithmetic.{alu, low, modulus, quotient, remainder}
 use Rattle.insn_alu.proofs.Halves.{low_of_small}
 use Rattle.insn_alu.proofs.Small.{low_fits}
 use Rattle.verifier_kinds.specs.declared.kind.Align.{Align}

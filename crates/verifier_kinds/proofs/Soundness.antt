@@ -1,5 +1,5 @@
 -- Arithmetic is sound: the number that it computes is of the kind that it gives.
-use Rattle.std.proofs.Common.{◌≡◌, ℕ, ◌+◌, ◌-◌, ◌%◌, ◌^◌, ◌<◌, ◌≤◌, ◌∙◌, true, inl, inr, ℤ, pos, ◌+ℤ◌, ◌-ℤ◌, Option, Some, None, Result, Ok, Err, refl, sym, ap, subst, arith}
+use Rattle.std.proofs.Common.{◌≡◌, ℕ, ◌+◌, ◌-◌, ◌%◌, ◌^◌, ◌<◌, ◌≤◌, ◌∙◌, true, inl, inr, ℤ, pos, ◌+ℤ◌, ◌-ℤ◌, Option, Some, None, Result, Ok, Err, refl, sym, subst, arith}
 use Rattle.std.specs.Int.{cast_signed, w64}
 use Rattle.std.proofs.lemmas.Bool.{cases_Bool, cond-true, cond-false}
 use Rattle.bpf_decode.specs.declared.operation.Width.{Width}
@@ -16,8 +16,8 @@ use Rattle.verifier_kinds.specs.declared.kind.Range.{Range}
 use Rattle.verifier_kinds.specs.declared.kind.Offsets.{Offsets}
 use Rattle.verifier_kinds.specs.declared.kind.Kind.{Kind}
 use Rattle.verifier_kinds.specs.declared.kind.Kind.TheVariants.{Scalar, Context, Stack, MapValue, MapName}
-use Rattle.verifier_kinds.specs.Kinds.{Setting, IsSetting, IsOfKind, IsByElement, IsOffset, Describes, IsIn, is_constant, least_align, normal, offsets_in, shape_at}
-use Rattle.verifier_kinds.specs.Arithmetic.{arith_by, range_of, moved_forward, moved_back, displaced, displaced_value, signed_offset, within_value, kind_of, kind_with_dst, moved_number, copied}
+use Rattle.verifier_kinds.specs.Kinds.{Setting, IsSetting, IsOfKind, IsByElement, Describes, IsIn, is_constant, least_align, normal, offsets_in, shape_at}
+use Rattle.verifier_kinds.specs.Arithmetic.{arith_by, moved_forward, moved_back, displaced, displaced_value, signed_offset, within_value, kind_of, kind_with_dst, moved_number, copied}
 use Rattle.verifier_kinds.proofs.Operands.{constant_number}
 use Rattle.verifier_kinds.proofs.Computed.{in_range_of}
 use Rattle.verifier_kinds.proofs.Moves.{moved_is, moved_address, moved_back_is, moved_back_address}

@@ -1,5 +1,5 @@
 -- Pointers to the values of maps, which a number moves.
-use Rattle.std.proofs.Common.{◌≡◌, ℕ, suc, ◌+◌, ◌-◌, ◌*◌, ◌%◌, ◌<◌, ◌≤◌, ◌^◌, ℤ, pos, negsuc, ◌+ℤ◌, ◌≤ℤ◌, inl, inr, ◌∙◌, nat_le, true, false, length, Option, Some, None, IfSome, Result, Ok, Err, FitsSigned, to_z, of_z, refl, sym, ap, subst, arith}
+use Rattle.std.proofs.Common.{◌≡◌, ℕ, suc, ◌+◌, ◌-◌, ◌*◌, ◌%◌, ◌<◌, ◌≤◌, ◌^◌, ℤ, pos, negsuc, ◌+ℤ◌, ◌≤ℤ◌, inl, inr, ◌∙◌, nat_le, true, false, length, Option, Some, None, Ok, to_z, of_z, refl, sym, ap, subst, arith}
 use Rattle.std.specs.Prelude.{◌-ℤ◌, IsSomeAnd}
 use Rattle.std.specs.Int.{cast_signed, w64, w128}
 use Rattle.std.proofs.lemmas.Int.{ints, to_z_pos, to_z-of_z}
@@ -9,7 +9,6 @@ use Rattle.std.proofs.lemmas.Nat.{mul-le}
 use Rattle.std.proofs.lemmas.List.{get_or_past}
 use Rattle.host_types.specs.declared.shape.Shape.{Shape}
 use Rattle.host_types.specs.Shapes.{IsShape, stride_of}
-use Rattle.host_types.specs.Rules.{outside_map}
 use Rattle.verifier_kinds.specs.declared.kind.Align.{Align}
 use Rattle.verifier_kinds.specs.declared.kind.Align.TheVariants.{One, Two, Four, Eight}
 use Rattle.verifier_kinds.specs.declared.kind.Range.{Range}
