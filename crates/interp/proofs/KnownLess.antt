@@ -14,10 +14,7 @@ use Rattle.host_types.proofs.Lists.{map_Some-from_all_set}
 
 -- a bit of a part of some bits is one of them
 pub more_bits : (all some i : ℕ) → bit_and all some ≡ some → IsBitSet some i → IsBitSet all i
-more_bits all some i e set none =
-    let part : bit_and some (2 ^ i) ≡ bit_and some (bit_and all (2 ^ i)) = ap (λ b. bit_and b (2 ^ i)) (sym e ∙ and_comm all some) ∙ and_assoc (2 ^ i) some all in
-    let small = and_le_r some (bit_and all (2 ^ i)) in
-    set (omega arith)
+more_bits all some i e set none = grind (arith, nat_tests, and_comm, and_assoc, and_le_r)
 
 -- each of a list of values is there
 pub is_some-map_Some : {X : Type 0} (xs : List X) (i : ℕ) → i < length xs → IsSome (slice_index_or (map Some xs) i None)

@@ -34,5 +34,4 @@ pub mod Leading
 pub mod Advancing
 pub mod Ahead
 pub mod Beginning
-pub mod Driving
 pub mod OnMaps

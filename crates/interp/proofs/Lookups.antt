@@ -9,7 +9,4 @@ use Rattle.interp.specs.Fits.{setting_of}
 
 -- what kinds speak of in a program is within the limits
 pub is_setting : (p : Subject) (answers : ℕ → ℕ) → HasShapes p.shapes → IsSetting (setting_of p answers)
-is_setting p answers h =
-    let named = named_have_shapes p h in
-    let eight = named.eight in
-    record { few = omega (arith, eight); each = named.each }
+is_setting p answers h = grind (arith, named_have_shapes)

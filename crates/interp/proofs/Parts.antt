@@ -12,24 +12,17 @@ part-at xs at size i d h = get_or-take size (drop at xs) i d h ∙ get_or-drop a
 -- an element before the part that was put in
 pub with_part-at_before : {X : Type 0} (xs : List X) (at : ℕ) (part : List X) (i : ℕ) (d : X) → at ≤ length xs → i < at → get_or (with_part xs at part) i d ≡ get_or xs i d
 unfolding with_part
-with_part-at_before xs at part i d within h =
-    let front = length-take-le at xs within in
-    get_or_append_left _ (drop (at + length part) xs) d i (simp length-append (omega arith)) ∙ get_or_append_left (take at xs) part d i (omega arith) ∙ get_or-take at xs i d h
+with_part-at_before xs at part i d within h = grind (arith, length-take-le, get_or_append_left, drop, length, length-append, take, get_or-take)
 
 -- an element that was put in
 pub with_part-at_inside : {X : Type 0} (xs : List X) (at : ℕ) (part : List X) (i : ℕ) (d : X) → at ≤ length xs → at ≤ i → i < at + length part → get_or (with_part xs at part) i d ≡ get_or part (i - at) d
 unfolding with_part
-with_part-at_inside xs at part i d within h less =
-    let front = length-take-le at xs within in
-    get_or_append_left _ (drop (at + length part) xs) d i (simp length-append (omega arith)) ∙ get_or-append_right (take at xs) part at i d front h
+with_part-at_inside xs at part i d within h less = grind (arith, length-take-le, get_or_append_left, drop, length, length-append, get_or-append_right, take)
 
 -- an element behind the part that was put in
 pub with_part-at_behind : {X : Type 0} (xs : List X) (at : ℕ) (part : List X) (i : ℕ) (d : X) → at ≤ length xs → at + length part ≤ i → get_or (with_part xs at part) i d ≡ get_or xs i d
 unfolding with_part
-with_part-at_behind xs at part i d within h =
-    let front = length-take-le at xs within in
-    let there : at + length part + (i - (at + length part)) ≡ i = omega arith in
-    get_or-append_right _ (drop (at + length part) xs) (at + length part) i d (simp length-append (omega arith)) h ∙ rw there at (get_or-drop (at + length part) xs (i - (at + length part)) d)
+with_part-at_behind xs at part i d within h = grind (arith, length-take-le, length, get_or-append_right, drop, length-append, get_or-drop)
 
 -- where each element is there, all are
 pub all_there : (xs : List (Option ℕ)) → ((i : ℕ) → i < length xs → IsSome (get_or xs i None)) → (given : List ℕ) × (all_set xs ≡ Some given)

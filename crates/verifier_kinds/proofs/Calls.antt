@@ -1,16 +1,12 @@
 -- Calls of lookups: which of them a description names, and what is known once the answer of one is.
-use Rattle.std.proofs.Common.{◌≡◌, ℕ, ◌<◌, ◌≤◌, ◌*◌, ◌==◌, ◌&&◌, ◌∙◌, ℤ, pos, ◌+ℤ◌, List, get_or, Option, Some, None, IfSome, Result, Ok, Err, inl, inr, refl, sym, ap, subst, arith}
-use Rattle.std.specs.Prelude.{IsSome, IsSomeAnd, option_map, if◌then◌else◌, ◌-ℤ◌}
-use Rattle.std.specs.Int.{cast_signed, w64}
+use Rattle.std.proofs.Common.{◌≡◌, ℕ, ◌<◌, ◌≤◌, ◌*◌, ◌==◌, ◌&&◌, ◌∙◌, ℤ, pos, List, get_or, Option, Some, None, IfSome, Ok, inl, inr, sym, subst, arith}
+use Rattle.std.specs.Prelude.{IsSome, IsSomeAnd, option_map, if◌then◌else◌}
 use Rattle.std.proofs.lemmas.Bool.{cases_Bool, cond_both, cond-true, cond-false, eqb-true}
 use Rattle.bpf_decode.specs.declared.operation.Width.{Width}
 use Rattle.bpf_decode.specs.declared.operation.Width.TheVariants.{Bits32, Bits64}
 use Rattle.bpf_decode.specs.declared.operation.AluCode.{AluCode}
 use Rattle.bpf_decode.specs.declared.operation.AluCode.TheVariants.{Add, Sub, Mov}
-use Rattle.bpf_decode.specs.Opcodes.{is}
-use Rattle.host_types.specs.Rules.{wrong_kind}
 use Rattle.host_types.specs.Bytes.{number_of, part_of}
-use Rattle.verifier_kinds.specs.declared.kind.Align.{Align}
 use Rattle.verifier_kinds.specs.declared.kind.Range.{Range}
 use Rattle.verifier_kinds.specs.declared.kind.Offsets.{Offsets}
 use Rattle.verifier_kinds.specs.declared.kind.Kind.{Kind}
@@ -18,23 +14,18 @@ use Rattle.verifier_kinds.specs.declared.kind.Kind.TheVariants.{Scalar, Context,
 use Rattle.verifier_kinds.specs.declared.description.StackSlot.{StackSlot}
 use Rattle.verifier_kinds.specs.declared.description.StackSlot.TheVariants.{Kept, Bytes}
 use Rattle.verifier_kinds.specs.declared.description.Description.{Description}
-use Rattle.verifier_kinds.specs.Kinds.{Setting, Describes, IsAnswer, IsByElement, IsKind, IsNormalKind, IsOfCallBelow, IsOfKind, is_constant, join_of_kinds, least_align, shape_at}
+use Rattle.verifier_kinds.specs.Kinds.{Setting, Describes, IsAnswer, IsByElement, IsKind, IsNormalKind, IsOfCallBelow, IsOfKind, join_of_kinds, shape_at}
 use Rattle.verifier_kinds.specs.Descriptions.{DescribesRegisters, DescribesSlot, DescribesStack, IsDescription, IsLawfulAt, IsNormalSlot, IsOfCallsBelow, IsSlot, IsSlotOfCallBelow, join_of, join_of_registers, join_of_slots, kept_or_bytes, register_of, settled, settled_kind, settled_slot, slot_of, start_description, with_kind, with_slot, with_unset}
-use Rattle.verifier_kinds.specs.Arithmetic.{arith_by, copied, displaced, displaced_value, kind_of, kind_with_dst, moved_number, range_of, signed_offset, within_value}
+use Rattle.verifier_kinds.specs.Arithmetic.{arith_by, copied, displaced, displaced_value, kind_of, kind_with_dst, moved_number}
 use Rattle.verifier_kinds.proofs.Descriptions.{get_or-one, start_registers, register_of-settled, settled_kind_has, set_has, settled_register_has, slot_of-settled}
-use Rattle.verifier_kinds.proofs.Joins.{register_of-join, same_maybe, slot_of-join}
+use Rattle.verifier_kinds.proofs.Joins.{register_of-join, slot_of-join}
 use Rattle.verifier_kinds.proofs.Moves.{moved_back_is, moved_is}
 use Rattle.verifier_kinds.proofs.Values.{move_is}
 
 -- ---- once the answer of a call is known
 
 settled_of_kind : (setting : Setting) (call : ℕ) (to kind : Kind) (n : ℕ) → IsOfKind setting to (setting.answers call) → IsOfKind setting kind n → IsOfKind setting (settled_kind call to kind) n
-settled_of_kind setting call to (MaybeValue m id) n p (answer, same) =
-    cond_both (id == call) to (MaybeValue m id) (λ k. IsOfKind setting k n)
-    (λ t.
-    let one : n ≡ setting.answers call = same ∙ ap setting.answers (eqb-true id call t) in
-    subst (IsOfKind setting to) (sym one) p)
-    (λ _. (answer, same))
+settled_of_kind setting call to (MaybeValue m id) n p (answer, same) = grind (arith, cond_both, eqb-true)
 settled_of_kind setting call to kind n p h = h
 
 settled_describes : (setting : Setting) (call : ℕ) (to : Kind) (known : Option Kind) (x : Option ℕ) → IsOfKind setting to (setting.answers call) → Describes setting known x → Describes setting (option_map (settled_kind call to) known) x
@@ -65,10 +56,7 @@ abbrev pub with_answer : Setting → ℕ → ℕ → Setting
 with_answer setting call answer = record setting { answers = λ id. if id == call then answer else setting.answers id }
 
 pub another_answer_agrees : (setting : Setting) (slot answer : ℕ) → AgreeBelow slot setting (with_answer setting slot answer)
-another_answer_agrees setting slot answer = record {
-  shapes = refl;
-  answers = λ call h. cond_both (call == slot) answer (setting.answers call) (λ n. setting.answers call ≡ n) (λ t. absurd (omega (arith, eqb-true call slot t))) (λ _. refl);
-}
+another_answer_agrees setting slot answer = grind (arith, cond_both, eqb-true)
 
 agreed_of_kind : (slot : ℕ) (setting other : Setting) (kind : Kind) (n : ℕ) → AgreeBelow slot setting other → IsOfCallBelow slot kind → IsOfKind setting kind n → IsOfKind other kind n
 agreed_of_kind slot setting other (Scalar range) n agree below h = h
@@ -117,10 +105,7 @@ slot_names_later slot later (Kept kind) h below = kind_names_later slot later ki
 slot_names_later slot later (Bytes set) h below = tt
 
 pub names_later : (slot later : ℕ) (d : Description) → IsOfCallsBelow slot d → slot ≤ later → IsOfCallsBelow later d
-names_later slot later d below h = record {
-  registers = λ i. register_names_later slot later (register_of d i) h (below.registers i);
-  stack = λ k. slot_names_later slot later (slot_of d k) h (below.stack k);
-}
+names_later slot later d below h = grind (arith, register_names_later, slot_names_later)
 
 pub with_kind_names : (slot : ℕ) (d : Description) (i : ℕ) (kind : Kind) → IsOfCallBelow slot kind → IsOfCallsBelow slot d → IsOfCallsBelow slot (with_kind d i kind)
 with_kind_names slot d i kind p below = record {
@@ -145,10 +130,7 @@ settled_slot_names slot call to (Kept kind) p h = settled_kind_has (IsOfCallBelo
 settled_slot_names slot call to (Bytes set) p h = tt
 
 pub settled_names : (slot call : ℕ) (to : Kind) (d : Description) → IsOfCallBelow slot to → IsOfCallsBelow slot d → IsOfCallsBelow slot (settled call to d)
-settled_names slot call to d p below = record {
-  registers = λ i. rw (register_of-settled call to d i) (settled_register_has (IsOfCallBelow slot) call to (register_of d i) p (below.registers i));
-  stack = λ k. rw (slot_of-settled call to d k) (settled_slot_names slot call to (slot_of d k) p (below.stack k));
-}
+settled_names slot call to d p below = grind (arith, register_of-settled, settled_register_has, slot_of-settled, settled_slot_names)
 
 -- ---- joins
 
@@ -162,25 +144,10 @@ join_names_left slot (MaybeValue m i) (MaybeValue n j) h = cond_both ((m == n) &
 join_names_left slot (MapName m) (MapName n) h = cond_both (m == n) (Some (MapName m)) None (λ o. IfSome o (IsOfCallBelow slot)) (λ _. tt) (λ _. tt)
 join_names_left slot a b h = tt
 
-join_names_right : (slot : ℕ) (a b : Kind) → IsOfCallBelow slot b → IfSome (join_of_kinds a b) (IsOfCallBelow slot)
-join_names_right slot (Scalar a) (Scalar b) h = tt
-join_names_right slot (Context a) (Context b) h = cond_both _ (Some (Context a)) None (λ o. IfSome o (IsOfCallBelow slot)) (λ _. tt) (λ _. tt)
-join_names_right slot (Stack a) (Stack b) h = cond_both _ (Some (Stack a)) None (λ o. IfSome o (IsOfCallBelow slot)) (λ _. tt) (λ _. tt)
-join_names_right slot (MapValue m a) (MapValue n b) h = cond_both (m == n) _ None (λ o. IfSome o (IsOfCallBelow slot)) (λ _. tt) (λ _. tt)
-join_names_right slot (MaybeValue m i) (MaybeValue n j) h =
-    cond_both ((m == n) && (i == j)) (Some (MaybeValue m i)) None (λ o. IfSome o (IsOfCallBelow slot)) (λ t. subst (IsOfCallBelow slot) (same_maybe m n i j t) h) (λ _. tt)
-join_names_right slot (MapName m) (MapName n) h = cond_both (m == n) (Some (MapName m)) None (λ o. IfSome o (IsOfCallBelow slot)) (λ _. tt) (λ _. tt)
-join_names_right slot a b h = tt
-
 registers_join_names_left : (slot : ℕ) (a b : Option Kind) → IfSome a (IsOfCallBelow slot) → IfSome (join_of_registers a b) (IsOfCallBelow slot)
 registers_join_names_left slot (Some a) (Some b) h = join_names_left slot a b h
 registers_join_names_left slot (Some a) None h = tt
 registers_join_names_left slot None b h = tt
-
-registers_join_names_right : (slot : ℕ) (a b : Option Kind) → IfSome b (IsOfCallBelow slot) → IfSome (join_of_registers a b) (IsOfCallBelow slot)
-registers_join_names_right slot (Some a) (Some b) h = join_names_right slot a b h
-registers_join_names_right slot (Some a) None h = tt
-registers_join_names_right slot None b h = tt
 
 kept_names : (slot : ℕ) (o : Option Kind) → IfSome o (IsOfCallBelow slot) → IsSlotOfCallBelow slot (kept_or_bytes o 0)
 kept_names slot (Some kind) h = h
@@ -191,22 +158,8 @@ slots_join_names_left slot (Kept a) (Kept b) h = kept_names slot (join_of_kinds 
 slots_join_names_left slot (Kept a) (Bytes set) h = tt
 slots_join_names_left slot (Bytes set) b h = tt
 
-slots_join_names_right : (slot : ℕ) (a b : StackSlot) → IsSlotOfCallBelow slot b → IsSlotOfCallBelow slot (join_of_slots a b)
-slots_join_names_right slot (Kept a) (Kept b) h = kept_names slot (join_of_kinds a b) (join_names_right slot a b h)
-slots_join_names_right slot (Kept a) (Bytes set) h = tt
-slots_join_names_right slot (Bytes set) b h = tt
-
 pub join_names_of_left : (slot : ℕ) (d e : Description) → IsDescription d → IsDescription e → IsOfCallsBelow slot d → IsOfCallsBelow slot (join_of d e)
-join_names_of_left slot d e p q below = record {
-  registers = λ i. rw (register_of-join d e p q i) (registers_join_names_left slot (register_of d i) (register_of e i) (below.registers i));
-  stack = λ k. rw (slot_of-join d e p q k) (slots_join_names_left slot (slot_of d k) (slot_of e k) (below.stack k));
-}
-
-pub join_names_of_right : (slot : ℕ) (d e : Description) → IsDescription d → IsDescription e → IsOfCallsBelow slot e → IsOfCallsBelow slot (join_of d e)
-join_names_of_right slot d e p q below = record {
-  registers = λ i. rw (register_of-join d e p q i) (registers_join_names_right slot (register_of d i) (register_of e i) (below.registers i));
-  stack = λ k. rw (slot_of-join d e p q k) (slots_join_names_right slot (slot_of d k) (slot_of e k) (below.stack k));
-}
+join_names_of_left slot d e p q below = grind (arith, register_of-join, registers_join_names_left, slot_of-join, slots_join_names_left)
 
 -- ---- lawful descriptions
 
@@ -225,13 +178,7 @@ slot_is_normal (Bytes set) h = h
 
 -- what the verifier knows is lawful
 pub description_is_lawful : (slot : ℕ) (d : Description) → IsDescription d → IsOfCallsBelow slot d → IsLawfulAt slot d
-description_is_lawful slot d p below = record {
-  registers = p.registers;
-  stack = p.stack;
-  kinds = λ i. register_is_normal (register_of d i) (p.kinds i);
-  slots = λ k. slot_is_normal (slot_of d k) (p.slots k);
-  calls = below;
-}
+description_is_lawful slot d p below = grind (arith, register_is_normal, slot_is_normal)
 
 -- ---- arithmetic
 
@@ -244,26 +191,12 @@ displaced_names slot Sub Bits64 kind rule offset by result each e =
 displaced_names slot code width kind rule offset by result each e = cc
 
 value_names : (slot : ℕ) (code : AluCode) (width : Width) (m : ℕ) (offsets : Offsets) (by : Range) (result : Kind) → displaced_value m code width offsets by ≡ Ok result → IsOfCallBelow slot result
-value_names slot Add Bits64 m offsets by result e =
-    let move = move_is m (least_align offsets.align by.align) (pos offsets.low +ℤ signed_offset by by.low) (pos offsets.high +ℤ signed_offset by by.high) result e in
-    subst (IsOfCallBelow slot) (sym move.is) tt
-value_names slot Sub Bits64 m offsets by result e = elim (cases_Bool (is_constant by)) [
-  | inl t ↦
-      let align : Align = least_align offsets.align by.align in
-      let low : ℤ = pos offsets.low -ℤ cast_signed w64 by.low in
-      let high : ℤ = pos offsets.high -ℤ cast_signed w64 by.low in
-      let move = move_is m align low high result (sym (cond-true (is_constant by) (within_value m align low high) (Err wrong_kind) t) ∙ e) in
-      subst (IsOfCallBelow slot) (sym move.is) tt
-  | inr f ↦
-      let none : ◌≡◌ {A = Result Kind ℕ} (Err wrong_kind) (Ok result) = sym (cond-false (is_constant by) _ (Err wrong_kind) f) ∙ e in
-      cc
-]
+value_names slot Add Bits64 m offsets by result e = grind (arith, move_is, pos)
+value_names slot Sub Bits64 m offsets by result e = grind (arith, cases_Bool, inl, pos, move_is, cond-true, inr, cond-false)
 value_names slot code width m offsets by result e = cc
 
 kinds_name : (slot : ℕ) (code : AluCode) (width : Width) (offset : ℤ) (a b kind : Kind) → kind_of code width offset a b ≡ Ok kind → IsOfCallBelow slot kind
-kinds_name slot code width offset (Scalar a) (Scalar b) kind e =
-    let same : Scalar (range_of code width offset a b) ≡ kind = cc in
-    subst (IsOfCallBelow slot) same tt
+kinds_name slot code width offset (Scalar a) (Scalar b) kind e = grind (arith)
 kinds_name slot code width offset (Context k) (Scalar by) kind e = displaced_names slot code width Context 16 k by kind (λ _. tt) e
 kinds_name slot code width offset (Stack k) (Scalar by) kind e = displaced_names slot code width Stack 17 k by kind (λ _. tt) e
 kinds_name slot code width offset (MapValue m offsets) (Scalar by) kind e = value_names slot code width m offsets by kind e
@@ -276,21 +209,13 @@ with_dst_names slot code width offset None b kind e = cc
 
 -- nor does a move of a number
 moved_number_names : (slot : ℕ) (width : Width) (offset : ℤ) (b kind : Kind) → moved_number width offset b ≡ Ok kind → IsOfCallBelow slot kind
-moved_number_names slot width offset (Scalar b) kind e =
-    let same : Scalar (range_of Mov width offset b b) ≡ kind = cc in
-    subst (IsOfCallBelow slot) same tt
+moved_number_names slot width offset (Scalar b) kind e = grind (arith)
 moved_number_names slot width offset b kind e = cc
 
 -- and a copy names what is copied
 copied_names : (slot : ℕ) (width : Width) (offset : ℤ) (b kind : Kind) → copied width offset b ≡ Ok kind → IsOfCallBelow slot b → IsOfCallBelow slot kind
 copied_names slot Bits32 offset b kind e below = moved_number_names slot Bits32 offset b kind e
-copied_names slot Bits64 offset b kind e below = elim (cases_Bool (is offset 0)) [
-  | inl t ↦
-      let copy : ◌≡◌ {A = Result Kind ℕ} (Ok b) (Ok kind) = sym (cond-true (is offset 0) (Ok b) (moved_number Bits64 offset b) t) ∙ e in
-      let same : b ≡ kind = cc in
-      subst (IsOfCallBelow slot) same below
-  | inr f ↦ moved_number_names slot Bits64 offset b kind (sym (cond-false (is offset 0) (Ok b) (moved_number Bits64 offset b) f) ∙ e)
-]
+copied_names slot Bits64 offset b kind e below = grind (arith, cases_Bool, inl, cond-true, inr, moved_number_names, cond-false)
 
 -- what arithmetic makes of kinds names no call but one that the second operand names
 pub arithmetic_names : (slot : ℕ) (code : AluCode) (width : Width) (offset : ℤ) (a : Option Kind) (b kind : Kind) → arith_by code width offset a b ≡ Ok kind → IsOfCallBelow slot b → IsOfCallBelow slot kind

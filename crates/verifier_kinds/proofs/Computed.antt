@@ -1,5 +1,5 @@
 -- What arithmetic makes of ranges: it is normal, and has each number that the machine computes.
-use Rattle.std.proofs.Common.{◌≡◌, ℕ, ◌+◌, ◌-◌, ◌*◌, ◌%◌, ◌^◌, ◌<◌, ◌≤◌, ◌==◌, ◌&&◌, min, max, nat_lt, nat_le, ℤ, true, false, inl, inr, refl, subst, arith}
+use Rattle.std.proofs.Common.{◌≡◌, ℕ, ◌+◌, ◌-◌, ◌*◌, ◌^◌, ◌<◌, ◌&&◌, min, max, nat_lt, nat_le, ℤ, true, false, inl, inr, refl, subst, arith}
 use Rattle.std.proofs.lemmas.Bool.{cond_both, cases_Bool, and_parts, ltb-true}
 use Rattle.std.proofs.lemmas.Nat.{shr_le}
 use Rattle.std.proofs.Math.Nat.{div-le_self}
@@ -8,10 +8,10 @@ use Rattle.bpf_decode.specs.declared.operation.Width.TheVariants.{Bits64}
 use Rattle.bpf_decode.specs.declared.operation.AluCode.{AluCode}
 use Rattle.bpf_decode.specs.declared.operation.AluCode.TheVariants.{Add, Sub, Mul, Div, Or, And, Lsh, Rsh, Neg, Mod, Xor, Mov, Arsh, ToLittleEndian, ToBigEndian, SwapBytes}
 use Rattle.bpf_decode.specs.Opcodes.{is}
-use Rattle.insn_alu.specs.Arithmetic.{alu, low, modulus, count, is_swap}
+use Rattle.insn_alu.specs.Arithmetic.{alu, low, modulus, is_swap}
 use Rattle.insn_alu.proofs.Small.{low_fits, width_small, alu_small, alu_in_width, alu_of_lows, swap_at_most, bits_small}
 use Rattle.verifier_kinds.specs.declared.kind.Align.{Align}
-use Rattle.verifier_kinds.specs.declared.kind.Align.TheVariants.{One, Two, Four, Eight}
+use Rattle.verifier_kinds.specs.declared.kind.Align.TheVariants.{One}
 use Rattle.verifier_kinds.specs.declared.kind.Range.{Range}
 use Rattle.verifier_kinds.specs.Kinds.{factor, rank, least_align, raised, is_constant, IsIn, IsNormal}
 use Rattle.verifier_kinds.specs.Arithmetic.{all, normal_of, taken, unless_wrapped, swapped_range, row, computed_range, range_of}
@@ -21,10 +21,7 @@ use Rattle.verifier_kinds.proofs.RowLaws.{in_sum, in_difference, in_product, in_
 
 -- a byte swap computes a number of the width that its second operand says
 in_swap : (code : AluCode) (width : Width) (offset : ℤ) (b : Range) (x y : ℕ) → is_swap code ≡ true → (is_constant b ≡ true → b.low ≡ y) → x < 2 ^ 64 → IsIn (swapped_range b) (alu code width offset x y)
-in_swap code width offset b x y swap one xs =
-    cond_both (is_constant b) _ _ (λ r. IsIn r (alu code width offset x y))
-    (λ t. rw (one t) (record { low = omega arith; high = swap_at_most code width offset x y swap xs; aligned = omega arith }))
-    (λ _. in_all Bits64 One (alu code width offset x y) (alu_small code width offset x y xs) (omega arith))
+in_swap code width offset b x y swap one xs = grind (arith, cond_both, swap_at_most, in_all, alu_small)
 
 -- two numbers of the width, and ranges of it that have them
 record AreNumbers (width : Width) (a b : Range) (x y : ℕ) : Type 0 where
@@ -53,13 +50,9 @@ in_row_of_numbers And width offset a b x y other h = in_and width offset a b x y
 in_row_of_numbers Lsh width offset a b x y other h = in_left_shift width offset a b x y h.left h.one
 in_row_of_numbers Rsh width offset a b x y other h = in_right_shift width offset a b x y h.left h.one h.left_small
 in_row_of_numbers Neg width offset a b x y other h = in_everything Neg width offset x y refl
-in_row_of_numbers Mod width offset a b x y other h =
-    cond_both (is offset 0) _ _ (λ r. IsIn r (alu Mod width offset x y))
-    (λ t. in_remainder width offset a b x y t h.left h.right h.left_small h.right_small) (λ _. in_everything Mod width offset x y refl)
+in_row_of_numbers Mod width offset a b x y other h = grind (arith, cond_both, in_remainder, in_everything)
 in_row_of_numbers Xor width offset a b x y other h = in_xor width offset a b x y h.left h.right h.left_small h.right_small h.left_fits h.right_fits
-in_row_of_numbers Mov width offset a b x y other h =
-    cond_both (is offset 0) _ _ (λ r. IsIn r (alu Mov width offset x y))
-    (λ t. in_move width offset b x y t h.right h.right_small) (λ _. in_everything Mov width offset x y refl)
+in_row_of_numbers Mov width offset a b x y other h = grind (arith, cond_both, in_move, in_everything)
 in_row_of_numbers Arsh width offset a b x y other h = in_everything Arsh width offset x y refl
 in_row_of_numbers ToLittleEndian width offset a b x y other h = cc
 in_row_of_numbers ToBigEndian width offset a b x y other h = cc
@@ -92,9 +85,7 @@ in_row code width offset a b x y p q xs ys = elim (cases_Bool (is_swap code)) [
 -- ---- the ends of a row are numbers of 64 bits
 
 unless_wrapped_high : (width : Width) (from to : ℕ) (d : Align) → (unless_wrapped width from to d).high < 2 ^ 64
-unless_wrapped_high width from to d =
-    cond_both (nat_lt to (modulus width)) _ _ (λ (r : Range). r.high < 2 ^ 64)
-    (λ t. width_small width to (ltb-true to (modulus width) t)) (λ _. all_high width d)
+unless_wrapped_high width from to d = grind (arith, cond_both, nat_lt, width_small, ltb-true, all_high)
 
 swap_high : (b : Range) → (swapped_range b).high < 2 ^ 64
 swap_high b =
@@ -106,24 +97,13 @@ row_high Add width offset a b p q = unless_wrapped_high width (a.low + b.low) (a
 row_high Sub width offset a b p q =
     cond_both (nat_le b.high a.low) _ _ (λ (r : Range). r.high < 2 ^ 64) (λ _. omega arith) (λ _. all_high width (least_align a.align b.align))
 row_high Mul width offset a b p q = unless_wrapped_high width (a.low * b.low) (a.high * b.high) (raised a.align (rank b.align))
-row_high Div width offset a b p q =
-    cond_both (is offset 0) _ _ (λ (r : Range). r.high < 2 ^ 64)
-    (λ _. cond_both (b.low == 0) _ _ (λ (r : Range). r.high < 2 ^ 64) (λ _. p) (λ _. omega (arith, div-le_self a.high b.low)))
-    (λ _. all_high width One)
+row_high Div width offset a b p q = grind (arith, cond_both, div-le_self, all_high)
 row_high Or width offset a b p q = ones_small (max a.high b.high)
 row_high And width offset a b p q = omega arith
-row_high Lsh width offset a b p q =
-    cond_both (is_constant b) _ _ (λ (r : Range). r.high < 2 ^ 64)
-    (λ _. unless_wrapped_high width (a.low * 2 ^ count width b.low) (a.high * 2 ^ count width b.low) (raised a.align (count width b.low)))
-    (λ _. all_high width a.align)
-row_high Rsh width offset a b p q =
-    cond_both (is_constant b) _ _ (λ (r : Range). r.high < 2 ^ 64)
-    (λ _. omega (arith, shr_le a.high (count width b.low))) (λ _. p)
+row_high Lsh width offset a b p q = grind (arith, cond_both, unless_wrapped_high, all_high)
+row_high Rsh width offset a b p q = grind (arith, cond_both, shr_le)
 row_high Neg width offset a b p q = all_high width One
-row_high Mod width offset a b p q =
-    cond_both (is offset 0) _ _ (λ (r : Range). r.high < 2 ^ 64)
-    (λ _. cond_both (b.low == 0) a.high (min a.high (b.high - 1)) (λ n. n < 2 ^ 64) (λ _. p) (λ _. omega arith))
-    (λ _. all_high width One)
+row_high Mod width offset a b p q = grind (arith, cond_both, min, all_high)
 row_high Xor width offset a b p q = ones_small (max a.high b.high)
 row_high Mov width offset a b p q =
     cond_both (is offset 0) _ _ (λ (r : Range). r.high < 2 ^ 64) (λ _. q) (λ _. all_high width One)
@@ -144,13 +124,7 @@ in_row_of_ends code width offset a b p q left right =
 
 -- a range with a number is made normal without a sum past 64 bits
 starts : (r : Range) (n : ℕ) → IsIn r n → r.high < 2 ^ 64 → r.low + (factor r.align - 1) < 2 ^ 64
-starts r n h fits = by_align r.align r.low n h.low (omega (arith, h.high)) h.aligned
-  where
-    by_align : (d : Align) (low n : ℕ) → low ≤ n → n < 2 ^ 64 → n % factor d ≡ 0 → low + (factor d - 1) < 2 ^ 64
-    by_align One low n p q e = omega arith
-    by_align Two low n p q e = omega arith
-    by_align Four low n p q e = omega arith
-    by_align Eight low n p q e = omega arith
+starts r n h fits = grind (arith)
 
 pub row_starts : (code : AluCode) (width : Width) (offset : ℤ) (a b : Range) → IsNormal a → IsNormal b → a.high < modulus width → b.high < modulus width → (row code width offset a b).low + (factor (row code width offset a b).align - 1) < 2 ^ 64
 row_starts code width offset a b p q left right =

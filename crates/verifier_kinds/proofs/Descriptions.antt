@@ -118,9 +118,4 @@ settled_is_slot call to (Bytes set) p q = q
 
 pub settled_is_description : (call : ℕ) (to : Kind) (d : Description) → IsKind to → IsDescription d → IsDescription (settled call to d)
 unfolding settled
-settled_is_description call to d p q = record {
-  registers = length-map d.registers (option_map (settled_kind call to)) ∙ q.registers;
-  stack = length-map d.stack (settled_slot call to) ∙ q.stack;
-  kinds = λ i. rw (get_or-mapped (option_map (settled_kind call to)) None refl d.registers i) (settled_register_has IsKind call to (register_of d i) p (q.kinds i));
-  slots = λ k. rw (get_or-mapped (settled_slot call to) (Bytes 0) refl d.stack k) (settled_is_slot call to (slot_of d k) p (q.slots k));
-}
+settled_is_description call to d p q = grind (arith, length-map, get_or-mapped, settled_register_has, settled_is_slot)

@@ -1,6 +1,5 @@
 -- Joins: a join is above both, and keeps what each description meets.
 use Rattle.std.proofs.Common.{◌≡◌, ℕ, zero, suc, ◌%◌, ◌<◌, ◌≤◌, ◌∙◌, ◌==◌, ◌&&◌, true, min, max, nat_le, bit_and, List, [], ◌∷◌, length, get_or, Option, Some, None, IfSome, ℤ, refl, sym, ap, arith}
-use Rattle.std.specs.Prelude.{int_le}
 use Rattle.std.specs.Int.Bits.{and_self}
 use Rattle.std.proofs.lemmas.Nat.{and_assoc, and_comm, and_le_l, and_le_r}
 use Rattle.std.proofs.lemmas.Int.{ints}
@@ -16,7 +15,7 @@ use Rattle.verifier_kinds.specs.declared.kind.Kind.TheVariants.{Scalar, Context,
 use Rattle.verifier_kinds.specs.declared.description.StackSlot.{StackSlot}
 use Rattle.verifier_kinds.specs.declared.description.StackSlot.TheVariants.{Kept, Bytes}
 use Rattle.verifier_kinds.specs.declared.description.Description.{Description}
-use Rattle.verifier_kinds.specs.Kinds.{IsWithin, IsBelow, IsKind, IsNormal, AreOffsets, align_of, factor, rank, least_align, is_same, range_in, offsets_in, join_of_ranges, join_of_kinds}
+use Rattle.verifier_kinds.specs.Kinds.{IsWithin, IsBelow, IsKind, IsNormal, AreOffsets, factor, rank, least_align, is_same, range_in, offsets_in, join_of_ranges, join_of_kinds}
 use Rattle.verifier_kinds.specs.Descriptions.{IsDescription, IsSlot, IsSlotBelow, IsDescriptionBelow, number_bytes, register_of, slot_of, merged, kept_or_bytes, join_of_registers, join_of_slots, join_of}
 use Rattle.verifier_kinds.proofs.Moves.{true_int_le}
 use Rattle.verifier_kinds.proofs.Ranges.{divided_by_least_left, divided_by_least_right, least_align_comm}
@@ -56,34 +55,12 @@ pub range_below_join_right : (a b : Range) → IsWithin b (join_of_ranges a b)
 range_below_join_right a b = record { low = omega arith; high = omega arith; aligned = least_below_right a.align b.align }
 
 pub join_is_normal : (a b : Range) → IsNormal a → IsNormal b → IsNormal (join_of_ranges a b)
-join_is_normal a b p q =
-    let left = p.ordered in
-    let right = q.ordered in
-    let left_fits = p.fits in
-    let right_fits = q.fits in
-    let d : Align = least_align a.align b.align in
-    record {
-      ordered = omega arith;
-      fits = omega arith;
-      low = min_divided d a.low b.low (divided_by_least_left a.align b.align a.low p.low) (divided_by_least_right a.align b.align b.low q.low);
-      high = max_divided d a.high b.high (divided_by_least_left a.align b.align a.high p.high) (divided_by_least_right a.align b.align b.high q.high);
-      single = λ same.
-          let one_left : a.low ≡ a.high = omega arith in
-          let one_right : b.low ≡ b.high = omega arith in
-          let both : b.low ≡ a.low = omega arith in
-          let least : a.low ≡ min a.low b.low = omega arith in
-          let aligns : b.align ≡ a.align = q.single one_right ∙ ap align_of both ∙ sym (p.single one_left) in
-          ap (least_align a.align) aligns ∙ least_align_self a.align ∙ p.single one_left ∙ ap align_of least;
-    }
+join_is_normal a b p q = grind (arith, min_divided, divided_by_least_left, divided_by_least_right, max_divided, min, least_align_self)
 
 -- ---- kinds
 
 pub same_offset : (a b : ℤ) → is_same a b ≡ true → a ≡ b
-same_offset a b t =
-    let parts = and_parts (int_le a b) (int_le b a) t in
-    let up = true_int_le a b parts.0 in
-    let down = true_int_le b a parts.1 in
-    omega (arith, ints)
+same_offset a b t = grind (arith, and_parts, true_int_le, ints)
 
 -- the least offsets above two
 abbrev joined_offsets : Offsets → Offsets → Offsets
@@ -97,19 +74,13 @@ joined_are_offsets a b p q =
 
 -- answers of one lookup in one map
 pub same_maybe : (m n i j : ℕ) → ((m == n) && (i == j)) ≡ true → MaybeValue n j ≡ MaybeValue m i
-same_maybe m n i j t =
-    let parts = and_parts (m == n) (i == j) t in
-    let map : m ≡ n = eqb-true m n parts.0 in
-    let call : i ≡ j = eqb-true i j parts.1 in
-    cc
+same_maybe m n i j t = grind (arith, and_parts, eqb-true)
 
 pub kind_below_join_left : (a b : Kind) → IsBelow (Some a) (join_of_kinds a b)
 kind_below_join_left (Scalar a) (Scalar b) = (Scalar a, refl, (a, refl, range_below_join_left a b))
 kind_below_join_left (Context a) (Context b) = cond_both (is_same a b) (Some (Context a)) None (IsBelow (Some (Context a))) (λ _. (Context a, refl, refl)) (λ _. tt)
 kind_below_join_left (Stack a) (Stack b) = cond_both (is_same a b) (Some (Stack a)) None (IsBelow (Some (Stack a))) (λ _. (Stack a, refl, refl)) (λ _. tt)
-kind_below_join_left (MapValue m a) (MapValue n b) =
-    cond_both (m == n) (Some (MapValue m (joined_offsets a b))) None (IsBelow (Some (MapValue m a)))
-    (λ _. (MapValue m a, refl, (a, refl, range_below_join_left (range_in a) (range_in b)))) (λ _. tt)
+kind_below_join_left (MapValue m a) (MapValue n b) = grind (arith, cond_both, range_below_join_left)
 kind_below_join_left (MaybeValue m i) (MaybeValue n j) =
     cond_both ((m == n) && (i == j)) (Some (MaybeValue m i)) None (IsBelow (Some (MaybeValue m i))) (λ _. (MaybeValue m i, refl, refl)) (λ _. tt)
 kind_below_join_left (MapName m) (MapName n) = cond_both (m == n) (Some (MapName m)) None (IsBelow (Some (MapName m))) (λ _. (MapName m, refl, refl)) (λ _. tt)
@@ -119,9 +90,7 @@ pub kind_below_join_right : (a b : Kind) → IsBelow (Some b) (join_of_kinds a b
 kind_below_join_right (Scalar a) (Scalar b) = (Scalar b, refl, (b, refl, range_below_join_right a b))
 kind_below_join_right (Context a) (Context b) = cond_both (is_same a b) (Some (Context a)) None (IsBelow (Some (Context b))) (λ t. (Context b, refl, ap Context (sym (same_offset a b t)))) (λ _. tt)
 kind_below_join_right (Stack a) (Stack b) = cond_both (is_same a b) (Some (Stack a)) None (IsBelow (Some (Stack b))) (λ t. (Stack b, refl, ap Stack (sym (same_offset a b t)))) (λ _. tt)
-kind_below_join_right (MapValue m a) (MapValue n b) =
-    cond_both (m == n) (Some (MapValue m (joined_offsets a b))) None (IsBelow (Some (MapValue n b)))
-    (λ t. (MapValue n b, refl, (b, ap (λ k. MapValue k b) (sym (eqb-true m n t)), range_below_join_right (range_in a) (range_in b)))) (λ _. tt)
+kind_below_join_right (MapValue m a) (MapValue n b) = grind (arith, cond_both, eqb-true, range_below_join_right)
 kind_below_join_right (MaybeValue m i) (MaybeValue n j) =
     cond_both ((m == n) && (i == j)) (Some (MaybeValue m i)) None (IsBelow (Some (MaybeValue n j))) (λ t. (MaybeValue n j, refl, same_maybe m n i j t)) (λ _. tt)
 kind_below_join_right (MapName m) (MapName n) =
@@ -229,22 +198,11 @@ slot_of-join d e p q k = get_or-merged join_of_slots (Bytes 0) refl d.stack e.st
 
 -- both descriptions are below their join
 pub below_join_left : (d e : Description) → IsDescription d → IsDescription e → IsDescriptionBelow d (join_of d e)
-below_join_left d e p q = record {
-  registers = λ i. rw (register_of-join d e p q i) (register_below_join_left (register_of d i) (register_of e i));
-  slots = λ k. rw (slot_of-join d e p q k) (slot_below_join_left (slot_of d k) (slot_of e k));
-}
+below_join_left d e p q = grind (arith, register_of-join, register_below_join_left, slot_of-join, slot_below_join_left)
 
 pub below_join_right : (d e : Description) → IsDescription d → IsDescription e → IsDescriptionBelow e (join_of d e)
-below_join_right d e p q = record {
-  registers = λ i. rw (register_of-join d e p q i) (register_below_join_right (register_of d i) (register_of e i));
-  slots = λ k. rw (slot_of-join d e p q k) (slot_below_join_right (slot_of d k) (slot_of e k));
-}
+below_join_right d e p q = grind (arith, register_of-join, register_below_join_right, slot_of-join, slot_below_join_right)
 
 -- the join of two descriptions is one
 pub join_is_description : (d e : Description) → IsDescription d → IsDescription e → IsDescription (join_of d e)
-join_is_description d e p q = record {
-  registers = length-merged join_of_registers d.registers e.registers (p.registers ∙ sym q.registers) ∙ p.registers;
-  stack = length-merged join_of_slots d.stack e.stack (p.stack ∙ sym q.stack) ∙ p.stack;
-  kinds = λ i. rw (register_of-join d e p q i) (join_of_registers_is_kind (register_of d i) (register_of e i) (p.kinds i) (q.kinds i));
-  slots = λ k. rw (slot_of-join d e p q k) (join_is_slot (slot_of d k) (slot_of e k) (p.slots k) (q.slots k));
-}
+join_is_description d e p q = grind (arith, length-merged, register_of-join, join_of_registers_is_kind, slot_of-join, join_is_slot)

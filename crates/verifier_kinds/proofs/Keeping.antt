@@ -1,23 +1,21 @@
 -- What arithmetic makes of kinds of the verifier is one.
-use Rattle.std.proofs.Common.{◌≡◌, ℕ, ◌%◌, ◌<◌, ◌≤◌, ◌&&◌, nat_le, ℤ, pos, negsuc, ◌+ℤ◌, ◌-ℤ◌, ◌≤ℤ◌, IfSome, Option, Some, None, Ok, Err, refl, arith}
-use Rattle.std.specs.Prelude.{int_le, IfOk}
-use Rattle.std.specs.Int.{cast_signed, w64}
+use Rattle.std.proofs.Common.{◌≡◌, ℕ, ◌%◌, ◌<◌, ◌≤◌, ◌&&◌, nat_le, ℤ, pos, negsuc, ◌+ℤ◌, ◌≤ℤ◌, IfSome, Option, Some, None, Ok, arith}
+use Rattle.std.specs.Prelude.{IfOk}
 use Rattle.std.proofs.lemmas.Int.{ints}
 use Rattle.std.proofs.lemmas.Bool.{cond_both, and_parts, leb-true}
-use Rattle.host_types.specs.Rules.{wrong_kind, outside_map}
 use Rattle.bpf_decode.specs.declared.operation.Width.{Width}
 use Rattle.bpf_decode.specs.declared.operation.Width.TheVariants.{Bits32, Bits64}
 use Rattle.bpf_decode.specs.declared.operation.AluCode.{AluCode}
 use Rattle.bpf_decode.specs.declared.operation.AluCode.TheVariants.{Add, Sub, Mov}
 use Rattle.bpf_decode.specs.Opcodes.{is}
-use Rattle.insn_alu.specs.Arithmetic.{alu, modulus, reads_dst}
+use Rattle.insn_alu.specs.Arithmetic.{alu, modulus}
 use Rattle.insn_alu.proofs.Small.{alu_small, width_small}
 use Rattle.verifier_kinds.specs.declared.kind.Align.{Align}
 use Rattle.verifier_kinds.specs.declared.kind.Range.{Range}
 use Rattle.verifier_kinds.specs.declared.kind.Offsets.{Offsets}
 use Rattle.verifier_kinds.specs.declared.kind.Kind.{Kind}
 use Rattle.verifier_kinds.specs.declared.kind.Kind.TheVariants.{Scalar, Context, Stack, MapValue, MaybeValue, MapName}
-use Rattle.verifier_kinds.specs.Kinds.{factor, is_constant, least_align, normal, offsets_in, range_in, IsKind, IsNormal, IsOffset}
+use Rattle.verifier_kinds.specs.Kinds.{factor, is_constant, least_align, range_in, IsKind, IsNormal, IsOffset}
 use Rattle.verifier_kinds.specs.Arithmetic.{taken, computed_range, range_of, within_offsets, displaced, signed_offset, within_value, displaced_value, kind_of, kind_with_dst, moved_number, copied, arith_by}
 use Rattle.verifier_kinds.proofs.Ranges.{constant_is_normal}
 use Rattle.verifier_kinds.proofs.Operands.{taken_below}
@@ -43,27 +41,15 @@ range_is_normal code width offset a b p q =
 
 -- an offset that is taken is one that a pointer may have
 offset_is_kind : (kind : ℤ → Kind) (rule : ℕ) (k : ℤ) → ((k : ℤ) → IsOffset k → IsKind (kind k)) → IfOk (within_offsets kind rule k) IsKind
-offset_is_kind kind rule k each =
-    cond_both (int_le (negsuc 65535) k && int_le k (pos 65536)) (Ok (kind k)) (Err rule) (λ r. IfOk r IsKind)
-    (λ t.
-    let parts = and_parts (int_le (negsuc 65535) k) (int_le k (pos 65536)) t in
-    each k (record { above = true_int_le (negsuc 65535) k parts.0; below = true_int_le k (pos 65536) parts.1 }))
-    (λ _. tt)
+offset_is_kind kind rule k each = grind (arith, cond_both, negsuc, pos, and_parts, true_int_le)
 
 displaced_is_kind : (kind : ℤ → Kind) (rule : ℕ) (code : AluCode) (width : Width) (offset : ℤ) (by : Range) → ((k : ℤ) → IsOffset k → IsKind (kind k)) → IfOk (displaced kind rule code width offset by) IsKind
-displaced_is_kind kind rule Add Bits64 offset by each =
-    cond_both (is_constant by) (within_offsets kind rule (offset +ℤ cast_signed w64 by.low)) (Err wrong_kind) (λ r. IfOk r IsKind)
-    (λ _. offset_is_kind kind rule (offset +ℤ cast_signed w64 by.low) each) (λ _. tt)
-displaced_is_kind kind rule Sub Bits64 offset by each =
-    cond_both (is_constant by) (within_offsets kind rule (offset -ℤ cast_signed w64 by.low)) (Err wrong_kind) (λ r. IfOk r IsKind)
-    (λ _. offset_is_kind kind rule (offset -ℤ cast_signed w64 by.low) each) (λ _. tt)
+displaced_is_kind kind rule Add Bits64 offset by each = grind (arith, cond_both, offset_is_kind)
+displaced_is_kind kind rule Sub Bits64 offset by each = grind (arith, cond_both, offset_is_kind)
 displaced_is_kind kind rule code width offset by each = tt
 
 ends_are_kind : (m : ℕ) (d : Align) (low high : ℤ) → low ≤ℤ high → ((n : ℕ) → low ≡ pos n → n % factor d ≡ 0) → IfOk (within_value m d low high) IsKind
-ends_are_kind m d (pos low) (pos high) ordered divided =
-    let order : low ≤ high = omega (arith, ints) in
-    cond_both (nat_le high 131072) (Ok (MapValue m (offsets_in (normal low high d)))) (Err outside_map) (λ r. IfOk r IsKind)
-    (λ t. are_offsets d low high order (divided low refl) (leb-true high 131072 t)) (λ _. tt)
+ends_are_kind m d (pos low) (pos high) ordered divided = grind (arith, ints, cond_both, nat_le, are_offsets, leb-true)
 ends_are_kind m d (pos low) (negsuc high) ordered divided = tt
 ends_are_kind m d (negsuc low) high ordered divided = tt
 
@@ -75,15 +61,7 @@ value_is_kind m Add Bits64 offsets by p q =
   where
     sums_order : (a b : ℕ) (y z : ℤ) → a ≤ b → y ≤ℤ z → (pos a +ℤ y) ≤ℤ (pos b +ℤ z)
     sums_order a b y z h k = omega (arith, ints)
-value_is_kind m Sub Bits64 offsets by p q =
-    let z : ℤ = cast_signed w64 by.low in
-    cond_both (is_constant by) (within_value m (least_align offsets.align by.align) (pos offsets.low -ℤ z) (pos offsets.high -ℤ z)) (Err wrong_kind) (λ r. IfOk r IsKind)
-    (λ _. ends_are_kind m (least_align offsets.align by.align) (pos offsets.low -ℤ z) (pos offsets.high -ℤ z)
-    (difference_order offsets.low offsets.high z p.ordered) (λ n is. subtracted_divided offsets by n p q is))
-    (λ _. tt)
-  where
-    difference_order : (a b : ℕ) (z : ℤ) → a ≤ b → (pos a -ℤ z) ≤ℤ (pos b -ℤ z)
-    difference_order a b z h = omega (arith, ints)
+value_is_kind m Sub Bits64 offsets by p q = grind (arith, cond_both, pos, ends_are_kind, subtracted_divided, ints)
 value_is_kind m code width offsets by p q = tt
 
 -- ---- arithmetic
@@ -116,6 +94,4 @@ copied_is_kind Bits64 offset b q = cond_both (is offset 0) (Ok b) (moved_number 
 
 -- what arithmetic makes of kinds of the verifier is one
 pub arithmetic_is_kind : (code : AluCode) (width : Width) (offset : ℤ) (a : Option Kind) (b : Kind) → IfSome a IsKind → IsKind b → IfOk (arith_by code width offset a b) IsKind
-arithmetic_is_kind code width offset a b p q =
-    cond_both (reads_dst code) (kind_with_dst code width offset a b) (copied width offset b) (λ r. IfOk r IsKind)
-    (λ _. with_dst_is_kind code width offset a b p q) (λ _. copied_is_kind width offset b q)
+arithmetic_is_kind code width offset a b p q = grind (arith, cond_both, with_dst_is_kind, copied_is_kind)

@@ -1,7 +1,6 @@
 -- A join is the least above both: it is below all that is above both.
 use Rattle.std.proofs.Common.{◌≡◌, ℕ, ◌≤◌, ◌∙◌, ◌==◌, ◌&&◌, true, nat_le, bit_and, Option, Some, None, ℤ, refl, ap, arith}
 use Rattle.std.proofs.lemmas.Nat.{and_assoc}
-use Rattle.std.specs.Prelude.{int_le}
 use Rattle.std.proofs.lemmas.Int.{ints}
 use Rattle.std.proofs.lemmas.Bool.{and_from, cond_both, cond-true, eq-eqb}
 use Rattle.verifier_kinds.specs.declared.kind.Align.{Align}
@@ -25,9 +24,7 @@ pub join_within : (a b c : Range) → IsWithin a c → IsWithin b c → IsWithin
 join_within a b c p q = record { low = omega arith; high = omega arith; aligned = above_least a.align b.align c.align p.aligned q.aligned }
 
 same_as_itself : (a : ℤ) → is_same a a ≡ true
-same_as_itself a =
-    let same : int_le a a ≡ true = int_le_true a a (omega (arith, ints)) in
-    and_from (int_le a a) (int_le a a) same same
+same_as_itself a = grind (arith, true, int_le_true, ints, and_from)
 
 -- the join of two pointers to the values of one map
 pub join_of_values : (m : ℕ) (a b : Offsets) → join_of_kinds (MapValue m a) (MapValue m b) ≡ Some (MapValue m (offsets_in (join_of_ranges (range_in a) (range_in b))))

@@ -1,12 +1,9 @@
 -- What is described: numbers that a kind, a slot or a description describes are described by each that is
 -- above it.
-use Rattle.std.proofs.Common.{◌≡◌, ℕ, zero, suc, ◌*◌, ◌^◌, ◌<◌, ◌≤◌, ◌∙◌, bit_and, List, [], ◌∷◌, length, get_or, inl, inr, Option, Some, None, refl, sym, ap, subst, arith}
+use Rattle.std.proofs.Common.{◌≡◌, ℕ, zero, suc, ◌^◌, ◌<◌, ◌∙◌, bit_and, List, [], ◌∷◌, length, get_or, Option, Some, None, refl, sym, ap, subst, arith}
 use Rattle.std.specs.Prelude.{IsSome, IsSomeAnd, IsBitSet}
 use Rattle.std.proofs.lemmas.Nat.{and_assoc, and_comm, and_le_l, and_le_r}
-use Rattle.std.proofs.lemmas.Bool.{cases_lt}
-use Rattle.std.proofs.lemmas.List.{get_or_past, length-take, length-drop}
 use Rattle.host_types.specs.declared.shape.Shape.{Shape}
-use Rattle.host_types.specs.Bytes.{part_of, number_of}
 use Rattle.host_types.specs.Memory.{◌>>=◌, all_set}
 use Rattle.verifier_kinds.specs.declared.kind.Range.{Range}
 use Rattle.verifier_kinds.specs.declared.kind.Offsets.{Offsets}
@@ -14,19 +11,13 @@ use Rattle.verifier_kinds.specs.declared.kind.Kind.{Kind}
 use Rattle.verifier_kinds.specs.declared.kind.Kind.TheVariants.{Scalar, Context, Stack, MapValue, MaybeValue, MapName}
 use Rattle.verifier_kinds.specs.declared.description.StackSlot.{StackSlot}
 use Rattle.verifier_kinds.specs.declared.description.StackSlot.TheVariants.{Kept, Bytes}
-use Rattle.verifier_kinds.specs.declared.description.Description.{Description}
-use Rattle.verifier_kinds.specs.Kinds.{Setting, shape_at, range_in, IsIn, IsWithin, IsByElement, IsOfKind, IsKindBelow, IsBelow, Describes}
-use Rattle.verifier_kinds.specs.Descriptions.{IsDescription, IsSlotBelow, IsDescriptionBelow, DescribesSlot, DescribesRegisters, DescribesStack, register_of, slot_of}
+use Rattle.verifier_kinds.specs.Kinds.{Setting, range_in, IsIn, IsWithin, IsByElement, IsOfKind, IsKindBelow, IsBelow, Describes}
+use Rattle.verifier_kinds.specs.Descriptions.{IsSlotBelow, DescribesSlot}
 use Rattle.verifier_kinds.proofs.Ranges.{divided_less}
 
 -- a number of a range is one of each range around it
 pub in_above : (a b : Range) (n : ℕ) → IsWithin a b → IsIn a n → IsIn b n
-in_above a b n p q =
-    let low = p.low in
-    let high = p.high in
-    let above = q.low in
-    let below = q.high in
-    record { low = omega arith; high = omega arith; aligned = divided_less b.align a.align n p.aligned q.aligned }
+in_above a b n p q = grind (arith, divided_less)
 
 -- what is said of a value that is there, something weaker is said of too
 pub some_and : {X : Type 0} (o : Option X) (P Q : X → Type 0) → ((x : X) → P x → Q x) → IsSomeAnd o P → IsSomeAnd o Q
@@ -38,14 +29,10 @@ by_element_above a b shape m n p h =
     record { first = h.first; element = h.element; offset = h.offset; within = in_above (range_in a) (range_in b) h.offset p h.within; address = h.address }
 
 pub of_kind_above : (setting : Setting) (a b : Kind) (n : ℕ) → IsKindBelow a b → IsOfKind setting a n → IsOfKind setting b n
-of_kind_above setting a (Scalar outer) n (inner, is, within) h =
-    let given : IsOfKind setting (Scalar inner) n = subst (λ k. IsOfKind setting k n) is h in
-    in_above inner outer n within given
+of_kind_above setting a (Scalar outer) n (inner, is, within) h = grind (arith, in_above)
 of_kind_above setting a (Context offset) n is h = subst (λ k. IsOfKind setting k n) is h
 of_kind_above setting a (Stack offset) n is h = subst (λ k. IsOfKind setting k n) is h
-of_kind_above setting a (MapValue m outer) n (inner, is, within) h =
-    let given : IsOfKind setting (MapValue m inner) n = subst (λ k. IsOfKind setting k n) is h in
-    some_and (shape_at setting.shapes m) (λ shape. IsByElement inner shape m n) (λ shape. IsByElement outer shape m n) (λ shape. by_element_above inner outer shape m n within) given
+of_kind_above setting a (MapValue m outer) n (inner, is, within) h = grind (arith, some_and, by_element_above)
 of_kind_above setting a (MaybeValue m id) n is h = subst (λ k. IsOfKind setting k n) is h
 of_kind_above setting a (MapName m) n is h = subst (λ k. IsOfKind setting k n) is h
 
@@ -53,9 +40,7 @@ pub described_above : (setting : Setting) (a b : Option Kind) (x : Option ℕ) �
 described_above setting a None x p h = tt
 described_above setting a (Some outer) None (inner, is, below) h =
     let given : Describes setting (Some inner) None = subst (λ k. Describes setting k None) is h in given
-described_above setting a (Some outer) (Some n) (inner, is, below) h =
-    let given : Describes setting (Some inner) (Some n) = subst (λ k. Describes setting k (Some n)) is h in
-    of_kind_above setting inner outer n below given
+described_above setting a (Some outer) (Some n) (inner, is, below) h = grind (arith, of_kind_above)
 
 -- ---- slots of the stack
 
@@ -64,9 +49,7 @@ no_bits p = omega (arith, and_le_l 0 p)
 
 -- a bit of a set is one of each set that has all of that set
 bit_above : (more set i : ℕ) → bit_and more set ≡ set → IsBitSet set i → IsBitSet more i
-bit_above more set i e h none =
-    let p : ℕ = 2 ^ i in
-    h (ap (λ n. bit_and n p) (sym e ∙ and_comm more set) ∙ and_assoc p set more ∙ ap (bit_and set) none ∙ omega (arith, and_le_r set 0))
+bit_above more set i e h none = grind (arith, bit_and, and_comm, and_assoc, and_le_r)
 
 -- where one value more is there, the others are
 rest_set : {X : Type 0} (x : X) (rest : Option (List X)) (given : List X) → (rest >>= λ ys. Some (x ∷ ys)) ≡ Some given → (ys : List X) × (rest ≡ Some ys)
@@ -83,29 +66,9 @@ each_set (Some x ∷ xs) given (suc i) e h =
     let rest = rest_set x (all_set xs) given e in each_set xs rest.0 i rest.1 (omega arith)
 
 pub slot_described_above : (setting : Setting) (a b : StackSlot) (bytes : List (Option ℕ)) → length bytes ≡ 8 → IsSlotBelow a b → DescribesSlot setting a bytes → DescribesSlot setting b bytes
-slot_described_above setting a (Kept outer) bytes n (inner, is, below) h =
-    let given : DescribesSlot setting (Kept inner) bytes = subst (λ slot. DescribesSlot setting slot bytes) is h in
-    (given.0, given.1, of_kind_above setting inner outer (number_of given.0) below given.2)
+slot_described_above setting a (Kept outer) bytes n (inner, is, below) h = grind (arith, of_kind_above)
 slot_described_above setting (Bytes more) (Bytes set) bytes n e h = λ i small in_set. h i small (bit_above more set i e in_set)
 slot_described_above setting (Kept (Scalar range)) (Bytes set) bytes n e h = λ i small in_set. each_set bytes h.0 i h.1 (omega arith)
 slot_described_above setting (Kept pointer) (Bytes set) bytes n e h = λ i small in_set. absurd (in_set (ap (λ s. bit_and s (2 ^ i)) (sym e ∙ no_bits set) ∙ no_bits (2 ^ i)))
 
 -- ---- descriptions
-
-pub registers_described_above : (setting : Setting) (d e : Description) (registers : List (Option ℕ)) → IsDescriptionBelow d e → DescribesRegisters setting d registers → DescribesRegisters setting e registers
-registers_described_above setting d e registers p h = λ i. described_above setting (register_of d i) (register_of e i) (get_or registers i None) (p.registers i) (h i)
-
-slot_bytes : (stack : List (Option ℕ)) (k : ℕ) → length stack ≡ 512 → k < 64 → length (part_of stack (8 * k) 8) ≡ 8
-unfolding part_of
-slot_bytes stack k n h = simp (length-take, length-drop) (omega arith)
-
-past_stack : (setting : Setting) (e : Description) (k : ℕ) (bytes : List (Option ℕ)) → IsDescription e → 64 ≤ k → DescribesSlot setting (slot_of e k) bytes
-past_stack setting e k bytes q more =
-    let past : slot_of e k ≡ Bytes 0 = get_or_past e.stack k (Bytes 0) (omega (arith, q.stack)) in
-    rw past (λ i small in_set. absurd (in_set (no_bits (2 ^ i))))
-
-pub stack_described_above : (setting : Setting) (d e : Description) (stack : List (Option ℕ)) → IsDescription e → length stack ≡ 512 → IsDescriptionBelow d e → DescribesStack setting d stack → DescribesStack setting e stack
-stack_described_above setting d e stack q n p h = λ k. elim (cases_lt k 64) [
-  | inl less ↦ slot_described_above setting (slot_of d k) (slot_of e k) (part_of stack (8 * k) 8) (slot_bytes stack k n less) (p.slots k) (h k)
-  | inr more ↦ past_stack setting e k (part_of stack (8 * k) 8) q more
-]

@@ -1,11 +1,10 @@
 -- Pointers that a constant moves.
-use Rattle.std.proofs.Common.{◌≡◌, ℕ, suc, ◌+◌, ◌-◌, ◌%◌, ◌<◌, ◌≤◌, ◌^◌, ℤ, pos, negsuc, ◌+ℤ◌, ◌≤ℤ◌, ◌<ℤ◌, ◌&&◌, ◌⊎◌, inl, inr, ◌∙◌, true, false, Result, Ok, Err, FitsSigned, sym, ap, subst, arith}
+use Rattle.std.proofs.Common.{◌≡◌, ℕ, suc, ◌+◌, ◌-◌, ◌%◌, ◌<◌, ◌≤◌, ◌^◌, ℤ, pos, negsuc, ◌+ℤ◌, ◌≤ℤ◌, ◌<ℤ◌, ◌⊎◌, inl, inr, ◌∙◌, true, false, Ok, Err, FitsSigned, ap, arith}
 use Rattle.std.specs.Prelude.{int_le, ◌-ℤ◌}
 use Rattle.std.specs.Int.{cast_signed, w64}
 use Rattle.std.proofs.lemmas.Int.{ints, to_z_pos}
 use Rattle.std.proofs.Math.Facts.{to_z-neg}
 use Rattle.std.proofs.lemmas.Bool.{cond-true, cond-false, and_left, and_right, and_parts, cases_Bool, cases_lt}
-use Rattle.host_types.specs.Rules.{wrong_kind}
 use Rattle.verifier_kinds.specs.declared.kind.Range.{Range}
 use Rattle.verifier_kinds.specs.declared.kind.Kind.{Kind}
 use Rattle.verifier_kinds.specs.Kinds.{IsOffset, is_constant}
@@ -30,14 +29,8 @@ offset_refused kind rule k (inr h) =
 
 -- what doesn't fit 64 bits is no such offset
 pub far_away : (z : ℤ) → (FitsSigned w64 z → ⊥) → (z <ℤ negsuc 65535) ⊎ (pos 65536 <ℤ z)
-far_away (pos n) h = elim (cases_lt n 65537) [
-  | inl less ↦ absurd (h (omega arith))
-  | inr more ↦ inr (omega (arith, ints))
-]
-far_away (negsuc n) h = elim (cases_lt n 65536) [
-  | inl less ↦ absurd (h (omega arith))
-  | inr more ↦ inl (omega (arith, ints))
-]
+far_away (pos n) h = grind (arith, cases_lt, inl, inr, ints)
+far_away (negsuc n) h = grind (arith, cases_lt, inl, inr, ints)
 
 -- a move by a constant
 pub moved_by_constant : (kind : ℤ → Kind) (rule : ℕ) (offset : ℤ) (by : Range) → is_constant by ≡ true → moved_forward kind rule offset by ≡ within_offsets kind rule (offset +ℤ cast_signed w64 by.low)
@@ -48,54 +41,21 @@ moved_back_by_constant kind rule offset by one = cond-true (is_constant by) _ _ 
 
 -- what is kept is an offset that a pointer may have
 kept_is_offset : (kind : ℤ → Kind) (rule : ℕ) (k : ℤ) (result : Kind) → within_offsets kind rule k ≡ Ok result → (result ≡ kind k) × IsOffset k
-kept_is_offset kind rule k result e = elim (cases_Bool (int_le (negsuc 65535) k && int_le k (pos 65536))) [
-  | inl t ↦
-      let parts = and_parts (int_le (negsuc 65535) k) (int_le k (pos 65536)) t in
-      let is : ◌≡◌ {A = Result Kind ℕ} (Ok (kind k)) (Ok result) = sym (cond-true _ (Ok (kind k)) (Err rule) t) ∙ e in
-      (cc, record { above = true_int_le _ _ parts.0; below = true_int_le _ _ parts.1 })
-  | inr f ↦
-      let is : ◌≡◌ {A = Result Kind ℕ} (Err rule) (Ok result) = sym (cond-false _ (Ok (kind k)) (Err rule) f) ∙ e in
-      cc
-]
+kept_is_offset kind rule k result e = grind (arith, cases_Bool, negsuc, pos, inl, and_parts, cond-true, true_int_le, inr, cond-false)
 
 -- a pointer moves by a constant alone, to an offset that a pointer may have
 pub moved_is : (kind : ℤ → Kind) (rule : ℕ) (offset : ℤ) (by : Range) (result : Kind) → moved_forward kind rule offset by ≡ Ok result → (is_constant by ≡ true) × (result ≡ kind (offset +ℤ cast_signed w64 by.low)) × IsOffset (offset +ℤ cast_signed w64 by.low)
-moved_is kind rule offset by result e = elim (cases_Bool (is_constant by)) [
-  | inl t ↦
-      let kept = kept_is_offset kind rule (offset +ℤ cast_signed w64 by.low) result (sym (moved_by_constant kind rule offset by t) ∙ e) in
-      (t, kept.0, kept.1)
-  | inr f ↦
-      let is : ◌≡◌ {A = Result Kind ℕ} (Err wrong_kind) (Ok result) = sym (cond-false (is_constant by) (within_offsets kind rule (offset +ℤ cast_signed w64 by.low)) (Err wrong_kind) f) ∙ e in
-      cc
-]
+moved_is kind rule offset by result e = grind (arith, cases_Bool, inl, kept_is_offset, moved_by_constant, inr, cond-false)
 
 pub moved_back_is : (kind : ℤ → Kind) (rule : ℕ) (offset : ℤ) (by : Range) (result : Kind) → moved_back kind rule offset by ≡ Ok result → (is_constant by ≡ true) × (result ≡ kind (offset -ℤ cast_signed w64 by.low)) × IsOffset (offset -ℤ cast_signed w64 by.low)
-moved_back_is kind rule offset by result e = elim (cases_Bool (is_constant by)) [
-  | inl t ↦
-      let kept = kept_is_offset kind rule (offset -ℤ cast_signed w64 by.low) result (sym (moved_back_by_constant kind rule offset by t) ∙ e) in
-      (t, kept.0, kept.1)
-  | inr f ↦
-      let is : ◌≡◌ {A = Result Kind ℕ} (Err wrong_kind) (Ok result) = sym (cond-false (is_constant by) (within_offsets kind rule (offset -ℤ cast_signed w64 by.low)) (Err wrong_kind) f) ∙ e in
-      cc
-]
+moved_back_is kind rule offset by result e = grind (arith, cases_Bool, inl, kept_is_offset, moved_back_by_constant, inr, cond-false)
 
 -- moving an address up by a number below 2^63, and down by one that lacks k + 1 to 2^64
 moved_up : (base : ℕ) (offset : ℤ) (n y : ℕ) → 65536 ≤ base → base < 2 ^ 63 → pos n ≡ pos base +ℤ offset → IsOffset (offset +ℤ pos y) → pos ((n + y) % 2 ^ 64) ≡ pos base +ℤ (offset +ℤ pos y)
-moved_up base offset n y low high is h =
-    let above = h.above in
-    let below = h.below in
-    let sum : n + y < 2 ^ 64 = omega (arith, ints) in
-    let same : (n + y) % 2 ^ 64 ≡ n + y = omega arith in
-    rw same (omega (arith, ints))
+moved_up base offset n y low high is h = grind (arith, ints)
 
 moved_down : (base : ℕ) (offset : ℤ) (n y k : ℕ) → 65536 ≤ base → base < 2 ^ 63 → pos n ≡ pos base +ℤ offset → k + 1 + y ≡ 2 ^ 64 → k < 2 ^ 63 → IsOffset (offset +ℤ negsuc k) → pos ((n + y) % 2 ^ 64) ≡ pos base +ℤ (offset +ℤ negsuc k)
-moved_down base offset n y k low high is whole small h =
-    let above = h.above in
-    let below = h.below in
-    let least : 2 ^ 64 ≤ n + y = omega (arith, ints) in
-    let most : n + y < 2 ^ 64 + 2 ^ 64 = omega (arith, ints) in
-    let same : (n + y) % 2 ^ 64 + 2 ^ 64 ≡ n + y = omega arith in
-    omega (arith, ints)
+moved_down base offset n y k low high is whole small h = grind (arith, ints)
 
 -- a number of 64 bits that is 2^63 or more stands for one below zero
 number_below_zero : (y : ℕ) → y < 2 ^ 64 → 2 ^ 63 ≤ y → (k : ℕ) × (k + 1 + y ≡ 2 ^ 64) × (k < 2 ^ 63) × (cast_signed w64 y ≡ negsuc k)
@@ -108,39 +68,15 @@ number_below_zero y fits more =
 -- Moving an address is adding a number modulo 2^64, of which 2^63 or more stands for itself less 2^64:
 -- the regions of memory are far from both ends of the addresses.
 pub moved_address : (base : ℕ) (offset : ℤ) (n y : ℕ) → 65536 ≤ base → base < 2 ^ 63 → pos n ≡ pos base +ℤ offset → y < 2 ^ 64 → IsOffset (offset +ℤ cast_signed w64 y) → pos ((n + y) % 2 ^ 64) ≡ pos base +ℤ (offset +ℤ cast_signed w64 y)
-moved_address base offset n y low high is fits h = elim (cases_lt y (2 ^ 63)) [
-  | inl less ↦
-      let number : cast_signed w64 y ≡ pos y = to_z_pos w64 y less in
-      rw number (moved_up base offset n y low high is (subst (λ z. IsOffset (offset +ℤ z)) number h))
-  | inr more ↦
-      let (k, least, small, number) = number_below_zero y fits more in
-      rw number (moved_down base offset n y k low high is least small (subst (λ z. IsOffset (offset +ℤ z)) number h))
-]
+moved_address base offset n y low high is fits h = grind (arith, cases_lt, inl, pos, to_z_pos, moved_up, inr, number_below_zero, moved_down)
 
 -- moving it back by a number below 2^63, and by one that lacks k + 1 to 2^64
 back_down : (base : ℕ) (offset : ℤ) (n y : ℕ) → 65536 ≤ base → base < 2 ^ 63 → pos n ≡ pos base +ℤ offset → n < 2 ^ 64 → y < 2 ^ 63 → IsOffset (offset -ℤ pos y) → pos ((n + (2 ^ 64 - y)) % 2 ^ 64) ≡ pos base +ℤ (offset -ℤ pos y)
-back_down base offset n y low high is fits small h =
-    let above = h.above in
-    let below = h.below in
-    let least : y ≤ n = omega (arith, ints) in
-    let same : (n + (2 ^ 64 - y)) % 2 ^ 64 + y ≡ n = omega arith in
-    omega (arith, ints)
+back_down base offset n y low high is fits small h = grind (arith, ints)
 
 back_up : (base : ℕ) (offset : ℤ) (n y k : ℕ) → 65536 ≤ base → base < 2 ^ 63 → pos n ≡ pos base +ℤ offset → k + 1 + y ≡ 2 ^ 64 → k < 2 ^ 63 → IsOffset (offset -ℤ negsuc k) → pos ((n + (2 ^ 64 - y)) % 2 ^ 64) ≡ pos base +ℤ (offset -ℤ negsuc k)
-back_up base offset n y k low high is whole small h =
-    let above = h.above in
-    let below = h.below in
-    let sum : n + (k + 1) < 2 ^ 64 = omega (arith, ints) in
-    let same : (n + (2 ^ 64 - y)) % 2 ^ 64 ≡ n + (k + 1) = omega arith in
-    omega (arith, ints)
+back_up base offset n y k low high is whole small h = grind (arith, ints)
 
 -- moving an address back is subtracting a number modulo 2^64
 pub moved_back_address : (base : ℕ) (offset : ℤ) (n y : ℕ) → 65536 ≤ base → base < 2 ^ 63 → pos n ≡ pos base +ℤ offset → n < 2 ^ 64 → y < 2 ^ 64 → IsOffset (offset -ℤ cast_signed w64 y) → pos ((n + (2 ^ 64 - y)) % 2 ^ 64) ≡ pos base +ℤ (offset -ℤ cast_signed w64 y)
-moved_back_address base offset n y low high is fits whole h = elim (cases_lt y (2 ^ 63)) [
-  | inl less ↦
-      let number : cast_signed w64 y ≡ pos y = to_z_pos w64 y less in
-      rw number (back_down base offset n y low high is fits less (subst (λ z. IsOffset (offset -ℤ z)) number h))
-  | inr more ↦
-      let (k, least, small, number) = number_below_zero y whole more in
-      rw number (back_up base offset n y k low high is least small (subst (λ z. IsOffset (offset -ℤ z)) number h))
-]
+moved_back_address base offset n y low high is fits whole h = grind (arith, cases_lt, inl, pos, to_z_pos, back_down, inr, number_below_zero, back_up)

@@ -1,9 +1,9 @@
 -- Narrower descriptions: what is under others, whose offsets may be `extra` more, stays so once a register or a
 -- slot of the stack is replaced, and once it is known of what kind the answer of a call is.
-use Rattle.std.proofs.Common.{◌≡◌, ℕ, ◌%◌, zero, suc, ◌∙◌, ◌==◌, min, bit_and, bit_or, List, [], ◌∷◌, length, get_or, slice_set, Option, Some, None, IfSome, refl, sym, ap, subst, arith}
-use Rattle.std.specs.Prelude.{Bool, true, false, if◌then◌else◌, option_map}
+use Rattle.std.proofs.Common.{◌≡◌, ℕ, ◌%◌, zero, suc, ◌∙◌, min, bit_and, bit_or, List, [], ◌∷◌, length, get_or, slice_set, Option, Some, None, IfSome, refl, sym, ap, subst, arith}
+use Rattle.std.specs.Prelude.{option_map}
 use Rattle.std.specs.Int.{bit_at}
-use Rattle.std.specs.Int.Bits.{and_self, and_zero_l}
+use Rattle.std.specs.Int.Bits.{and_zero_l}
 use Rattle.std.proofs.lemmas.Nat.{and_assoc, and_le_r}
 use Rattle.std.proofs.lemmas.Nat.Bits.{bit_at_and, bit_at_or, same_from_bits}
 use Rattle.std.proofs.lemmas.Bool.{cond_both}
@@ -32,12 +32,7 @@ pub record IsNormalDescription (d : Description) : Type 0 where
 
 -- what the verifier knows is normal
 pub described_is_normal : (d : Description) → IsDescription d → IsNormalDescription d
-described_is_normal d p = record {
-  registers = p.registers;
-  stack = p.stack;
-  kinds = λ i. register_is_normal (register_of d i) (p.kinds i);
-  slots = λ k. slot_is_normal (slot_of d k) (p.slots k);
-}
+described_is_normal d p = grind (arith, register_is_normal, slot_is_normal)
 
 -- eleven registers and 64 slots of the stack, of which the ranges of numbers are normal
 pub record IsWideDescription (d : Description) : Type 0 where
@@ -136,9 +131,7 @@ no_places n = omega (arith, and_le_r n 0)
 
 -- a slot under another is known to hold at least the numbers that the other is
 pub places_more : (extra : ℕ) (a b : StackSlot) → IsSlotUnder extra a b → bit_and (number_bytes a) (number_bytes b) ≡ number_bytes b
-places_more extra a (Kept outer) (inner, is, below) =
-    let same : number_bytes a ≡ number_bytes (Kept outer) = ap number_bytes is ∙ under_places extra inner outer below in
-    rw same (and_self (number_bytes (Kept outer)))
+places_more extra a (Kept outer) (inner, is, below) = grind (arith, under_places)
 places_more extra a (Bytes set) p = p
 
 -- and still is once some of both are written
@@ -161,11 +154,7 @@ settled_kinds_below extra call to wide a (Scalar outer) p (inner, is, within) = 
 settled_kinds_below extra call to wide a (Context offset) p is = rw is refl
 settled_kinds_below extra call to wide a (Stack offset) p is = rw is refl
 settled_kinds_below extra call to wide a (MapValue m outer) p (inner, is, within) = rw is (inner, refl, within)
-settled_kinds_below extra call to wide a (MaybeValue m id) p is = rw is (by_test (id == call))
-  where
-    by_test : (t : Bool) → IsKindUnder extra (if t then to else MaybeValue m id) (if t then wide else MaybeValue m id)
-    by_test true = p
-    by_test false = refl
+settled_kinds_below extra call to wide a (MaybeValue m id) p is = grind (arith)
 settled_kinds_below extra call to wide a (MapName m) p is = rw is refl
 
 settled_registers_below : (extra call : ℕ) (to wide : Kind) (a b : Option Kind) → IsKindUnder extra to wide → IsKnownUnder extra a b → IsKnownUnder extra (option_map (settled_kind call to) a) (option_map (settled_kind call wide) b)
@@ -174,9 +163,7 @@ settled_registers_below extra call to wide a (Some b) u (x, is, below) = rw is (
 
 -- a kept answer is known to hold no number, so of its bytes none is in the other slot
 settled_bytes : (call : ℕ) (to kind : Kind) (set : ℕ) → bit_and (number_bytes (Kept kind)) set ≡ set → bit_and (number_bytes (Kept (settled_kind call to kind))) set ≡ set
-settled_bytes call to (MaybeValue m id) set p =
-    cond_both (id == call) to (MaybeValue m id) (λ k. bit_and (number_bytes (Kept k)) set ≡ set)
-    (λ _. subst (λ s. bit_and (number_bytes (Kept to)) s ≡ s) (sym (none_known set p)) (no_places (number_bytes (Kept to)))) (λ _. p)
+settled_bytes call to (MaybeValue m id) set p = grind (arith, cond_both, bit_and, none_known, no_places)
 settled_bytes call to kind set p = p
 
 settled_slots_below : (extra call : ℕ) (to wide : Kind) (a b : StackSlot) → IsKindUnder extra to wide → IsSlotUnder extra a b → IsSlotUnder extra (settled_slot call to a) (settled_slot call wide b)

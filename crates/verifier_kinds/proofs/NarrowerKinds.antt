@@ -1,7 +1,7 @@
 -- Narrower kinds: of kinds that are under others, arithmetic and conditional jumps make kinds that are, also
 -- where the others' offsets are `extra` more.
 use Rattle.std.proofs.Common.{◌≡◌, ℕ, ◌+◌, ◌-◌, ◌%◌, ◌^◌, ◌<◌, ◌≤◌, ◌==◌, min, max, nat_lt, nat_le, ℤ, pos, negsuc, ◌+ℤ◌, ◌-ℤ◌, ◌≤ℤ◌, ◌<ℤ◌, Bool, true, false, inl, inr, Option, Some, None, Result, Ok, Err, refl, subst, arith}
-use Rattle.std.specs.Prelude.{if◌then◌else◌, int_le, ◌&&◌}
+use Rattle.std.specs.Prelude.{if◌then◌else◌, ◌&&◌}
 use Rattle.std.specs.Int.{cast_signed, w64}
 use Rattle.std.proofs.lemmas.Int.{ints, to_z_pos}
 use Rattle.std.proofs.lemmas.Bool.{cases_Bool, cases_lt, cond_both, cond-true, cond-false, and_parts, and_from, eqb-true, eqb-false, le-leb, leb-true, lt-ltb, ltb-true}
@@ -10,20 +10,20 @@ use Rattle.host_types.specs.Rules.{wrong_kind, outside_map}
 use Rattle.bpf_decode.specs.declared.operation.Width.{Width}
 use Rattle.bpf_decode.specs.declared.operation.Width.TheVariants.{Bits32, Bits64}
 use Rattle.bpf_decode.specs.declared.operation.AluCode.{AluCode}
-use Rattle.bpf_decode.specs.declared.operation.AluCode.TheVariants.{Add, Sub, Mov}
+use Rattle.bpf_decode.specs.declared.operation.AluCode.TheVariants.{Add, Sub}
 use Rattle.bpf_decode.specs.declared.operation.Comparison.{Comparison}
 use Rattle.bpf_decode.specs.declared.operation.Comparison.TheVariants.{Equal, NotEqual, Greater, GreaterOrEqual, Less, LessOrEqual}
 use Rattle.bpf_decode.specs.Opcodes.{is}
-use Rattle.insn_alu.specs.Arithmetic.{modulus, reads_dst}
+use Rattle.insn_alu.specs.Arithmetic.{reads_dst}
 use Rattle.verifier_kinds.specs.declared.kind.Align.{Align}
 use Rattle.verifier_kinds.specs.declared.kind.Range.{Range}
 use Rattle.verifier_kinds.specs.declared.kind.Offsets.{Offsets}
 use Rattle.verifier_kinds.specs.declared.kind.Kind.{Kind}
 use Rattle.verifier_kinds.specs.declared.kind.Kind.TheVariants.{Scalar, Context, Stack, MapValue, MaybeValue}
-use Rattle.verifier_kinds.specs.Kinds.{factor, rank, least_align, greatest_align, is_constant, normal, range_in, offsets_in, IsIn, IsNormal, IsNormalKind, IsWithin}
-use Rattle.verifier_kinds.specs.Arithmetic.{between, normal_of, range_of, within_offsets, displaced, signed_offset, within_value, displaced_value, kind_of, kind_with_dst, moved_number, copied, arith_by}
+use Rattle.verifier_kinds.specs.Kinds.{factor, rank, least_align, greatest_align, is_constant, normal, range_in, offsets_in, IsNormal, IsNormalKind, IsWithin}
+use Rattle.verifier_kinds.specs.Arithmetic.{between, range_of, displaced, signed_offset, within_value, displaced_value, kind_of, kind_with_dst, moved_number, copied, arith_by}
 use Rattle.verifier_kinds.specs.Wide.{raised, within_value_at, displaced_value_at, kind_of_at, kind_with_dst_at, arith_by_at, IsWideKind}
-use Rattle.verifier_kinds.specs.Refinement.{some_of, without_end, negated, kept_by, is_told, refined}
+use Rattle.verifier_kinds.specs.Refinement.{some_of, without_end, kept_by, refined}
 use Rattle.verifier_kinds.proofs.Ranges.{first_divided, last_below}
 use Rattle.verifier_kinds.proofs.Order.{within_trans}
 use Rattle.verifier_kinds.proofs.Under.{raised_divided, raised_normal, IsKindUnder}
@@ -50,18 +50,7 @@ result_below_self below (Err n) self = tt
 
 -- where two pointers that are moved alike may be
 pub displaced_alike : (P : Kind → Kind → Type 0) (kind : ℤ → Kind) (rule : ℕ) (code : AluCode) (width : Width) (offset : ℤ) (by : Range) → ((z : ℤ) → P (kind z) (kind z)) → IsResultBelow P (displaced kind rule code width offset by) (displaced kind rule code width offset by)
-displaced_alike P kind rule code width offset by self = moved_alike code width
-  where
-    kept : (to : ℤ) → IsResultBelow P (within_offsets kind rule to) (within_offsets kind rule to)
-    kept to = cond_both (int_le (negsuc 65535) to && int_le to (pos 65536)) (Ok (kind to)) (Err rule) (λ r. IsResultBelow P r r) (λ _. self to) (λ _. tt)
-
-    moved_by : (to : ℤ) → IsResultBelow P (if is_constant by then within_offsets kind rule to else Err wrong_kind) (if is_constant by then within_offsets kind rule to else Err wrong_kind)
-    moved_by to = cond_both (is_constant by) (within_offsets kind rule to) (Err wrong_kind) (λ r. IsResultBelow P r r) (λ _. kept to) (λ _. tt)
-
-    moved_alike : (code : AluCode) (width : Width) → IsResultBelow P (displaced kind rule code width offset by) (displaced kind rule code width offset by)
-    moved_alike Add Bits64 = moved_by (offset +ℤ cast_signed w64 by.low)
-    moved_alike Sub Bits64 = moved_by (offset -ℤ cast_signed w64 by.low)
-    moved_alike code width = tt
+displaced_alike P kind rule code width offset by self = grind (arith, cond_both, negsuc, pos)
 
 -- a pointer is moved by constants alone, and a range within one is the same
 displaced_narrows : (extra : ℕ) (kind : ℤ → Kind) (rule : ℕ) (code : AluCode) (width : Width) (offset : ℤ) (by wide : Range) → ((z : ℤ) → IsKindUnder extra (kind z) (kind z)) → IsNormal by → IsNormal wide → IsWithin by wide → IsResultBelow (IsKindUnder extra) (displaced kind rule code width offset by) (displaced kind rule code width offset wide)
@@ -106,10 +95,7 @@ ends_narrow extra m d e low high (negsuc wide_low) wide_high whole p ordered q h
 
 -- where a wider one ends past what a pointer may have, nothing is asked of the other
 ends_past : (extra m : ℕ) (e : Align) (r : Result Kind ℕ) (wide_low wide_high : ℤ) → pos (extra + 131072) <ℤ wide_high → IsResultBelow (IsKindUnder extra) r (within_value_at extra m e wide_low wide_high)
-ends_past extra m e r (pos wide_low) (pos wide_high) far =
-    cond_both (nat_le extra wide_low && nat_le wide_high (extra + 131072)) (Ok (MapValue m (offsets_in (normal wide_low wide_high e)))) (Err outside_map) (IsResultBelow (IsKindUnder extra) r)
-    (λ t. absurd (omega (arith, ints, leb-true wide_high (extra + 131072) (and_parts (nat_le extra wide_low) (nat_le wide_high (extra + 131072)) t).1)))
-    (λ _. tt)
+ends_past extra m e r (pos wide_low) (pos wide_high) far = grind (arith, cond_both, nat_le, ints, leb-true, and_parts)
 ends_past extra m e r (pos wide_low) (negsuc wide_high) far = tt
 ends_past extra m e r (negsuc wide_low) wide_high far = tt
 
@@ -231,12 +217,7 @@ kinds_narrow extra code width offset a b (Stack k) (Scalar d) p q =
     let (y, right, also) = q.below in
     let y_normal : IsNormal y = subst IsNormalKind right q.smaller in
     rw (p.below, right) (displaced_narrows extra Stack 17 code width k y d (λ z. refl) y_normal q.larger also)
-kinds_narrow extra code width offset a b (MapValue m outer) (Scalar d) p q =
-    let (x, left, within) = p.below in
-    let (y, right, also) = q.below in
-    let x_normal : IsNormal (range_in x) = subst IsNormalKind left p.smaller in
-    let y_normal : IsNormal y = subst IsNormalKind right q.smaller in
-    rw (left, right) (value_narrows extra m code width x outer y d p.whole x_normal y_normal q.larger within also)
+kinds_narrow extra code width offset a b (MapValue m outer) (Scalar d) p q = grind (arith, value_narrows)
 kinds_narrow extra code width offset a b (MaybeValue m id) d p q = tt
 kinds_narrow extra code width offset a b c (MaybeValue m id) p q = tt
 kinds_narrow extra code width offset a b c d p q = tt
@@ -251,20 +232,13 @@ with_dst_narrows extra code width offset a None b d p q = tt
 with_dst_narrows extra code width offset a (Some c) b d (x, is, narrow) q = rw is (kinds_narrow extra code width offset x b c d narrow q)
 
 moved_narrows : (extra : ℕ) (width : Width) (offset : ℤ) (b d : Kind) → IsKindNarrower extra b d → IsResultBelow (IsKindUnder extra) (moved_number width offset b) (moved_number width offset d)
-moved_narrows extra width offset b (Scalar d) q =
-    let (y, right, also) = q.below in
-    let y_normal : IsNormal y = subst IsNormalKind right q.smaller in
-    rw right (range_of Mov width offset y y, refl, range_narrows Mov width offset y y d d y_normal y_normal q.larger q.larger also also)
+moved_narrows extra width offset b (Scalar d) q = grind (arith, range_narrows)
 moved_narrows extra width offset b (MaybeValue m id) q = tt
 moved_narrows extra width offset b d q = tt
 
 copied_narrows : (extra : ℕ) (width : Width) (offset : ℤ) (b d : Kind) → IsKindNarrower extra b d → IsResultBelow (IsKindUnder extra) (copied width offset b) (copied width offset d)
 copied_narrows extra Bits32 offset b d q = moved_narrows extra Bits32 offset b d q
-copied_narrows extra Bits64 offset b d q = by_test (is offset 0)
-  where
-    by_test : (t : Bool) → IsResultBelow (IsKindUnder extra) (if t then Ok b else moved_number Bits64 offset b) (if t then Ok d else moved_number Bits64 offset d)
-    by_test true = q.below
-    by_test false = moved_narrows extra Bits64 offset b d q
+copied_narrows extra Bits64 offset b d q = grind (arith, true, false, moved_narrows)
 
 -- arithmetic on kinds that are under others makes kinds that are; only code that reads dst asks for it
 pub arithmetic_narrows : (extra : ℕ) (code : AluCode) (width : Width) (offset : ℤ) (a c : Option Kind) (b d : Kind) → IsKnownNarrower extra a c → IsKindNarrower extra b d → IsResultBelow (IsKindUnder extra) (arith_by code width offset a b) (arith_by_at extra code width offset c d)
@@ -283,79 +257,32 @@ IsLeftWithin (Some r) (Some wide) = IsWithin r wide
 IsLeftWithin (Some r) None = ⊥
 
 some_narrows : (a b : Range) → IsWithin a b → IsLeftWithin (some_of a) (some_of b)
-some_narrows a b w =
-    let first : ℕ = (normal_of a).low in
-    let last : ℕ = (normal_of a).high in
-    let from : a.low ≤ first = first_above a.align a.low in
-    let to : last ≤ a.high = last_below a.align a.high in
-    cond_both (nat_le first last) (Some (normal_of a)) None (λ o. IsLeftWithin o (some_of b))
-    (λ t.
-    let ordered : first ≤ last = leb-true first last t in
-    let has : IsIn a first = record { low = from; high = omega arith; aligned = first_divided a.align a.low } in
-    let narrow : IsWithin (normal_of a) (normal_of b) = normal_narrows a b first has w in
-    let low = narrow.low in
-    let high = narrow.high in
-    let there : (normal_of b).low ≤ (normal_of b).high = omega arith in
-    rw (cond-true (nat_le (normal_of b).low (normal_of b).high) (Some (normal_of b)) None (le-leb (normal_of b).low (normal_of b).high there)) narrow)
-    (λ _. tt)
+some_narrows a b w = grind (arith, first_above, last_below, cond_both, nat_le, leb-true, first_divided, normal_narrows, cond-true, le-leb)
 
 -- what is left of a range lies within each range around it
 some_within : (a b : Range) → IsWithin a b → IsLeftWithin (some_of a) (Some b)
-some_within a b w =
-    cond_both (nat_le (normal_of a).low (normal_of a).high) (Some (normal_of a)) None (λ o. IsLeftWithin o (Some b))
-    (λ _. normal_within a b w) (λ _. tt)
+some_within a b w = grind (arith, cond_both, nat_le, normal_within)
 
 -- a range without one of its ends
 abbrev shorter : Range → ℕ → Range
 shorter a n = between (if a.low == n then a.low + 1 else a.low) (if a.high == n then a.high - 1 else a.high) a.align
 
 shorter_within : (a : Range) (n : ℕ) → IsWithin (shorter a n) a
-shorter_within a n = record {
-  low = cond_both (a.low == n) (a.low + 1) a.low (λ l. a.low ≤ l) (λ _. omega arith) (λ _. omega arith);
-  high = cond_both (a.high == n) (a.high - 1) a.high (λ h. h ≤ a.high) (λ _. omega arith) (λ _. omega arith);
-  aligned = omega arith;
-}
+shorter_within a n = grind (arith, cond_both)
 
 shorter_narrows : (a b : Range) (n : ℕ) → IsWithin a b → IsWithin (shorter a n) (shorter b n)
-shorter_narrows a b n w =
-    let low = w.low in
-    let high = w.high in
-    record {
-      low = cond_both (b.low == n) (b.low + 1) b.low (λ l. l ≤ (if a.low == n then a.low + 1 else a.low))
-          (λ t. cond_both (a.low == n) (a.low + 1) a.low (λ l. b.low + 1 ≤ l) (λ _. omega arith) (λ f. omega (arith, eqb-true b.low n t, eqb-false a.low n f)))
-          (λ _. cond_both (a.low == n) (a.low + 1) a.low (λ l. b.low ≤ l) (λ _. omega arith) (λ _. omega arith));
-      high = cond_both (b.high == n) (b.high - 1) b.high (λ h. (if a.high == n then a.high - 1 else a.high) ≤ h)
-          (λ t. cond_both (a.high == n) (a.high - 1) a.high (λ h. h ≤ b.high - 1) (λ _. omega arith) (λ f. omega (arith, eqb-true b.high n t, eqb-false a.high n f)))
-          (λ _. cond_both (a.high == n) (a.high - 1) a.high (λ h. h ≤ b.high) (λ _. omega arith) (λ _. omega arith));
-      aligned = w.aligned;
-    }
+shorter_narrows a b n w = grind (arith, cond_both, eqb-true, eqb-false)
 
 -- what a comparison leaves of a range lies within it
 kept_within : (comparison : Comparison) (a b c : Range) → IsWithin a c → IsLeftWithin (kept_by comparison a b) (Some c)
-kept_within Equal a b c w =
-    let low = w.low in
-    let high = w.high in
-    some_within (between (max a.low b.low) (min a.high b.high) (greatest_align a.align b.align)) c (record {
-      low = omega arith;
-      high = omega arith;
-      aligned = le_trans w.aligned (below_greatest_left a.align b.align);
-    })
+kept_within Equal a b c w = grind (arith, some_within, max, min, le_trans, below_greatest_left)
 kept_within NotEqual a b c w =
     cond_both (is_constant b) (without_end a b.low) (Some a) (λ o. IsLeftWithin o (Some c))
     (λ _. some_within (shorter a b.low) c (within_trans (shorter a b.low) a c (shorter_within a b.low) w)) (λ _. w)
-kept_within Greater a b c w =
-    let low = w.low in
-    some_within (between (max a.low (b.low + 1)) a.high a.align) c (record { low = omega arith; high = w.high; aligned = w.aligned })
-kept_within GreaterOrEqual a b c w =
-    let low = w.low in
-    some_within (between (max a.low b.low) a.high a.align) c (record { low = omega arith; high = w.high; aligned = w.aligned })
-kept_within Less a b c w =
-    let high = w.high in
-    cond_both (b.high == 0) None (some_of (between a.low (min a.high (b.high - 1)) a.align)) (λ o. IsLeftWithin o (Some c))
-    (λ _. tt) (λ _. some_within (between a.low (min a.high (b.high - 1)) a.align) c (record { low = w.low; high = omega arith; aligned = w.aligned }))
-kept_within LessOrEqual a b c w =
-    let high = w.high in
-    some_within (between a.low (min a.high b.high) a.align) c (record { low = w.low; high = omega arith; aligned = w.aligned })
+kept_within Greater a b c w = grind (arith, some_within, max)
+kept_within GreaterOrEqual a b c w = grind (arith, some_within, max)
+kept_within Less a b c w = grind (arith, cond_both, min, some_within)
+kept_within LessOrEqual a b c w = grind (arith, some_within, min)
 kept_within comparison a b c w = w
 
 -- what it leaves of ranges within others lies within what it leaves of those
@@ -401,17 +328,4 @@ kept_narrows comparison a b c d p q w v = w
 
 -- what a way of a comparison leaves of ranges within others lies within what it leaves of those
 pub refined_narrows : (comparison : Comparison) (width : Width) (taken : Bool) (a b c d : Range) → IsNormal b → IsNormal d → IsWithin a c → IsWithin b d → IsLeftWithin (refined comparison width taken a b) (refined comparison width taken c d)
-refined_narrows comparison width taken a b c d p q w v =
-    let holding : Comparison = if taken then comparison else negated comparison in
-    let a_high = w.high in
-    let b_high = v.high in
-    cond_both (is_told width c d) (kept_by holding c d) (Some c) (IsLeftWithin (refined comparison width taken a b))
-    (λ t.
-    let parts = and_parts (nat_lt c.high (modulus width)) (nat_lt d.high (modulus width)) t in
-    let left : c.high < modulus width = ltb-true c.high (modulus width) parts.0 in
-    let right : d.high < modulus width = ltb-true d.high (modulus width) parts.1 in
-    let told : is_told width a b ≡ true = and_from (nat_lt a.high (modulus width)) (nat_lt b.high (modulus width)) (lt-ltb a.high (modulus width) (omega arith)) (lt-ltb b.high (modulus width) (omega arith)) in
-    rw (cond-true (is_told width a b) (kept_by holding a b) (Some a) told) (kept_narrows holding a b c d p q w v))
-    (λ _.
-    cond_both (is_told width a b) (kept_by holding a b) (Some a) (λ o. IsLeftWithin o (Some c))
-    (λ _. kept_within holding a b c w) (λ _. w))
+refined_narrows comparison width taken a b c d p q w v = grind (arith, cond_both, and_parts, nat_lt, ltb-true, true, and_from, lt-ltb, cond-true, kept_narrows, kept_within)

@@ -88,35 +88,15 @@ normal_below Bits64 Four = omega arith
 normal_below Bits64 Eight = omega arith
 
 pub taken_below : (width : Width) (r : Range) → (taken width r).high < modulus width
-taken_below width r =
-    cond_both (nat_lt r.high (modulus width)) r _ (λ a. a.high < modulus width)
-    (λ t. ltb-true r.high (modulus width) t) (λ _. normal_below width r.align)
+taken_below width r = grind (arith, cond_both, nat_lt, ltb-true, normal_below)
 
 -- the one number of a constant
 pub constant_number : (by : Range) (y : ℕ) → is_constant by ≡ true → IsIn by y → by.low ≡ y
-constant_number by y one within =
-    let same : by.low ≡ by.high = eqb-true by.low by.high one in
-    let low = within.low in
-    let high = within.high in
-    omega arith
+constant_number by y one within = grind (arith, eqb-true)
 
 pub is_taken : (width : Width) (r : Range) (n : ℕ) → IsIn r n → IsTaken width (taken width r) n
-is_taken width r n h =
-    cond_both (nat_lt r.high (modulus width)) r _ (λ a. IsTaken width a n)
-    (λ t.
-    let below : r.high < modulus width = ltb-true r.high (modulus width) t in
-    let high = h.high in
-    let same : low width n ≡ n = low_of_small width n (omega arith) in
-    record { has = rw same h; below = below; one = λ one. constant_number r n one h })
-    (λ _. record {
-      has = in_normal_of (all width r.align) (low width n) (in_all width r.align (low width n) (low_fits width n) (low_divided width r.align n h.aligned));
-      below = normal_below width r.align;
-      one = λ one. let open_one : is_constant (normal_of (all width r.align)) ≡ false = all_open width r.align in cc;
-    })
+is_taken width r n h = grind (arith, cond_both, nat_lt, ltb-true, low_of_small, constant_number, in_normal_of, in_all, low_fits, low_divided, normal_below, false, all_open)
 
 -- the lower end of a range of the width is one of its numbers
 pub end_is_taken : (width : Width) (r : Range) → IsNormal r → r.high < modulus width → IsTaken width r r.low
-end_is_taken width r h below =
-    let ordered = h.ordered in
-    let same : low width r.low ≡ r.low = low_of_small width r.low (omega arith) in
-    record { has = rw same (record { low = omega arith; high = ordered; aligned = h.low }); below = below; one = λ one. refl }
+end_is_taken width r h below = grind (arith, low_of_small)

@@ -27,14 +27,10 @@ kind_below_self (MaybeValue m id) = refl
 kind_below_self (MapName m) = refl
 
 pub kind_below_trans : (a b c : Kind) → IsKindBelow a b → IsKindBelow b c → IsKindBelow a c
-kind_below_trans a b (Scalar outer) p (middle, is, within) =
-    let below : IsKindBelow a (Scalar middle) = subst (IsKindBelow a) is p in
-    (below.0, below.1, within_trans below.0 middle outer below.2 within)
+kind_below_trans a b (Scalar outer) p (middle, is, within) = grind (arith, within_trans)
 kind_below_trans a b (Context offset) p is = subst (IsKindBelow a) is p
 kind_below_trans a b (Stack offset) p is = subst (IsKindBelow a) is p
-kind_below_trans a b (MapValue m outer) p (middle, is, within) =
-    let below : IsKindBelow a (MapValue m middle) = subst (IsKindBelow a) is p in
-    (below.0, below.1, within_trans (range_in below.0) (range_in middle) (range_in outer) below.2 within)
+kind_below_trans a b (MapValue m outer) p (middle, is, within) = grind (arith, within_trans)
 kind_below_trans a b (MaybeValue m id) p is = subst (IsKindBelow a) is p
 kind_below_trans a b (MapName m) p is = subst (IsKindBelow a) is p
 
@@ -44,9 +40,7 @@ below_self (Some kind) = (kind, refl, kind_below_self kind)
 
 pub below_trans : (a b c : Option Kind) → IsBelow a b → IsBelow b c → IsBelow a c
 below_trans a b None p q = tt
-below_trans a b (Some outer) p (middle, is, within) =
-    let below : IsBelow a (Some middle) = subst (IsBelow a) is p in
-    (below.0, below.1, kind_below_trans below.0 middle outer below.2 within)
+below_trans a b (Some outer) p (middle, is, within) = grind (arith, kind_below_trans)
 
 pub slot_below_self : (slot : StackSlot) → IsSlotBelow slot slot
 slot_below_self (Kept kind) = (kind, refl, kind_below_self kind)
@@ -62,19 +56,14 @@ kept_places a (MaybeValue m id) is = ap (λ k. number_bytes (Kept k)) is
 kept_places a (MapName m) is = ap (λ k. number_bytes (Kept k)) is
 
 pub slot_below_trans : (a b c : StackSlot) → IsSlotBelow a b → IsSlotBelow b c → IsSlotBelow a c
-slot_below_trans a b (Kept outer) p (middle, is, within) =
-    let below : IsSlotBelow a (Kept middle) = subst (IsSlotBelow a) is p in
-    (below.0, below.1, kind_below_trans below.0 middle outer below.2 within)
+slot_below_trans a b (Kept outer) p (middle, is, within) = grind (arith, kind_below_trans)
 slot_below_trans a (Kept kind) (Bytes set) (inner, is, within) q =
     ap (λ slot. bit_and (number_bytes slot) set) is ∙ ap (λ n. bit_and n set) (kept_places inner kind within) ∙ q
 slot_below_trans a (Bytes more) (Bytes set) p q =
     ap (bit_and (number_bytes a)) (sym q) ∙ sym (and_assoc set (number_bytes a) more) ∙ ap (λ n. bit_and n set) p ∙ q
 
 pub description_below_self : (d : Description) → IsDescriptionBelow d d
-description_below_self d = record {
-  registers = λ i. below_self (register_of d i);
-  slots = λ k. slot_below_self (slot_of d k);
-}
+description_below_self d = grind (arith, below_self, slot_below_self)
 
 pub description_below_trans : (c d e : Description) → IsDescriptionBelow c d → IsDescriptionBelow d e → IsDescriptionBelow c e
 description_below_trans c d e p q = record {

@@ -1,19 +1,18 @@
 -- Of kinds whose offsets are `extra` more arithmetic makes what it makes of the kinds, with as much more, and
 -- descriptions are replaced in as they are.
-use Rattle.std.proofs.Common.{◌≡◌, ℕ, ◌+◌, ◌==◌, ◌&&◌, ◌∙◌, nat_le, bit_and, ℤ, pos, negsuc, ◌+ℤ◌, ◌-ℤ◌, Bool, true, false, List, [], ◌∷◌, map, Option, Some, None, Result, Ok, Err, refl, sym, ap, arith}
-use Rattle.std.proofs.Common.{◌%◌, ◌≤◌}
+use Rattle.std.proofs.Common.{◌≡◌, ℕ, ◌+◌, ◌∙◌, nat_le, bit_and, ℤ, pos, negsuc, ◌+ℤ◌, ◌-ℤ◌, Bool, true, false, List, [], ◌∷◌, map, Option, Some, None, Result, Err, refl, ap, arith}
+use Rattle.std.proofs.Common.{◌%◌}
 use Rattle.std.specs.Prelude.{if◌then◌else◌, option_map}
 use Rattle.std.specs.Int.{cast_signed, w64}
 use Rattle.std.proofs.lemmas.Int.{ints}
 use Rattle.std.proofs.lemmas.Bool.{cond_both, cond-true, and_from, le-leb, leb-true}
 use Rattle.std.proofs.lemmas.List.{map-set}
-use Rattle.host_types.specs.Rules.{wrong_kind, outside_map}
+use Rattle.host_types.specs.Rules.{wrong_kind}
 use Rattle.bpf_decode.specs.declared.operation.Width.{Width}
 use Rattle.bpf_decode.specs.declared.operation.Width.TheVariants.{Bits32, Bits64}
 use Rattle.bpf_decode.specs.declared.operation.AluCode.{AluCode}
 use Rattle.bpf_decode.specs.declared.operation.AluCode.TheVariants.{Add, Sub}
 use Rattle.bpf_decode.specs.Opcodes.{is}
-use Rattle.insn_alu.specs.Arithmetic.{reads_dst}
 use Rattle.verifier_kinds.specs.declared.kind.Align.{Align}
 use Rattle.verifier_kinds.specs.declared.kind.Range.{Range}
 use Rattle.verifier_kinds.specs.declared.kind.Offsets.{Offsets}
@@ -22,7 +21,7 @@ use Rattle.verifier_kinds.specs.declared.kind.Kind.TheVariants.{Scalar, Context,
 use Rattle.verifier_kinds.specs.declared.description.StackSlot.{StackSlot}
 use Rattle.verifier_kinds.specs.declared.description.StackSlot.TheVariants.{Kept, Bytes}
 use Rattle.verifier_kinds.specs.declared.description.Description.{Description}
-use Rattle.verifier_kinds.specs.Kinds.{is_constant, least_align, normal, offsets_in, IsKindBelow, IsBelow}
+use Rattle.verifier_kinds.specs.Kinds.{is_constant, least_align, IsKindBelow, IsBelow}
 use Rattle.verifier_kinds.specs.Descriptions.{IsSlotBelow, IsDescriptionBelow, number_bytes, register_of, slot_of, settled, settled_kind, settled_slot, with_kind, with_slot, with_unset}
 use Rattle.verifier_kinds.specs.Arithmetic.{signed_offset, within_value, displaced_value, kind_of, kind_with_dst, moved_number, copied, arith_by}
 use Rattle.verifier_kinds.specs.Wide.{raised, raised_kind, raised_slot, raised_description, within_value_at, displaced_value_at, kind_of_at, kind_with_dst_at, arith_by_at}
@@ -37,17 +36,7 @@ abbrev pub IsRaisedKind : ℕ → Kind → Kind → Type 0
 IsRaisedKind extra a b = a ≡ raised_kind extra b
 
 ends_raised : (extra m : ℕ) (d : Align) (low high wide_low wide_high : ℤ) → extra % 8 ≡ 0 → wide_low ≡ pos extra +ℤ low → wide_high ≡ pos extra +ℤ high → IsResultBelow (IsRaisedKind extra) (within_value_at extra m d wide_low wide_high) (within_value m d low high)
-ends_raised extra m d (pos low) (pos high) wide_low wide_high whole p q =
-    let from : wide_low ≡ pos (extra + low) = p in
-    let to : wide_high ≡ pos (extra + high) = q in
-    cond_both (nat_le high 131072) (Ok (MapValue m (offsets_in (normal low high d)))) (Err outside_map) (IsResultBelow (IsRaisedKind extra) (within_value_at extra m d wide_low wide_high))
-    (λ t.
-    let small : high ≤ 131072 = leb-true high 131072 t in
-    let reach : (nat_le extra (extra + low) && nat_le (extra + high) (extra + 131072)) ≡ true =
-    and_from (nat_le extra (extra + low)) (nat_le (extra + high) (extra + 131072)) (le-leb extra (extra + low) (omega arith)) (le-leb (extra + high) (extra + 131072) (omega arith)) in
-    rw (from, to, cond-true (nat_le extra (extra + low) && nat_le (extra + high) (extra + 131072)) (Ok (MapValue m (offsets_in (normal (extra + low) (extra + high) d)))) (Err outside_map) reach)
-    (ap (λ r. MapValue m (offsets_in r)) (raised_normal extra low high d whole)))
-    (λ _. tt)
+ends_raised extra m d (pos low) (pos high) wide_low wide_high whole p q = grind (arith, pos, cond_both, nat_le, leb-true, true, and_from, le-leb, cond-true, raised_normal)
 ends_raised extra m d (pos low) (negsuc high) wide_low wide_high whole p q = tt
 ends_raised extra m d (negsuc low) high wide_low wide_high whole p q = tt
 
@@ -95,18 +84,10 @@ moved_raised extra width offset b = tt
 
 copied_raised : (extra : ℕ) (width : Width) (offset : ℤ) (b : Kind) → IsResultBelow (IsRaisedKind extra) (copied width offset (raised_kind extra b)) (copied width offset b)
 copied_raised extra Bits32 offset b = moved_raised extra Bits32 offset b
-copied_raised extra Bits64 offset b = by_test (is offset 0)
-  where
-    by_test : (t : Bool) → IsResultBelow (IsRaisedKind extra) (if t then Ok (raised_kind extra b) else moved_number Bits64 offset (raised_kind extra b)) (if t then Ok b else moved_number Bits64 offset b)
-    by_test true = refl
-    by_test false = moved_raised extra Bits64 offset b
+copied_raised extra Bits64 offset b = grind (arith, true, false, moved_raised)
 
 pub arithmetic_raised : (extra : ℕ) (code : AluCode) (width : Width) (offset : ℤ) (a : Option Kind) (b : Kind) → extra % 8 ≡ 0 → IsResultBelow (IsRaisedKind extra) (arith_by_at extra code width offset (option_map (raised_kind extra) a) (raised_kind extra b)) (arith_by code width offset a b)
-arithmetic_raised extra code width offset a b whole = by_test (reads_dst code)
-  where
-    by_test : (t : Bool) → IsResultBelow (IsRaisedKind extra) (if t then kind_with_dst_at extra code width offset (option_map (raised_kind extra) a) (raised_kind extra b) else copied width offset (raised_kind extra b)) (if t then kind_with_dst code width offset a b else copied width offset b)
-    by_test true = with_dst_raised extra code width offset a b whole
-    by_test false = copied_raised extra width offset b
+arithmetic_raised extra code width offset a b whole = grind (arith, true, with_dst_raised, false, copied_raised)
 
 -- ---- descriptions
 
@@ -117,19 +98,13 @@ pub slot_of-raised : (extra : ℕ) (d : Description) (k : ℕ) → slot_of (rais
 slot_of-raised extra d k = get_or-mapped (raised_slot extra) (Bytes 0) refl d.stack k
 
 pub with_kind-raised : (extra : ℕ) (d : Description) (i : ℕ) (kind : Kind) → with_kind (raised_description extra d) i (raised_kind extra kind) ≡ raised_description extra (with_kind d i kind)
-with_kind-raised extra d i kind =
-    let made : List (Option Kind) → Description = λ registers. record { registers = registers; stack = map (raised_slot extra) d.stack } in
-    ap made (sym (map-set (option_map (raised_kind extra)) d.registers i (Some kind)))
+with_kind-raised extra d i kind = grind (arith, map, map-set)
 
 pub with_unset-raised : (extra : ℕ) (d : Description) (i : ℕ) → with_unset (raised_description extra d) i ≡ raised_description extra (with_unset d i)
-with_unset-raised extra d i =
-    let made : List (Option Kind) → Description = λ registers. record { registers = registers; stack = map (raised_slot extra) d.stack } in
-    ap made (sym (map-set (option_map (raised_kind extra)) d.registers i None))
+with_unset-raised extra d i = grind (arith, map, map-set)
 
 pub with_slot-raised : (extra : ℕ) (d : Description) (k : ℕ) (slot : StackSlot) → with_slot (raised_description extra d) k (raised_slot extra slot) ≡ raised_description extra (with_slot d k slot)
-with_slot-raised extra d k slot =
-    let made : List StackSlot → Description = λ stack. record { registers = map (option_map (raised_kind extra)) d.registers; stack = stack } in
-    ap made (sym (map-set (raised_slot extra) d.stack k slot))
+with_slot-raised extra d k slot = grind (arith, map, map-set)
 
 -- a slot knows the same bytes to hold numbers
 pub raised_bytes : (extra : ℕ) (slot : StackSlot) → number_bytes (raised_slot extra slot) ≡ number_bytes slot
@@ -138,11 +113,7 @@ raised_bytes extra (Kept pointer) = refl
 raised_bytes extra (Bytes set) = refl
 
 settled_kind-raised : (extra call : ℕ) (to kind : Kind) → settled_kind call (raised_kind extra to) (raised_kind extra kind) ≡ raised_kind extra (settled_kind call to kind)
-settled_kind-raised extra call to (MaybeValue m id) = by_test (id == call)
-  where
-    by_test : (t : Bool) → (if t then raised_kind extra to else MaybeValue m id) ≡ raised_kind extra (if t then to else MaybeValue m id)
-    by_test true = refl
-    by_test false = refl
+settled_kind-raised extra call to (MaybeValue m id) = grind (arith, true, false)
 settled_kind-raised extra call to kind = refl
 
 settled_register-raised : (extra call : ℕ) (to : Kind) (known : Option Kind) → option_map (settled_kind call (raised_kind extra to)) (option_map (raised_kind extra) known) ≡ option_map (raised_kind extra) (option_map (settled_kind call to) known)
@@ -160,12 +131,7 @@ maps_alike f g h k (x ∷ xs) same = ap (λ y. y ∷ map f (map g xs)) (same x) 
 
 pub settled-raised : (extra call : ℕ) (to : Kind) (d : Description) → settled call (raised_kind extra to) (raised_description extra d) ≡ raised_description extra (settled call to d)
 unfolding settled
-settled-raised extra call to d =
-    let made : List (Option Kind) → List StackSlot → Description = λ registers stack. record { registers = registers; stack = stack } in
-    ap (λ r. made r (map (settled_slot call (raised_kind extra to)) (map (raised_slot extra) d.stack)))
-    (maps_alike (option_map (settled_kind call (raised_kind extra to))) (option_map (raised_kind extra)) (option_map (raised_kind extra)) (option_map (settled_kind call to)) d.registers (settled_register-raised extra call to))
-    ∙ ap (made (map (option_map (raised_kind extra)) (map (option_map (settled_kind call to)) d.registers)))
-    (maps_alike (settled_slot call (raised_kind extra to)) (raised_slot extra) (raised_slot extra) (settled_slot call to) d.stack (settled_slot-raised extra call to))
+settled-raised extra call to d = grind (arith, map, maps_alike, settled_register-raised, settled_slot-raised)
 
 -- ---- the order
 

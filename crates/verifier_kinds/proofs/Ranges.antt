@@ -1,5 +1,5 @@
 -- Alignments and normal ranges: which numbers they have, and that sums keep to them.
-use Rattle.std.proofs.Common.{◌≡◌, ℕ, ◌+◌, ◌-◌, ◌*◌, ◌/◌, ◌%◌, ◌^◌, ◌<◌, ◌≤◌, ◌==◌, nat_le, refl, subst, arith}
+use Rattle.std.proofs.Common.{◌≡◌, ℕ, ◌+◌, ◌-◌, ◌*◌, ◌/◌, ◌%◌, ◌^◌, ◌<◌, ◌≤◌, nat_le, refl, subst, arith}
 use Rattle.std.proofs.lemmas.Bool.{cond_both, cond-true, eq-eqb, eqb-true, le-leb}
 use Rattle.verifier_kinds.specs.declared.kind.Align.{Align}
 use Rattle.verifier_kinds.specs.declared.kind.Align.TheVariants.{One, Two, Four, Eight}
@@ -7,10 +7,7 @@ use Rattle.verifier_kinds.specs.Kinds.{factor, rank, least_align, align_of, norm
 
 -- a number is divided by the greatest alignment that divides it
 pub divided_by_align_of : (n : ℕ) → n % factor (align_of n) ≡ 0
-divided_by_align_of n =
-    cond_both (n % 8 == 0) Eight _ (λ d. n % factor d ≡ 0) (λ e. eqb-true _ _ e) (λ _.
-    cond_both (n % 4 == 0) Four _ (λ d. n % factor d ≡ 0) (λ e. eqb-true _ _ e) (λ _.
-    cond_both (n % 2 == 0) Two One (λ d. n % factor d ≡ 0) (λ e. eqb-true _ _ e) (λ _. omega arith)))
+divided_by_align_of n = grind (arith, cond_both, eqb-true)
 
 -- the lower end of a normal range is the least number at or above the raw end that the alignment divides
 pub first_below : (d : Align) (low n : ℕ) → low ≤ n → n % factor d ≡ 0 → (low + (factor d - 1)) / factor d * factor d ≤ n
@@ -98,56 +95,19 @@ sum_divided Eight x y p q = omega arith
 
 -- a normal range has each number between the raw ends that the alignment divides
 pub in_normal : (low high : ℕ) (d : Align) (n : ℕ) → low ≤ n → n ≤ high → n % factor d ≡ 0 → IsIn (normal low high d) n
-in_normal low high d n p q e =
-    let first : ℕ = (low + (factor d - 1)) / factor d * factor d in
-    let last : ℕ = high / factor d * factor d in
-    let above : first ≤ n = first_below d low n p e in
-    let below : n ≤ last = last_above d n high q e in
-    record {
-      low = above;
-      high = below;
-      aligned = cond_both (first == last) (align_of first) d (λ a. n % factor a ≡ 0)
-          (λ t. let one : n ≡ first = omega (arith, eqb-true _ _ t) in rw one (divided_by_align_of first))
-          (λ _. e);
-    }
+in_normal low high d n p q e = grind (arith, first_below, last_above, cond_both, eqb-true, divided_by_align_of)
 
 -- a normal range that has a number meets what each range of the verifier meets
 pub normal_is_normal : (low high : ℕ) (d : Align) (n : ℕ) → low ≤ n → n ≤ high → n % factor d ≡ 0 → high < 2 ^ 64 → IsNormal (normal low high d)
-normal_is_normal low high d n p q e fits =
-    let first : ℕ = (low + (factor d - 1)) / factor d * factor d in
-    let last : ℕ = high / factor d * factor d in
-    let above : first ≤ n = first_below d low n p e in
-    let below : n ≤ last = last_above d n high q e in
-    let within : last ≤ high = last_below d high in
-    record {
-      ordered = omega arith;
-      fits = omega arith;
-      low = cond_both (first == last) (align_of first) d (λ a. first % factor a ≡ 0)
-          (λ _. divided_by_align_of first) (λ _. first_divided d low);
-      high = cond_both (first == last) (align_of first) d (λ a. last % factor a ≡ 0)
-          (λ t. rw (← eqb-true first last t) (divided_by_align_of first)) (λ _. last_divided d high);
-      single = λ same. cond-true (first == last) (align_of first) d (eq-eqb first last same);
-    }
+normal_is_normal low high d n p q e fits = grind (arith, first_below, last_above, last_below, cond_both, divided_by_align_of, first_divided, eqb-true, last_divided, cond-true, eq-eqb)
 
 -- the range of one number
 pub constant_is_normal : (n : ℕ) → n < 2 ^ 64 → IsNormal (constant n)
-constant_is_normal n h = record {
-  ordered = omega arith;
-  fits = h;
-  low = divided_by_align_of n;
-  high = divided_by_align_of n;
-  single = λ _. refl;
-}
+constant_is_normal n h = grind (arith, divided_by_align_of)
 
 pub in_constant : (n : ℕ) → IsIn (constant n) n
 in_constant n = record { low = omega arith; high = omega arith; aligned = divided_by_align_of n }
 
 -- the range of all numbers that an alignment divides
 pub full_is_normal : (d : Align) → IsNormal (full d)
-full_is_normal d = normal_is_normal 0 18446744073709551615 d 0 (omega arith) (omega arith) (zero_divided d) (omega arith)
-  where
-    zero_divided : (d : Align) → 0 % factor d ≡ 0
-    zero_divided One = refl
-    zero_divided Two = refl
-    zero_divided Four = refl
-    zero_divided Eight = refl
+full_is_normal d = grind (arith, normal_is_normal)

@@ -1,5 +1,5 @@
 -- What a conditional jump tells of dst: the ways that it lets through are normal, and have each number that goes there.
-use Rattle.std.proofs.Common.{◌≡◌, ℕ, ◌+◌, ◌-◌, ◌/◌, ◌*◌, ◌%◌, ◌^◌, ◌<◌, ◌≤◌, ◌==◌, ◌∙◌, nat_lt, nat_le, min, max, Bool, true, false, not, if◌then◌else◌, Option, Some, None, IfSome, refl, sym, subst, arith}
+use Rattle.std.proofs.Common.{◌≡◌, ℕ, ◌+◌, ◌-◌, ◌/◌, ◌*◌, ◌%◌, ◌^◌, ◌<◌, ◌≤◌, ◌==◌, ◌∙◌, nat_lt, nat_le, min, max, Bool, true, false, not, if◌then◌else◌, Option, Some, None, IfSome, refl, sym, arith}
 use Rattle.std.specs.Prelude.{option_map}
 use Rattle.std.proofs.lemmas.Bool.{and_parts, cond_both, eqb-true, eqb-false, leb-true, leb-false, ltb-true, ltb-false}
 use Rattle.bpf_decode.specs.declared.operation.Width.{Width}
@@ -29,14 +29,7 @@ first_above Eight low = omega arith
 
 -- nothing is left between ends that are the wrong way round
 pub none_above : (low high : ℕ) (d : Align) → high < low → some_of (between low high d) ≡ None
-none_above low high d h =
-    let first : ℕ = (low + (factor d - 1)) / factor d * factor d in
-    let last : ℕ = high / factor d * factor d in
-    let above : low ≤ first = first_above d low in
-    let below : last ≤ high = last_below d high in
-    cond_both (nat_le first last) (Some (normal_of (between low high d))) None (λ o. o ≡ None)
-    (λ t. let ordered : first ≤ last = leb-true first last t in absurd (omega arith))
-    (λ _. refl)
+none_above low high d h = grind (arith, first_above, last_below, cond_both, nat_le, leb-true)
 
 -- an end at or below a multiple of the alignment is rounded up within 64 bits
 multiple_fits : (d : Align) (end : ℕ) → end % factor d ≡ 0 → end < 2 ^ 64 → end + (factor d - 1) < 2 ^ 64
@@ -57,17 +50,7 @@ common_fits a b p q =
 
 -- what is left is normal
 some_is_normal : (r : Range) → r.high < 2 ^ 64 → IfSome (some_of r) IsNormal
-some_is_normal r h =
-    let d : Align = r.align in
-    let first : ℕ = (r.low + (factor d - 1)) / factor d * factor d in
-    let last : ℕ = r.high / factor d * factor d in
-    let above : r.low ≤ first = first_above d r.low in
-    let below : last ≤ r.high = last_below d r.high in
-    cond_both (nat_le first last) (Some (normal_of r)) None (λ o. IfSome o IsNormal)
-    (λ t.
-    let ordered : first ≤ last = leb-true first last t in
-    normal_of_is_normal r first (record { low = above; high = omega arith; aligned = first_divided d r.low }) h)
-    (λ _. tt)
+some_is_normal r h = grind (arith, first_above, last_below, cond_both, nat_le, leb-true, normal_of_is_normal, first_divided)
 
 without_is_normal : (a : Range) (n : ℕ) → IsNormal a → IfSome (without_end a n) IsNormal
 without_is_normal a n p =
@@ -93,14 +76,7 @@ kept_is_normal LessOrEqual a b p q =
 kept_is_normal comparison a b p q = p
 
 pub refined_is_normal : (comparison : Comparison) (width : Width) (taken : Bool) (a b : Range) → IsNormal a → IsNormal b → IfSome (refined comparison width taken a b) IsNormal
-refined_is_normal comparison width taken a b p q =
-    cond_both (is_told width a b) (kept_by (if taken then comparison else negated comparison) a b) (Some a) (λ o. IfSome o IsNormal)
-    (λ _. kept_is_normal (if taken then comparison else negated comparison) a b p q) (λ _. p)
-
--- a way that is let through has a normal range
-pub refined_normal : (comparison : Comparison) (width : Width) (taken : Bool) (a b r : Range) → IsNormal a → IsNormal b → refined comparison width taken a b ≡ Some r → IsNormal r
-refined_normal comparison width taken a b r p q e =
-    subst (λ o. IfSome o IsNormal) e (refined_is_normal comparison width taken a b p q)
+refined_is_normal comparison width taken a b p q = grind (arith, cond_both, kept_is_normal)
 
 -- ---- each number that goes a way is left there
 

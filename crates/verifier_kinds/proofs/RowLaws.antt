@@ -11,7 +11,7 @@ use Rattle.bpf_decode.specs.declared.operation.Width.{Width}
 use Rattle.bpf_decode.specs.declared.operation.Width.TheVariants.{Bits32, Bits64}
 use Rattle.bpf_decode.specs.declared.operation.AluCode.TheVariants.{Add, Sub, Mul, Div, Or, And, Lsh, Rsh, Mod, Xor, Mov}
 use Rattle.bpf_decode.specs.Opcodes.{is}
-use Rattle.insn_alu.specs.Arithmetic.{alu, low, modulus, count, quotient, remainder}
+use Rattle.insn_alu.specs.Arithmetic.{alu, low, modulus, quotient, remainder}
 use Rattle.insn_alu.proofs.Halves.{low_of_small}
 use Rattle.insn_alu.proofs.Small.{low_fits}
 use Rattle.verifier_kinds.specs.declared.kind.Align.{Align}
@@ -27,12 +27,7 @@ use Rattle.verifier_kinds.proofs.Operands.{in_all, low_divided}
 
 -- numbers that fit a width stay as they are, others have its low bits
 in_unless_wrapped : (width : Width) (from to : ℕ) (d : Align) (n : ℕ) → from ≤ n → n ≤ to → n % factor d ≡ 0 → IsIn (unless_wrapped width from to d) (low width n)
-in_unless_wrapped width from to d n p q e =
-    cond_both (nat_lt to (modulus width)) _ _ (λ r. IsIn r (low width n))
-    (λ t.
-    let fits : to < modulus width = ltb-true to (modulus width) t in
-    rw (low_of_small width n (omega arith)) (record { low = p; high = q; aligned = e }))
-    (λ _. in_all width d (low width n) (low_fits width n) (low_divided width d n e))
+in_unless_wrapped width from to d n p q e = grind (arith, nat_tests, cond_both, nat_lt, ltb-true, low_of_small, in_all, low_fits, low_divided)
 
 both_divided : (a b : Range) (x y : ℕ) → x % factor a.align ≡ 0 → y % factor b.align ≡ 0 → (x + y) % factor (least_align a.align b.align) ≡ 0
 both_divided a b x y p q =
@@ -118,11 +113,7 @@ power_divided d n m h =
     rw product (divided_multiple d (2 ^ k * m))
 
 rank_of_rank : (n : ℕ) → rank (of_rank n) ≤ n
-rank_of_rank n =
-    cond_both (n == 0) One _ (λ d. rank d ≤ n) (λ _. omega arith) (λ zero_not.
-    cond_both (n == 1) Two _ (λ d. rank d ≤ n) (λ t. omega (arith, eqb-true n 1 t)) (λ one_not.
-    cond_both (n == 2) Four Eight (λ d. rank d ≤ n) (λ t. omega (arith, eqb-true n 2 t)) (λ two_not.
-    omega (arith, eqb-false n 0 zero_not, eqb-false n 1 one_not, eqb-false n 2 two_not))))
+rank_of_rank n = grind (arith, nat_tests, cond_both, eqb-true, eqb-false)
 
 product_of_multiples : (i j x y u v : ℕ) → x ≡ 2 ^ i * u → y ≡ 2 ^ j * v → x * y ≡ 2 ^ (i + j) * (u * v)
 product_of_multiples i j x y u v p q = rw (p, q, pow-add 2 i j) (omega arith)
@@ -159,18 +150,13 @@ in_left_by width bits a x p =
 
 pub in_left_shift : (width : Width) (offset : ℤ) (a b : Range) (x y : ℕ) → IsIn a x → (is_constant b ≡ true → b.low ≡ y) → IsIn (left_shift_of width a b) (alu Lsh width offset x y)
 unfolding alu
-in_left_shift width offset a b x y p one =
-    cond_both (is_constant b) _ _ (λ r. IsIn r (low width (x * 2 ^ count width y)))
-    (λ t. rw (one t) (in_left_by width (count width y) a x p))
-    (λ _. in_all width a.align (low width (x * 2 ^ count width y)) (low_fits width (x * 2 ^ count width y)) (low_divided width a.align (x * 2 ^ count width y) (still_divided a.align (count width y) x p.aligned)))
+in_left_shift width offset a b x y p one = grind (arith, nat_tests, cond_both, in_left_by, in_all, low_fits, low_divided, still_divided)
 
 -- ---- divisions and right shifts
 
 -- a quotient isn't less where the first number isn't and the second isn't more
 pub quotient_order : (x y a c : ℕ) → x ≤ a → c ≤ y → 0 < c → x / y ≤ a / c
-quotient_order x y a c p q positive =
-    le-div (x / y) a c positive
-    (le_trans (mul-le (x / y) c (x / y) y (omega arith) q) (le_trans (div-mul-le_self x y) p))
+quotient_order x y a c p q positive = grind (arith, nat_tests, le-div, le_trans, mul-le, div-mul-le_self)
 
 pub not_zero : (n : ℕ) → 0 < n → (n == 0) ≡ false
 not_zero n h = grind (arith, nat_tests)
@@ -185,18 +171,7 @@ quotient_is : (width : Width) (x y : ℕ) → 0 < y → quotient width (pos 0) x
 quotient_is width x y h = cond-false (y == 0) 0 (x / y) (not_zero y h)
 
 in_plain_quotient : (width : Width) (a b : Range) (x y : ℕ) → IsIn a x → IsIn b y → IsIn (quotient_of a b) (quotient width (pos 0) x y)
-in_plain_quotient width a b x y p q =
-    let left_low = p.low in
-    let left_high = p.high in
-    let right_low = q.low in
-    let right_high = q.high in
-    cond_both (b.low == 0) _ _ (λ r. IsIn r (quotient width (pos 0) x y))
-    (λ _. record { low = omega arith; high = le_trans (quotient_at_most width x y) left_high; aligned = omega arith })
-    (λ f.
-    let least : 0 < b.low = at_least_one b.low f in
-    let positive : 0 < y = omega arith in
-    rw (quotient_is width x y positive)
-    (record { low = quotient_order a.low b.high x y left_low right_high positive; high = quotient_order x y a.high b.low left_high right_low least; aligned = omega arith }))
+in_plain_quotient width a b x y p q = grind (arith, nat_tests, cond_both, pos, le_trans, quotient_at_most, at_least_one, quotient_is, quotient_order)
 
 pub in_quotient : (width : Width) (offset : ℤ) (a b : Range) (x y : ℕ) → is offset 0 ≡ true → IsIn a x → IsIn b y → x < modulus width → y < modulus width → IsIn (quotient_of a b) (alu Div width offset x y)
 unfolding alu
@@ -214,20 +189,7 @@ remainder_is : (width : Width) (x y : ℕ) → 0 < y → remainder width (pos 0)
 remainder_is width x y h = cond-false (y == 0) x (x % y) (not_zero y h)
 
 in_plain_remainder : (width : Width) (a b : Range) (x y : ℕ) → IsIn a x → IsIn b y → IsIn (remainder_of a b) (remainder width (pos 0) x y)
-in_plain_remainder width a b x y p q =
-    let left_high = p.high in
-    let right_low = q.low in
-    let right_high = q.high in
-    let most : remainder width (pos 0) x y ≤ x = remainder_at_most width x y in
-    record {
-      low = omega arith;
-      high = cond_both (b.low == 0) a.high (min a.high (b.high - 1)) (λ n. remainder width (pos 0) x y ≤ n) (λ _. omega arith)
-          (λ f.
-          let least : 0 < b.low = at_least_one b.low f in
-          let positive : 0 < y = omega arith in
-          rw (remainder_is width x y positive) (omega (arith, mod_below x y positive, rest_at_most x y)));
-      aligned = omega arith;
-    }
+in_plain_remainder width a b x y p q = grind (arith, nat_tests, pos, remainder_at_most, cond_both, min, at_least_one, remainder_is, mod_below, rest_at_most)
 
 pub in_remainder : (width : Width) (offset : ℤ) (a b : Range) (x y : ℕ) → is offset 0 ≡ true → IsIn a x → IsIn b y → x < modulus width → y < modulus width → IsIn (remainder_of a b) (alu Mod width offset x y)
 unfolding alu
@@ -235,19 +197,11 @@ in_remainder width offset a b x y t p q xs ys =
     rw (low_of_small width x xs, low_of_small width y ys, same_offset offset (pos 0) t) (in_plain_remainder width a b x y p q)
 
 in_right_by : (bits : ℕ) (a : Range) (x : ℕ) → IsIn a x → IsIn (right_by bits a) (x / 2 ^ bits)
-in_right_by bits a x p =
-    let k : ℕ = 2 ^ bits in
-    let positive : 0 < k = pow_pos bits in
-    record { low = quotient_order a.low k x k p.low (omega arith) positive; high = quotient_order x k a.high k p.high (omega arith) positive; aligned = omega arith }
+in_right_by bits a x p = grind (arith, nat_tests, pow_pos, quotient_order)
 
 pub in_right_shift : (width : Width) (offset : ℤ) (a b : Range) (x y : ℕ) → IsIn a x → (is_constant b ≡ true → b.low ≡ y) → x < modulus width → IsIn (right_shift_of width a b) (alu Rsh width offset x y)
 unfolding alu
-in_right_shift width offset a b x y p one xs =
-    let high = p.high in
-    rw (low_of_small width x xs)
-    (cond_both (is_constant b) _ _ (λ r. IsIn r (x / 2 ^ count width y))
-    (λ t. rw (one t) (in_right_by (count width y) a x p))
-    (λ _. record { low = omega arith; high = le_trans (shr_le x (count width y)) high; aligned = omega arith }))
+in_right_shift width offset a b x y p one xs = grind (arith, nat_tests, low_of_small, cond_both, in_right_by, le_trans, shr_le)
 
 -- ---- bits
 
@@ -268,17 +222,7 @@ by_factor d n e = subst (λ f. n % f ≡ 0) (sym (factor_is d)) e
 
 pub in_and : (width : Width) (offset : ℤ) (a b : Range) (x y : ℕ) → IsIn a x → IsIn b y → x < modulus width → y < modulus width → IsIn (and_of a b) (alu And width offset x y)
 unfolding alu
-in_and width offset a b x y p q xs ys =
-    let left = p.high in
-    let right = q.high in
-    rw (low_of_small width x xs, low_of_small width y ys)
-    (record {
-      low = omega arith;
-      high = omega (arith, and_le_l x y, and_le_r x y);
-      aligned = cond_both (nat_le (rank a.align) (rank b.align)) b.align a.align (λ d. bit_and x y % factor d ≡ 0)
-          (λ _. rw (and_comm x y) (by_factor b.align (bit_and y x) (and_divided (rank b.align) y x (by_power b.align y q.aligned))))
-          (λ _. by_factor a.align (bit_and x y) (and_divided (rank a.align) x y (by_power a.align x p.aligned)));
-    })
+in_and width offset a b x y p q xs ys = grind (arith, nat_tests, low_of_small, and_le_l, and_le_r, cond_both, nat_le, and_comm, by_factor, and_divided, by_power)
 
 -- numbers whose bits are those of others have no more of them than the larger one
 bits_from : (n : ℕ) → n < 2 ^ 64 → (m : ℕ) × (64 - leading_zeros w64 n ≡ m) × (n < 2 ^ m)
@@ -303,35 +247,11 @@ ones_small n =
 
 pub in_or : (width : Width) (offset : ℤ) (a b : Range) (x y : ℕ) → IsIn a x → IsIn b y → x < modulus width → y < modulus width → a.high < 2 ^ 64 → b.high < 2 ^ 64 → IsIn (or_of a b) (alu Or width offset x y)
 unfolding alu
-in_or width offset a b x y p q xs ys left right =
-    let left_low = p.low in
-    let left_high = p.high in
-    let right_low = q.low in
-    let right_high = q.high in
-    let d : Align = least_align a.align b.align in
-    rw (low_of_small width x xs, low_of_small width y ys)
-    (record {
-      low = omega (arith, le_or_l x y, le_or_r x y);
-      high = or_at_most (max a.high b.high) x y (omega arith) (omega arith) (omega arith);
-      aligned = by_factor d (bit_or x y) (or_divided (rank d) x y
-          (by_power d x (divided_by_least_left a.align b.align x p.aligned))
-          (by_power d y (divided_by_least_right a.align b.align y q.aligned)));
-    })
+in_or width offset a b x y p q xs ys left right = grind (arith, nat_tests, low_of_small, le_or_l, le_or_r, or_at_most, max, by_factor, or_divided, by_power, divided_by_least_left, divided_by_least_right)
 
 pub in_xor : (width : Width) (offset : ℤ) (a b : Range) (x y : ℕ) → IsIn a x → IsIn b y → x < modulus width → y < modulus width → a.high < 2 ^ 64 → b.high < 2 ^ 64 → IsIn (xor_of a b) (alu Xor width offset x y)
 unfolding alu
-in_xor width offset a b x y p q xs ys left right =
-    let left_high = p.high in
-    let right_high = q.high in
-    let d : Align = least_align a.align b.align in
-    rw (low_of_small width x xs, low_of_small width y ys)
-    (record {
-      low = omega arith;
-      high = xor_at_most (max a.high b.high) x y (omega arith) (omega arith) (omega arith);
-      aligned = by_factor d (bit_xor x y) (xor_divided (rank d) x y
-          (by_power d x (divided_by_least_left a.align b.align x p.aligned))
-          (by_power d y (divided_by_least_right a.align b.align y q.aligned)));
-    })
+in_xor width offset a b x y p q xs ys left right = grind (arith, nat_tests, low_of_small, xor_at_most, max, by_factor, xor_divided, by_power, divided_by_least_left, divided_by_least_right)
 
 -- ---- moves
 

@@ -1,5 +1,5 @@
 -- Arithmetic is sound: the number that it computes is of the kind that it gives.
-use Rattle.std.proofs.Common.{◌≡◌, ℕ, ◌+◌, ◌-◌, ◌%◌, ◌^◌, ◌<◌, ◌≤◌, ◌∙◌, true, inl, inr, ℤ, pos, ◌+ℤ◌, ◌-ℤ◌, Option, Some, None, Result, Ok, Err, refl, sym, ap, subst, arith}
+use Rattle.std.proofs.Common.{◌≡◌, ℕ, ◌+◌, ◌-◌, ◌%◌, ◌^◌, ◌<◌, ◌≤◌, ◌∙◌, true, inl, inr, ℤ, pos, ◌+ℤ◌, ◌-ℤ◌, Option, Some, None, Result, Ok, Err, refl, sym, subst, arith}
 use Rattle.std.specs.Int.{cast_signed, w64}
 use Rattle.std.proofs.lemmas.Bool.{cases_Bool, cond-true, cond-false}
 use Rattle.bpf_decode.specs.declared.operation.Width.{Width}
@@ -16,8 +16,8 @@ use Rattle.verifier_kinds.specs.declared.kind.Range.{Range}
 use Rattle.verifier_kinds.specs.declared.kind.Offsets.{Offsets}
 use Rattle.verifier_kinds.specs.declared.kind.Kind.{Kind}
 use Rattle.verifier_kinds.specs.declared.kind.Kind.TheVariants.{Scalar, Context, Stack, MapValue, MapName}
-use Rattle.verifier_kinds.specs.Kinds.{Setting, IsSetting, IsOfKind, IsByElement, IsOffset, Describes, IsIn, is_constant, least_align, normal, offsets_in, shape_at}
-use Rattle.verifier_kinds.specs.Arithmetic.{arith_by, range_of, moved_forward, moved_back, displaced, displaced_value, signed_offset, within_value, kind_of, kind_with_dst, moved_number, copied}
+use Rattle.verifier_kinds.specs.Kinds.{Setting, IsSetting, IsOfKind, IsByElement, Describes, IsIn, is_constant, least_align, normal, offsets_in, shape_at}
+use Rattle.verifier_kinds.specs.Arithmetic.{arith_by, moved_forward, moved_back, displaced, displaced_value, signed_offset, within_value, kind_of, kind_with_dst, moved_number, copied}
 use Rattle.verifier_kinds.proofs.Operands.{constant_number}
 use Rattle.verifier_kinds.proofs.Computed.{in_range_of}
 use Rattle.verifier_kinds.proofs.Moves.{moved_is, moved_address, moved_back_is, moved_back_address}
@@ -34,23 +34,11 @@ record IsPointer (setting : Setting) (kind : ℤ → Kind) (base : ℕ) : Type 0
 
 -- the address of a pointer that a number moves
 moved_sound : (setting : Setting) (kind : ℤ → Kind) (base rule : ℕ) → IsPointer setting kind base → (offset : ℤ) (by : Range) (result : Kind) (x y : ℕ) → moved_forward kind rule offset by ≡ Ok result → pos x ≡ pos base +ℤ offset → IsIn by y → y < 2 ^ 64 → IsOfKind setting result ((x + y) % 2 ^ 64)
-moved_sound setting kind base rule pointer offset by result x y e is within ys =
-    let moves = moved_is kind rule offset by result e in
-    let number = constant_number by y moves.0 within in
-    let kept : IsOffset (offset +ℤ cast_signed w64 y) = subst (λ n. IsOffset (offset +ℤ cast_signed w64 n)) number moves.2 in
-    let where_to = moved_address base offset x y pointer.low pointer.high is ys kept in
-    let same : result ≡ kind (offset +ℤ cast_signed w64 y) = moves.1 ∙ ap (λ n. kind (offset +ℤ cast_signed w64 n)) number in
-    subst (λ k. IsOfKind setting k ((x + y) % 2 ^ 64)) (sym same) (pointer.numbers (offset +ℤ cast_signed w64 y) ((x + y) % 2 ^ 64) where_to)
+moved_sound setting kind base rule pointer offset by result x y e is within ys = grind (arith, moved_is, constant_number, moved_address)
 
 -- the address of a pointer that a number moves back
 moved_back_sound : (setting : Setting) (kind : ℤ → Kind) (base rule : ℕ) → IsPointer setting kind base → (offset : ℤ) (by : Range) (result : Kind) (x y : ℕ) → moved_back kind rule offset by ≡ Ok result → pos x ≡ pos base +ℤ offset → IsIn by y → x < 2 ^ 64 → y < 2 ^ 64 → IsOfKind setting result ((x + (2 ^ 64 - y)) % 2 ^ 64)
-moved_back_sound setting kind base rule pointer offset by result x y e is within xs ys =
-    let moves = moved_back_is kind rule offset by result e in
-    let number = constant_number by y moves.0 within in
-    let kept : IsOffset (offset -ℤ cast_signed w64 y) = subst (λ n. IsOffset (offset -ℤ cast_signed w64 n)) number moves.2 in
-    let where_to = moved_back_address base offset x y pointer.low pointer.high is xs ys kept in
-    let same : result ≡ kind (offset -ℤ cast_signed w64 y) = moves.1 ∙ ap (λ n. kind (offset -ℤ cast_signed w64 n)) number in
-    subst (λ k. IsOfKind setting k ((x + (2 ^ 64 - y)) % 2 ^ 64)) (sym same) (pointer.numbers (offset -ℤ cast_signed w64 y) ((x + (2 ^ 64 - y)) % 2 ^ 64) where_to)
+moved_back_sound setting kind base rule pointer offset by result x y e is within xs ys = grind (arith, moved_back_is, constant_number, moved_back_address)
 
 -- the machine moves an address back by the same number
 subtracted : (offset : ℤ) (x y : ℕ) → x < 2 ^ 64 → y < 2 ^ 64 → (x + (2 ^ 64 - y)) % 2 ^ 64 ≡ alu Sub Bits64 offset x y
@@ -125,9 +113,7 @@ value_sound code width field setting m offsets by result x y given e p q xs ys =
 
 -- what an operation makes of two kinds
 kinds_sound : (code : AluCode) (width : Width) (offset : ℤ) (setting : Setting) (a b kind : Kind) (x y : ℕ) → IsSetting setting → kind_of code width offset a b ≡ Ok kind → IsOfKind setting a x → IsOfKind setting b y → x < 2 ^ 64 → y < 2 ^ 64 → IsOfKind setting kind (alu code width offset x y)
-kinds_sound code width offset setting (Scalar a) (Scalar b) kind x y given e p q xs ys =
-    let same : Scalar (range_of code width offset a b) ≡ kind = cc in
-    subst (λ k. IsOfKind setting k (alu code width offset x y)) same (in_range_of code width offset a b x y p q xs ys)
+kinds_sound code width offset setting (Scalar a) (Scalar b) kind x y given e p q xs ys = grind (arith, in_range_of)
 kinds_sound code width offset setting (Context k) (Scalar by) kind x y given e p q xs ys =
     displaced_sound code width offset setting Context context_base 16 (context_pointer setting) k by kind x y e p q xs ys
 kinds_sound code width offset setting (Stack k) (Scalar by) kind x y given e p q xs ys =
@@ -150,10 +136,7 @@ unfolding alu
 moved_alone width offset x y = refl
 
 moved_number_sound : (width : Width) (offset : ℤ) (setting : Setting) (b kind : Kind) (x y : ℕ) → moved_number width offset b ≡ Ok kind → IsOfKind setting b y → y < 2 ^ 64 → IsOfKind setting kind (alu Mov width offset x y)
-moved_number_sound width offset setting (Scalar b) kind x y e q ys =
-    let same : Scalar (range_of Mov width offset b b) ≡ kind = cc in
-    let number : IsIn (range_of Mov width offset b b) (alu Mov width offset x y) = subst (IsIn (range_of Mov width offset b b)) (moved_alone width offset x y) (in_range_of Mov width offset b b y y q q ys ys) in
-    subst (λ k. IsOfKind setting k (alu Mov width offset x y)) same number
+moved_number_sound width offset setting (Scalar b) kind x y e q ys = grind (arith, moved_alone, in_range_of)
 moved_number_sound width offset setting b kind x y e q ys = cc
 
 -- a move of all bits copies
@@ -163,13 +146,7 @@ moved_whole offset x y t ys = rw (same_offset offset (pos 0) t) (sym (low_of_sma
 
 copied_sound : (width : Width) (offset : ℤ) (setting : Setting) (b kind : Kind) (x y : ℕ) → copied width offset b ≡ Ok kind → IsOfKind setting b y → y < 2 ^ 64 → IsOfKind setting kind (alu Mov width offset x y)
 copied_sound Bits32 offset setting b kind x y e q ys = moved_number_sound Bits32 offset setting b kind x y e q ys
-copied_sound Bits64 offset setting b kind x y e q ys = elim (cases_Bool (is offset 0)) [
-  | inl t ↦
-      let copy : ◌≡◌ {A = Result Kind ℕ} (Ok b) (Ok kind) = sym (cond-true (is offset 0) (Ok b) (moved_number Bits64 offset b) t) ∙ e in
-      let same : b ≡ kind = cc in
-      subst (IsOfKind setting kind) (moved_whole offset x y t ys) (subst (λ k. IsOfKind setting k y) same q)
-  | inr f ↦ moved_number_sound Bits64 offset setting b kind x y (sym (cond-false (is offset 0) (Ok b) (moved_number Bits64 offset b) f) ∙ e) q ys
-]
+copied_sound Bits64 offset setting b kind x y e q ys = grind (arith, cases_Bool, inl, cond-true, moved_whole, inr, moved_number_sound, cond-false)
 
 -- ---- instructions
 

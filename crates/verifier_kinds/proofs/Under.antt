@@ -41,11 +41,7 @@ raised_divided extra n Four e p = omega arith
 raised_divided extra n Eight e p = omega arith
 
 raised_align_of : (extra n : ℕ) → extra % 8 ≡ 0 → align_of (extra + n) ≡ align_of n
-raised_align_of extra n e =
-    let eighth : (extra + n) % 8 ≡ n % 8 = omega arith in
-    let fourth : (extra + n) % 4 ≡ n % 4 = omega arith in
-    let half : (extra + n) % 2 ≡ n % 2 = omega arith in
-    rw (eighth, fourth, half) refl
+raised_align_of extra n e = grind (arith)
 
 -- a multiple of 8 moves a normal range as a whole
 pub raised_normal : (extra low high : ℕ) (d : Align) → extra % 8 ≡ 0 → normal (extra + low) (extra + high) d ≡ range_in (raised extra (offsets_in (normal low high d)))
@@ -104,22 +100,16 @@ kind_under_raised extra (MaybeValue m id) = refl
 kind_under_raised extra (MapName m) = refl
 
 kind_under_trans : (extra : ℕ) (a b c : Kind) → IsKindUnder extra a b → IsKindBelow b c → IsKindUnder extra a c
-kind_under_trans extra a b (Scalar outer) p (middle, is, within) =
-    let under : IsKindUnder extra a (Scalar middle) = subst (IsKindUnder extra a) is p in
-    (under.0, under.1, within_trans under.0 middle outer under.2 within)
+kind_under_trans extra a b (Scalar outer) p (middle, is, within) = grind (arith, within_trans)
 kind_under_trans extra a b (Context offset) p is = subst (IsKindUnder extra a) is p
 kind_under_trans extra a b (Stack offset) p is = subst (IsKindUnder extra a) is p
-kind_under_trans extra a b (MapValue m outer) p (middle, is, within) =
-    let under : IsKindUnder extra a (MapValue m middle) = subst (IsKindUnder extra a) is p in
-    (under.0, under.1, within_trans (range_in (raised extra under.0)) (range_in middle) (range_in outer) under.2 within)
+kind_under_trans extra a b (MapValue m outer) p (middle, is, within) = grind (arith, within_trans)
 kind_under_trans extra a b (MaybeValue m id) p is = subst (IsKindUnder extra a) is p
 kind_under_trans extra a b (MapName m) p is = subst (IsKindUnder extra a) is p
 
 known_under_trans : (extra : ℕ) (a b c : Option Kind) → IsKnownUnder extra a b → IsBelow b c → IsKnownUnder extra a c
 known_under_trans extra a b None p q = tt
-known_under_trans extra a b (Some outer) p (middle, is, within) =
-    let under : IsKnownUnder extra a (Some middle) = subst (IsKnownUnder extra a) is p in
-    (under.0, under.1, kind_under_trans extra under.0 middle outer under.2 within)
+known_under_trans extra a b (Some outer) p (middle, is, within) = grind (arith, kind_under_trans)
 
 -- a slot under one that keeps a kind knows the same bytes to hold numbers
 pub under_places : (extra : ℕ) (a b : Kind) → IsKindUnder extra a b → number_bytes (Kept a) ≡ number_bytes (Kept b)
@@ -131,9 +121,7 @@ under_places extra a (MaybeValue m id) is = ap (λ k. number_bytes (Kept k)) is
 under_places extra a (MapName m) is = ap (λ k. number_bytes (Kept k)) is
 
 slot_under_trans : (extra : ℕ) (a b c : StackSlot) → IsSlotUnder extra a b → IsSlotBelow b c → IsSlotUnder extra a c
-slot_under_trans extra a b (Kept outer) p (middle, is, within) =
-    let under : IsSlotUnder extra a (Kept middle) = subst (IsSlotUnder extra a) is p in
-    (under.0, under.1, kind_under_trans extra under.0 middle outer under.2 within)
+slot_under_trans extra a b (Kept outer) p (middle, is, within) = grind (arith, kind_under_trans)
 slot_under_trans extra a (Kept kind) (Bytes set) (inner, is, within) q =
     ap (λ slot. bit_and (number_bytes slot) set) is ∙ ap (λ n. bit_and n set) (under_places extra inner kind within) ∙ q
 slot_under_trans extra a (Bytes more) (Bytes set) p q =
@@ -141,21 +129,12 @@ slot_under_trans extra a (Bytes more) (Bytes set) p q =
 
 -- what is under something is under all that is above that
 pub description_under_trans : (extra : ℕ) (c d e : Description) → IsDescriptionUnder extra c d → IsDescriptionBelow d e → IsDescriptionUnder extra c e
-description_under_trans extra c d e p q = record {
-  registers = λ i. known_under_trans extra (register_of c i) (register_of d i) (register_of e i) (p.registers i) (q.registers i);
-  slots = λ k. slot_under_trans extra (slot_of c k) (slot_of d k) (slot_of e k) (p.slots k) (q.slots k);
-}
+description_under_trans extra c d e p q = grind (arith, known_under_trans, slot_under_trans)
 
 -- ---- joins
 
 raised_join_within : (extra : ℕ) (a b c : Offsets) → IsWithin (range_in (raised extra a)) (range_in c) → IsWithin (range_in (raised extra b)) (range_in c) → IsWithin (range_in (raised extra (offsets_in (join_of_ranges (range_in a) (range_in b))))) (range_in c)
-raised_join_within extra a b c p q =
-    let both = join_within (range_in (raised extra a)) (range_in (raised extra b)) (range_in c) p q in
-    let low = p.low in
-    let high = p.high in
-    let other_low = q.low in
-    let other_high = q.high in
-    record { low = omega arith; high = omega arith; aligned = both.aligned }
+raised_join_within extra a b c p q = grind (arith, join_within)
 
 kinds_join_under : (extra : ℕ) (a b c : Kind) → IsKindUnder extra a c → IsKindUnder extra b c → IsKnownUnder extra (join_of_kinds a b) (Some c)
 kinds_join_under extra a b (MapValue m c) (x, left, within) (y, right, also) =

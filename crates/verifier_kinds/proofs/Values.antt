@@ -1,5 +1,5 @@
 -- Pointers to the values of maps, which a number moves.
-use Rattle.std.proofs.Common.{◌≡◌, ℕ, suc, ◌+◌, ◌-◌, ◌*◌, ◌%◌, ◌<◌, ◌≤◌, ◌^◌, ℤ, pos, negsuc, ◌+ℤ◌, ◌≤ℤ◌, inl, inr, ◌∙◌, nat_le, true, false, length, Option, Some, None, IfSome, Result, Ok, Err, FitsSigned, to_z, of_z, refl, sym, ap, subst, arith}
+use Rattle.std.proofs.Common.{◌≡◌, ℕ, suc, ◌+◌, ◌-◌, ◌*◌, ◌%◌, ◌<◌, ◌≤◌, ◌^◌, ℤ, pos, negsuc, ◌+ℤ◌, ◌≤ℤ◌, inl, inr, ◌∙◌, nat_le, true, false, length, Option, Some, None, Ok, to_z, of_z, refl, sym, ap, subst, arith}
 use Rattle.std.specs.Prelude.{◌-ℤ◌, IsSomeAnd}
 use Rattle.std.specs.Int.{cast_signed, w64, w128}
 use Rattle.std.proofs.lemmas.Int.{ints, to_z_pos, to_z-of_z}
@@ -9,7 +9,6 @@ use Rattle.std.proofs.lemmas.Nat.{mul-le}
 use Rattle.std.proofs.lemmas.List.{get_or_past}
 use Rattle.host_types.specs.declared.shape.Shape.{Shape}
 use Rattle.host_types.specs.Shapes.{IsShape, stride_of}
-use Rattle.host_types.specs.Rules.{outside_map}
 use Rattle.verifier_kinds.specs.declared.kind.Align.{Align}
 use Rattle.verifier_kinds.specs.declared.kind.Align.TheVariants.{One, Two, Four, Eight}
 use Rattle.verifier_kinds.specs.declared.kind.Range.{Range}
@@ -25,9 +24,7 @@ use Rattle.verifier_kinds.proofs.Ranges.{divided_by_least_left, divided_by_least
 
 -- what is between the ends meets what offsets meet
 pub are_offsets : (align : Align) (low high : ℕ) → low ≤ high → low % factor align ≡ 0 → high ≤ 131072 → AreOffsets (offsets_in (normal low high align))
-are_offsets align low high ordered divided h =
-    let below = last_below align high in
-    record { normal = normal_is_normal low high align low (omega arith) ordered divided (omega arith); below = omega arith }
+are_offsets align low high ordered divided h = grind (arith, last_below, normal_is_normal)
 
 pub kept_offsets : (align : Align) (low high : ℕ) (range : Range) (offsets : Offsets) → range ≡ normal low high align → offsets ≡ offsets_in range → low ≤ high → high ≤ 131072 → low % factor align ≡ 0 → AreOffsets offsets
 kept_offsets align low high range offsets is made ordered h divided = subst AreOffsets (sym (made ∙ ap offsets_in is)) (are_offsets align low high ordered divided h)
@@ -42,14 +39,7 @@ pub record IsTakenMove (m : ℕ) (align : Align) (from to : ℤ) (result : Kind)
   pub is : result ≡ MapValue m (offsets_in (normal first last align))
 
 pub move_is : (m : ℕ) (align : Align) (low high : ℤ) (result : Kind) → within_value m align low high ≡ Ok result → IsTakenMove m align low high result
-move_is m align (pos low) (pos high) result e = elim (cases_Bool (nat_le high 131072)) [
-  | inl t ↦
-      let is : ◌≡◌ {A = Result Kind ℕ} (Ok (MapValue m (offsets_in (normal low high align)))) (Ok result) = sym (cond-true (nat_le high 131072) (Ok (MapValue m (offsets_in (normal low high align)))) (Err outside_map) t) ∙ e in
-      record { first = low; last = high; low = refl; high = refl; small = leb-true high 131072 t; is = cc }
-  | inr f ↦
-      let is : ◌≡◌ {A = Result Kind ℕ} (Err outside_map) (Ok result) = sym (cond-false (nat_le high 131072) (Ok (MapValue m (offsets_in (normal low high align)))) (Err outside_map) f) ∙ e in
-      cc
-]
+move_is m align (pos low) (pos high) result e = grind (arith, cases_Bool, nat_le, inl, cond-true, leb-true, inr, cond-false)
 move_is m align (pos low) (negsuc high) result e = cc
 move_is m align (negsuc low) high result e = cc
 
@@ -90,20 +80,10 @@ pub record IsAtOffset (low high : ℕ) (align : Align) (base n : ℕ) : Type 0 w
   pub address : n + 65536 ≡ base + offset
 
 up : (base x offset y : ℕ) → IsFar base → x + 65536 ≡ base + offset → offset + y ≤ 131072 → (x + y) % 2 ^ 64 + 65536 ≡ base + (offset + y)
-up base x offset y far is small =
-    let low = far.low in
-    let high = far.high in
-    let fits : x + y < 2 ^ 64 = omega arith in
-    let same : (x + y) % 2 ^ 64 ≡ x + y = omega arith in
-    rw same (omega arith)
+up base x offset y far is small = grind (arith)
 
 down : (base x offset y k new : ℕ) → IsFar base → x + 65536 ≡ base + offset → k + 1 + y ≡ 2 ^ 64 → new + (k + 1) ≡ offset → new ≤ 131072 → (x + y) % 2 ^ 64 + 65536 ≡ base + new
-down base x offset y k new far is whole moved small =
-    let low = far.low in
-    let high = far.high in
-    let sum : x + y + 65536 ≡ base + new + 2 ^ 64 = omega arith in
-    let same : (x + y) % 2 ^ 64 + 2 ^ 64 ≡ x + y = omega arith in
-    omega arith
+down base x offset y k new far is whole moved small = grind (arith)
 
 -- moved up by a number below 2^63
 added_up : (offsets : Offsets) (by : Range) (low high base x offset y : ℕ) → IsFar base → low ≤ offsets.low + by.low → offsets.high + by.high ≤ high → high ≤ 131072 → IsIn (range_in offsets) offset → IsIn by y → x + 65536 ≡ base + offset → IsAtOffset low high (least_align offsets.align by.align) base ((x + y) % 2 ^ 64)
@@ -144,9 +124,7 @@ signed_open by n f = cond-false (is_constant by) (cast_signed w64 n) (pos n) f
 
 -- the numbers from 2^63 on stand for those below 0
 pub negative : (y k : ℕ) → k + 1 + y ≡ 2 ^ 64 → k < 2 ^ 63 → cast_signed w64 y ≡ negsuc k
-negative y k whole small =
-    let same : y ≡ 2 ^ 64 - suc k = omega arith in
-    ap (λ n. cast_signed w64 n) same ∙ to_z-neg w64 k small
+negative y k whole small = grind (arith, suc, to_z-neg)
 
 -- the two ends of a constant
 pub constant_high : (by : Range) (y : ℕ) → is_constant by ≡ true → IsIn by y → by.high ≡ y
@@ -244,13 +222,7 @@ some_and_with (Some x) P Q f h = f x refl h
 
 -- a map that is there has a shape within the limits, and its number is below 8
 pub shape_there : (setting : Setting) (m : ℕ) (shape : Shape) → IsSetting setting → shape_at setting.shapes m ≡ Some shape → (m < 8) × IsShape shape
-shape_there setting m shape h e = elim (cases_lt m (length setting.shapes)) [
-  | inl less ↦ (omega (arith, h.few), subst (λ o. IfSome o IsShape) e (h.each m None less))
-  | inr more ↦
-      let past : shape_at setting.shapes m ≡ None = get_or_past setting.shapes m None more in
-      let is : ◌≡◌ {A = Option Shape} None (Some shape) = sym past ∙ e in
-      cc
-]
+shape_there setting m shape h e = grind (arith, cases_lt, length, inl, inr, get_or_past)
 
 scaled : (stride element entries : ℕ) → element < entries → stride * element ≤ stride * entries
 scaled stride element entries h = mul-le stride element stride entries (omega arith) (omega arith)
@@ -267,22 +239,12 @@ element_far setting m shape n h e element =
 
 -- a pointer at an offset that is kept is of the kind that is made
 pub by_element_at : (shape : Shape) (m low high : ℕ) (align : Align) (base n : ℕ) → IsElement shape m base → IsAtOffset low high align base n → IsByElement (offsets_in (normal low high align)) shape m n
-by_element_at shape m low high align base n element at = record {
-  first = base;
-  element = element;
-  offset = at.offset;
-  within = in_normal low high align at.offset at.above at.below at.aligned;
-  address = at.address;
-}
+by_element_at shape m low high align base n element at = grind (arith, in_normal)
 
 -- ---- ends in 128 bits
 
 wide : (z : ℤ) → negsuc (2 ^ 65) ≤ℤ z → z ≤ℤ pos (2 ^ 65) → to_z w128 (of_z w128 z) ≡ z
-wide z p q = to_z-of_z w128 z (fits z p q)
-  where
-    fits : (z : ℤ) → negsuc (2 ^ 65) ≤ℤ z → z ≤ℤ pos (2 ^ 65) → FitsSigned w128 z
-    fits (pos n) p q = omega (arith, ints)
-    fits (negsuc n) p q = omega (arith, ints)
+wide z p q = grind (arith, to_z-of_z, negsuc, pos, ints)
 
 -- a number that stands for itself, or for itself less 2^64
 pub record IsNear (z : ℤ) : Type 0 where
@@ -290,13 +252,7 @@ pub record IsNear (z : ℤ) : Type 0 where
   pub below : z ≤ℤ pos (2 ^ 64)
 
 pub near_signed : (n : ℕ) → n < 2 ^ 64 → IsNear (cast_signed w64 n)
-near_signed n h = elim (cases_lt n (2 ^ 63)) [
-  | inl less ↦ subst IsNear (sym (to_z_pos w64 n less)) (record { above = omega (arith, ints); below = omega (arith, ints) })
-  | inr more ↦
-      let k : ℕ = 2 ^ 64 - suc n in
-      let whole : k + 1 + n ≡ 2 ^ 64 = omega arith in
-      subst IsNear (sym (negative n k whole (omega arith))) (record { above = omega (arith, ints); below = omega (arith, ints) })
-]
+near_signed n h = grind (arith, cases_lt, inl, to_z_pos, ints, inr, suc, negative)
 
 pub near_number : (by : Range) (n : ℕ) → n < 2 ^ 64 → IsNear (signed_offset by n)
 near_number by n h =
@@ -304,51 +260,18 @@ near_number by n h =
 
 -- sums and differences of such numbers and of offsets are exact
 pub wide_sum : (low : ℕ) (a b z : ℤ) → a ≡ pos low → b ≡ z → low < 2 ^ 32 → IsNear z → to_z w128 (of_z w128 (to_z w128 (of_z w128 a) +ℤ to_z w128 (of_z w128 b))) ≡ pos low +ℤ z
-wide_sum low a b z p q small near =
-    let above = near.above in
-    let below = near.below in
-    let left : to_z w128 (of_z w128 a) ≡ pos low = ap (λ x. to_z w128 (of_z w128 x)) p ∙ wide (pos low) (omega (arith, ints)) (omega (arith, ints)) in
-    let right : to_z w128 (of_z w128 b) ≡ z = ap (λ x. to_z w128 (of_z w128 x)) q ∙ wide z (omega (arith, ints)) (omega (arith, ints)) in
-    ap (λ x. to_z w128 (of_z w128 (x +ℤ to_z w128 (of_z w128 b)))) left
-    ∙ ap (λ x. to_z w128 (of_z w128 (pos low +ℤ x))) right
-    ∙ wide (pos low +ℤ z) (omega (arith, ints)) (omega (arith, ints))
+wide_sum low a b z p q small near = grind (arith, to_z, of_z, pos, wide, ints)
 
 pub wide_difference : (low : ℕ) (a b z : ℤ) → a ≡ pos low → b ≡ z → low < 2 ^ 32 → IsNear z → to_z w128 (of_z w128 (to_z w128 (of_z w128 a) -ℤ to_z w128 (of_z w128 b))) ≡ pos low -ℤ z
-wide_difference low a b z p q small near =
-    let above = near.above in
-    let below = near.below in
-    let left : to_z w128 (of_z w128 a) ≡ pos low = ap (λ x. to_z w128 (of_z w128 x)) p ∙ wide (pos low) (omega (arith, ints)) (omega (arith, ints)) in
-    let right : to_z w128 (of_z w128 b) ≡ z = ap (λ x. to_z w128 (of_z w128 x)) q ∙ wide z (omega (arith, ints)) (omega (arith, ints)) in
-    ap (λ x. to_z w128 (of_z w128 (x -ℤ to_z w128 (of_z w128 b)))) left
-    ∙ ap (λ x. to_z w128 (of_z w128 (pos low -ℤ x))) right
-    ∙ wide (pos low -ℤ z) (omega (arith, ints)) (omega (arith, ints))
+wide_difference low a b z p q small near = grind (arith, to_z, of_z, pos, wide, ints)
 
 -- the ends of a range stand in order for what they stand for
 pub signed_ordered : (by : Range) → by.low ≤ by.high → signed_offset by by.low ≤ℤ signed_offset by by.high
-signed_ordered by h = elim (cases_Bool (is_constant by)) [
-  | inl t ↦
-      let same : by.low ≡ by.high = eqb-true by.low by.high t in
-      let ends : signed_offset by by.low ≡ signed_offset by by.high = ap (signed_offset by) same in
-      omega (arith, ints)
-  | inr f ↦
-      let least = signed_open by by.low f in
-      let most = signed_open by by.high f in
-      omega (arith, ints)
-]
+signed_ordered by h = grind (arith, cases_Bool, inl, eqb-true, ints, inr, signed_open)
 
 -- the first offset after a move is a multiple of the least alignment
 constant_added : (offsets : Offsets) (by : Range) (n y : ℕ) → y < 2 ^ 64 → offsets.low % factor offsets.align ≡ 0 → y % factor by.align ≡ 0 → pos offsets.low +ℤ cast_signed w64 y ≡ pos n → n % factor (least_align offsets.align by.align) ≡ 0
-constant_added offsets by n y h p q e = elim (cases_lt y (2 ^ 63)) [
-  | inl less ↦
-      let number : pos offsets.low +ℤ pos y ≡ pos n = ap (λ z. pos offsets.low +ℤ z) (sym (to_z_pos w64 y less)) ∙ e in
-      let sum : n ≡ offsets.low + y = omega (arith, ints) in
-      rw sum (both_sum offsets.align by.align offsets.low y p q)
-  | inr more ↦
-      let k : ℕ = 2 ^ 64 - suc y in
-      let whole : k + 1 + y ≡ 2 ^ 64 = omega arith in
-      let number : pos offsets.low +ℤ negsuc k ≡ pos n = ap (λ z. pos offsets.low +ℤ z) (sym (negative y k whole (omega arith))) ∙ e in
-      both_difference offsets.align by.align offsets.low (k + 1) n (omega (arith, ints)) p (complement_divided by.align y k whole q)
-]
+constant_added offsets by n y h p q e = grind (arith, cases_lt, inl, pos, to_z_pos, ints, both_sum, inr, suc, negsuc, negative, both_difference, complement_divided)
 
 pub added_divided : (offsets : Offsets) (by : Range) (n : ℕ) → IsNormal (range_in offsets) → IsNormal by → pos offsets.low +ℤ signed_offset by by.low ≡ pos n → n % factor (least_align offsets.align by.align) ≡ 0
 added_divided offsets by n p q e = elim (cases_Bool (is_constant by)) [
