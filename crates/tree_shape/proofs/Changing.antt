@@ -6,7 +6,8 @@ use Rattle.std.proofs.lemmas.List.{append-nil}
 use Rattle.tree_shape.specs.Shape.{Tree, leaf, fork, levels, in_order, IsEven}
 use Rattle.tree_shape.specs.Turns.{left_up, right_up, settled}
 use Rattle.tree_shape.specs.Changes.{by_order, entered, least, without_least, merged, taken}
-use Rattle.tree_shape.proofs.Sided.{sided, levels-sided}
+use Rattle.tree_shape.specs.Sides.{sided}
+use Rattle.tree_shape.proofs.Sided.{levels-sided}
 use Rattle.tree_shape.proofs.Turning.{levels-fork, levels-none, even-fork, even-sides, even-sided, in_order-settled, settled-sided}
 
 -- sides that are even already

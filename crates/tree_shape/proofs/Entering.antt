@@ -8,13 +8,14 @@ use Rattle.tree_shape.specs.Turns.{settled}
 use Rattle.tree_shape.specs.Changes.{found, entered}
 use Rattle.tree_shape.specs.Searches.{IsSearched, IsGrowing, IsEntry}
 use Rattle.tree_shape.proofs.Holding.{holds-joined}
-use Rattle.tree_shape.proofs.Sided.{sided, far, near, levels-sided}
+use Rattle.tree_shape.specs.Sides.{sided, far, near, AreSidesBy, AreReadyBy}
+use Rattle.tree_shape.proofs.Sided.{levels-sided}
 use Rattle.tree_shape.proofs.Turning.{levels-none, even-sided}
 use Rattle.tree_shape.proofs.Changing.{entered-grown}
 use Rattle.tree_shape.proofs.Opening.{with-node, joinable, kept-write, kept-same}
 use Rattle.tree_shape.proofs.Times.{here, times, times-leaf, times-fork, times-once, once-times, times-apart, times-entered}
 use Rattle.tree_shape.proofs.Keeping.{holds-frame, away-within, kept-after}
-use Rattle.tree_shape.proofs.Standing.{AreSidesBy, AreReadyBy, times-sided, parts, sides-by, ready-by}
+use Rattle.tree_shape.proofs.Standing.{times-sided, parts, sides-by, ready-by}
 use Rattle.tree_shape.proofs.Searching.{toward, found-leaf, found-side, framed-side}
 
 entered-leaf : (order : ℕ → Ordering) (new : ℕ) → entered order new leaf ≡ fork new leaf leaf

@@ -7,7 +7,8 @@ use Rattle.tree_shape.specs.Shape.{Tree, leaf, fork, Holds, none, blank, height_
 use Rattle.tree_shape.specs.Changes.{found}
 use Rattle.tree_shape.specs.Searches.{AreFramed, IsSearched}
 use Rattle.tree_shape.proofs.Holding.{holds-height}
-use Rattle.tree_shape.proofs.Sided.{sided, far, levels-sided}
+use Rattle.tree_shape.specs.Sides.{sided, far}
+use Rattle.tree_shape.proofs.Sided.{levels-sided}
 use Rattle.tree_shape.proofs.Opening.{with-node}
 use Rattle.tree_shape.proofs.Standing.{parts, with-sided}
 

@@ -11,10 +11,10 @@ use Rattle.tree_shape.specs.Turns.{settled}
 use Rattle.tree_shape.specs.Changes.{merged, taken}
 use Rattle.tree_shape.specs.Searches.{IsSearched}
 use Rattle.tree_shape.specs.Removals.{IsTaking, AreMerging, IsOut}
-use Rattle.tree_shape.proofs.Sided.{sided, far, near}
+use Rattle.tree_shape.specs.Sides.{sided, far, near, AreSidesBy, AreReadyBy}
 use Rattle.tree_shape.proofs.Changing.{taken-shrunk}
 use Rattle.tree_shape.proofs.Opening.{with-node, kept-same}
-use Rattle.tree_shape.proofs.Standing.{AreSidesBy, AreReadyBy, with-sided}
+use Rattle.tree_shape.proofs.Standing.{with-sided}
 use Rattle.tree_shape.proofs.Times.{times-fork}
 use Rattle.tree_shape.proofs.Places.{times-merged, times-taken}
 use Rattle.tree_shape.proofs.Keeping.{away-within, kept-after}
