@@ -9,6 +9,7 @@ use Rattle.host_types.specs.Sharing.{Sharing, PageState, state_at, is_shared_pag
 use Rattle.host_types.specs.Pins.{broken_by, broken_by_from}
 use Rattle.host_types.proofs.Unmerging.{broken-own, broken-shared}
 use Rattle.host_types.proofs.Pins.{cost-by}
+pub use Rattle.host_types.proofs.Pins.{break_cost-few}
 use Rattle.host_types.specs.Tenant.{TenantPart}
 use Rattle.page_table.specs.State.{MemoryState, part, map_bytes, have_of}
 use Rattle.page_table.specs.Changes.{map_written, part_written, KeepsSettings}
@@ -46,23 +47,6 @@ pub touched-two : (at size : ℕ) → size ≤ 4096 → touched at size ≤ 2
 unfolding touched
 touched-two at zero small = omega arith
 touched-two at (suc n) small = omega arith
-
--- the break of a page takes one frame at most
-pub break_cost-few : (sharing : Sharing) (i : ℕ) → break_cost sharing i ≤ 1
-unfolding break_cost
-break_cost-few sharing i = by_page (state_at sharing i) refl
-  where
-    by_status : (company : Bool) (status : Status) → cost_of company status ≤ 1
-    by_status company New = omega arith
-    by_status company Volatile = omega arith
-    by_status company Waiting = omega arith
-    by_status true Grouped = omega arith
-    by_status false Grouped = omega arith
-    by_status company Zero = omega arith
-
-    by_page : (page : Option PageState) → state_at sharing i ≡ page → break_cost sharing i ≤ 1
-    by_page None e = rw e (omega arith)
-    by_page (Some state) e = rw e (by_status (is_in_company sharing i) state.status)
 
 -- the breaks of some pages take one frame each at most
 pub cost_from-few : (sharing : Sharing) (i n : ℕ) → cost_from sharing i n ≤ n
