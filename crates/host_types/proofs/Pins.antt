@@ -269,12 +269,13 @@ maps-pay later writes pages old new place (suc m) m0 taken fewer all inside writ
 
 -- ---- the reserve
 
-cost-few : (s : Sharing) (i n : ℕ) → cost_from s i n ≤ n
+-- the breaks of some pages take one frame each at most
+pub cost_from-few : (s : Sharing) (i n : ℕ) → cost_from s i n ≤ n
 unfolding cost_from
-cost-few s i zero = omega arith
-cost-few s i (suc n) =
+cost_from-few s i zero = omega arith
+cost_from-few s i (suc n) =
     let first = break_cost-few s i in
-    let rest = cost-few (broken s i) (i + 1) n in
+    let rest = cost_from-few (broken s i) (i + 1) n in
     omega (arith, first, rest)
 
 -- what is taken falls from both, so from the smaller one
@@ -289,7 +290,7 @@ pub reserve-pays : (s : Sharing) (i k charge total later_total place m0 : ℕ) (
     → k ≤ charge → charge + later_total ≤ total
     → cost_from s i k + capped later_total (unpinned_in later pages (broken_by_from true s i k).pins place 8) ≤ capped total (unpinned_in writes pages s.pins place 8)
 reserve-pays s i k charge total later_total place m0 writes later pages own fewer inside written above below charged falls =
-    let few = cost-few s i k in
+    let few = cost_from-few s i k in
     let one = pays s i k (place + m0 * 256) (pages m0) own above below in
     let all = maps-pay later writes pages s.pins (broken_by_from true s i k).pins place 8 m0 (cost_from s i k) fewer (breaks-pinned s i k) inside written one in
     capped-falls (cost_from s i k) total later_total (unpinned_in writes pages s.pins place 8) (unpinned_in later pages (broken_by_from true s i k).pins place 8)

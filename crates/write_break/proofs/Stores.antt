@@ -48,15 +48,6 @@ unfolding touched
 touched-two at zero small = omega arith
 touched-two at (suc n) small = omega arith
 
--- the breaks of some pages take one frame each at most
-pub cost_from-few : (sharing : Sharing) (i n : ℕ) → cost_from sharing i n ≤ n
-unfolding cost_from
-cost_from-few sharing i zero = omega arith
-cost_from-few sharing i (suc n) =
-    let first = break_cost-few sharing i in
-    let rest = cost_from-few (broken sharing i) (i + 1) n in
-    omega (arith, first, rest)
-
 -- bytes up to the end of a page, and more behind it
 pub touched-more : (at size rest : ℕ) → 0 < size → at % 4096 + size ≡ 4096 → touched at (size + rest) ≡ suc (touched (at + size) rest)
 unfolding touched
