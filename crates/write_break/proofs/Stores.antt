@@ -9,7 +9,6 @@ use Rattle.host_types.specs.Sharing.{Sharing, PageState, state_at, is_shared_pag
 use Rattle.host_types.specs.Pins.{broken_by, broken_by_from}
 use Rattle.host_types.proofs.Unmerging.{broken-own, broken-shared}
 use Rattle.host_types.proofs.Pins.{cost-by}
-pub use Rattle.host_types.proofs.Pins.{break_cost-few}
 use Rattle.host_types.specs.Tenant.{TenantPart}
 use Rattle.page_table.specs.State.{MemoryState, part, map_bytes, have_of}
 use Rattle.page_table.specs.Changes.{map_written, part_written, KeepsSettings}
