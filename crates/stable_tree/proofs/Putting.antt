@@ -1,8 +1,8 @@
 -- What the chains are where a group was put in, by what came of its place in the tree.
-use Rattle.std.proofs.Common.{◌≡◌, ℕ, List, [], ◌∷◌, ◌++◌, length, map, slice_index_or, insert, Some, refl, sym, ap, subst, ◌∙◌, arith}
+use Rattle.std.proofs.Common.{◌≡◌, ℕ, List, [], ◌∷◌, ◌++◌, length, map, slice_index_or, insert, Some, refl, sym, ap, subst, ◌∙◌}
 use Rattle.tree_shape.specs.declared.Node.{Node}
 use Rattle.tree_shape.specs.declared.search.Entered.TheVariants.{There, Root}
-use Rattle.tree_shape.specs.Shape.{Tree, leaf, fork, in_order, Holds, IsEven, IsHung}
+use Rattle.tree_shape.specs.Shape.{Tree, leaf, fork, IsHung}
 use Rattle.tree_shape.specs.Changes.{found, entered}
 use Rattle.tree_shape.specs.Searches.{order_to, IsGrowing, IsEntry}
 use Rattle.tree_shape.proofs.Changing.{entered-grown}
@@ -10,7 +10,6 @@ use Rattle.stable_tree.specs.declared.store.Store.{Store}
 use Rattle.stable_tree.specs.Groups.{IsSorted}
 use Rattle.stable_tree.specs.Edits.{IsPut, added, lengthened}
 use Rattle.stable_tree.specs.Places.{frames_of, chain_at, AreHung, IsWhole, IsHead, IsLengthened, tree_in, heads_in, chains_in}
-use Rattle.stable_tree.proofs.Trees.{read-tree}
 use Rattle.stable_tree.proofs.Contents.{found-here, missing-here, IsNowhere}
 use Rattle.stable_tree.proofs.Entering.{IsRenoded, other-heads, other-whole, renoded_store, renoded, unchanged, whole-growing, same-whole, same-head, same-chains, same-heads, hanging-alone, head-in, insert-between}
 

@@ -9,7 +9,7 @@ use Rattle.frame_arena.specs.Pages.{page_at}
 use Rattle.tree_shape.specs.declared.Node.{Node}
 use Rattle.tree_shape.specs.declared.removal.Taken.{Taken}
 use Rattle.tree_shape.specs.declared.removal.Removed.TheVariants.{Nowhere, Stays, Out}
-use Rattle.tree_shape.specs.Shape.{Tree, in_order, Holds, IsEven, IsHung}
+use Rattle.tree_shape.specs.Shape.{Tree, IsHung}
 use Rattle.tree_shape.specs.Changes.{found, taken}
 use Rattle.tree_shape.specs.Searches.{order_to}
 use Rattle.tree_shape.specs.Removals.{is_alone, IsTaking, IsOut}
@@ -20,7 +20,6 @@ use Rattle.stable_tree.specs.Edits.{IsTakenOut, nowhere, alone, shortened, IsSho
 use Rattle.stable_tree.specs.Places.{walk, hanging, frames_of, chain_at, AreHung, IsWhole, IsHead, IsStanding, tree_in, heads_in, chains_in}
 use Rattle.stable_tree.proofs.Sorting.{filter-there, filter-not_there, both}
 use Rattle.stable_tree.proofs.Walks.{length-walk}
-use Rattle.stable_tree.proofs.Trees.{read-tree}
 use Rattle.stable_tree.proofs.Heads.{chain-length, head-facts}
 use Rattle.stable_tree.proofs.Contents.{IsHere, found-here, missing-here}
 use Rattle.stable_tree.proofs.Entering.{IsRenoded, other-heads, other-whole, renoded_store, renoded, unchanged, whole-taking, same-whole, same-head, same-chains, same-heads, hanging-alone, head-out, remove-between}

@@ -1,7 +1,7 @@
 -- What stands at two links and between them, told of a far and a near side.
 use Rattle.std.proofs.Common.{◌≡◌, ◌≢◌, ℕ, ◌+◌, ◌<◌, ◌≤◌, Bool, true, false, List, length, slice_index_or, slice_set, sym, subst, arith}
 use Rattle.tree_shape.specs.declared.Node.{Node}
-use Rattle.tree_shape.specs.Shape.{Tree, fork, levels, Holds, AreSides, AreReady, IsJoinable, IsKept, none, blank, height_at, with_sides}
+use Rattle.tree_shape.specs.Shape.{Tree, fork, levels, Holds, AreSides, IsKept, none, blank, height_at, with_sides}
 use Rattle.tree_shape.proofs.Holding.{holds-height, holds-kept, holds-joined}
 use Rattle.tree_shape.specs.Sides.{sided, far, near, IsJoinableBy, AreSidesBy, AreReadyBy}
 use Rattle.tree_shape.proofs.Opening.{with-node, height-some, joinable, kept-write}

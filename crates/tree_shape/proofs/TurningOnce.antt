@@ -1,8 +1,8 @@
 -- The far side comes up, and its near side goes below: what can be joined on the way, and what hangs in the end.
-use Rattle.std.proofs.Common.{◌≡◌, ◌≢◌, ℕ, ◌+◌, ◌<◌, ◌≤◌, Bool, List, length, slice_index_or, slice_set, sym, subst, arith}
+use Rattle.std.proofs.Common.{◌≡◌, ◌≢◌, ℕ, ◌+◌, ◌<◌, ◌≤◌, Bool, List, length, slice_index_or, sym, subst, arith}
 use Rattle.std.proofs.lemmas.List.{length-set}
 use Rattle.tree_shape.specs.declared.Node.{Node}
-use Rattle.tree_shape.specs.Shape.{Tree, fork, levels, Holds, IsLink, IsHung, none, blank, height_at, with_sides}
+use Rattle.tree_shape.specs.Shape.{Tree, fork, levels, Holds, IsLink, IsHung, none, blank, height_at}
 use Rattle.tree_shape.proofs.Holding.{holds-height, holds-link}
 use Rattle.tree_shape.proofs.Opening.{kept-same}
 use Rattle.tree_shape.proofs.Times.{here, here-same, times}

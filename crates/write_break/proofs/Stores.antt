@@ -3,9 +3,7 @@ use Rattle.std.proofs.Common.{◌≡◌, ◌∙◌, ◌⊎◌, ⊎_elim, ℕ, ze
 use Rattle.std.proofs.lemmas.List.{get_or-set_same, set-get_or, set-set, append_assoc, length-append, length-take, take_at, drop_at, drop-drop}
 use Rattle.host_types.specs.Bytes.{with_part}
 use Rattle.host_types.specs.Memory.{FlatMap, FlatMaps, map_at}
-use Rattle.host_types.specs.declared.status.Status.{Status}
-use Rattle.host_types.specs.declared.status.Status.TheVariants.{New, Volatile, Waiting, Grouped, Zero}
-use Rattle.host_types.specs.Sharing.{Sharing, PageState, state_at, is_shared_page, cost_of, is_in_company, broken, break_cost, broken_from, cost_from}
+use Rattle.host_types.specs.Sharing.{Sharing, state_at, is_shared_page, broken, break_cost, broken_from, cost_from}
 use Rattle.host_types.specs.Pins.{broken_by, broken_by_from}
 use Rattle.host_types.proofs.Unmerging.{broken-own, broken-shared}
 use Rattle.host_types.proofs.Pins.{cost-by}
