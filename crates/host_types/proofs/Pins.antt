@@ -65,16 +65,17 @@ module _ (s : Sharing) (i : ℕ) where
   unfolding broken_by
   by-shared shared = ap (λ (b : Bool). if true && b then pinned (broken s i) i else broken s i) shared
 
-  by-own : is_shared_page (state_at s i) ≡ false → broken_by true s i ≡ s
+  pub by-own : is_shared_page (state_at s i) ≡ false → broken_by true s i ≡ s
   unfolding broken_by
   by-own own = ap (λ (b : Bool). if true && b then pinned (broken s i) i else broken s i) own ∙ broken-own s i own
 
   pins-shared : is_shared_page (state_at s i) ≡ true → (broken_by true s i).pins ≡ slice_set s.pins i true
   pins-shared shared = ap (λ (t : Sharing). t.pins) (by-shared shared) ∙ ap (λ (t : Sharing). slice_set t.pins i true) (broken-shared s i shared)
 
-  cost-own : is_shared_page (state_at s i) ≡ false → break_cost s i ≡ 0
+  -- a page that shares no frame takes none
+  pub break_cost-own : is_shared_page (state_at s i) ≡ false → break_cost s i ≡ 0
   unfolding break_cost
-  cost-own own = by_page (state_at s i) refl
+  break_cost-own own = by_page (state_at s i) refl
     where
       by_status : (status : Status) → is_shared status ≡ false → cost_of (is_in_company s i) status ≡ 0
       by_status New e = refl
@@ -87,9 +88,10 @@ module _ (s : Sharing) (i : ℕ) where
       by_page None e = rw e refl
       by_page (Some state) e = rw e (by_status state.status (sym (ap is_shared_page e) ∙ own))
 
-  cost-one : break_cost s i ≤ 1
+  -- and each page one at most
+  pub break_cost-few : break_cost s i ≤ 1
   unfolding break_cost
-  cost-one = by_page (state_at s i) refl
+  break_cost-few = by_page (state_at s i) refl
     where
       by_status : (company : Bool) (status : Status) → cost_of company status ≤ 1
       by_status company New = omega arith
@@ -121,10 +123,10 @@ module _ (s : Sharing) (i : ℕ) where
           let none = pinned-same s.pins i in
           let less = unpinned-one s.pins (slice_set s.pins i true) i at n (pinned-more s.pins i) (omega (arith, free, none)) above below in
           let same = ap (λ (pins : List Bool). unpinned_from pins at n) (pins-shared shared) in
-          let few = cost-one in
+          let few = break_cost-few in
           omega (arith, less, same, few)
       by_test false unshared =
-          let none = cost-own unshared in
+          let none = break_cost-own unshared in
           let same = ap (λ (t : Sharing). unpinned_from t.pins at n) (by-own unshared) in
           omega (arith, none, same)
 
@@ -267,12 +269,13 @@ maps-pay later writes pages old new place (suc m) m0 taken fewer all inside writ
 
 -- ---- the reserve
 
-cost-few : (s : Sharing) (i n : ℕ) → cost_from s i n ≤ n
+-- the breaks of some pages take one frame each at most
+pub cost_from-few : (s : Sharing) (i n : ℕ) → cost_from s i n ≤ n
 unfolding cost_from
-cost-few s i zero = omega arith
-cost-few s i (suc n) =
-    let first = cost-one s i in
-    let rest = cost-few (broken s i) (i + 1) n in
+cost_from-few s i zero = omega arith
+cost_from-few s i (suc n) =
+    let first = break_cost-few s i in
+    let rest = cost_from-few (broken s i) (i + 1) n in
     omega (arith, first, rest)
 
 -- what is taken falls from both, so from the smaller one
@@ -287,7 +290,7 @@ pub reserve-pays : (s : Sharing) (i k charge total later_total place m0 : ℕ) (
     → k ≤ charge → charge + later_total ≤ total
     → cost_from s i k + capped later_total (unpinned_in later pages (broken_by_from true s i k).pins place 8) ≤ capped total (unpinned_in writes pages s.pins place 8)
 reserve-pays s i k charge total later_total place m0 writes later pages own fewer inside written above below charged falls =
-    let few = cost-few s i k in
+    let few = cost_from-few s i k in
     let one = pays s i k (place + m0 * 256) (pages m0) own above below in
     let all = maps-pay later writes pages s.pins (broken_by_from true s i k).pins place 8 m0 (cost_from s i k) fewer (breaks-pinned s i k) inside written one in
     capped-falls (cost_from s i k) total later_total (unpinned_in writes pages s.pins place 8) (unpinned_in later pages (broken_by_from true s i k).pins place 8)

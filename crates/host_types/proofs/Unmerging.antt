@@ -10,7 +10,7 @@ use Rattle.host_types.specs.declared.status.Status.{Status}
 use Rattle.host_types.specs.declared.status.Status.TheVariants.{New, Volatile, Waiting, Grouped, Zero}
 use Rattle.host_types.specs.Sharing.{Sharing, PageState, state_at, is_shared, is_shared_page, is_among, without, left_by, is_in_company, broken, broken_page, break_cost, broken_from, cost_from, cost_of}
 use Rattle.host_types.proofs.Without.{one_when, times, without-length, times-gone, times-kept, kept_group, some_kept}
-use Rattle.host_types.specs.Unmerging.{unmerged, members, zeros_at, zero_pages, unmerge_need, SharesNothing}
+use Rattle.host_types.specs.Unmerging.{unmerged, members, counted_by, zeros_at, zero_pages, unmerge_need, SharesNothing}
 
 -- how often it stands in all groups
 abbrev pub listed : ℕ → List (List ℕ) → ℕ
@@ -26,8 +26,7 @@ one_if_grouped Grouped = 1
 one_if_grouped other = 0
 
 abbrev pub grouped_at : Option PageState → ℕ
-grouped_at None = 0
-grouped_at (Some state) = one_if_grouped state.status
+grouped_at page = counted_by one_if_grouped page
 
 -- no group is empty, and each grouped page, and no other, stands once in one group
 pub record AreListed (s : Sharing) : Type 0 where

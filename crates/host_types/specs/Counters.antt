@@ -1,34 +1,26 @@
 -- The counters of merging, by the names of Linux's KSM manual; their exact values are this project's own.
-use Rattle.std.specs.Prelude.{ℕ, ◌+◌, ◌-◌, ◌==◌, nat_lt, bytes_eq, if◌then◌else◌, List, [], ◌∷◌, ◌++◌, length, map, sum_by, Option, Some, None}
+use Rattle.std.specs.Prelude.{ℕ, ◌+◌, ◌-◌, ◌==◌, nat_lt, bytes_eq, if◌then◌else◌, List, [], ◌∷◌, ◌++◌, length, map, sum_by, Option}
 use Rattle.host_types.specs.declared.status.Status.{Status}
-use Rattle.host_types.specs.declared.status.Status.TheVariants.{New, Volatile, Waiting, Grouped, Zero}
+use Rattle.host_types.specs.declared.status.Status.TheVariants.{Volatile, Waiting}
 use Rattle.host_types.specs.Sharing.{Sharing, PageState}
-use Rattle.host_types.specs.Unmerging.{members}
+use Rattle.host_types.specs.Unmerging.{members, counted_by}
 use Rattle.host_types.specs.Visits.{Contents, group_bytes}
 
 -- one for a page that waits for another one of its bytes
 abbrev pub one_if_waiting : Status → ℕ
-one_if_waiting New = 0
-one_if_waiting Volatile = 0
 one_if_waiting Waiting = 1
-one_if_waiting Grouped = 0
-one_if_waiting Zero = 0
+one_if_waiting other = 0
 
 -- one for a page that changed since it was visited last
 abbrev pub one_if_volatile : Status → ℕ
-one_if_volatile New = 0
 one_if_volatile Volatile = 1
-one_if_volatile Waiting = 0
-one_if_volatile Grouped = 0
-one_if_volatile Zero = 0
+one_if_volatile other = 0
 
 abbrev pub unshared_at : Option PageState → ℕ
-unshared_at None = 0
-unshared_at (Some state) = one_if_waiting state.status
+unshared_at page = counted_by one_if_waiting page
 
 abbrev pub volatile_at : Option PageState → ℕ
-volatile_at None = 0
-volatile_at (Some state) = one_if_volatile state.status
+volatile_at page = counted_by one_if_volatile page
 
 -- how many frames pages share
 abbrev pub pages_shared : Sharing → ℕ

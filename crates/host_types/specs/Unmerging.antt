@@ -6,7 +6,7 @@ use Rattle.host_types.specs.declared.options.Opt.{Opt}
 use Rattle.host_types.specs.declared.options.Opt.TheVariants.{PagesToScan, Run, UseZeroPages, MaxPageSharing}
 use Rattle.host_types.specs.declared.options.Options.{Options}
 use Rattle.host_types.specs.declared.status.Status.{Status}
-use Rattle.host_types.specs.declared.status.Status.TheVariants.{New, Volatile, Waiting, Grouped, Zero}
+use Rattle.host_types.specs.declared.status.Status.TheVariants.{Zero}
 use Rattle.host_types.specs.OptionTable.{MayBe}
 use Rattle.host_types.specs.Sharing.{Sharing, PageState, state_at, is_shared_page, broken_from}
 
@@ -20,17 +20,18 @@ unmerged sharing =
 unfoldable pub members : Sharing → ℕ
 members sharing = sum_by (λ (group : List ℕ). length group) sharing.groups
 
+-- what a page counts by its status; where none is, nothing
+abbrev pub counted_by : (Status → ℕ) → Option PageState → ℕ
+counted_by one None = 0
+counted_by one (Some state) = one state.status
+
 -- one for a page on the frame of zeros
 abbrev pub one_if_zeros : Status → ℕ
-one_if_zeros New = 0
-one_if_zeros Volatile = 0
-one_if_zeros Waiting = 0
-one_if_zeros Grouped = 0
 one_if_zeros Zero = 1
+one_if_zeros other = 0
 
 abbrev pub zeros_at : Option PageState → ℕ
-zeros_at None = 0
-zeros_at (Some state) = one_if_zeros state.status
+zeros_at page = counted_by one_if_zeros page
 
 -- how many pages lie on the frame of zeros
 unfoldable pub zero_pages : Sharing → ℕ

@@ -9,8 +9,9 @@ use Rattle.host_types.specs.Helpers.{element_at, update_charge}
 use Rattle.host_types.specs.Shapes.{IsShape, stride_of}
 use Rattle.host_types.specs.Sharing.{Sharing}
 use Rattle.host_types.proofs.Elements.{value-in-stride}
+use Rattle.host_types.proofs.Pins.{cost_from-few}
 use Rattle.write_break.specs.Stores.{touched, store_frames, place_of_byte}
-use Rattle.write_break.proofs.Stores.{touched-some, touched-one, cost_from-few}
+use Rattle.write_break.proofs.Stores.{touched-some, touched-one}
 
 -- where the stride divides a page, a value lies in one
 value-in-page : (stride size key : ℕ) → 1 ≤ size → size ≤ stride → 4096 % stride ≡ 0 → stride * key % 4096 + size ≤ 4096

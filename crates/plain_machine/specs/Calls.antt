@@ -1,9 +1,9 @@
 -- What a helper reads and leaves.
-use Rattle.std.specs.Prelude.{ℕ, ◌+◌, ◌%◌, ◌==◌, nat_le, if◌then◌else◌, List, length, Option, Some, None}
+use Rattle.std.specs.Prelude.{ℕ, ◌+◌, ◌%◌, ◌<◌, ◌==◌, nat_le, if◌then◌else◌, List, length, Option, Some, None, IsSome}
 use Rattle.host_types.specs.declared.helper.MapHelper.{MapHelper}
 use Rattle.host_types.specs.Bytes.{number_of, part_of}
 use Rattle.host_types.specs.Helpers.{helper, update_answer, maps_updated}
-use Rattle.host_types.specs.Layout.{stack_size}
+use Rattle.host_types.specs.Layout.{stack_size, region_size}
 use Rattle.host_types.specs.Memory.{FlatMemory, FlatMaps, ◌>>=◌, only_if, all_set, map_at}
 use Rattle.interp.specs.Machine.{MachineState, argument_at, value_arguments}
 
@@ -11,6 +11,11 @@ use Rattle.interp.specs.Machine.{MachineState, argument_at, value_arguments}
 abbrev pub key_at : FlatMemory → ℕ → Option ℕ
 key_at memory address =
     (if address % 4 == 0 then argument_at memory address 4 else None) >>= λ bytes. Some (number_of bytes)
+
+-- a place in a region, for a map that is there
+pub record IsUpdate (maps : FlatMaps) (m at : ℕ) : Type 0 where
+  pub near : at < region_size
+  pub there : IsSome (map_at maps m)
 
 -- an update of a map by a value: its answer, and the memory afterwards
 abbrev pub updated_by : FlatMemory → ℕ → ℕ → ℕ → List ℕ → Option (ℕ × FlatMemory)

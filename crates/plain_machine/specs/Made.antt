@@ -1,5 +1,5 @@
 -- What a step and a run of the machine made.
-use Rattle.std.specs.Prelude.{◌≡◌, ℕ, ◌<◌, ◌≤◌, ℤ, pos, negsuc, Bool, List, Option, Some, None}
+use Rattle.std.specs.Prelude.{◌≡◌, ℕ, ◌<◌, ◌≤◌, ℤ, pos, negsuc, Bool, List, Option, Some, None, option_map, IsNone}
 use Rattle.host_types.specs.Memory.{◌>>=◌}
 use Rattle.bpf_decode.specs.declared.insn.Insn.{Insn}
 use Rattle.bpf_decode.specs.declared.operation.Comparison.{Comparison}
@@ -18,6 +18,12 @@ abbrev pub IsMade : List ℕ → MachineState → Made → MachineState → Type
 IsMade text old made.Next new = step text old ≡ Some (Next new)
 IsMade text old (made.Exits number) new = (step text old ≡ Some (Exits number old.memory.maps)) × (new ≡ old)
 IsMade text old made.Fault new = (step text old ≡ None) × (new ≡ old)
+
+-- a part of a step made of a state what it is said to make, at the same slot; a fault changes nothing
+pub record IsPart (made : Option MachineState) (old : MachineState) (result : Option (Unit {0})) (new : MachineState) : Type 0 where
+  pub value : made ≡ option_map (λ _. new) result
+  pub slot : new.slot ≡ old.slot
+  pub fault : IsNone result → new ≡ old
 
 -- what an exit makes: R0's number, or a fault where it isn't set
 abbrev pub IsExit : MachineState → Made → Type 0

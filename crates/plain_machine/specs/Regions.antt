@@ -1,8 +1,13 @@
 -- Reads and writes in the three kinds of regions.
-use Rattle.std.specs.Prelude.{ℕ, ◌+◌, nat_le, if◌then◌else◌, length, map, slice_set, option_map, Option, Some, None}
+use Rattle.std.specs.Prelude.{ℕ, ◌+◌, ◌<◌, ◌≤◌, nat_le, if◌then◌else◌, length, map, slice_set, option_map, Option, Some, None}
 use Rattle.host_types.specs.Bytes.{number_of, bytes_of, part_of, with_part}
-use Rattle.host_types.specs.Layout.{stack_size}
+use Rattle.host_types.specs.Layout.{stack_size, region_size}
 use Rattle.host_types.specs.Memory.{FlatMap, FlatMemory, ◌>>=◌, only_if, all_set, map_at, is_in_value}
+
+-- a place in a region, and as many bytes as a number has at most
+pub record IsPlace (at size : ℕ) : Type 0 where
+  pub near : at < region_size
+  pub small : size ≤ 8
 
 -- the number of bytes of the context
 abbrev pub number_in_context : FlatMemory → ℕ → ℕ → Option ℕ

@@ -3,8 +3,8 @@ ghost use Rattle.host_types.specs.Helpers.{lookup_answer, update_answer, maps_up
 ghost use Rattle.host_types.specs.Layout.{stack_size, region_size, map_name};
 ghost use Rattle.host_types.specs.Memory.{FlatMemory, FlatMaps, fetch, place, map_at};
 ghost use Rattle.interp.specs.Machine.{name_of_map, address_in_first, map_named};
-ghost use Rattle.plain_machine.specs.Calls.{key_at, updated_from, updated_from_context, updated_from_stack};
-ghost use Rattle.plain_machine.specs.Regions.{number_in_context, number_in_stack, number_in_map, with_number_in_stack, with_number_in_map, with_number_put};
+ghost use Rattle.plain_machine.specs.Calls.{IsUpdate, key_at, updated_from, updated_from_context, updated_from_stack};
+ghost use Rattle.plain_machine.specs.Regions.{IsPlace, number_in_context, number_in_stack, number_in_map, with_number_in_stack, with_number_in_map, with_number_put};
 
 use crate::array_map::ArrayMap;
 use crate::number::{copy_if_set, number_if_set, number_of_bytes, set_bytes};
@@ -72,8 +72,7 @@ impl Memory {
     /// The number of `size` bytes at a place of the context.
     #[tactic(auto, using(crate::proofs::Parts::slice_part_of))]
     fn fetch_context(&self, at: usize, size: usize) -> Option<u64>
-        requires near { at < region_size }
-        requires small { size ≤ 8 }
+        requires { IsPlace at size }
         ensures number { result ≡ number_in_context self.now at size }
         ensures fits { IfSome result (λ number. number < 256 ^ size) }
     {
@@ -86,8 +85,7 @@ impl Memory {
     /// The number of `size` bytes at a place of the stack, if each of them is set.
     #[tactic(auto, using(crate::proofs::Parts::slice_part_of))]
     fn fetch_stack(&self, at: usize, size: usize) -> Option<u64>
-        requires near { at < region_size }
-        requires small { size ≤ 8 }
+        requires { IsPlace at size }
         ensures number { result ≡ number_in_stack self.now at size }
         ensures fits { IfSome result (λ number. number < 256 ^ size) }
     {
@@ -99,8 +97,7 @@ impl Memory {
 
     /// The number of `size` bytes among the values of a map, if they lie whole in one value.
     fn fetch_map(&self, number: usize, at: usize, size: usize) -> Option<u64>
-        requires near { at < region_size }
-        requires small { size ≤ 8 }
+        requires { IsPlace at size }
         ensures number { result ≡ number_in_map self.now number at size }
         ensures fits { IfSome result (λ number. number < 256 ^ size) }
     {
@@ -134,8 +131,7 @@ impl Memory {
 
     /// Writes the lowest `size` bytes of a number at a place of the stack.
     fn place_in_stack(&mut self, at: usize, size: usize, number: u64) -> Option<()>
-        requires near { at < region_size }
-        requires small { size ≤ 8 }
+        requires { IsPlace at size }
         ensures value { with_number_in_stack self.old at size number ≡ option_map (λ _. self.new) result }
         ensures fault { IsNone result → self.new ≡ self.old }
     {
@@ -149,8 +145,7 @@ impl Memory {
     /// Writes the lowest `size` bytes of a number at a place of a map, if they lie whole in the value
     /// of one element.
     fn place_in_map(&mut self, map_number: usize, at: usize, size: usize, number: u64) -> Option<()>
-        requires near { at < region_size }
-        requires small { size ≤ 8 }
+        requires { IsPlace at size }
         ensures value { with_number_in_map self.old map_number at size number ≡ option_map (λ _. self.new) result }
         ensures fault { IsNone result → self.new ≡ self.old }
     {
@@ -280,8 +275,7 @@ impl Memory {
     /// The same with a value in the context.
     #[tactic(auto, using(crate::proofs::Parts::slice_part_of, crate::proofs::Updates::by_context))]
     fn update_from_context(&mut self, number: MapNo, key: u32, at: usize, flags: u64) -> Option<u64>
-        requires near { at < region_size }
-        requires there { IsSome (map_at self.old.maps number) }
+        requires { IsUpdate self.old.maps number at }
         ensures value { updated_from_context self.old number key at flags ≡ option_map (λ answer. (answer, self.new)) result }
         ensures fault { IsNone result → self.new ≡ self.old }
     {
@@ -295,8 +289,7 @@ impl Memory {
     /// The same with a value in the stack, each of whose bytes is set.
     #[tactic(auto, using(crate::proofs::Parts::slice_part_of, crate::proofs::Updates::by_stack))]
     fn update_from_stack(&mut self, number: MapNo, key: u32, at: usize, flags: u64) -> Option<u64>
-        requires near { at < region_size }
-        requires there { IsSome (map_at self.old.maps number) }
+        requires { IsUpdate self.old.maps number at }
         ensures value { updated_from_stack self.old number key at flags ≡ option_map (λ answer. (answer, self.new)) result }
         ensures fault { IsNone result → self.new ≡ self.old }
     {

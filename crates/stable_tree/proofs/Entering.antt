@@ -6,18 +6,18 @@ use Rattle.std.proofs.lemmas.List.{map-append, length-map}
 use Rattle.std.proofs.lemmas.List.Edits.{insert-append_right, remove-append_right}
 use Rattle.std.proofs.lemmas.List.Elements.{All-cons, All-append, All-tail}
 use Rattle.tree_shape.specs.declared.Node.{Node}
-use Rattle.tree_shape.specs.Shape.{Tree, leaf, fork, in_order, IsOnce}
+use Rattle.tree_shape.specs.Shape.{Tree, leaf, fork, in_order, Holds, IsEven, IsOnce, IsHung}
 use Rattle.tree_shape.specs.Changes.{found}
 use Rattle.tree_shape.specs.Searches.{order_to, IsGrowing}
 use Rattle.tree_shape.specs.Removals.{IsTaking}
-use Rattle.tree_shape.proofs.Times.{times-fork, times-leaf, times-once}
+use Rattle.tree_shape.proofs.Times.{here, times-fork, times-leaf, times-once}
 use Rattle.stable_tree.specs.declared.store.Store.{Store}
 use Rattle.stable_tree.specs.Groups.{IsSorted}
 use Rattle.stable_tree.specs.Edits.{IsAnswer}
 use Rattle.stable_tree.specs.Places.{walk, hanging, used, times, AreHung, HasRoom, IsWhole, IsHead, tree_in, heads_in, chains_in}
 use Rattle.stable_tree.proofs.Counting.{written}
-use Rattle.stable_tree.proofs.Walks.{here, times-cons}
-use Rattle.stable_tree.proofs.Trees.{all-front, all-back}
+use Rattle.stable_tree.proofs.Walks.{times-cons}
+use Rattle.stable_tree.proofs.Trees.{all-front, all-back, read-tree}
 use Rattle.stable_tree.proofs.Hanging.{shared-again, times-cut, times-both, length-cut, length-both, heads-used}
 use Rattle.stable_tree.proofs.Placing.{spare-inside}
 use Rattle.stable_tree.proofs.Contents.{whole-sound, whole-framed, found-here, missing-here}
@@ -91,6 +91,29 @@ module _ (old new : Store) (is : IsRenoded old new old.nodes.items old.root) whe
 
   pub same-head : (at : ℕ) → IsHead old at → IsHead new at
   same-head at head = record { earlier = head.earlier; later = head.later; is = same-heads ∙ head.is }
+
+-- another tree, of places that were there
+module _ (old new : Store) (nodes : List Node) (root : ℕ) (is : IsRenoded old new nodes root) (t w : Tree) (hung : IsHung old.nodes.items nodes root t w) where
+  other-tree : tree_in new ≡ t
+  other-tree = rw (is.nodes_are, is.root_is) (read-tree nodes root t hung.holds)
+
+  pub other-heads : heads_in new ≡ in_order t
+  other-heads = ap in_order other-tree
+
+  pub other-whole : (was free : List ℕ) → IsWhole old was → IsEven t → AreHung old.frames.items old.nexts.items old.sizes.items (in_order t) free (length old.nodes.items) → IsWhole new free
+  other-whole was free whole even hangs =
+      let size = hung.kept.size in
+      let few = whole.few in
+      let long = ap length is.nodes_are in
+      let same = is.same_room in
+      record {
+        holds = subst (λ (t : Tree). Holds new.nodes.items new.root t) (sym other-tree) (rw (is.nodes_are, is.root_is) hung.holds);
+        even = subst IsEven (sym other-tree) even;
+        hung = rw (other-heads, is.nodes_are, is.frames, is.nexts, is.sizes, size) hangs;
+        few = omega (arith, size, few, long, same);
+        low = let low = whole.low in omega (arith, low, same);
+        room = is.room;
+      }
 
 -- a group alone
 pub hanging-alone : (nexts sizes : List ℕ) (at : ℕ) → slice_index_or sizes at 0 ≡ 1 → hanging nexts sizes at ≡ at ∷ []

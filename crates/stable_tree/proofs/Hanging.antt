@@ -5,8 +5,9 @@ use Rattle.std.proofs.lemmas.List.{map-append, length-map}
 use Rattle.std.proofs.lemmas.List.Concat.{flat_map-cons}
 use Rattle.std.proofs.lemmas.Grind.{flat_map-append}
 use Rattle.std.proofs.lemmas.List.Elements.{All-head, All-tail, All-cons, All-nil}
+use Rattle.tree_shape.proofs.Times.{here}
 use Rattle.stable_tree.specs.Places.{walk, hanging, chain_at, used, times, AreShared}
-use Rattle.stable_tree.proofs.Walks.{here, times-cons, times-append, times-first, times-walk, length-walk, Agree, Once, walk-agree, frames-agree}
+use Rattle.stable_tree.proofs.Walks.{times-cons, times-append, times-first, times-walk, length-walk, Agree, Once, walk-agree, frames-agree}
 
 abbrev Filled : List ℕ → List ℕ → Type 0
 Filled sizes heads = All (λ at. 1 ≤ slice_index_or sizes at 0) heads

@@ -4,9 +4,10 @@ use Rattle.std.specs.List.{concat}
 use Rattle.std.proofs.lemmas.Bool.{cases_lt}
 use Rattle.std.proofs.lemmas.List.{get_or_append_left}
 use Rattle.tree_shape.specs.Shape.{in_order, Tree, Holds, none, blank, IsEven}
+use Rattle.tree_shape.proofs.Times.{here, here-same, here-other}
 use Rattle.stable_tree.specs.declared.store.Store.{Store}
 use Rattle.stable_tree.specs.Places.{chain_at, used, times, AreShared, AreHung, HasRoom, IsWhole, IsStore, IsPlaced, tree_in, heads_in, chains_in}
-use Rattle.stable_tree.proofs.Walks.{here, here-same, here-other, here-few, times-cons, times-append, Agree}
+use Rattle.stable_tree.proofs.Walks.{here-few, times-cons, times-append, Agree}
 use Rattle.stable_tree.proofs.Trees.{read-tree, holds-same}
 use Rattle.stable_tree.proofs.Hanging.{chains-agree, shared-again, length-chains}
 

@@ -1,8 +1,8 @@
 -- What the chains are where a group was put in, by what came of its place in the tree.
-use Rattle.std.proofs.Common.{◌≡◌, ℕ, List, [], ◌∷◌, ◌++◌, length, map, slice_index_or, insert, Some, refl, sym, ap, subst, ◌∙◌, arith}
+use Rattle.std.proofs.Common.{◌≡◌, ℕ, List, [], ◌∷◌, ◌++◌, length, map, slice_index_or, insert, Some, refl, sym, ap, subst, ◌∙◌}
 use Rattle.tree_shape.specs.declared.Node.{Node}
 use Rattle.tree_shape.specs.declared.search.Entered.TheVariants.{There, Root}
-use Rattle.tree_shape.specs.Shape.{Tree, leaf, fork, in_order, Holds, IsEven, IsHung}
+use Rattle.tree_shape.specs.Shape.{Tree, leaf, fork, IsHung}
 use Rattle.tree_shape.specs.Changes.{found, entered}
 use Rattle.tree_shape.specs.Searches.{order_to, IsGrowing, IsEntry}
 use Rattle.tree_shape.proofs.Changing.{entered-grown}
@@ -10,9 +10,8 @@ use Rattle.stable_tree.specs.declared.store.Store.{Store}
 use Rattle.stable_tree.specs.Groups.{IsSorted}
 use Rattle.stable_tree.specs.Edits.{IsPut, added, lengthened}
 use Rattle.stable_tree.specs.Places.{frames_of, chain_at, AreHung, IsWhole, IsHead, IsLengthened, tree_in, heads_in, chains_in}
-use Rattle.stable_tree.proofs.Trees.{read-tree}
 use Rattle.stable_tree.proofs.Contents.{found-here, missing-here, IsNowhere}
-use Rattle.stable_tree.proofs.Entering.{IsRenoded, renoded_store, renoded, unchanged, whole-growing, same-whole, same-head, same-chains, same-heads, hanging-alone, head-in, insert-between}
+use Rattle.stable_tree.proofs.Entering.{IsRenoded, other-heads, other-whole, renoded_store, renoded, unchanged, whole-growing, same-whole, same-head, same-chains, same-heads, hanging-alone, head-in, insert-between}
 
 -- the place came into the tree
 module _ (pages : List (List ℕ)) (frame : ℕ) (old new : Store) (place root : ℕ) (nodes : List Node) (whole : IsWhole old (place ∷ old.free.items)) (sorted : IsSorted pages (chains_in old))
@@ -22,28 +21,15 @@ module _ (pages : List (List ℕ)) (frame : ℕ) (old new : Store) (place root :
   abbrev grown : Tree
   grown = entered (order_to pages old.frames.items frame) place (tree_in old)
 
-  tree : tree_in new ≡ grown
-  tree = rw (is.nodes_are, is.root_is) (read-tree nodes root grown hung.holds)
-
   heads : heads_in new ≡ told.earlier ++ place ∷ told.later
-  heads = ap in_order tree ∙ told.more
+  heads = other-heads old new nodes root is grown (fork place (tree_in old) leaf) hung ∙ told.more
 
   pub put-whole : IsWhole new old.free.items
   put-whole =
-      let size = hung.kept.size in
-      let few = whole.few in
-      let long = ap length is.nodes_are in
-      let same = is.same_room in
-      record {
-        holds = subst (λ (t : Tree). Holds new.nodes.items new.root t) (sym tree) (rw (is.nodes_are, is.root_is) hung.holds);
-        even = subst IsEven (sym tree) (entered-grown (order_to pages old.frames.items frame) place (tree_in old) whole.even).even;
-        hung = rw (heads, is.nodes_are, is.frames, is.nexts, is.sizes, size)
-            (head-in old.frames.items old.nexts.items old.sizes.items told.earlier told.later old.free.items place (length old.nodes.items) alone
-            (subst (λ (heads : List ℕ). AreHung old.frames.items old.nexts.items old.sizes.items heads (place ∷ old.free.items) (length old.nodes.items)) told.is whole.hung));
-        few = omega (arith, size, few, long, same);
-        low = let low = whole.low in omega (arith, low, same);
-        room = is.room;
-      }
+      other-whole old new nodes root is grown (fork place (tree_in old) leaf) hung (place ∷ old.free.items) old.free.items whole
+      (entered-grown (order_to pages old.frames.items frame) place (tree_in old) whole.even).even
+      (rw told.more (head-in old.frames.items old.nexts.items old.sizes.items told.earlier told.later old.free.items place (length old.nodes.items) alone
+      (subst (λ (heads : List ℕ). AreHung old.frames.items old.nexts.items old.sizes.items heads (place ∷ old.free.items) (length old.nodes.items)) told.is whole.hung)))
 
   pub put-added : IsPut pages frame (chains_in old) (chains_in new) 0
   put-added =

@@ -3,9 +3,10 @@ use Rattle.std.proofs.Common.{◌≡◌, ℕ, suc, ◌+◌, ◌-◌, ◌<◌, �
 use Rattle.std.specs.List.{remove}
 use Rattle.std.specs.Vec.{with_item}
 use Rattle.std.proofs.lemmas.List.{get_or-set_same, get_or_read, length-set}
+use Rattle.tree_shape.proofs.Times.{here}
 use Rattle.stable_tree.specs.declared.store.Store.{Store}
 use Rattle.stable_tree.specs.Places.{walk, hanging, frames_of, chain_at, used, times, AreHung, IsWhole, IsHead, IsWithout, heads_in}
-use Rattle.stable_tree.proofs.Walks.{here, times-cons, times-first, apart-set, walk-there, walk-next, IsShorter, walk-shortened, walk-cut, Once}
+use Rattle.stable_tree.proofs.Walks.{times-cons, times-first, apart-set, walk-there, walk-next, IsShorter, walk-shortened, walk-cut, Once}
 use Rattle.stable_tree.proofs.Hanging.{IsChanged, Apart, one-changed, shared-again, times-cut, length-cut}
 use Rattle.stable_tree.proofs.Lengthening.{cut-filled, cut-shared, head-inside, hanging-once, hanging-inside, changed-times, changed-length, changed-filled, changed-chains}
 use Rattle.stable_tree.proofs.Heads.{head-chain, head-facts}

@@ -9,7 +9,7 @@ use Rattle.frame_arena.specs.Pages.{page_at}
 use Rattle.tree_shape.specs.declared.Node.{Node}
 use Rattle.tree_shape.specs.declared.removal.Taken.{Taken}
 use Rattle.tree_shape.specs.declared.removal.Removed.TheVariants.{Nowhere, Stays, Out}
-use Rattle.tree_shape.specs.Shape.{Tree, in_order, Holds, IsEven, IsHung}
+use Rattle.tree_shape.specs.Shape.{Tree, IsHung}
 use Rattle.tree_shape.specs.Changes.{found, taken}
 use Rattle.tree_shape.specs.Searches.{order_to}
 use Rattle.tree_shape.specs.Removals.{is_alone, IsTaking, IsOut}
@@ -20,10 +20,9 @@ use Rattle.stable_tree.specs.Edits.{IsTakenOut, nowhere, alone, shortened, IsSho
 use Rattle.stable_tree.specs.Places.{walk, hanging, frames_of, chain_at, AreHung, IsWhole, IsHead, IsStanding, tree_in, heads_in, chains_in}
 use Rattle.stable_tree.proofs.Sorting.{filter-there, filter-not_there, both}
 use Rattle.stable_tree.proofs.Walks.{length-walk}
-use Rattle.stable_tree.proofs.Trees.{read-tree}
 use Rattle.stable_tree.proofs.Heads.{chain-length, head-facts}
 use Rattle.stable_tree.proofs.Contents.{IsHere, found-here, missing-here}
-use Rattle.stable_tree.proofs.Entering.{IsRenoded, renoded_store, renoded, unchanged, whole-taking, same-whole, same-head, same-chains, same-heads, hanging-alone, head-out, remove-between}
+use Rattle.stable_tree.proofs.Entering.{IsRenoded, other-heads, other-whole, renoded_store, renoded, unchanged, whole-taking, same-whole, same-head, same-chains, same-heads, hanging-alone, head-out, remove-between}
 
 alone-tells : (frames sizes : List ℕ) (frame at : ℕ) → is_alone frames sizes frame at ≡ true → (slice_index_or sizes at 0 ≡ 1) × (slice_index_or frames at 0 ≡ frame)
 alone-tells frames sizes frame at e =
@@ -131,31 +130,18 @@ module _ (pages : List (List ℕ)) (frame : ℕ) (old new : Store) (place root :
   abbrev left : Tree
   left = taken (order_to pages old.frames.items frame) (tree_in old)
 
-  tree : tree_in new ≡ left
-  tree = rw (is.nodes_are, is.root_is) (read-tree nodes root left hung.holds)
-
   heads : heads_in new ≡ told.head.earlier ++ told.head.later
-  heads = ap in_order tree ∙ told.less
+  heads = other-heads old new nodes root is left (tree_in old) hung ∙ told.less
 
   one : slice_index_or old.sizes.items place 0 ≡ 1
   one = (alone-tells old.frames.items old.sizes.items frame place single).0
 
   pub out-whole : IsWhole new (place ∷ old.free.items)
   out-whole =
-      let size = hung.kept.size in
-      let few = whole.few in
-      let long = ap length is.nodes_are in
-      let same = is.same_room in
-      record {
-        holds = subst (λ (t : Tree). Holds new.nodes.items new.root t) (sym tree) (rw (is.nodes_are, is.root_is) hung.holds);
-        even = subst IsEven (sym tree) (taken-shrunk (order_to pages old.frames.items frame) (tree_in old) whole.even).even;
-        hung = rw (heads, is.nodes_are, is.frames, is.nexts, is.sizes, size)
-            (head-out old.frames.items old.nexts.items old.sizes.items told.head.earlier told.head.later old.free.items place (length old.nodes.items) one
-            (subst (λ (heads : List ℕ). AreHung old.frames.items old.nexts.items old.sizes.items heads old.free.items (length old.nodes.items)) told.head.is whole.hung));
-        few = omega (arith, size, few, long, same);
-        low = let low = whole.low in omega (arith, low, same);
-        room = is.room;
-      }
+      other-whole old new nodes root is left (tree_in old) hung old.free.items (place ∷ old.free.items) whole
+      (taken-shrunk (order_to pages old.frames.items frame) (tree_in old) whole.even).even
+      (rw told.less (head-out old.frames.items old.nexts.items old.sizes.items told.head.earlier told.head.later old.free.items place (length old.nodes.items) one
+      (subst (λ (heads : List ℕ). AreHung old.frames.items old.nexts.items old.sizes.items heads old.free.items (length old.nodes.items)) told.head.is whole.hung)))
 
   pub out-chains : (last : List (List ℕ)) → last ≡ chains_in new → IsTakenOut pages frame (chains_in old) last 1
   out-chains last e =

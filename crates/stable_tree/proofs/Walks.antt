@@ -2,20 +2,11 @@
 use Rattle.std.proofs.Common.{◌≡◌, ◌≢◌, ℕ, zero, suc, ◌+◌, ◌-◌, ◌<◌, ◌≤◌, ◌==◌, Bool, true, false, if◌then◌else◌, List, [], ◌∷◌, ◌++◌, length, slice_index_or, slice_set, nat_lt, find, None, Some, All, refl, sym, ap, subst, ◌∙◌, arith}
 use Rattle.std.specs.List.{remove}
 use borrow.Author.Tests.{lt-ltb}
-use Rattle.std.proofs.lemmas.Bool.Decides.{nat_tests}
 use Rattle.std.proofs.lemmas.List.{get_or-set_same, get_or-set_other}
 use Rattle.std.proofs.lemmas.List.Sums.{sum_by-append, sum_by-cons}
 use Rattle.std.proofs.lemmas.List.Elements.{All-head, All-tail}
+use Rattle.tree_shape.proofs.Times.{here, here-same}
 use Rattle.stable_tree.specs.Places.{walk, end, frames_of, times}
-
-abbrev pub here : ℕ → ℕ → ℕ
-here i at = if i == at then 1 else 0
-
-pub here-same : (i : ℕ) → here i i ≡ 1
-here-same i = let test : (i == i) ≡ true = grind (arith, nat_tests) in rw test refl
-
-pub here-other : (i at : ℕ) → i ≢ at → here i at ≡ 0
-here-other i at ne = let test : (i == at) ≡ false = grind (arith, nat_tests, ne) in rw test refl
 
 pub here-few : (i at : ℕ) → here i at ≤ 1
 here-few i at = by_test (i == at)

@@ -10,6 +10,7 @@ use Rattle.host_types.specs.Sharing.{Sharing, PageState, state_at, is_shared, is
 use Rattle.host_types.specs.Pins.{pinned, broken_by}
 use Rattle.host_types.specs.Tenant.{TenantPart, AreFlatMaps}
 use Rattle.host_types.proofs.Unmerging.{broken-own}
+use Rattle.host_types.proofs.Pins.{by-own}
 use Rattle.page_table.specs.Changes.{pages_of_map}
 use Rattle.page_table.specs.Reads.{ReadsAs}
 use Rattle.page_table.specs.State.{MemoryState, part, map_bytes, have_of}
@@ -28,27 +29,11 @@ use Rattle.tenant_runs.proofs.Pinning.{own_pins, pages_after, stored_pays}
 
 -- ---- a page that shares no frame
 
--- its break takes none
-pub own_cost : (s : Sharing) (i : ℕ) → is_shared_page (state_at s i) ≡ false → break_cost s i ≡ 0
-unfolding break_cost
-own_cost s i own = by_page (state_at s i) refl
-  where
-    by_status : (status : Status) → is_shared status ≡ false → cost_of (is_in_company s i) status ≡ 0
-    by_status New e = refl
-    by_status Volatile e = refl
-    by_status Waiting e = refl
-    by_status Grouped e = absurd (cc)
-    by_status Zero e = absurd (cc)
-
-    by_page : (page : Option PageState) → state_at s i ≡ page → break_cost s i ≡ 0
-    by_page None e = rw e refl
-    by_page (Some state) e = rw e (by_status state.status (sym (ap is_shared_page e) ∙ own))
-
--- and changes nothing
+-- its break changes nothing
 pub own_broken : (running : Bool) (s : Sharing) (i : ℕ) → is_shared_page (state_at s i) ≡ false → broken_by running s i ≡ s
 unfolding broken_by
 own_broken false s i own = broken-own s i own
-own_broken true s i own = ap (λ (b : Bool). if true && b then pinned (broken s i) i else broken s i) own ∙ broken-own s i own
+own_broken true s i own = by-own s i own
 
 -- a part whose pins stay is pinned as it was
 pub own_part : (memory new : MemoryState) (t : ℕ) (after : TenantPart) → new.sharing ≡ memory.sharing → after.pins ≡ (part memory t).pins → after ≡ pinned_as new.sharing t after

@@ -9,10 +9,10 @@ use crate::meeting::look_up;
 use bpf_decode::Size;
 use byteorder::{ByteOrder, LittleEndian};
 use host_types::limits::PAGE_SIZE;
-use host_types::{MapNo, Page};
+use host_types::MapNo;
 use interp::MapMemory;
 use page_table::Memory;
-use write_break::{load, store};
+use write_break::{load, page_of, store};
 
 /// The maps of a tenant, in the memory of all.
 #[derive(Clone, Copy)]
@@ -47,18 +47,6 @@ impl MapMemory for TenantMaps {
         } else {
             store_own(memory, self.tenant, map, at, size, value);
         }
-    }
-}
-
-/// The page of a tenant's map that a byte is in.
-#[inline(always)]
-fn page_of(tenant: u32, map: MapNo, at: u32) -> Page
-    ensures { result ≡ record { tenant = tenant; map = map; number = at / 4096 } }
-{
-    Page {
-        tenant,
-        map,
-        number: at / PAGE_SIZE,
     }
 }
 

@@ -6,7 +6,8 @@ use Rattle.std.proofs.lemmas.List.{append-nil}
 use Rattle.tree_shape.specs.Shape.{Tree, leaf, fork, levels, in_order, IsEven}
 use Rattle.tree_shape.specs.Turns.{left_up, right_up, settled}
 use Rattle.tree_shape.specs.Changes.{by_order, entered, least, without_least, merged, taken}
-use Rattle.tree_shape.proofs.Sided.{sided, levels-sided}
+use Rattle.tree_shape.specs.Sides.{sided}
+use Rattle.tree_shape.proofs.Sided.{levels-sided}
 use Rattle.tree_shape.proofs.Turning.{levels-fork, levels-none, even-fork, even-sides, even-sided, in_order-settled, settled-sided}
 
 -- sides that are even already
@@ -38,26 +39,27 @@ pub record IsShrunk (old new : Tree) : Type 0 where
   pub least : levels old ≤ levels new + 1
   pub most : levels new ≤ levels old
 
--- numbers alone: what a node with other sides has
-grown-levels : (l r m n k : ℕ) → l ≤ r + 1 → r ≤ l + 1 → l ≤ m → m ≤ l + 1 → k ≡ suc (max l r) → max m r ≤ n → n ≤ max m r + 1 → (m ≤ r + 1 → r ≤ m + 1 → n ≡ suc (max m r)) → (k ≤ n) × (n ≤ k + 1)
-grown-levels l r m n k a b c d e f g flat = by_test (nat_lt (r + 1) m) refl
-  where
-    by_test : (t : Bool) → nat_lt (r + 1) m ≡ t → (k ≤ n) × (n ≤ k + 1)
-    by_test true test = let more : r + 1 < m = grind (arith, test) in (omega arith, omega arith)
-    by_test false test =
-        let few : m ≤ r + 1 = grind (arith, test) in
-        let same : n ≡ suc (max m r) = flat few (omega (arith, b, c)) in
-        (omega (arith, same), omega (arith, same))
+-- numbers alone: what a node has between sides of l and of r levels, and what it has after the one came to have m
+record AreLevels (l r m n k : ℕ) : Type 0 where
+  left : l ≤ r + 1
+  right : r ≤ l + 1
+  was : k ≡ suc (max l r)
+  least : max m r ≤ n
+  most : n ≤ max m r + 1
+  flat : m ≤ r + 1 → r ≤ m + 1 → n ≡ suc (max m r)
 
-shrunk-levels : (l r m n k : ℕ) → l ≤ r + 1 → r ≤ l + 1 → l ≤ m + 1 → m ≤ l → k ≡ suc (max l r) → max m r ≤ n → n ≤ max m r + 1 → (m ≤ r + 1 → r ≤ m + 1 → n ≡ suc (max m r)) → (k ≤ n + 1) × (n ≤ k)
-shrunk-levels l r m n k a b c d e f g flat = by_test (nat_lt (m + 1) r) refl
+changed-levels : (l r m n k : ℕ) → AreLevels l r m n k → (l ≤ m → k ≤ n) × (m ≤ l + 1 → n ≤ k + 1) × (l ≤ m + 1 → k ≤ n + 1) × (m ≤ l → n ≤ k)
+changed-levels l r m n k is = by_test (nat_lt (r + 1) m) (nat_lt (m + 1) r) refl refl is.left is.right is.was is.least is.most
   where
-    by_test : (t : Bool) → nat_lt (m + 1) r ≡ t → (k ≤ n + 1) × (n ≤ k)
-    by_test true test = let more : m + 1 < r = grind (arith, test) in (omega arith, omega arith)
-    by_test false test =
-        let few : r ≤ m + 1 = grind (arith, test) in
-        let same : n ≡ suc (max m r) = flat (omega (arith, a, d)) few in
-        (omega (arith, same), omega (arith, same))
+    by_test : (t u : Bool) → nat_lt (r + 1) m ≡ t → nat_lt (m + 1) r ≡ u → l ≤ r + 1 → r ≤ l + 1 → k ≡ suc (max l r) → max m r ≤ n → n ≤ max m r + 1
+        → (l ≤ m → k ≤ n) × (m ≤ l + 1 → n ≤ k + 1) × (l ≤ m + 1 → k ≤ n + 1) × (m ≤ l → n ≤ k)
+    by_test true u test other a b c d e = let more : r + 1 < m = grind (arith, test) in (λ h. omega arith, λ h. omega arith, λ h. omega arith, λ h. omega arith)
+    by_test false true test other a b c d e = let more : m + 1 < r = grind (arith, other) in (λ h. omega arith, λ h. omega arith, λ h. omega arith, λ h. omega arith)
+    by_test false false test other a b c d e =
+        let few : m ≤ r + 1 = grind (arith, test) in
+        let less : r ≤ m + 1 = grind (arith, other) in
+        let same : n ≡ suc (max m r) = is.flat few less in
+        (λ h. omega (arith, same), λ h. omega (arith, same), λ h. omega (arith, same), λ h. omega (arith, same))
 
 flat-sided : (s : Bool) (at : ℕ) (t u : Tree) → levels t ≤ levels u + 1 → levels u ≤ levels t + 1 → sided s (settled at) t u ≡ sided s (fork at) t u
 flat-sided true at t u few less = settled-flat at t u few less
@@ -65,21 +67,33 @@ flat-sided false at t u few less = settled-flat at u t less few
 
 -- a node whose one side grew or shrank
 module _ (s : Bool) (at : ℕ) (t u : Tree) (even : IsEven (sided s (fork at) t u)) (new : Tree) where
+  changed : IsEven new → levels t ≤ levels new + 1 → levels new ≤ levels t + 1
+      → IsEven (sided s (settled at) new u) × AreLevels (levels t) (levels u) (levels new) (levels (sided s (settled at) new u)) (levels (sided s (fork at) t u))
+  changed evenly least most =
+      let sides = even-sided s at t u even in
+      let settles = settled-sided s at new u evenly sides.3 (omega (arith, most, sides.0)) (omega (arith, least, sides.1)) in (
+        settles.even,
+        record {
+          left = sides.0;
+          right = sides.1;
+          was = levels-sided s at t u;
+          least = settles.least;
+          most = settles.low;
+          flat = λ few less. ap levels (flat-sided s at new u few less) ∙ levels-sided s at new u;
+        },
+      )
+
   grown : IsGrown t new → IsGrown (sided s (fork at) t u) (sided s (settled at) new u)
   grown is =
-      let sides = even-sided s at t u even in
-      let settles = settled-sided s at new u is.even sides.3 (omega (arith, is.most, sides.0)) (omega (arith, is.least, sides.1)) in
-      let told = grown-levels (levels t) (levels u) (levels new) (levels (sided s (settled at) new u)) (levels (sided s (fork at) t u)) sides.0 sides.1 is.least is.most (levels-sided s at t u) settles.least settles.low
-      (λ few less. ap levels (flat-sided s at new u few less) ∙ levels-sided s at new u) in
-      record { even = settles.even; least = told.0; most = told.1 }
+      let now = changed is.even (omega (arith, is.least)) is.most in
+      let told = changed-levels (levels t) (levels u) (levels new) (levels (sided s (settled at) new u)) (levels (sided s (fork at) t u)) now.1 in
+      record { even = now.0; least = told.0 is.least; most = told.1 is.most }
 
   shrunk : IsShrunk t new → IsShrunk (sided s (fork at) t u) (sided s (settled at) new u)
   shrunk is =
-      let sides = even-sided s at t u even in
-      let settles = settled-sided s at new u is.even sides.3 (omega (arith, is.most, sides.0)) (omega (arith, is.least, sides.1)) in
-      let told = shrunk-levels (levels t) (levels u) (levels new) (levels (sided s (settled at) new u)) (levels (sided s (fork at) t u)) sides.0 sides.1 is.least is.most (levels-sided s at t u) settles.least settles.low
-      (λ few less. ap levels (flat-sided s at new u few less) ∙ levels-sided s at new u) in
-      record { even = settles.even; least = told.0; most = told.1 }
+      let now = changed is.even is.least (omega (arith, is.most)) in
+      let told = changed-levels (levels t) (levels u) (levels new) (levels (sided s (settled at) new u)) (levels (sided s (fork at) t u)) now.1 in
+      record { even = now.0; least = told.2 is.least; most = told.3 is.most }
 
 same-grown : (t : Tree) → IsEven t → IsGrown t t
 same-grown t even = record { even = even; least = omega arith; most = omega arith }
@@ -103,14 +117,18 @@ entered-grown order new (fork at l r) even =
     by_test Equal left right = same-grown (fork at l r) even
     by_test Greater left right = grown true at l r even (entered order new l) left
 
+-- a node goes, and one side is all that is left
+alone-shrunk : (s : Bool) (at : ℕ) (t : Tree) → IsEven (sided s (fork at) leaf t) → IsShrunk (sided s (fork at) leaf t) t
+alone-shrunk s at t even =
+    let sides = even-sided s at leaf t even in
+    let none = levels-none in
+    let all = levels-sided s at leaf t in
+    record { even = sides.3; least = omega (arith, none, all); most = omega (arith, none, all) }
+
 -- the first place that is taken out
 pub without_least-shrunk : (at : ℕ) (l r : Tree) → IsEven (fork at l r) → IsShrunk (fork at l r) (without_least at l r)
 unfolding without_least
-without_least-shrunk at leaf r even =
-    let sides = even-sides at leaf r even in
-    let none = levels-none in
-    let all = levels-fork at leaf r in
-    record { even = sides.3; least = omega (arith, none, all); most = omega (arith, none, all) }
+without_least-shrunk at leaf r even = alone-shrunk true at r even
 without_least-shrunk at (fork top a b) r even =
     let sides = even-sides at (fork top a b) r even in
     shrunk true at (fork top a b) r even (without_least top a b) (without_least-shrunk top a b sides.2)
@@ -118,11 +136,7 @@ without_least-shrunk at (fork top a b) r even =
 -- a node goes, and its sides are merged
 pub merged-shrunk : (at : ℕ) (l r : Tree) → IsEven (fork at l r) → IsShrunk (fork at l r) (merged l r)
 unfolding merged
-merged-shrunk at l leaf even =
-    let sides = even-sides at l leaf even in
-    let none = levels-none in
-    let all = levels-fork at l leaf in
-    record { even = sides.2; least = omega (arith, none, all); most = omega (arith, none, all) }
+merged-shrunk at l leaf even = alone-shrunk false at l even
 merged-shrunk at l (fork top a b) even =
     let sides = even-sides at l (fork top a b) even in
     let other = even-fork (least top a) l (fork top a b) sides.0 sides.1 sides.2 sides.3 in

@@ -8,13 +8,14 @@ use Rattle.tree_shape.specs.Turns.{settled}
 use Rattle.tree_shape.specs.Changes.{found, entered}
 use Rattle.tree_shape.specs.Searches.{IsSearched, IsGrowing, IsEntry}
 use Rattle.tree_shape.proofs.Holding.{holds-joined}
-use Rattle.tree_shape.proofs.Sided.{sided, far, near, levels-sided}
+use Rattle.tree_shape.specs.Sides.{sided, far, near, AreSidesBy, AreReadyBy}
+use Rattle.tree_shape.proofs.Sided.{levels-sided}
 use Rattle.tree_shape.proofs.Turning.{levels-none, even-sided}
 use Rattle.tree_shape.proofs.Changing.{entered-grown}
 use Rattle.tree_shape.proofs.Opening.{with-node, joinable, kept-write, kept-same}
 use Rattle.tree_shape.proofs.Times.{here, times, times-leaf, times-fork, times-once, once-times, times-apart, times-entered}
 use Rattle.tree_shape.proofs.Keeping.{holds-frame, away-within, kept-after}
-use Rattle.tree_shape.proofs.Standing.{AreSidesBy, AreReadyBy, times-sided, parts, sides-by, ready-by}
+use Rattle.tree_shape.proofs.Standing.{times-sided, parts, sides-by, ready-by, with-sided}
 use Rattle.tree_shape.proofs.Searching.{toward, found-leaf, found-side, framed-side}
 
 entered-leaf : (order : ℕ → Ordering) (new : ℕ) → entered order new leaf ≡ fork new leaf leaf
@@ -52,6 +53,16 @@ pub record IsGrower (nodes : List Node) (frames : List ℕ) (pages : List (List 
 pub grower : (nodes : List Node) (frames : List ℕ) (pages : List (List ℕ)) (link new : ℕ) → link ≢ none → (t : Tree) → IsGrowing nodes frames pages link new t → IsGrower nodes frames pages link new
 grower nodes frames pages link new some t is =
     with-node nodes link t (λ (t : Tree). IsGrowing nodes frames pages link new t → IsGrower nodes frames pages link new) is.sound.holds some (λ l r held. λ now. record { l = l; r = r; is = now }) is
+
+-- the same, told by a side
+pub record IsGrowerBy (s : Bool) (nodes : List Node) (frames : List ℕ) (pages : List (List ℕ)) (link new : ℕ) : Type 0 where
+  pub t : Tree
+  pub u : Tree
+  pub is : IsGrowing nodes frames pages link new (sided s (fork link) t u)
+
+pub grower-by : (s : Bool) (nodes : List Node) (frames : List ℕ) (pages : List (List ℕ)) (link new : ℕ) → link ≢ none → (t : Tree) → IsGrowing nodes frames pages link new t → IsGrowerBy s nodes frames pages link new
+grower-by s nodes frames pages link new some t is =
+    with-sided s nodes link t (λ (t : Tree). IsGrowing nodes frames pages link new t → IsGrowerBy s nodes frames pages link new) is.sound.holds some (λ a b. λ now. record { t = a; u = b; is = now }) is
 
 pub growing-searched : (nodes : List Node) (frames : List ℕ) (pages : List (List ℕ)) (link new : ℕ) (t : Tree) → IsGrowing nodes frames pages link new t → IsSearched nodes frames pages link t
 growing-searched nodes frames pages link new t is = record { holds = is.sound.holds; framed = is.framed }

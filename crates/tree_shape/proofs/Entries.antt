@@ -9,8 +9,8 @@ use Rattle.tree_shape.specs.Shape.{Tree, fork, IsHung, none, blank}
 use Rattle.tree_shape.specs.Turns.{settled}
 use Rattle.tree_shape.specs.Changes.{entered}
 use Rattle.tree_shape.specs.Searches.{IsGrowing, IsEntry}
-use Rattle.tree_shape.proofs.Sided.{sided, far, near}
-use Rattle.tree_shape.proofs.Standing.{AreSidesBy, AreReadyBy, with-sided}
+use Rattle.tree_shape.specs.Sides.{sided, far, near, AreSidesBy, AreReadyBy}
+use Rattle.tree_shape.proofs.Standing.{with-sided}
 use Rattle.tree_shape.proofs.Searching.{toward, found-side, found-here}
 use Rattle.tree_shape.proofs.Entering.{growing-side, sides-grown, ready-grown, entry-grown}
 

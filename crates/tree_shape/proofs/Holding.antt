@@ -3,8 +3,9 @@ use Rattle.std.proofs.Common.{◌≡◌, ◌≢◌, ℕ, suc, ◌<◌, ◌==◌,
 use Rattle.std.proofs.lemmas.Bool.Decides.{nat_tests}
 use Rattle.std.proofs.lemmas.List.{get_or-set_same, get_or-set_other, length-set}
 use Rattle.tree_shape.specs.declared.Node.{Node}
-use Rattle.tree_shape.specs.Shape.{Tree, leaf, fork, levels, Holds, IsAway, IsLink, none, blank, height_at, with_sides}
+use Rattle.tree_shape.specs.Shape.{Tree, leaf, fork, levels, Holds, IsAway, AreApart, IsLink, none, blank, height_at, with_sides}
 use Rattle.tree_shape.proofs.Turning.{levels-fork}
+use Rattle.tree_shape.proofs.Keeping.{holds-frame}
 
 -- the link of a node leads to it
 pub holds-link : (nodes : List Node) (link : ℕ) (t : Tree) → Holds nodes link t → IsLink nodes link
@@ -22,22 +23,20 @@ holds-height nodes link (fork at l r) holds =
     let test : (link == none) ≡ false = grind (arith, nat_tests, same, some) in
     rw test (ap (λ (n : ℕ). (slice_index_or nodes n blank).height) same ∙ holds.3)
 
+-- a tree without a place is apart from the node that stands there alone
+apart-alone : (place : ℕ) (t : Tree) → IsAway place t → AreApart t (fork place leaf leaf)
+unfolding IsAway AreApart
+apart-alone place leaf away = tt
+apart-alone place (fork at l r) away = ((λ e. away.0 (sym e), tt, tt), apart-alone place l away.1, apart-alone place r away.2)
+
 -- a tree stays where another place is written
 pub holds-kept : (nodes : List Node) (place : ℕ) (node : Node) (link : ℕ) (t : Tree) → IsAway place t → Holds nodes link t → Holds (slice_set nodes place node) link t
-unfolding Holds IsAway
-holds-kept nodes place node link leaf away holds = holds
-holds-kept nodes place node link (fork at l r) away holds =
-    let read = get_or-set_other nodes place at node blank away.0 in
+unfolding IsAway
+holds-kept nodes place node link t away holds =
     let size = length-set nodes place node in
-    let inside = holds.2 in
-    rw read (
-      holds.0,
-      holds.1,
-      omega (arith, size, inside),
-      holds.3,
-      holds-kept nodes place node (slice_index_or nodes at blank).left l away.1 holds.4,
-      holds-kept nodes place node (slice_index_or nodes at blank).right r away.2 holds.5,
-    )
+    holds-frame nodes (slice_set nodes place node) (fork place leaf leaf) link t
+    (record { size = omega (arith, size); others = λ other apart. get_or-set_other nodes place other node blank (λ e. apart.0 (sym e)) })
+    (apart-alone place t away) holds
 
 -- a node between two sides
 pub holds-joined : (nodes : List Node) (left at right : ℕ) (l r : Tree) → at < length nodes → at ≢ none → IsAway at l → IsAway at r → Holds nodes left l → Holds nodes right r

@@ -1,5 +1,6 @@
 -- A look at a node leads to one side, and that side is lower.
 use Rattle.std.proofs.Common.{◌≡◌, ◌≢◌, ℕ, ◌<◌, Bool, true, false, List, length, slice_index_or, Option, None, Some, refl, sym, arith}
+use Rattle.std.specs.Ordering.{is_eq, is_gt}
 use Rattle.std.specs.declared.cmp.Ordering.{Ordering}
 use Rattle.std.specs.declared.cmp.Ordering.TheVariants.{Less, Equal, Greater}
 use Rattle.tree_shape.specs.declared.Node.{Node}
@@ -7,7 +8,8 @@ use Rattle.tree_shape.specs.Shape.{Tree, leaf, fork, Holds, none, blank, height_
 use Rattle.tree_shape.specs.Changes.{found}
 use Rattle.tree_shape.specs.Searches.{AreFramed, IsSearched}
 use Rattle.tree_shape.proofs.Holding.{holds-height}
-use Rattle.tree_shape.proofs.Sided.{sided, far, levels-sided}
+use Rattle.tree_shape.specs.Sides.{sided, far}
+use Rattle.tree_shape.proofs.Sided.{levels-sided}
 use Rattle.tree_shape.proofs.Opening.{with-node}
 use Rattle.tree_shape.proofs.Standing.{parts, with-sided}
 
@@ -36,6 +38,17 @@ found-leaf order = refl
 abbrev pub toward : Bool → Ordering
 toward true = Greater
 toward false = Less
+
+-- a content that isn't equal is looked for on a side
+pub equal-order : (o : Ordering) → is_eq o ≡ true → o ≡ Equal
+equal-order Less e = absurd (cc)
+equal-order Equal e = refl
+equal-order Greater e = absurd (cc)
+
+pub side-order : (o : Ordering) → is_eq o ≡ false → o ≡ toward (is_gt o)
+side-order Less e = refl
+side-order Equal e = absurd (cc)
+side-order Greater e = refl
 
 pub found-side : (s : Bool) (order : ℕ → Ordering) (at : ℕ) (t u : Tree) → order at ≡ toward s → found order (sided s (fork at) t u) ≡ found order t
 unfolding found
@@ -76,6 +89,14 @@ searched-side s nodes frames pages link t u is = record { holds = (parts s nodes
 
 -- what is found
 module _ (nodes : List Node) (frames : List ℕ) (pages : List (List ℕ)) (link : ℕ) (order : ℕ → Ordering) where
+  -- what hangs on a side can be looked through, is lower, and what is found there is found from here on
+  pub record LeadsOn (s : Bool) : Type 0 where
+    pub side : Tree
+    pub is : IsSearched nodes frames pages (far s (slice_index_or nodes link blank)) side
+    pub lower : height_at nodes (far s (slice_index_or nodes link blank)) < height_at nodes link
+    pub finds : (result : Option ℕ) → ((t : Tree) → IsSearched nodes frames pages (far s (slice_index_or nodes link blank)) t → result ≡ found order t)
+        → (t : Tree) → IsSearched nodes frames pages link t → result ≡ found order t
+
   pub find-none : link ≡ none → (t : Tree) → IsSearched nodes frames pages link t → None ≡ found order t
   unfolding Holds
   find-none e leaf is = sym (found-leaf order)
@@ -86,6 +107,17 @@ module _ (nodes : List Node) (frames : List ℕ) (pages : List (List ℕ)) (link
   find-side s some e result inner t is =
       with-sided s nodes link t (λ (t : Tree). IsSearched nodes frames pages link t → result ≡ found order t) is.holds some
       (λ a b. λ here. rw (found-side s order link a b e) (inner a (searched-side s nodes frames pages link a b here))) is
+
+  -- a step down leads on to what hangs there, and tells what is found of that
+  pub find-on : (s : Bool) → link ≢ none → order link ≡ toward s → (t : Tree) → IsSearched nodes frames pages link t → LeadsOn s
+  find-on s some e t is =
+      with-sided s nodes link t (λ (t : Tree). IsSearched nodes frames pages link t → LeadsOn s) is.holds some
+      (λ a b. λ here. record {
+        side = a;
+        is = searched-side s nodes frames pages link a b here;
+        lower = falls s nodes link (sided s (fork link) a b) some here.holds;
+        finds = λ result inner. find-side s some e result inner;
+      }) is
 
   pub find-here : link ≢ none → order link ≡ Equal → (t : Tree) → IsSearched nodes frames pages link t → Some link ≡ found order t
   find-here some equal t is =

@@ -4,11 +4,12 @@ use Rattle.tree_shape.specs.declared.Node.{Node}
 use Rattle.tree_shape.specs.Shape.{Tree, fork, levels, Holds, IsHung, none, blank}
 use Rattle.tree_shape.specs.Turns.{settled}
 use Rattle.tree_shape.specs.Removals.{IsShrinking}
-use Rattle.tree_shape.proofs.Sided.{sided, far, near, levels-sided}
+use Rattle.tree_shape.specs.Sides.{sided, far, near, AreSidesBy, AreReadyBy}
+use Rattle.tree_shape.proofs.Sided.{levels-sided}
 use Rattle.tree_shape.proofs.Turning.{even-sided}
 use Rattle.tree_shape.proofs.Times.{here, times, times-once, once-times, times-apart}
 use Rattle.tree_shape.proofs.Keeping.{holds-frame, away-within, kept-after}
-use Rattle.tree_shape.proofs.Standing.{AreSidesBy, AreReadyBy, times-sided, parts, sides-by, ready-by}
+use Rattle.tree_shape.proofs.Standing.{times-sided, parts, sides-by, ready-by}
 
 module _ (s : Bool) (nodes : List Node) (link : ℕ) (t u : Tree) (is : IsShrinking nodes link (sided s (fork link) t u)) where
   abbrev node : Node

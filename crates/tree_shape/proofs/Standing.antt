@@ -1,15 +1,11 @@
 -- What stands at two links and between them, told of a far and a near side.
 use Rattle.std.proofs.Common.{◌≡◌, ◌≢◌, ℕ, ◌+◌, ◌<◌, ◌≤◌, Bool, true, false, List, length, slice_index_or, slice_set, sym, subst, arith}
 use Rattle.tree_shape.specs.declared.Node.{Node}
-use Rattle.tree_shape.specs.Shape.{Tree, fork, levels, Holds, AreSides, AreReady, IsJoinable, IsKept, none, blank, height_at, with_sides}
+use Rattle.tree_shape.specs.Shape.{Tree, fork, levels, Holds, AreSides, IsKept, none, blank, height_at, with_sides}
 use Rattle.tree_shape.proofs.Holding.{holds-height, holds-kept, holds-joined}
-use Rattle.tree_shape.proofs.Sided.{sided, far, near}
+use Rattle.tree_shape.specs.Sides.{sided, far, near, IsJoinableBy, AreSidesBy, AreReadyBy}
 use Rattle.tree_shape.proofs.Opening.{with-node, height-some, joinable, kept-write}
 use Rattle.tree_shape.proofs.Times.{here, times, times-fork, times-away, away-times, times-once, once-times}
-
-abbrev pub IsJoinableBy : Bool → List Node → ℕ → ℕ → ℕ → Type 0
-IsJoinableBy true nodes x at y = IsJoinable nodes x at y
-IsJoinableBy false nodes x at y = IsJoinable nodes y at x
 
 -- two sides and the place between them, whichever is the left one
 pub record AreHeld (nodes : List Node) (up at other : ℕ) (t o : Tree) : Type 0 where
@@ -19,8 +15,8 @@ pub record AreHeld (nodes : List Node) (up at other : ℕ) (t o : Tree) : Type 0
   pub some : at ≢ none
   pub once : (i : ℕ) → times i t + here i at + times i o ≤ 1
 
-pub left-held : {nodes : List Node} {left at right : ℕ} {l r : Tree} → AreSides nodes left at right l r → AreHeld nodes left at right l r
-left-held {nodes} {left} {at} {right} {l} {r} are = record {
+held : {nodes : List Node} {left at right : ℕ} {l r : Tree} → AreSides nodes left at right l r → AreHeld nodes left at right l r
+held {nodes} {left} {at} {right} {l} {r} are = record {
   held = are.lefts;
   others = are.rights;
   inside = are.inside;
@@ -28,8 +24,9 @@ left-held {nodes} {left} {at} {right} {l} {r} are = record {
   once = λ i. let most = once-times (fork at l r) are.once i in let sum = times-fork i at l r in omega (arith, most, sum);
 }
 
-pub right-held : {nodes : List Node} {left at right : ℕ} {l r : Tree} → AreSides nodes left at right l r → AreHeld nodes right at left r l
-right-held {nodes} {left} {at} {right} {l} {r} are = let is = left-held are in record {
+pub held-by : (s : Bool) {nodes : List Node} {up at other : ℕ} {t o : Tree} → AreSidesBy s nodes up at other t o → AreHeld nodes up at other t o
+held-by true are = held are
+held-by false are = let is = held are in record {
   held = is.others;
   others = is.held;
   inside = is.inside;
@@ -45,17 +42,15 @@ pub record IsHigher (nodes : List Node) (up at other : ℕ) : Type 0 where
   pub low : levels t < none
   pub higher : levels o < levels t
 
-pub left-higher : {nodes : List Node} {left at right : ℕ} → AreReady nodes left at right → height_at nodes right < height_at nodes left → IsHigher nodes left at right
-left-higher {nodes} {left} {at} {right} ready higher =
-    let one = holds-height nodes left ready.l ready.are.lefts in
-    let two = holds-height nodes right ready.r ready.are.rights in
-    record { t = ready.l; o = ready.r; are = left-held ready.are; low = ready.low_left; higher = omega (arith, one, two, higher) }
+higher-of : {nodes : List Node} {up at other : ℕ} (t o : Tree) → AreHeld nodes up at other t o → levels t < none → height_at nodes other < height_at nodes up → IsHigher nodes up at other
+higher-of {nodes} {up} {at} {other} t o are low higher =
+    let one = holds-height nodes up t are.held in
+    let two = holds-height nodes other o are.others in
+    record { t = t; o = o; are = are; low = low; higher = omega (arith, one, two, higher) }
 
-pub right-higher : {nodes : List Node} {left at right : ℕ} → AreReady nodes left at right → height_at nodes left < height_at nodes right → IsHigher nodes right at left
-right-higher {nodes} {left} {at} {right} ready higher =
-    let one = holds-height nodes left ready.l ready.are.lefts in
-    let two = holds-height nodes right ready.r ready.are.rights in
-    record { t = ready.r; o = ready.l; are = right-held ready.are; low = ready.low_right; higher = omega (arith, one, two, higher) }
+pub higher-by : (s : Bool) {nodes : List Node} {up at other : ℕ} → AreReadyBy s nodes up at other → height_at nodes other < height_at nodes up → IsHigher nodes up at other
+higher-by true ready higher = higher-of ready.l ready.r (held-by true ready.are) ready.low_left higher
+higher-by false ready higher = higher-of ready.r ready.l (held-by false ready.are) ready.low_right higher
 
 pub times-sided : (s : Bool) (i at : ℕ) (t u : Tree) → times i (sided s (fork at) t u) ≡ times i t + here i at + times i u
 times-sided true i at t u = times-fork i at t u
@@ -72,8 +67,12 @@ pub with-sided : (s : Bool) (nodes : List Node) (link : ℕ) (t : Tree) (P : Tre
 with-sided true nodes link t P holds some then = with-node nodes link t P holds some (λ a b held. then a b)
 with-sided false nodes link t P holds some then = with-node nodes link t P holds some (λ a b held. then b a)
 
+-- the nodes once a place is a node between two sides
+abbrev pub joined_at : Bool → List Node → ℕ → ℕ → ℕ → List Node
+joined_at s nodes x at y = slice_set nodes at (sided s (with_sides nodes) x y)
+
 pub joined : (s : Bool) (nodes : List Node) (x at y : ℕ) (t u : Tree) → at < length nodes → at ≢ none → times at t + times at u ≡ 0 → Holds nodes x t → Holds nodes y u
-    → Holds (slice_set nodes at (sided s (with_sides nodes) x y)) at (sided s (fork at) t u)
+    → Holds (joined_at s nodes x at y) at (sided s (fork at) t u)
 joined true nodes x at y t u inside some nought one two = holds-joined nodes x at y t u inside some (times-away at t (omega (arith, nought))) (times-away at u (omega (arith, nought))) one two
 joined false nodes x at y t u inside some nought one two = holds-joined nodes y at x u t inside some (times-away at u (omega (arith, nought))) (times-away at t (omega (arith, nought))) two one
 
@@ -128,15 +127,7 @@ opened-twice s {nodes} {up} {at} {other} high more =
     (λ b c are low higher. record { a = is.a; b = b; c = c; o = is.o; are = are; low = low; higher = higher })
     is.are is.low is.higher
 
--- two sides of which each is told by the far one
-abbrev pub AreSidesBy : Bool → List Node → ℕ → ℕ → ℕ → Tree → Tree → Type 0
-AreSidesBy true nodes x at y t u = AreSides nodes x at y t u
-AreSidesBy false nodes x at y t u = AreSides nodes y at x u t
-
-abbrev pub AreReadyBy : Bool → List Node → ℕ → ℕ → ℕ → Type 0
-AreReadyBy true nodes x at y = AreReady nodes x at y
-AreReadyBy false nodes x at y = AreReady nodes y at x
-
+-- two sides, told by the far one
 sides : (nodes : List Node) (left at right : ℕ) (l r : Tree) → Holds nodes left l → Holds nodes right r → at < length nodes → at ≢ none → ((i : ℕ) → times i l + here i at + times i r ≤ 1) → AreSides nodes left at right l r
 sides nodes left at right l r lefts rights inside some most = record {
   lefts = lefts;

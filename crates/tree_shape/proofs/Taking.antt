@@ -11,10 +11,10 @@ use Rattle.tree_shape.specs.Turns.{settled}
 use Rattle.tree_shape.specs.Changes.{merged, taken}
 use Rattle.tree_shape.specs.Searches.{IsSearched}
 use Rattle.tree_shape.specs.Removals.{IsTaking, AreMerging, IsOut}
-use Rattle.tree_shape.proofs.Sided.{sided, far, near}
+use Rattle.tree_shape.specs.Sides.{sided, far, near, AreSidesBy, AreReadyBy}
 use Rattle.tree_shape.proofs.Changing.{taken-shrunk}
 use Rattle.tree_shape.proofs.Opening.{with-node, kept-same}
-use Rattle.tree_shape.proofs.Standing.{AreSidesBy, AreReadyBy, with-sided}
+use Rattle.tree_shape.proofs.Standing.{with-sided}
 use Rattle.tree_shape.proofs.Times.{times-fork}
 use Rattle.tree_shape.proofs.Places.{times-merged, times-taken}
 use Rattle.tree_shape.proofs.Keeping.{away-within, kept-after}
@@ -47,6 +47,16 @@ pub record IsTaker (nodes : List Node) (frames : List ℕ) (pages : List (List �
 pub taker : (nodes : List Node) (frames : List ℕ) (pages : List (List ℕ)) (link : ℕ) → link ≢ none → (t : Tree) → IsTaking nodes frames pages link t → IsTaker nodes frames pages link
 taker nodes frames pages link some t is =
     with-node nodes link t (λ (t : Tree). IsTaking nodes frames pages link t → IsTaker nodes frames pages link) is.shrinks.sound.holds some (λ l r held. λ now. record { l = l; r = r; is = now }) is
+
+-- the same, told by a side
+pub record IsTakerBy (s : Bool) (nodes : List Node) (frames : List ℕ) (pages : List (List ℕ)) (link : ℕ) : Type 0 where
+  pub t : Tree
+  pub u : Tree
+  pub is : IsTaking nodes frames pages link (sided s (fork link) t u)
+
+pub taker-by : (s : Bool) (nodes : List Node) (frames : List ℕ) (pages : List (List ℕ)) (link : ℕ) → link ≢ none → (t : Tree) → IsTaking nodes frames pages link t → IsTakerBy s nodes frames pages link
+taker-by s nodes frames pages link some t is =
+    with-sided s nodes link t (λ (t : Tree). IsTaking nodes frames pages link t → IsTakerBy s nodes frames pages link) is.shrinks.sound.holds some (λ a b. λ now. record { t = a; u = b; is = now }) is
 
 pub taking-searched : (nodes : List Node) (frames : List ℕ) (pages : List (List ℕ)) (link : ℕ) (t : Tree) → IsTaking nodes frames pages link t → IsSearched nodes frames pages link t
 taking-searched nodes frames pages link t is = record { holds = is.shrinks.sound.holds; framed = is.framed }

@@ -2,7 +2,8 @@
 use Rattle.std.proofs.Common.{◌≡◌, ℕ, suc, ◌+◌, ◌<◌, ◌≤◌, nat_lt, Bool, true, false, if◌then◌else◌, List, [], ◌∷◌, ◌++◌, max, refl, sym, ap, ◌∙◌, arith, append_assoc}
 use Rattle.tree_shape.specs.Shape.{Tree, leaf, fork, levels, in_order, IsEven}
 use Rattle.tree_shape.specs.Turns.{left_up, right_up, settled}
-use Rattle.tree_shape.proofs.Sided.{sided, up_by, levels-sided}
+use Rattle.tree_shape.specs.Sides.{sided, up_by}
+use Rattle.tree_shape.proofs.Sided.{levels-sided}
 
 pub levels-fork : (at : ℕ) (l r : Tree) → levels (fork at l r) ≡ suc (max (levels l) (levels r))
 unfolding levels

@@ -1,14 +1,15 @@
 -- The node between comes up, where the near side of the far side is higher: what can be joined on the way, and what hangs in the end.
-use Rattle.std.proofs.Common.{◌≡◌, ◌≢◌, ℕ, ◌+◌, ◌<◌, ◌≤◌, Bool, List, length, slice_index_or, slice_set, sym, subst, arith}
+use Rattle.std.proofs.Common.{◌≡◌, ◌≢◌, ℕ, ◌+◌, ◌<◌, ◌≤◌, Bool, List, length, slice_index_or, sym, subst, arith}
 use Rattle.std.proofs.lemmas.List.{length-set}
 use Rattle.tree_shape.specs.declared.Node.{Node}
-use Rattle.tree_shape.specs.Shape.{Tree, fork, levels, Holds, IsHung, none, blank, height_at, with_sides}
+use Rattle.tree_shape.specs.Shape.{Tree, fork, levels, Holds, IsHung, none, blank, height_at}
 use Rattle.tree_shape.proofs.Holding.{holds-height}
 use Rattle.tree_shape.proofs.Opening.{kept-same, height-some}
 use Rattle.tree_shape.proofs.Times.{here, here-same, times}
-use Rattle.tree_shape.proofs.Sided.{sided, far, near, up_by, levels-sided}
+use Rattle.tree_shape.specs.Sides.{sided, far, near, up_by, IsJoinableBy}
+use Rattle.tree_shape.proofs.Sided.{levels-sided}
 use Rattle.tree_shape.proofs.Turning.{up-twice}
-use Rattle.tree_shape.proofs.Standing.{IsJoinableBy, AreHeld, IsHigher, opened-twice, times-sided, parts, with-sided, joined, stays, joinable-by, wrote}
+use Rattle.tree_shape.proofs.Standing.{joined_at, AreHeld, IsHigher, opened-twice, times-sided, parts, with-sided, joined, stays, joinable-by, wrote}
 
 module _ (s : Bool) (nodes : List Node) (up at other : ℕ) where
   abbrev node : Node
@@ -20,20 +21,14 @@ module _ (s : Bool) (nodes : List Node) (up at other : ℕ) where
   abbrev between : Node
   between = slice_index_or nodes top blank
 
-  abbrev farther : Node
-  farther = sided s (with_sides nodes) (far s node) (far s between)
-
   abbrev first : List Node
-  first = slice_set nodes up farther
-
-  abbrev nearer : Node
-  nearer = sided s (with_sides first) (near s between) other
+  first = joined_at s nodes (far s node) up (far s between)
 
   abbrev second : List Node
-  second = slice_set first at nearer
+  second = joined_at s first (near s between) at other
 
-  abbrev above : Node
-  above = sided s (with_sides second) up at
+  abbrev third : List Node
+  third = joined_at s second up top at
 
   module _ (a b c o : Tree) (are : AreHeld nodes up at other (sided s (fork up) a (sided s (fork top) b c)) o) where
     abbrev all : Tree
@@ -64,28 +59,28 @@ module _ (s : Bool) (nodes : List Node) (up at other : ℕ) where
     far-written = let most = all-once up in let one = here-same up in joined s nodes (far s node) up (far s between) a b own.1 own.0 (omega (arith, most, one)) own.2 inner.2
 
     near-stays : Holds first (near s between) c
-    near-stays = let most = all-once up in let one = here-same up in stays nodes up farther (near s between) c (omega (arith, most, one)) inner.3
+    near-stays = let most = all-once up in let one = here-same up in stays nodes up _ (near s between) c (omega (arith, most, one)) inner.3
 
     other-stays : Holds first other o
-    other-stays = let most = all-once up in let one = here-same up in stays nodes up farther other o (omega (arith, most, one)) are.others
+    other-stays = let most = all-once up in let one = here-same up in stays nodes up _ other o (omega (arith, most, one)) are.others
 
     place-inside : at < length first
-    place-inside = let size = length-set nodes up farther in let inside = are.inside in omega (arith, size, inside)
+    place-inside = let size : length first ≡ length nodes = length-set nodes up _ in let inside = are.inside in omega (arith, size, inside)
 
     far-below : Holds second up (sided s (fork up) a b)
     far-below =
         let most = all-once at in
         let one = here-same at in
         let sum = times-sided s at up a b in
-        stays first at nearer up (sided s (fork up) a b) (omega (arith, most, one, sum)) far-written
+        stays first at _ up (sided s (fork up) a b) (omega (arith, most, one, sum)) far-written
 
     near-below : Holds second at (sided s (fork at) c o)
     near-below = let most = all-once at in let one = here-same at in joined s first (near s between) at other c o place-inside are.some (omega (arith, most, one)) near-stays other-stays
 
     within : top < length second
-    within = let size = length-set nodes up farther in let same = length-set first at nearer in let inside = inner.1 in omega (arith, size, same, inside)
+    within = let size : length first ≡ length nodes = length-set nodes up _ in let same : length second ≡ length first = length-set first at _ in let inside = inner.1 in omega (arith, size, same, inside)
 
-    turned : Holds (slice_set second top above) top (sided s (fork top) (sided s (fork up) a b) (sided s (fork at) c o))
+    turned : Holds third top (sided s (fork top) (sided s (fork up) a b) (sided s (fork at) c o))
     turned =
         let most = all-once top in
         let one = here-same top in
@@ -93,20 +88,20 @@ module _ (s : Bool) (nodes : List Node) (up at other : ℕ) where
         let rights = times-sided s top at c o in
         joined s second up top at (sided s (fork up) a b) (sided s (fork at) c o) within inner.0 (omega (arith, most, one, lefts, rights)) far-below near-below
 
-    hung : levels a < levels (sided s (fork top) b c) → IsHung nodes (slice_set second top above) top (up_by s at (sided s (fork up) a (sided s (fork top) b c)) o) all
+    hung : levels a < levels (sided s (fork top) b c) → IsHung nodes third top (up_by s at (sided s (fork up) a (sided s (fork top) b c)) o) all
     hung more = record {
-      holds = subst (λ (t : Tree). Holds (slice_set second top above) top t) (sym (up-twice s at up top a b c o more)) turned;
-      kept = wrote nodes second all top above (let e = sum-all top in let one = here-same top in omega (arith, e, one))
-          (wrote nodes first all at nearer (let e = sum-all at in let one = here-same at in omega (arith, e, one))
-          (wrote nodes nodes all up farther (let e = sum-all up in let one = here-same up in omega (arith, e, one)) (kept-same nodes all)));
+      holds = subst (λ (t : Tree). Holds third top t) (sym (up-twice s at up top a b c o more)) turned;
+      kept = wrote nodes second all top _ (let e = sum-all top in let one = here-same top in omega (arith, e, one))
+          (wrote nodes first all at _ (let e = sum-all at in let one = here-same at in omega (arith, e, one))
+          (wrote nodes nodes all up _ (let e = sum-all up in let one = here-same up in omega (arith, e, one)) (kept-same nodes all)));
     }
 
   -- the same for whatever comes up
   abbrev Hung : Tree → Tree → Type 0
-  Hung t o = IsHung nodes (slice_set second top above) top (up_by s at t o) (sided s (fork at) t o)
+  Hung t o = IsHung nodes third top (up_by s at t o) (sided s (fork at) t o)
 
   pub hung-twice : up ≢ none → height_at nodes (far s node) < height_at nodes top → (t o : Tree) → AreHeld nodes up at other t o
-      → IsHung nodes (slice_set second top above) top (up_by s at t o) (sided s (fork at) t o)
+      → IsHung nodes third top (up_by s at t o) (sided s (fork at) t o)
   hung-twice some more t o are =
       with-sided s nodes up t (λ (t : Tree). AreHeld nodes up at other t o → Hung t o) are.held some (λ a x sides.
       let is = parts s nodes up up a x sides.held in

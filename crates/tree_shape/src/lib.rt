@@ -3,7 +3,8 @@
 
 ghost use Rattle.std.specs.Prelude.{◌≡◌, ◌<◌, length, slice_set};
 ghost use Rattle.tree_shape.specs.Shape.{Tree, fork, IsLink, AreSides, AreReady, IsJoinable, IsHung, height_at, with_sides};
-ghost use Rattle.tree_shape.specs.Turns.{left_up, right_up, settled};
+ghost use Rattle.tree_shape.specs.Turns.{settled};
+ghost use Rattle.tree_shape.specs.Sides.{sided, up_by, IsJoinableBy, AreSidesBy, AreReadyBy};
 
 pub mod removal;
 pub mod search;
@@ -18,6 +19,25 @@ pub struct Node {
     pub right: u32,
     /// How many levels it and what hangs at it have.
     pub height: u32,
+}
+
+impl Node {
+    ghost use Rattle.std.specs.Prelude.{◌≡◌};
+    ghost use Rattle.tree_shape.specs.Sides.{far, near};
+
+    /// The link of its left side, or of its right one.
+    pub(crate) fn far(self, left: bool) -> u32
+        ensures { result ≡ far left self }
+    {
+        if left { self.left } else { self.right }
+    }
+
+    /// The link of the other side.
+    pub(crate) fn near(self, left: bool) -> u32
+        ensures { result ≡ near left self }
+    {
+        if left { self.right } else { self.left }
+    }
 }
 
 /// How many levels hang at a link.
@@ -44,50 +64,37 @@ pub fn join(nodes: &mut [Node], left: u32, at: u32, right: u32)
     };
 }
 
-/// Brings up the left side, whose right side goes below, or the node between them.
-fn left_up(nodes: &mut [Node], left: u32, at: u32, right: u32) -> u32
-    requires ready { AreReady nodes.old left at right }
-    requires higher { height_at nodes.old right < height_at nodes.old left }
-    ensures { (l r : Tree) → AreSides nodes.old left at right l r
-        → IsHung nodes.old nodes.new result (left_up at l r) (fork at l r) }
+/// Makes a place a node between two sides, the far one first.
+fn join_by(nodes: &mut [Node], left: bool, far: u32, at: u32, near: u32)
+    requires { IsJoinableBy left nodes.old far at near }
+    ensures { nodes.new ≡ slice_set nodes.old at (sided left (with_sides nodes.old) far near) }
 {
-    let side = nodes[left as usize];
-    let inner = height(nodes, side.right);
-    let outer = height(nodes, side.left);
-    if inner <= outer {
-        join(nodes, side.right, at, right);
-        join(nodes, side.left, left, at);
-        return left;
+    if left {
+        join(nodes, far, at, near);
+    } else {
+        join(nodes, near, at, far);
     }
-    let top = side.right;
-    let middle = nodes[top as usize];
-    join(nodes, side.left, left, middle.left);
-    join(nodes, middle.right, at, right);
-    join(nodes, left, top, at);
-    top
 }
 
-/// Brings up the right side, whose left side goes below, or the node between them.
-fn right_up(nodes: &mut [Node], left: u32, at: u32, right: u32) -> u32
-    requires ready { AreReady nodes.old left at right }
-    requires higher { height_at nodes.old left < height_at nodes.old right }
-    ensures { (l r : Tree) → AreSides nodes.old left at right l r
-        → IsHung nodes.old nodes.new result (right_up at l r) (fork at l r) }
+/// Brings up a side, the left or the right one: its near side goes below, or the node between them comes up.
+fn side_up(nodes: &mut [Node], left: bool, up: u32, at: u32, other: u32) -> u32
+    requires ready { AreReadyBy left nodes.old up at other }
+    requires higher { height_at nodes.old other < height_at nodes.old up }
+    ensures { (t o : Tree) → AreSidesBy left nodes.old up at other t o
+        → IsHung nodes.old nodes.new result (up_by left at t o) (sided left (fork at) t o) }
 {
-    let side = nodes[right as usize];
-    let inner = height(nodes, side.left);
-    let outer = height(nodes, side.right);
-    if inner <= outer {
-        join(nodes, left, at, side.left);
-        join(nodes, at, right, side.right);
-        return right;
+    let outer = nodes[up as usize].far(left);
+    let inner = nodes[up as usize].near(left);
+    if height(nodes, inner) <= height(nodes, outer) {
+        join_by(nodes, left, inner, at, other);
+        join_by(nodes, left, outer, up, at);
+        return up;
     }
-    let top = side.left;
-    let middle = nodes[top as usize];
-    join(nodes, middle.right, right, side.right);
-    join(nodes, left, at, middle.left);
-    join(nodes, at, top, right);
-    top
+    let middle = nodes[inner as usize];
+    join_by(nodes, left, outer, up, middle.far(left));
+    join_by(nodes, left, middle.near(left), at, other);
+    join_by(nodes, left, up, inner, at);
+    inner
 }
 
 /// Makes a place a node between two sides, and turns it where one is two levels higher. Tells the first node's place.
@@ -99,11 +106,24 @@ fn settle(nodes: &mut [Node], left: u32, at: u32, right: u32) -> u32
     let lefts = height(nodes, left);
     let rights = height(nodes, right);
     if rights + 1 < lefts {
-        return left_up(nodes, left, at, right);
+        return side_up(nodes, true, left, at, right);
     }
     if lefts + 1 < rights {
-        return right_up(nodes, left, at, right);
+        return side_up(nodes, false, right, at, left);
     }
     join(nodes, left, at, right);
     at
+}
+
+/// Makes a place a node between two sides, the far one first, and settles it.
+fn settle_by(nodes: &mut [Node], left: bool, far: u32, at: u32, near: u32) -> u32
+    requires { AreReadyBy left nodes.old far at near }
+    ensures { (t o : Tree) → AreSidesBy left nodes.old far at near t o
+        → IsHung nodes.old nodes.new result (sided left (settled at) t o) (sided left (fork at) t o) }
+{
+    if left {
+        settle(nodes, far, at, near)
+    } else {
+        settle(nodes, near, at, far)
+    }
 }

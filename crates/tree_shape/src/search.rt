@@ -4,7 +4,7 @@ ghost use Rattle.tree_shape.specs.Shape.{Tree, height_at};
 ghost use Rattle.tree_shape.specs.Changes.{found};
 ghost use Rattle.tree_shape.specs.Searches.{order_to, IsSearched, IsGrowing, IsEntry};
 
-use crate::{NONE, Node, join, settle};
+use crate::{NONE, Node, join, settle_by};
 use frame_arena::Counted;
 use std::cmp::Ordering;
 
@@ -82,15 +82,13 @@ pub fn enter(
         return Entered::Root(new);
     }
     let node = nodes[link as usize];
-    match order_at(frames, arena, link, frames[new as usize]) {
-        Ordering::Less => match enter(nodes, frames, arena, node.right, new) {
-            Entered::There(at) => Entered::There(at),
-            Entered::Root(right) => Entered::Root(settle(nodes, node.left, link, right)),
-        },
-        Ordering::Equal => Entered::There(link),
-        Ordering::Greater => match enter(nodes, frames, arena, node.left, new) {
-            Entered::There(at) => Entered::There(at),
-            Entered::Root(left) => Entered::Root(settle(nodes, left, link, node.right)),
-        },
+    let order = order_at(frames, arena, link, frames[new as usize]);
+    if order.is_eq() {
+        return Entered::There(link);
+    }
+    let left = order.is_gt();
+    match enter(nodes, frames, arena, node.far(left), new) {
+        Entered::There(at) => Entered::There(at),
+        Entered::Root(root) => Entered::Root(settle_by(nodes, left, root, link, node.near(left))),
     }
 }

@@ -78,14 +78,10 @@ all_is_normal width d = normal_of_is_normal (all width d) 0 (in_all width d 0 (m
 
 -- what a width takes of a range are numbers of the width
 normal_below : (width : Width) (d : Align) → (normal_of (all width d)).high < modulus width
-normal_below Bits32 One = omega arith
-normal_below Bits32 Two = omega arith
-normal_below Bits32 Four = omega arith
-normal_below Bits32 Eight = omega arith
-normal_below Bits64 One = omega arith
-normal_below Bits64 Two = omega arith
-normal_below Bits64 Four = omega arith
-normal_below Bits64 Eight = omega arith
+normal_below width One = let some = modulus_positive width in omega (arith, some)
+normal_below width Two = let some = modulus_positive width in omega (arith, some)
+normal_below width Four = let some = modulus_positive width in omega (arith, some)
+normal_below width Eight = let some = modulus_positive width in omega (arith, some)
 
 pub taken_below : (width : Width) (r : Range) → (taken width r).high < modulus width
 taken_below width r = grind (arith, cond_both, nat_lt, ltb-true, normal_below)

@@ -3,9 +3,7 @@ use Rattle.std.proofs.Common.{◌≡◌, ◌∙◌, ◌⊎◌, ⊎_elim, ℕ, ze
 use Rattle.std.proofs.lemmas.List.{get_or-set_same, set-get_or, set-set, append_assoc, length-append, length-take, take_at, drop_at, drop-drop}
 use Rattle.host_types.specs.Bytes.{with_part}
 use Rattle.host_types.specs.Memory.{FlatMap, FlatMaps, map_at}
-use Rattle.host_types.specs.declared.status.Status.{Status}
-use Rattle.host_types.specs.declared.status.Status.TheVariants.{New, Volatile, Waiting, Grouped, Zero}
-use Rattle.host_types.specs.Sharing.{Sharing, PageState, state_at, is_shared_page, cost_of, is_in_company, broken, break_cost, broken_from, cost_from}
+use Rattle.host_types.specs.Sharing.{Sharing, state_at, is_shared_page, broken, break_cost, broken_from, cost_from}
 use Rattle.host_types.specs.Pins.{broken_by, broken_by_from}
 use Rattle.host_types.proofs.Unmerging.{broken-own, broken-shared}
 use Rattle.host_types.proofs.Pins.{cost-by}
@@ -46,32 +44,6 @@ pub touched-two : (at size : ℕ) → size ≤ 4096 → touched at size ≤ 2
 unfolding touched
 touched-two at zero small = omega arith
 touched-two at (suc n) small = omega arith
-
--- the break of a page takes one frame at most
-pub break_cost-few : (sharing : Sharing) (i : ℕ) → break_cost sharing i ≤ 1
-unfolding break_cost
-break_cost-few sharing i = by_page (state_at sharing i) refl
-  where
-    by_status : (company : Bool) (status : Status) → cost_of company status ≤ 1
-    by_status company New = omega arith
-    by_status company Volatile = omega arith
-    by_status company Waiting = omega arith
-    by_status true Grouped = omega arith
-    by_status false Grouped = omega arith
-    by_status company Zero = omega arith
-
-    by_page : (page : Option PageState) → state_at sharing i ≡ page → break_cost sharing i ≤ 1
-    by_page None e = rw e (omega arith)
-    by_page (Some state) e = rw e (by_status (is_in_company sharing i) state.status)
-
--- the breaks of some pages take one frame each at most
-pub cost_from-few : (sharing : Sharing) (i n : ℕ) → cost_from sharing i n ≤ n
-unfolding cost_from
-cost_from-few sharing i zero = omega arith
-cost_from-few sharing i (suc n) =
-    let first = break_cost-few sharing i in
-    let rest = cost_from-few (broken sharing i) (i + 1) n in
-    omega (arith, first, rest)
 
 -- bytes up to the end of a page, and more behind it
 pub touched-more : (at size rest : ℕ) → 0 < size → at % 4096 + size ≡ 4096 → touched at (size + rest) ≡ suc (touched (at + size) rest)

@@ -11,7 +11,8 @@ use host_types::{MapNo, Page};
 use page_table::Memory;
 
 /// The page of a tenant's map that a byte is in.
-fn page_of(tenant: u32, map: MapNo, at: u32) -> Page
+#[inline(always)]
+pub fn page_of(tenant: u32, map: MapNo, at: u32) -> Page
     ensures { result ≡ record { tenant = tenant; map = map; number = at / 4096 } }
 {
     Page {

@@ -13,14 +13,14 @@ overflow_add-rights c = let low = (ready-joinable c.args.nodes.now c.args.left c
 
 pub returns-then-rights-lefts : goal.returns-then-rights-lefts
 returns-then-rights-lefts c = λ l r are.
-    settle-left c.args.nodes.now c.args.left c.args.at c.args.right l r are c.left_up.new.nodes c.left_up.result (omega arith) (c.left_up.ensures l r are)
+    settle-left c.args.nodes.now c.args.left c.args.at c.args.right l r are c.side_up.new.nodes c.side_up.result (omega arith) (c.side_up.ensures l r are)
 
 pub overflow_add-lefts : goal.overflow_add-lefts
 overflow_add-lefts c = let low = (ready-joinable c.args.nodes.now c.args.left c.args.at c.args.right c.requires).low_left in omega (arith, low)
 
 pub returns-then-lefts-rights : goal.returns-then-lefts-rights
 returns-then-lefts-rights c = λ l r are.
-    settle-right c.args.nodes.now c.args.left c.args.at c.args.right l r are c.right_up.new.nodes c.right_up.result (omega arith) (c.right_up.ensures l r are)
+    settle-right c.args.nodes.now c.args.left c.args.at c.args.right l r are c.side_up-then-lefts-rights.new.nodes c.side_up-then-lefts-rights.result (omega arith) (c.side_up-then-lefts-rights.ensures r l are)
 
 pub join-requires : goal.join-requires
 join-requires c = ready-joinable c.args.nodes.now c.args.left c.args.at c.args.right c.requires

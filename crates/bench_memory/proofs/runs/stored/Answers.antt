@@ -1,6 +1,7 @@
 use Rattle.std.proofs.Common.{◌*◌, arith}
 use Rattle.write_break.specs.Stores.{place_of_byte}
-use Rattle.write_break.proofs.Stores.{cost-one, break_cost-few}
+use Rattle.host_types.proofs.Pins.{break_cost-few}
+use Rattle.write_break.proofs.Stores.{cost-one}
 use Rattle.bench_memory.proofs.runs.stored.Goals as goal
 
 pub store-requires-clause-room : goal.store-requires-clause-room

@@ -1,11 +1,20 @@
-use Rattle.std.proofs.Common.{◌∷◌, length, sym, ap, subst, arith}
+use Rattle.std.proofs.Common.{◌+◌, ◌*◌, ◌≤◌, ◌∷◌, length, sym, ap, subst, arith}
 use Rattle.stable_tree.specs.Digits.{digits}
 use Rattle.stable_tree.specs.Groups.{IsSorted}
-use Rattle.stable_tree.specs.Places.{tree_in}
+use Rattle.stable_tree.specs.Places.{tree_in, chains_in}
 use Rattle.stable_tree.proofs.Contents.{whole-few}
 use Rattle.stable_tree.proofs.Entering.{renoded_store, whole-growing}
 use Rattle.stable_tree.proofs.Putting.{put-there, put-new, put-lengthened}
 use Rattle.stable_tree.proofs.store.put.Goals as goal
+use Rattle.stable_tree.proofs.store.put.Goals.{After-enter}
+
+-- the tree is as low as its groups are few
+few : (c : After-enter) → c.enter.new.arena.steps ≤ c.args.arena.now.steps + 2 * digits (length (chains_in c.args.store.now))
+few c =
+    let few = whole-few c.place-place.new.store (c.place-place.result ∷ c.place-place.new.store.free.items) c.place-place.ensures.whole in
+    let same = ap (λ chains. digits (length chains)) c.place-place.ensures.chains in
+    let told = rw c.deref_mut.ensures.value at c.enter.ensures.few in
+    omega (arith, few, same, told)
 
 pub enter-requires-clause-tree : goal.enter-requires-clause-tree
 enter-requires-clause-tree c =
@@ -34,11 +43,7 @@ returns-in-There-clause-put c =
     (put-lengthened c.args.arena.now.pages c.args.frame mid (renoded_store mid c.enter.new.nodes mid.root) c.lengthen.new.store c.place-place.result c.in-There.at c.lengthen.result c.place-place.ensures.whole sorted c.place-place.ensures.framed is.same is.found_is c.lengthen.ensures.chains)
 
 pub returns-in-There-clause-few : goal.returns-in-There-clause-few
-returns-in-There-clause-few c =
-    let few = whole-few c.place-place.new.store (c.place-place.result ∷ c.place-place.new.store.free.items) c.place-place.ensures.whole in
-    let same = ap (λ chains. digits (length chains)) c.place-place.ensures.chains in
-    let told = rw c.deref_mut.ensures.value at c.enter.ensures.few in
-    omega (arith, few, same, told)
+returns-in-There-clause-few c = few (goal.at.returns-in-There-clause-few c).After-enter
 
 pub returns-in-Root-clause-whole : goal.returns-in-Root-clause-whole
 returns-in-Root-clause-whole c =
@@ -53,8 +58,4 @@ returns-in-Root-clause-put c =
     rw (← c.place-place.ensures.chains) is.1
 
 pub returns-in-Root-clause-few : goal.returns-in-Root-clause-few
-returns-in-Root-clause-few c =
-    let few = whole-few c.place-place.new.store (c.place-place.result ∷ c.place-place.new.store.free.items) c.place-place.ensures.whole in
-    let same = ap (λ chains. digits (length chains)) c.place-place.ensures.chains in
-    let told = rw c.deref_mut.ensures.value at c.enter.ensures.few in
-    omega (arith, few, same, told)
+returns-in-Root-clause-few c = few (goal.at.returns-in-Root-clause-few c).After-enter

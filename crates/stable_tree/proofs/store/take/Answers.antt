@@ -1,9 +1,18 @@
-use Rattle.std.proofs.Common.{arith}
+use Rattle.std.proofs.Common.{◌+◌, ◌*◌, ◌≤◌, length, arith}
+use Rattle.stable_tree.specs.Digits.{digits}
 use Rattle.stable_tree.specs.Places.{tree_in, chains_in}
 use Rattle.stable_tree.proofs.Contents.{whole-few}
 use Rattle.stable_tree.proofs.Entering.{renoded_store, whole-taking}
 use Rattle.stable_tree.proofs.Taking.{take-stays, out-nowhere, out-stays, out-taken}
 use Rattle.stable_tree.proofs.store.take.Goals as goal
+use Rattle.stable_tree.proofs.store.take.Goals.{After-take_out}
+
+-- the tree is as low as its groups are few
+few : (c : After-take_out) → c.take_out.new.arena.steps ≤ c.args.arena.now.steps + 2 * digits (length (chains_in c.args.store.now))
+few c =
+    let few = whole-few c.args.store.now c.args.store.now.free.items c.requires.whole in
+    let told = rw c.deref_mut.ensures.value at c.take_out.ensures.few in
+    omega (arith, few, told)
 
 pub take_out-requires-clause-tree : goal.take_out-requires-clause-tree
 take_out-requires-clause-tree c =
@@ -28,10 +37,7 @@ pub returns-in-Nowhere-clause-taken : goal.returns-in-Nowhere-clause-taken
 returns-in-Nowhere-clause-taken c = (out-nowhere c.requires.whole c.requires.sorted (rw (c.deref_mut.ensures.value, c.deref.ensures.value) at c.in-Nowhere.ensures.out)).1
 
 pub returns-in-Nowhere-clause-few : goal.returns-in-Nowhere-clause-few
-returns-in-Nowhere-clause-few c =
-    let few = whole-few c.args.store.now c.args.store.now.free.items c.requires.whole in
-    let told = rw c.deref_mut.ensures.value at c.take_out.ensures.few in
-    omega (arith, few, told)
+returns-in-Nowhere-clause-few c = few (goal.at.returns-in-Nowhere-clause-few c).After-take_out
 
 pub returns-in-Stays-clause-taken : goal.returns-in-Stays-clause-taken
 returns-in-Stays-clause-taken c =
@@ -40,16 +46,10 @@ returns-in-Stays-clause-taken c =
     take-stays c.args.arena.now.pages c.args.frame old (renoded_store old c.take_out.new.nodes old.root) c.shorten.new.store c.in-Stays.at c.shorten.result c.requires.whole c.requires.sorted is.same is.found_is c.shorten.ensures.chains
 
 pub returns-in-Stays-clause-few : goal.returns-in-Stays-clause-few
-returns-in-Stays-clause-few c =
-    let few = whole-few c.args.store.now c.args.store.now.free.items c.requires.whole in
-    let told = rw c.deref_mut.ensures.value at c.take_out.ensures.few in
-    omega (arith, few, told)
+returns-in-Stays-clause-few c = few (goal.at.returns-in-Stays-clause-few c).After-take_out
 
 pub returns-in-Out-clause-taken : goal.returns-in-Out-clause-taken
 returns-in-Out-clause-taken c = (out-taken c.requires.whole c.requires.sorted (rw (c.deref_mut.ensures.value, c.deref.ensures.value, c.deref-2.ensures.value) at c.in-Out.ensures.out)).1 (chains_in c.give_back.new.store) c.give_back.ensures.chains
 
 pub returns-in-Out-clause-few : goal.returns-in-Out-clause-few
-returns-in-Out-clause-few c =
-    let few = whole-few c.args.store.now c.args.store.now.free.items c.requires.whole in
-    let told = rw c.deref_mut.ensures.value at c.take_out.ensures.few in
-    omega (arith, few, told)
+returns-in-Out-clause-few c = few (goal.at.returns-in-Out-clause-few c).After-take_out

@@ -2,13 +2,14 @@ use Rattle.std.proofs.Common.{◌≡◌, ◌∙◌, ◌+◌, ◌*◌, ◌/◌, �
 use Rattle.host_types.specs.Bytes.{bytes_of}
 use Rattle.host_types.specs.Sharing.{state_at}
 use Rattle.host_types.proofs.Bytes.{bytes_low_first-bytes_of}
+use Rattle.host_types.proofs.Pins.{break_cost-own}
 use Rattle.page_table.specs.State.{part}
 use Rattle.bpf_decode.specs.Opcodes.{byte_count}
 use Rattle.write_break.specs.Stores.{place_of_byte}
 use Rattle.write_break.proofs.Numbers.{take-bytes_of}
 use Rattle.write_break.proofs.Stores.{sharing-one, cost-one, have-kept}
 use Rattle.tenant_runs.proofs.Rooms.{in_page, some_bytes, own_page}
-use Rattle.tenant_runs.proofs.Storing.{own_cost, own_broken, own_part, room_same}
+use Rattle.tenant_runs.proofs.Storing.{own_broken, own_part, room_same}
 use Rattle.tenant_runs.proofs.maps.store_own.Goals as goal
 
 pub returns : goal.returns
@@ -23,7 +24,7 @@ returns c =
     let apart = own_page (state_at sharing (place_of_byte c.args.tenant c.args.map c.args.at)) c.requires.own in
     let running = (part c.args.memory.now c.args.tenant).running in
     let unbroken = sharing-one sharing c.args.tenant c.args.map c.args.at size (omega (arith, least)) within running ∙ own_broken running sharing (place_of_byte c.args.tenant c.args.map c.args.at) apart in
-    let none = cost-one sharing c.args.tenant c.args.map c.args.at size (omega (arith, least)) within ∙ own_cost sharing (place_of_byte c.args.tenant c.args.map c.args.at) apart in
+    let none = cost-one sharing c.args.tenant c.args.map c.args.at size (omega (arith, least)) within ∙ break_cost-own sharing (place_of_byte c.args.tenant c.args.map c.args.at) apart in
     let have = have-kept c.args.memory.now c.put.new.self c.put.ensures.sharing c.put.ensures.settings in
     let written = rw (c.page_of.ensures, c.bytes.ensures, word, place) at c.put.ensures.written in
     let owned = written ∙ own_part c.args.memory.now c.put.new.self c.args.tenant _ c.put.ensures.sharing refl in

@@ -1,6 +1,6 @@
 use Rattle.std.proofs.Common.{true, false, None, Some, sym, ◌∙◌, arith}
 use Rattle.tree_shape.specs.Searches.{order_to}
-use Rattle.tree_shape.proofs.Searching.{falls, node-inside, searched-node, framed-inside, framed-page, searched-side, find-none, find-side, find-here}
+use Rattle.tree_shape.proofs.Searching.{falls, node-inside, searched-node, framed-inside, framed-page, find-none, find-on, find-here}
 use Rattle.tree_shape.proofs.search.find.Goals as goal
 
 pub bounds-nodes-at : goal.bounds-nodes-at
@@ -26,27 +26,15 @@ loop-at-smaller c = falls true c.args.nodes.now c.loop-at.at c.loop-at.invariant
 
 pub loop-at-preserved-in-Less : goal.loop-at-preserved-in-Less
 loop-at-preserved-in-Less c =
-    let o = searched-node c.args.nodes.now c.args.frames.now c.args.arena.now.pages c.loop-at.at c.loop-at-test.true c.loop-at.invariant.0.0 c.loop-at.invariant.0.1 in
-    let less = falls false c.args.nodes.now c.loop-at.at c.loop-at.invariant.0.0 c.loop-at-test.true c.loop-at.invariant.0.1.holds in
+    let on = find-on c.args.nodes.now c.args.frames.now c.args.arena.now.pages c.loop-at.at (order_to c.args.arena.now.pages c.args.frames.now c.args.frame) false c.loop-at-test.true (rw c.loop-at.invariant.2 at (sym c.in-Less.ensures.told)) c.loop-at.invariant.0.0 c.loop-at.invariant.0.1 in
     let few = c.loop-at.invariant.3 in
-    let toward_it = rw c.loop-at.invariant.2 at (sym c.in-Less.ensures.told) in (
-      (o.r, searched-side false c.args.nodes.now c.args.frames.now c.args.arena.now.pages c.loop-at.at o.r o.l o.is),
-      λ result inner. c.loop-at.invariant.1 result (find-side c.args.nodes.now c.args.frames.now c.args.arena.now.pages c.loop-at.at (order_to c.args.arena.now.pages c.args.frames.now c.args.frame) false c.loop-at-test.true toward_it result inner),
-      c.order_at.ensures.pages ∙ c.loop-at.invariant.2,
-      omega (arith, less, few, c.order_at.ensures.steps),
-    )
+    ((on.side, on.is), λ result inner. c.loop-at.invariant.1 result (on.finds result inner), c.order_at.ensures.pages ∙ c.loop-at.invariant.2, omega (arith, few, on.lower, c.order_at.ensures.steps))
 
 pub loop-at-preserved : goal.loop-at-preserved
 loop-at-preserved c =
-    let o = searched-node c.args.nodes.now c.args.frames.now c.args.arena.now.pages c.loop-at.at c.loop-at-test.true c.loop-at.invariant.0.0 c.loop-at.invariant.0.1 in
-    let less = falls true c.args.nodes.now c.loop-at.at c.loop-at.invariant.0.0 c.loop-at-test.true c.loop-at.invariant.0.1.holds in
+    let on = find-on c.args.nodes.now c.args.frames.now c.args.arena.now.pages c.loop-at.at (order_to c.args.arena.now.pages c.args.frames.now c.args.frame) true c.loop-at-test.true (rw c.loop-at.invariant.2 at (sym c.in-Greater.ensures.told)) c.loop-at.invariant.0.0 c.loop-at.invariant.0.1 in
     let few = c.loop-at.invariant.3 in
-    let toward_it = rw c.loop-at.invariant.2 at (sym c.in-Greater.ensures.told) in (
-      (o.l, searched-side true c.args.nodes.now c.args.frames.now c.args.arena.now.pages c.loop-at.at o.l o.r o.is),
-      λ result inner. c.loop-at.invariant.1 result (find-side c.args.nodes.now c.args.frames.now c.args.arena.now.pages c.loop-at.at (order_to c.args.arena.now.pages c.args.frames.now c.args.frame) true c.loop-at-test.true toward_it result inner),
-      c.order_at.ensures.pages ∙ c.loop-at.invariant.2,
-      omega (arith, less, few, c.order_at.ensures.steps),
-    )
+    ((on.side, on.is), λ result inner. c.loop-at.invariant.1 result (on.finds result inner), c.order_at.ensures.pages ∙ c.loop-at.invariant.2, omega (arith, few, on.lower, c.order_at.ensures.steps))
 
 pub returns-in-Equal-clause-place : goal.returns-in-Equal-clause-place
 returns-in-Equal-clause-place c =

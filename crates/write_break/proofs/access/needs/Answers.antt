@@ -1,8 +1,9 @@
 use Rattle.std.proofs.Common.{◌∙◌, ◌≤◌, sym, ap, arith}
 use Rattle.host_types.specs.Pages.{page_place}
 use Rattle.host_types.specs.Sharing.{cost_from}
+use Rattle.host_types.proofs.Pins.{cost_from-few}
 use Rattle.write_break.specs.Stores.{touched, place_of_byte}
-use Rattle.write_break.proofs.Stores.{touched-some, touched-none, touched-within, touched-two, cost_from-few}
+use Rattle.write_break.proofs.Stores.{touched-some, touched-none, touched-within, touched-two}
 use Rattle.write_break.proofs.access.needs.Goals as goal
 
 pub returns-then-count-eq0-clause-cost : goal.returns-then-count-eq0-clause-cost

@@ -73,15 +73,4 @@ stored c =
     (subst (IsStored c.loop-rest.memory c.loop-rest.memory c.args.tenant c.args.map c.loop-rest.place) (sym none) (stored-none c.loop-rest.memory c.args.tenant c.args.map c.loop-rest.place))
 
 pub returns : goal.returns
-returns c =
-    let all = stored c in
-    record {
-      written = all.written;
-      bytes = all.bytes;
-      length = all.sized;
-      other_maps = all.other_maps;
-      others = all.others;
-      sharing = all.sharing;
-      have = all.have;
-      settings = all.settings;
-    }
+returns c = let all = stored c in grind (arith, all)
