@@ -128,12 +128,6 @@ module _ (table : TableState) (shapes : List (Option Shape)) (tenants : List Ten
   pub index_inside : map_place tenant m < length shapes
   index_inside = omega (arith, is.numbers, inside, small)
 
-  pub places_inside : map_place tenant m * 256 + page_count shape ≤ length table.entries
-  places_inside = omega (arith, is.maps.places, length-contents table, few_pages shape shaped, index_inside)
-
-  pub few_entries : length table.entries ≤ 32768
-  few_entries = let long = length-contents table in omega (arith, is.maps.places, long, is.numbers, is.few)
-
   pub no_contents : (i : ℕ) → map_place tenant m * 256 ≤ i → i < map_place tenant m * 256 + page_count shape → slice_index_or (contents_of table) i [] ≡ []
   no_contents i from less =
       let few = few_pages shape shaped in
@@ -175,9 +169,6 @@ module _ (table new : TableState) (shapes : List (Option Shape)) (tenants : List
   all : k * 256 + 256 ≤ length (contents_of table)
   all = let h = place_inside in omega (arith, is.maps.places, h)
 
-  old_none : (n : ℕ) → slice_index_or (part_of (contents_of table) (k * 256) 256) n [] ≡ []
-  old_none = subst (λ s. ArePages s (part_of (contents_of table) (k * 256) 256)) empty (is.maps.each k place_inside)
-
   others_new : (j : ℕ) → j ≢ k → part_of (contents_of new) (j * 256) 256 ≡ part_of (contents_of table) (j * 256) 256
   others_new j ne = ap (λ l. part_of l (j * 256) 256) contents ∙ others-filled (contents_of table) (k * 256) k 0 (page_count shape) j 256 zero_page (omega arith) (let f = few in omega (arith, f)) (let f = few in let h = all in omega (arith, f, h)) ne
 
@@ -188,7 +179,7 @@ module _ (table new : TableState) (shapes : List (Option Shape)) (tenants : List
   new_there n less = grind (arith, nat_tests, filled_part, few, all)
 
   new_none : (n : ℕ) → page_count shape ≤ n → slice_index_or pages_new n [] ≡ []
-  new_none n past = grind (arith, nat_tests, filled_part, few, all, old_none)
+  new_none n past = grind (arith, nat_tests, filled_part, few, all, place_inside)
 
   abbrev shapes_new : List (Option Shape)
   shapes_new = slice_set shapes k (Some shape)
@@ -224,18 +215,7 @@ module _ (table new : TableState) (shapes : List (Option Shape)) (tenants : List
   sharing_after = rw (states, groups) refl
 
   pub creates : Creates before after tenant m shape mergeable
-  creates =
-      let old = free_is table shapes tenants pass (omega (arith, room)) in
-      let newer = free_is new shapes_new tenants pass (omega (arith, room, used, arena)) in
-      record {
-        created = created_after;
-        there = one.there;
-        other_maps = one.other_maps;
-        others = one.others;
-        sharing = sharing_after;
-        free = omega (arith, old, newer, used, arena);
-        settings = one.settings;
-      }
+  creates = grind (arith, nat_tests, free_is, created_after, one, sharing_after)
 
 -- the conditions of a new map, over what callers see
 module _ (table : TableState) (shapes : List (Option Shape)) (tenants : List Tenant) (pass : Pass) (now : MemoryState) (same : view_of table shapes tenants pass ≡ now) where
@@ -249,6 +229,4 @@ module _ (table : TableState) (shapes : List (Option Shape)) (tenants : List Ten
 
   pub room_inside : (reserved count : ℕ) → IsMemory table shapes tenants reserved → count ≤ have_of now → reserved + used_by table + count ≤ length table.arena
   unfolding view_of
-  room_inside reserved count is h =
-      let enough = rw (← same) at h in
-      omega (arith, free_is table shapes tenants pass (omega (arith, is.room)), enough, is.sum, is.room)
+  room_inside reserved count is h = grind (arith, nat_tests, free_is table shapes tenants pass)

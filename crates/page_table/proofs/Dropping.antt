@@ -6,20 +6,17 @@ use Rattle.page_table.proofs.Creating.{filled_more, with_part-none, length-conte
 use Rattle.page_table.proofs.Costs.{state-at}
 use Rattle.page_table.proofs.Fitting.{pins-kept}
 use Rattle.page_table.proofs.Free.{free_is}
-use Rattle.page_table.proofs.Reading.{content_in, few_pages}
-use Rattle.page_table.proofs.Shapes.{map_past, shape_told}
+use Rattle.page_table.proofs.Reading.{content_in, few_pages, map_at-part, map_at-past}
 use Rattle.page_table.proofs.Waiters.{waiter-kept}
 use Rattle.page_table.proofs.Writing.{OneMap, memory_changed, one_map}
 use Rattle.page_table.proofs.Unpinning.{fit-fewer, outside-pinned, others-unpinned, tenant-unpinned, pins-inside}
 use Rattle.page_table.proofs.Vacating.{gone_from-last}
 use Rattle.page_table.proofs.Putting.{page_of_entry}
+use Rattle.page_table.proofs.Maps.{map_at-maps_of}
 
 -- the waiting pages outside some places
 abbrev pub outside : ℕ → ℕ → List Waiter → List Waiter
 outside first end ws = filter (λ w. not (nat_le first w.place && nat_lt w.place end)) ws
-
-outside-place : (first end place : ℕ) → not (nat_le first place && nat_lt place end) ≡ true → (place < first) ⊎ (end ≤ place)
-outside-place first end place h = grind (arith, nat_tests)
 
 listed-outside : (first end i : ℕ) (ws : List Waiter) → is_listed i ws ≡ false → is_listed i (outside first end ws) ≡ false
 listed-outside first end i [] none = refl
@@ -27,17 +24,7 @@ listed-outside first end i (w ∷ ws) none = grind (arith, listed-outside first 
 
 waiters-outside : (old new : TableState) (c : Option ℕ) (first n : ℕ) (ws : List Waiter) → AreOwnKeptOutside first n old new → AreWaiters old.entries c ws → AreWaiters new.entries c (outside first (first + n) ws)
 waiters-outside old new c first n [] kept are = tt
-waiters-outside old new c first n (w ∷ ws) kept are =
-    by_head (not (nat_le first w.place && nat_lt w.place (first + n))) refl (waiters-outside old new c first n ws kept are.2)
-  where
-    by_head : (b : Bool) → not (nat_le first w.place && nat_lt w.place (first + n)) ≡ b → AreWaiters new.entries c (outside first (first + n) ws)
-        → AreWaiters new.entries c (if b then w ∷ outside first (first + n) ws else outside first (first + n) ws)
-    by_head true e rest = (
-      waiter-kept old.entries new.entries c w (λ entry here own. kept w.place entry (outside-place first (first + n) w.place e) here own) are.0,
-      listed-outside first (first + n) w.place ws are.1,
-      rest,
-    )
-    by_head false e rest = rest
+waiters-outside old new c first n (w ∷ ws) kept are = grind (arith, nat_tests, waiter-kept, listed-outside, waiters-outside old new c first n ws kept are.2)
 
 -- the pass without the waiting pages at some places, and without the pins of their map
 abbrev pub left_outside : ℕ → ℕ → Pass → Pass
@@ -78,17 +65,7 @@ gone_from-pins s i (suc n) inside =
 -- behind a map's pages nothing is pinned
 filled-same : (pins : List Bool) (at n d : ℕ) → at + n + d ≤ length pins → ((i : ℕ) → at + n ≤ i → i < at + n + d → slice_index_or pins i false ≡ false)
     → with_part pins at (replicate (n + d) false) ≡ with_part pins at (replicate n false)
-filled-same pins at n d inside none =
-    let some = length-replicate n false in
-    let all = length-replicate (n + d) false in
-    let long = length-with_part pins at (replicate (n + d) false) (omega (arith, all, inside)) in
-    let short = length-with_part pins at (replicate n false) (omega (arith, some, inside)) in
-    ext_get_or false _ _ (omega (arith, long, short)) (λ i less. grind (arith, nat_tests, filled_at pins at (n + d) i false false, filled_at pins at n i false false, none i))
-
--- the end of a pass leaves the pins
-ended-pins : (s : Sharing) (c : Option ℕ) → (ended_at s c).pins ≡ s.pins
-unfolding moved_on
-ended-pins s c = grind (arith, nat_tests)
+filled-same pins at n d inside none = grind (arith, nat_tests, length-replicate n false, length-replicate, length-with_part pins at, ext_get_or false, filled_at pins at, filled_at pins at n)
 
 -- the waiting list without some pages, as callers see it
 waiting-outside : (first n : ℕ) (ws : List Waiter) → map waiting_of (outside first (first + n) ws) ≡ waiting_outside first n (map waiting_of ws)
@@ -116,7 +93,8 @@ sharing-outside old new pass first n few inside none told =
 
 -- a map that is there has one of eight numbers
 pub number_small : (memory : MemoryState) (t m : ℕ) (shape : Shape) → option_map (λ (flat : FlatMap). flat.shape) (map_at (part memory t).maps m) ≡ Some shape → m < 8
-number_small memory t m shape e = grind (arith, nat_tests, map_past, order)
+unfolding part
+number_small memory t m shape e = grind (arith, nat_tests, map_at-past, order)
 
 -- a map was taken away, and nothing else has changed
 pub record Drops (old new : MemoryState) (tenant m : ℕ) (shape : Shape) : Type 0 where
@@ -143,11 +121,9 @@ module _ (table : TableState) (shapes : List (Option Shape)) (tenants : List Ten
   pub index_inside : k < length shapes
   index_inside = let h = small in let t = tenant_inside in omega (arith, is.numbers, h, t)
 
-  shape_here : slice_index_or shapes k None ≡ Some shape
-  shape_here = grind (arith, nat_tests, shape_told, small)
-
   old_pages : ArePagesOf shape (part_of (contents_of table) (k * 256) 256)
-  old_pages = subst (λ s. ArePages s (part_of (contents_of table) (k * 256) 256)) shape_here (is.maps.each k index_inside)
+  unfolding view_of part
+  old_pages = grind (arith, nat_tests, map_at-part, map_at-maps_of, small, index_inside)
 
   pub few : page_count shape ≤ 256
   few = few_pages shape old_pages.shaped
@@ -192,11 +168,6 @@ module _ (table : TableState) (shapes : List (Option Shape)) (tenants : List Ten
     abbrev pages_new : List (List ℕ)
     pages_new = part_of (contents_of new) (k * 256) 256
 
-    none_new : (n : ℕ) → slice_index_or pages_new n [] ≡ []
-    none_new n =
-        ap (λ (l : List (List ℕ)). slice_index_or (part_of l (k * 256) 256) n []) contents
-        ∙ grind (arith, nat_tests, filled_part (contents_of table) k (page_count shape) n [] few all, old_pages.none n)
-
     abbrev shapes_new : List (Option Shape)
     shapes_new = slice_set shapes k None
 
@@ -204,14 +175,10 @@ module _ (table : TableState) (shapes : List (Option Shape)) (tenants : List Ten
     shape_gone = get_or-set_same shapes k None None index_inside
 
     wide : length (contents_of new) ≡ length (contents_of table)
-    wide =
-        let fits : k * 256 + length (replicate {A = List ℕ} (page_count shape) []) ≤ length (contents_of table) = omega (arith, length-replicate {A = List ℕ} (page_count shape) [], all, few) in
-        ap length contents ∙ length-with_part (contents_of table) (k * 256) (replicate (page_count shape) []) fits
+    wide = grind (arith, nat_tests, length-replicate, all, few, length-with_part)
 
     pub memory_dropped : IsMemory new shapes_new tenants reserved
-    memory_dropped =
-        memory_changed table new shapes shapes_new tenants reserved tenant m is small index_inside (length-set shapes k None) wide
-        (λ j ne. get_or-set_other shapes k j None None ne) others_new arena (omega (arith, used, is.room)) (subst (λ s. ArePages s pages_new) (sym shape_gone) none_new)
+    memory_dropped = grind (arith, nat_tests, memory_changed, small, index_inside, length-set, wide, get_or-set_other, others_new, shape_gone, filled_part, few, all, old_pages)
 
     pub shapes_few : length shapes_new ≤ 128
     shapes_few = let long = length-set shapes k None in omega (arith, long, is.numbers, is.few)
@@ -227,15 +194,9 @@ module _ (table : TableState) (shapes : List (Option Shape)) (tenants : List Ten
       abbrev after : MemoryState
       after = view_of new shapes_new tenants done
 
-      sharing_after : after.sharing ≡ dropped before.sharing (k * 256) (page_count shape)
-      unfolding view_of dropped
-      sharing_after = ended ∙ ap (λ (s : Sharing). ended_at s pass.cursor) (sharing-outside table new pass (k * 256) (page_count shape) few (map_pins fit) (unpinned_behind fits fit) told)
-
       pins_after : done.pins ≡ with_part pass.pins (tenant * 2048 + m * 256) (replicate 256 false)
-      pins_after =
-          let place : k * 256 ≡ tenant * 2048 + m * 256 = omega arith in
-          ap (λ (s : Sharing). s.pins) ended ∙ ended-pins (sharing_of new (left_outside (k * 256) (k * 256 + page_count shape) pass)) pass.cursor
-          ∙ ap (λ (i : ℕ). with_part pass.pins i (replicate 256 false)) place
+      unfolding moved_on
+      pins_after = grind (arith, nat_tests)
 
       tenant_pins : tenant * 2048 + 2048 ≤ length pass.pins
       tenant_pins = let t = tenant_inside in pins-inside table shapes tenants pass reserved is fit tenant t
@@ -248,21 +209,6 @@ module _ (table : TableState) (shapes : List (Option Shape)) (tenants : List Ten
           (ap (λ (pins : List Bool). part_of pins (tenant * 2048) 2048) pins_after ∙ tenant-unpinned pass.pins tenant (m * 256) 256 within tenant_pins)
           (λ u ne. ap (λ (pins : List Bool). part_of pins (u * 2048) 2048) pins_after ∙ others-unpinned pass.pins tenant (m * 256) 256 u within tenant_pins ne)
 
-      taken_after : part after tenant ≡ part_dropped (part before tenant) m
-      unfolding view_of part
-      taken_after = one.part_new
-
       pub drops : Drops before after tenant m shape
-      unfolding view_of
-      drops =
-          let old = free_is table shapes tenants pass (omega (arith, is.room)) in
-          let newer = free_is new shapes_new tenants done (omega (arith, used, arena, is.room)) in
-          record {
-            taken = taken_after;
-            other_maps = one.other_maps;
-            others = one.others;
-            sharing = sharing_after;
-            freed = omega (arith, old, newer, used, arena);
-            have = omega (arith, old, newer, is.room, is.sum, used, arena);
-            settings = one.settings;
-          }
+      unfolding view_of dropped part
+      drops = grind (arith, nat_tests, free_is table shapes tenants pass, free_is new shapes_new tenants done, one, sharing-outside, few, map_pins, unpinned_behind)

@@ -18,19 +18,9 @@ module _ (frames tenants : ℕ) (options : Options) (limits : AreLimits frames t
   abbrev table : TableState
   table = empty_table frames (tenants * 2048)
 
-  no_contents : contents_of table ≡ replicate (tenants * 2048) []
-  unfolding contents_of
-  no_contents = map-replicate (entry_content (replicate frames zero_page)) (tenants * 2048) None
-
-  used_none : used_by table ≡ 1
-  unfolding own_pages
-  used_none = let none = sum_by-replicate own_one (tenants * 2048) None in omega (arith, none)
-
-  no_reserves : sum_by (λ (tenant : Tenant). tenant.reserve) (replicate tenants unreserved_tenant) ≡ 0
-  no_reserves = sum_by-replicate (λ (tenant : Tenant). tenant.reserve) tenants unreserved_tenant ∙ omega arith
-
   pub memory_new : IsMemory table (replicate (tenants * 8) None) (replicate tenants unreserved_tenant) 0
-  memory_new = grind (arith, nat_tests, length-replicate, no_contents, used_none, all_same, no_reserves, part_nothing)
+  unfolding contents_of own_pages
+  memory_new = grind (arith, nat_tests, length-replicate, map-replicate, sum_by-replicate, all_same, part_nothing)
 
   pub view_new : view_of table (replicate (tenants * 8) None) (replicate tenants unreserved_tenant) (new_pass frames (tenants * 2048) options) ≡ new_memory frames tenants options
   unfolding view_of groups_of new_memory

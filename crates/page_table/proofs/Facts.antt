@@ -35,21 +35,18 @@ status_there : (table : TableState) (pass : Pass) (i : ℕ) (entry : Entry) (sta
 status_there table pass i entry status e same = status_is table pass i ∙ ap (option_map (λ (entry : Entry). entry.status)) e ∙ ap Some same
 
 -- a page is alone, or grouped on a group's frame, or on the zero frame
-Kind : TableState → Entry → Type 0
+abbrev Kind : TableState → Entry → Type 0
 Kind table entry = IsAlone table entry.frame ⊎ (((entry.status ≡ Grouped) × (times entry.frame table.groups ≡ 1)) ⊎ ((entry.status ≡ Zero) × (entry.frame ≡ 0)))
 
 kind : (table : TableState) (entry : Entry) → IsEntry table entry → Kind table entry
-unfolding Kind
 kind table entry fits = grind (arith, nat_tests, fits)
 
 -- a page on the zero frame is told to be there
 zero_status : (table : TableState) (entry : Entry) → IsTable table → IsEntry table entry → entry.frame ≡ 0 → entry.status ≡ Zero
-unfolding Kind
 zero_status table entry is fits e = grind (arith, nat_tests, fits, group_of, kind)
 
 -- a page on a group's frame is told to be in a group
 grouped_status : (table : TableState) (entry : Entry) → IsTable table → IsEntry table entry → 1 ≤ times entry.frame table.groups → entry.status ≡ Grouped
-unfolding Kind
 grouped_status table entry is fits some = grind (arith, nat_tests, fits, group_of, kind)
 
 among : (f : ℕ) (xs : List (Option Entry)) (i : ℕ) → is_among i (places_on 0 f xs) ≡ is_on f (entry_at xs i)
@@ -95,22 +92,12 @@ in_groups xs groups i entry e = length-filter (is_among i) (map (λ g. places_on
 places_above : (n f : ℕ) (xs : List (Option Entry)) → All (λ i. n ≤ i) (places_on n f xs)
 unfolding places_on
 places_above n f [] = λ k d lt. absurd (omega arith)
-places_above n f (x ∷ xs) = by_head (is_on f x) (places_above (n + 1) f xs)
-  where
-    by_head : (b : Bool) → All (λ i. n + 1 ≤ i) (places_on (n + 1) f xs) → All (λ i. n ≤ i) (if b then n ∷ places_on (n + 1) f xs else places_on (n + 1) f xs)
-    by_head true rest zero d lt = omega arith
-    by_head true rest (suc k) d lt = let above = rest k d (omega arith) in omega arith
-    by_head false rest k d lt = let above = rest k d lt in omega arith
+places_above n f (x ∷ xs) = grind (arith, nat_tests, places_above (n + 1) f xs)
 
 places_ordered : (n f : ℕ) (xs : List (Option Entry)) → AllPairs (λ i j. i < j) (places_on n f xs)
 unfolding places_on
 places_ordered n f [] = λ i j d before lt. absurd (omega arith)
-places_ordered n f (x ∷ xs) = by_head (is_on f x) (places_above (n + 1) f xs) (places_ordered (n + 1) f xs)
-  where
-    by_head : (b : Bool) → All (λ i. n + 1 ≤ i) (places_on (n + 1) f xs) → AllPairs (λ i j. i < j) (places_on (n + 1) f xs)
-        → AllPairs (λ i j. i < j) (if b then n ∷ places_on (n + 1) f xs else places_on (n + 1) f xs)
-    by_head true above rest = AllPairs-cons (λ i j. i < j) n (places_on (n + 1) f xs) (λ k d lt. let more = above k d lt in omega arith) rest
-    by_head false above rest = rest
+places_ordered n f (x ∷ xs) = grind (arith, nat_tests, places_above, AllPairs-cons, places_ordered (n + 1) f xs)
 
 module _ (table : TableState) (pass : Pass) (is : IsTable table) where
   pub are_groups : AreGroups (sharing_of table pass)
@@ -133,7 +120,7 @@ module _ (table : TableState) (pass : Pass) (is : IsTable table) where
       one entry i e same fits = in_groups table.entries table.groups i entry e ∙ subst (LiesRight table entry.frame) same fits.right
 
   pub one_frame : (i j x y : ℕ) → i ≢ j → slice_index_or (frames_of table.entries) i None ≡ Some x → slice_index_or (frames_of table.entries) j None ≡ Some y → (x ≡ y ↔ AreMerged (sharing_of table pass) i j)
-  unfolding Kind groups_of
+  unfolding groups_of
   one_frame i j x y ne h k = (λ e. merged (lies table i x is h) (lies table j y is k) e, λ both. ⊎_elim (λ grouped. together (lies table i x is h) (lies table j y is k) grouped) (λ zeros. on_zero i x (lies table i x is h) zeros.0 ∙ sym (on_zero j y (lies table j y is k) zeros.1)) both)
     where
       merged : Lies table i x → Lies table j y → x ≡ y → AreMerged (sharing_of table pass) i j
@@ -184,9 +171,7 @@ module _ (table : TableState) (shapes : List (Option Shape)) (tenants : List Ten
   map_named i = grind (arith, nat_tests, map_at-part)
 
   pub bytes_of_frame : (i x : ℕ) → slice_index_or (frames_of table.entries) i None ≡ Some x → page_at table.arena x ≡ contents_in view.maps i
-  bytes_of_frame i x h =
-      let at = lies table i x fits h in
-      sym (frame_told table shapes tenants pass reserved is i at.entry fits at.here ∙ ap (page_at table.arena) at.on)
+  bytes_of_frame i x h = grind (arith, nat_tests, lies table i x fits h, frame_told table shapes tenants pass reserved is i)
 
   pub paged_there : (i : ℕ) → IsSome (slice_index_or (states_of table.entries) i None) ↔ HasPage view i
   unfolding named

@@ -50,9 +50,6 @@ pins-changed : (pins now : List Bool) (numbers : List ℕ) (k n : ℕ) → ArePi
 pins-changed pins now numbers k n are inside long others here = grind (arith, nat_tests, length-set, get_or-set_same, get_or-set_other)
 
 module _ (pins : List Bool) (numbers : List ℕ) (are : ArePinsOf pins numbers) where
-  pub map-inside : (k : ℕ) → k * 256 < length pins → k < length numbers
-  map-inside k less = omega (arith, are.maps, less)
-
   -- one page more is pinned
   module _ (k n : ℕ) (small : n < 256) (inside : k * 256 + n < length pins) (free : slice_index_or pins (k * 256 + n) false ≡ false) where
     here : k < length numbers
@@ -72,15 +69,10 @@ module _ (pins : List Bool) (numbers : List ℕ) (are : ArePinsOf pins numbers) 
         content n less = get_or-take 256 (drop (k * 256) pins) n false less ∙ get_or-drop (k * 256) pins n false
 
     more : pinned_among (slice_set part n true) ≡ pinned_among part + 1
-    more =
-        let l = long in
-        omega (arith, sum_by-set one_if part n true false (omega (arith, l, small)), ap one_if was)
+    more = grind (arith, nat_tests, long, sum_by-set, was)
 
     pub pins-more : ArePinsOf (slice_set pins (k * 256 + n) true) (slice_set numbers k (slice_index_or numbers k 0 + 1))
-    pins-more =
-        pins-changed pins (slice_set pins (k * 256 + n) true) numbers k (slice_index_or numbers k 0 + 1) are here (length-set pins (k * 256 + n) true)
-        (λ j ne. part_of-set_other pins k n j 256 true small ne)
-        (ap (λ (m : ℕ). m + 1) (are.each k here) ∙ sym more ∙ sym (ap pinned_among (part_of-set_same pins (k * 256) n 256 true small)))
+    pins-more = grind (arith, nat_tests, pins-changed, here, length-set, part_of-set_other, more, part_of-set_same)
 
   -- the same by the page's place
   pub pins-more-at : (place now : ℕ) → place < length pins → slice_index_or pins place false ≡ false → now ≡ slice_index_or numbers (place / 256) 0 → ArePinsOf (slice_set pins place true) (slice_set numbers (place / 256) (now + 1))

@@ -9,11 +9,7 @@ abbrev out : List ℕ → List (List ℕ) → List (List ℕ)
 out c all = filter (λ other. not (bytes_eq other c)) all
 
 tells : (x c : List ℕ) → ((bytes_eq x c ≡ true) × (x ≡ c)) ⊎ ((bytes_eq x c ≡ false) × (x ≢ c))
-tells x c = by_test (bytes_eq x c) refl
-  where
-    by_test : (t : Bool) → bytes_eq x c ≡ t → ((bytes_eq x c ≡ true) × (x ≡ c)) ⊎ ((bytes_eq x c ≡ false) × (x ≢ c))
-    by_test true e = inl (e, (bytes_eq-Decides x c).0 e)
-    by_test false e = inr (e, λ same. let yes = (bytes_eq-Decides x c).1 same in cc)
+tells x c = grind (arith, nat_tests, bytes_eq-Decides)
 
 differ : (x c : List ℕ) → x ≢ c → bytes_eq x c ≡ false
 differ x c ne = ⊎_elim (λ is. absurd (ne is.1)) (λ is. is.0) (tells x c)
@@ -26,10 +22,6 @@ times-none : (b : List ℕ) → times_among b [] ≡ 0
 unfolding times_among
 times-none b = refl
 
-times-last : (b : List ℕ) (xs : List (List ℕ)) (x : List ℕ) → times_among b (xs ++ x ∷ []) ≡ times_among b xs + one_when (bytes_eq x b)
-unfolding times_among
-times-last b xs x = grind (arith, nat_tests, sum_by-append, times-cons, times-none)
-
 times-gone : (c : List ℕ) (xs : List (List ℕ)) → times_among c (out c xs) ≡ 0
 times-gone c [] = times-none c
 times-gone c (x ∷ xs) = grind (arith, times-cons c x (out c xs), times-gone c xs)
@@ -38,37 +30,15 @@ times-other : (b c : List ℕ) (xs : List (List ℕ)) → b ≢ c → times_amon
 times-other b c [] ne = refl
 times-other b c (x ∷ xs) ne = grind (arith, times-cons b x xs, times-cons b x (out c xs), (bytes_eq-Decides x c).0, (bytes_eq-Decides x b).0, times-other b c xs)
 
-many-more : (k : ℕ) → one_when (k == 1) + many_in k ≡ many_in (k + 1)
-many-more k = grind (arith, nat_tests)
-
-seconds-cons : (before : List (List ℕ)) (x : List ℕ) (xs : List (List ℕ)) → seconds_behind before (x ∷ xs) ≡ one_when (times_among x before == 1) + seconds_behind (before ++ x ∷ []) xs
-unfolding seconds_behind
-seconds-cons before x xs = refl
-
 seconds-none : (before : List (List ℕ)) → seconds_behind before [] ≡ 0
 unfolding seconds_behind
 seconds-none before = refl
 
 -- the second one of a content, and those of all others
 seconds-split : (c : List ℕ) (before xs : List (List ℕ)) → seconds_behind before xs + many_in (times_among c before) ≡ many_in (times_among c before + times_among c xs) + seconds_behind (out c before) (out c xs)
+unfolding times_among seconds_behind
 seconds-split c before [] = grind (arith, times-none c, seconds-none before, seconds-none (out c before))
-seconds-split c before (x ∷ xs) =
-    let last : out c (before ++ x ∷ []) ≡ out c before ++ out c (x ∷ []) = filter-append (λ (other : List ℕ). not (bytes_eq other c)) before (x ∷ []) in
-    grind (
-      arith,
-      nat_tests,
-      last,
-      append-nil (out c before),
-      (bytes_eq-Decides x c).0,
-      (bytes_eq-Decides x c).1,
-      times-last c before x,
-      times-cons c x xs,
-      times-other x c before,
-      seconds-cons before x xs,
-      seconds-cons (out c before) x (out c xs),
-      many-more (times_among c before),
-      seconds-split c (before ++ x ∷ []) xs,
-    )
+seconds-split c before (x ∷ xs) = grind (arith, nat_tests, filter-append, append-nil, bytes_eq-Decides, sum_by-append, times-cons, times-none, times-other, seconds-split c (before ++ x ∷ []) xs)
 
 -- as many, where a content occurs more than once
 abbrev share : ℕ → ℕ → ℕ
@@ -154,6 +124,4 @@ module _ (arena : List (List ℕ)) where
   pub tree-nodes : (groups : List ℕ) (tree : Groups) → IsTreeOf arena groups tree
       → (seconds_behind [] (map (page_at arena) groups) ≡ chains_among tree.chains)
       × (repeated_among (map (page_at arena) groups) (map (page_at arena) groups) ≡ dups_among tree.chains)
-  tree-nodes groups tree is =
-      nodes-told tree.chains (map (page_at arena) groups) is.sorted.alike is.sorted.ascending
-      (λ b. times-has b groups ∙ ap length (sym (is.listed b)))
+  tree-nodes groups tree is = grind (arith, nat_tests, nodes-told tree.chains, times-has)

@@ -54,11 +54,6 @@ module _ (slots slot_of : List ℕ) (are : ArePlaced slots slot_of) where
   pub stands-once : (i j : ℕ) → i < length slots → j < length slots → 0 < slice_index_or slots i 0 → slice_index_or slots j 0 ≡ slice_index_or slots i 0 → j ≡ i
   stands-once i j h k above same = grind (arith, nat_tests)
 
-  -- the slot of a group is the one that is noted
-  pub noted : (f : ℕ) → 1 ≤ times f (groups_in slots)
-      → (f < length slot_of) × (slice_index_or slot_of f 0 < length slots) × (slice_index_or slots (slice_index_or slot_of f 0) 0 ≡ f) × (0 < f)
-  noted f h1 = grind (arith, nat_tests, slot-of-group)
-
   -- a new group behind the others
   pub placed-pushed : (f : ℕ) → 0 < f → f < length slot_of → times f (groups_in slots) ≡ 0 → ArePlaced (slots ++ f ∷ []) (slice_set slot_of f (length slots))
   placed-pushed f above there none =
@@ -112,11 +107,3 @@ module _ (slots slot_of : List ℕ) (are : ArePlaced slots slot_of) where
 pub groups-again : (slots : List ℕ) → groups_in (groups_in slots) ≡ groups_in slots
 groups-again [] = refl
 groups-again (x ∷ xs) = grind (arith, groups-again xs)
-
--- what is read of a list that reaches so far
-pub read-told : (xs : List ℕ) (i x : ℕ) → i < length xs → x ≡ slice_index_or xs i x → x ≡ slice_index_or xs i 0
-read-told xs i x inside e = e ∙ sym (get_or_default xs i 0 x inside)
-
--- what was written into the whole of a list
-pub all-written : (new old : List ℕ) (n : ℕ) → length new ≡ n → take n (new ++ drop (length new) old) ≡ new
-all-written new old n e = take_at new (drop (length new) old) n e

@@ -3,7 +3,8 @@ use Rattle.page_table.proofs.Base.{◌≡◌, ◌∙◌, ⊎_elim, ℕ, zero, su
 use Rattle.page_table.proofs.Words.{Shape, part_of, FlatMap, map_at, map_place, unpinned_from, PinsFit, Pass, Tenant, page_count, pinned_among, MemoryState, part, pages_of_map, TableState, IsTable, states_of, view_of, IsMemory}
 use Rattle.page_table.proofs.Sides.{order}
 use Rattle.page_table.proofs.Dropping.{number_small, few, map_pins, unpinned_behind}
-use Rattle.page_table.proofs.Shapes.{shape_told}
+use Rattle.page_table.proofs.Reading.{map_at-part}
+use Rattle.page_table.proofs.Maps.{map_at-maps_of}
 
 abbrev one_if : Bool → ℕ
 one_if b = if b then 1 else 0
@@ -12,9 +13,7 @@ part-cons : (pins : List Bool) (at n : ℕ) → at < length pins → part_of pin
 unfolding part_of
 part-cons [] at n inside = absurd (omega (arith, inside))
 part-cons (b ∷ pins) zero n inside = refl
-part-cons (b ∷ pins) (suc at) n inside =
-    let next : suc at + 1 ≡ suc (at + 1) = omega arith in
-    part-cons pins at n (omega (arith, inside)) ∙ sym (ap (λ (i : ℕ). slice_index_or pins at false ∷ take n (drop i (b ∷ pins))) next)
+part-cons (b ∷ pins) (suc at) n inside = grind (arith, nat_tests, part-cons pins at n)
 
 pinned-cons : (pins : List Bool) (at n : ℕ) → at < length pins → pinned_among (part_of pins at (suc n)) ≡ one_if (slice_index_or pins at false) + pinned_among (part_of pins (at + 1) n)
 pinned-cons pins at n inside = ap pinned_among (part-cons pins at n inside) ∙ sum_by-cons one_if (slice_index_or pins at false) (part_of pins (at + 1) n)
@@ -28,16 +27,12 @@ all-told pins at (suc n) inside = grind (arith, pinned-cons pins at n, get_or_de
 none-pinned : (pins : List Bool) (at n : ℕ) → at + n ≤ length pins → ((i : ℕ) → at ≤ i → i < at + n → slice_index_or pins i false ≡ false) → pinned_among (part_of pins at n) ≡ 0
 unfolding part_of
 none-pinned pins at zero inside none = refl
-none-pinned pins at (suc n) inside none =
-    let rest = none-pinned pins (at + 1) n (omega (arith, inside)) (λ i from less. none i (omega (arith, from)) (omega (arith, less))) in
-    grind (arith, pinned-cons pins at n, none at, rest)
+none-pinned pins at (suc n) inside none = grind (arith, nat_tests, pinned-cons, none-pinned pins (at + 1) n)
 
 -- behind some pages none is pinned
 fewer-pinned : (pins : List Bool) (at n d : ℕ) → at + n + d ≤ length pins → ((i : ℕ) → at + n ≤ i → i < at + n + d → slice_index_or pins i false ≡ false) → pinned_among (part_of pins at (n + d)) ≡ pinned_among (part_of pins at n)
 unfolding part_of
-fewer-pinned pins at zero d inside none =
-    let same : zero + d ≡ d = omega arith in
-    ap (λ (m : ℕ). pinned_among (part_of pins at m)) same ∙ none-pinned pins at d (omega (arith, inside)) (λ i from less. none i (omega (arith, from)) (omega (arith, less)))
+fewer-pinned pins at zero d inside none = grind (arith, nat_tests, none-pinned)
 fewer-pinned pins at (suc n) d inside none =
     let next : suc n + d ≡ suc (n + d) = omega arith in
     let rest = fewer-pinned pins (at + 1) n d (omega (arith, inside)) (λ i from less. none i (omega (arith, from)) (omega (arith, less))) in
@@ -52,21 +47,12 @@ unpinned-in_part pins first at (suc n) small =
     let here = get_or-take 2048 (drop first pins) at true (omega (arith, small)) ∙ get_or-drop first pins at true in
     grind (arith, here, unpinned-in_part pins first (at + 1) n, ap (λ (i : ℕ). unpinned_from pins i n) next)
 
--- the pages of a map that is there, and of one that isn't
-pub pages-some : (owned : Option FlatMap) (shape : Shape) → option_map (λ (flat : FlatMap). flat.shape) owned ≡ Some shape → unwrap_or (option_map (λ (flat : FlatMap). page_count flat.shape) owned) 0 ≡ page_count shape
-pages-some owned shape h1 = grind (arith, nat_tests)
-
 module _ (table : TableState) (shapes : List (Option Shape)) (tenants : List Tenant) (pass : Pass) (reserved t m : ℕ) (shape : Shape) (now : MemoryState) (same : view_of table shapes tenants pass ≡ now)
     (is : IsMemory table shapes tenants reserved) (here : option_map (λ (flat : FlatMap). flat.shape) (map_at (part now t).maps m) ≡ Some shape) where
   -- a tenant that has a map is there
   tenant-inside : t < length now.tenants
-  unfolding view_of
-  tenant-inside =
-      let small = number_small now t m shape here in
-      let told : option_map (λ (flat : FlatMap). flat.shape) (map_at (part (view_of table shapes tenants pass) t).maps m) ≡ Some shape = rw (← same) at here in
-      let found : slice_index_or shapes (map_place t m) None ≡ Some shape = sym (shape_told table shapes tenants pass t m small) ∙ told in
-      rw (← same)
-      (⊎_elim (λ less. omega (arith, less, is.numbers, small)) (λ past. absurd (let none = get_or_past shapes (map_place t m) None past in cc)) (order (map_place t m) (length shapes)))
+  unfolding view_of part
+  tenant-inside = grind (arith, nat_tests, number_small now t m shape here, map_at-part, map_at-maps_of, get_or_past shapes, order)
 
   module _ (fits : IsTable table) (fit : PinsFit (states_of table.entries) pass.pins) where
     abbrev k : ℕ
@@ -93,11 +79,4 @@ module _ (table : TableState) (shapes : List (Option Shape)) (tenants : List Ten
     pins = rw (← same) refl
 
     pub unpinned-told : unpinned_from (part now t).pins (m * 256) (pages_of_map (part now t) m) ≡ unpinned_from pass.pins (k * 256) (page_count shape)
-    unpinned-told =
-        let small = number_small now t m shape here in
-        let f = few_pages in
-        let place : t * 2048 + m * 256 ≡ k * 256 = omega arith in
-        ap (λ (n : ℕ). unpinned_from (part now t).pins (m * 256) n) (pages-some (map_at (part now t).maps m) shape here)
-        ∙ ap (λ (pins : List Bool). unpinned_from pins (m * 256) (page_count shape)) pins
-        ∙ unpinned-in_part pass.pins (t * 2048) (m * 256) (page_count shape) (omega (arith, small, f))
-        ∙ ap (λ (i : ℕ). unpinned_from pass.pins i (page_count shape)) place
+    unpinned-told = grind (arith, nat_tests, number_small, few_pages, pins, unpinned-in_part)

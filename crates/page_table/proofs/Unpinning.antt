@@ -31,9 +31,6 @@ drop-with_part (x ∷ xs) ys (suc a) b h =
 pub outside-pinned : (pins : List Bool) (at n i : ℕ) → at + n ≤ length pins → slice_index_or (with_part pins at (replicate n false)) i false ≡ true → ((i < at) ⊎ (at + n ≤ i)) × (slice_index_or pins i false ≡ true)
 outside-pinned pins at n i inside pinned = grind (arith, nat_tests, at, filled_at, order)
 
-pub still-pinned : (pins : List Bool) (at n i : ℕ) → at + n ≤ length pins → slice_index_or (with_part pins at (replicate n false)) i false ≡ true → slice_index_or pins i false ≡ true
-still-pinned pins at n i inside pinned = (outside-pinned pins at n i inside pinned).1
-
 -- and so of the tenant itself
 pub tenant-unpinned : (pins : List Bool) (t m n : ℕ) → m + n ≤ 2048 → t * 2048 + 2048 ≤ length pins
     → part_of (with_part pins (t * 2048 + m) (replicate n false)) (t * 2048) 2048 ≡ with_part (part_of pins (t * 2048) 2048) m (replicate n false)
@@ -58,11 +55,7 @@ module _ (table : TableState) (shapes : List (Option Shape)) (tenants : List Ten
 
   pub part-unpinned : part (view_of table shapes tenants left) t ≡ with_pins (replicate 2048 false) (part (view_of table shapes tenants pass) t)
   unfolding view_of part
-  part-unpinned =
-      ap (λ (pins : List Bool). with_pins pins (part (view_of table shapes tenants pass) t))
-      (ap (λ (i : ℕ). part_of (with_part pass.pins i (replicate 2048 false)) (t * 2048) 2048) (sym at)
-      ∙ tenant-unpinned pass.pins t 0 2048 (omega arith) pins-inside
-      ∙ with_part-whole (part_of pass.pins (t * 2048) 2048) (replicate 2048 false) (length-replicate 2048 false ∙ sym (length-part_of pass.pins (t * 2048) 2048 pins-inside)))
+  part-unpinned = grind (arith, nat_tests, at, tenant-unpinned pass.pins t 0 2048, pins-inside, with_part-whole, length-replicate 2048 false, length-part_of pass.pins)
 
   pub others-kept : IsKeptBut t (view_of table shapes tenants pass) (view_of table shapes tenants left)
   unfolding view_of part
@@ -77,4 +70,4 @@ module _ (table : TableState) (shapes : List (Option Shape)) (tenants : List Ten
 
 -- fewer pins fit, too
 pub fit-fewer : (pages : List (Option PageState)) (pins : List Bool) (at n : ℕ) → at + n ≤ length pins → PinsFit pages pins → PinsFit pages (with_part pins at (replicate n false))
-fit-fewer pages pins at n inside fit = grind (arith, nat_tests, at, length-with_part, length-replicate, still-pinned)
+fit-fewer pages pins at n inside fit = grind (arith, nat_tests, at, length-with_part, length-replicate, outside-pinned)

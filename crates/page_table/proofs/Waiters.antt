@@ -28,9 +28,7 @@ apart_places j i h e = grind (arith, nat_tests)
 pub waiters-others : (old new : List (Option Entry)) (c : Option ℕ) (i : ℕ) (ws : List Waiter) → is_listed i ws ≡ false
     → ((j : ℕ) → j ≢ i → entry_at new j ≡ entry_at old j) → AreWaiters old c ws → AreWaiters new c ws
 waiters-others old new c i [] none h are = tt
-waiters-others old new c i (w ∷ ws) none h are =
-    let parts = either (w.place == i) (is_listed i ws) none in
-    (waiter-kept old new c w (λ entry e own. h w.place (apart_places w.place i parts.0) ∙ e) are.0, are.1, waiters-others old new c i ws parts.1 h are.2)
+waiters-others old new c i (w ∷ ws) none h are = grind (arith, nat_tests, either, waiter-kept, apart_places, waiters-others old new c i ws)
 
 -- the waiting pages without one
 abbrev pub others_of : ℕ → List Waiter → List Waiter
@@ -47,11 +45,7 @@ listed-fewer i j (w ∷ ws) none = grind (arith, listed-fewer i j ws)
 
 pub waiters-fewer : (entries : List (Option Entry)) (c : Option ℕ) (i : ℕ) (ws : List Waiter) → AreWaiters entries c ws → AreWaiters entries c (others_of i ws)
 waiters-fewer entries c i [] are = tt
-waiters-fewer entries c i (w ∷ ws) are = by_head (not (w.place == i)) (waiters-fewer entries c i ws are.2)
-  where
-    by_head : (b : Bool) → AreWaiters entries c (others_of i ws) → AreWaiters entries c (if b then w ∷ others_of i ws else others_of i ws)
-    by_head true rest = (are.0, listed-fewer w.place i ws are.1, rest)
-    by_head false rest = rest
+waiters-fewer entries c i (w ∷ ws) are = grind (arith, nat_tests, listed-fewer, waiters-fewer entries c i ws are.2)
 
 -- the waiting list without a page, as callers see it
 pub waiting-forgets : (i : ℕ) (ws : List Waiter) → map waiting_of (others_of i ws) ≡ waiting_without i (map waiting_of ws)
@@ -80,20 +74,12 @@ listed-told i (w ∷ ws) = ap (λ b. (w.place == i) || b) (listed-told i ws)
 -- as many pages have frames of their own as wait
 pub waiters-few : (entries : List (Option Entry)) (c : Option ℕ) (ws : List Waiter) → AreWaiters entries c ws → length ws ≤ own_pages entries
 waiters-few entries c [] are = omega arith
-waiters-few entries c (w ∷ ws) are =
-    let there = inside entries w.place are.0.entry are.0.here in
-    let rest = waiters-few (slice_set entries w.place None) c ws (waiters-others entries (slice_set entries w.place None) c w.place ws are.1 (λ j ne. get_or-set_other entries w.place j None None ne) are.2) in
-    let count = own_pages-set entries w.place None there in
-    let own : own_one (entry_at entries w.place) ≡ 1 = ap own_one are.0.here ∙ ap (λ (b : Bool). if b then 0 else 1) (waiter_own entries c w are.0) in
-    omega (arith, rest, count, own)
+waiters-few entries c (w ∷ ws) are = grind (arith, nat_tests, inside, waiters-others, get_or-set_other, own_pages-set, waiter_own, waiters-few (slice_set entries w.place None) c ws)
 
 -- no page waits that wasn't visited in this pass
 pub ahead-free : (entries : List (Option Entry)) (c i : ℕ) (ws : List Waiter) → c < i → AreWaiters entries (Some c) ws → is_listed i ws ≡ false
 ahead-free entries c i [] h are = refl
-ahead-free entries c i (w ∷ ws) h are = rw (off (are.0).behind) (ahead-free entries c i ws h are.2)
-  where
-    off : nat_le w.place c ≡ true → (w.place == i) ≡ false
-    off le = grind (arith, nat_tests)
+ahead-free entries c i (w ∷ ws) h are = grind (arith, nat_tests, ahead-free entries c i ws h are.2)
 
 -- the pass stays where each waiting page does
 pub pass-kept : (old new : TableState) (pass : Pass) → IsPass old pass → AreOwnKept old new → length new.arena ≡ length old.arena → length new.entries ≡ length old.entries → IsPass new pass

@@ -1,4 +1,4 @@
-use Rattle.page_table.proofs.Base.{◌≡◌, ◌∙◌, ◌+◌, ◌<◌, [], false, drop, map, is_some, None, Some, sym, ap, arith, option_map, length-map}
+use Rattle.page_table.proofs.Base.{◌≡◌, ◌∙◌, ◌+◌, ◌<◌, [], false, drop, map, is_some, None, Some, sym, ap, arith, option_map, length-map, nat_tests}
 use Rattle.page_table.proofs.Words.{page_place, first_mergeable, look_from, states_of, state_of, waiting_of, view_of, AreWaiters, is_listed}
 use Rattle.page_table.proofs.Creating.{length-contents}
 use Rattle.page_table.proofs.Next.{next-is}
@@ -39,20 +39,8 @@ invariant_of-self-else-is_some c = (c.self.invariant.0, rw c.end.ensures (pass-e
 
 pub returns-then-is_some : goal.returns-then-is_some
 unfolding view_of
-returns-then-is_some c = record {
-  moved = let d = (goal.at.returns-then-is_some c).After-is_some in
-      rw (← c.self.view_is, c.place_of-place.ensures)
-      (moved-on c.self.inside.table c.self.inside.shapes.items c.self.inside.tenants.items c.self.inside.pass (page_place c.args.page) (more d ∙ c.if-is_some.true));
-  free = let d = (goal.at.returns-then-is_some c).After-is_some in
-      waits-not c.self.inside.table c.self.inside.shapes.items c.self.inside.tenants.items c.self.inside.pass c.args.page (gone d).1;
-}
+returns-then-is_some c = grind (arith, nat_tests, moved-on c.self.inside.table c.self.inside.shapes.items c.self.inside.tenants.items c.self.inside.pass, more, waits-not c.self.inside.table c.self.inside.shapes.items c.self.inside.tenants.items c.self.inside.pass c.args.page, gone)
 
 pub returns-else-is_some : goal.returns-else-is_some
 unfolding view_of
-returns-else-is_some c = record {
-  moved = let d = (goal.at.returns-else-is_some c).After-is_some in
-      rw (← c.self.view_is, c.end.ensures)
-      (moved-ended c.self.inside.table c.self.inside.shapes.items c.self.inside.tenants.items c.self.inside.pass (page_place c.args.page) (more d ∙ c.if-is_some.false));
-  free = let d = (goal.at.returns-else-is_some c).After-is_some in
-      rw (c.end.ensures) (waits-not c.self.inside.table c.self.inside.shapes.items c.self.inside.tenants.items c.self.inside.pass c.args.page (gone d).1);
-}
+returns-else-is_some c = grind (arith, nat_tests, moved-ended c.self.inside.table c.self.inside.shapes.items c.self.inside.tenants.items c.self.inside.pass, more, waits-not c.self.inside.table c.self.inside.shapes.items c.self.inside.tenants.items c.self.inside.pass c.args.page, gone)

@@ -7,29 +7,16 @@ pub remove_all-requires : goal.remove_all-requires
 remove_all-requires c = grind (arith, nat_tests, places_inside, pages_there)
 
 pub release-requires : goal.release-requires
-release-requires c = record {
-  map = let inside = map_pins c.self.inside.table c.self.inside.shapes.items c.self.inside.tenants.items c.self.inside.pass c.self.inside.reserved c.args.tenant c.args.map c.args.shape c.args.self.now c.self.view_is c.self.invariant.0 c.requires.tenant c.requires.there c.self.invariant.1.pins in
-      omega (arith, inside, c.map_index-index.ensures);
-  few = let told = index_inside c.self.inside.table c.self.inside.shapes.items c.self.inside.tenants.items c.self.inside.pass c.self.inside.reserved c.args.tenant c.args.map c.args.shape c.args.self.now c.self.view_is c.self.invariant.0 c.requires.tenant c.requires.there in
-      omega (arith, told, c.map_index-index.ensures, c.self.invariant.0.numbers, c.self.invariant.0.few);
-}
+release-requires c = grind (arith, nat_tests, map_pins, few, index_inside)
 
 pub index_mut-requires : goal.index_mut-requires
-index_mut-requires c =
-    let told = index_inside c.self.inside.table c.self.inside.shapes.items c.self.inside.tenants.items c.self.inside.pass c.self.inside.reserved c.args.tenant c.args.map c.args.shape c.args.self.now c.self.view_is c.self.invariant.0 c.requires.tenant c.requires.there in
-    omega (arith, told, c.map_index-index.ensures)
+index_mut-requires c = grind (arith, nat_tests, index_inside)
 
 pub end_if_done-requires-clause-maps : goal.end_if_done-requires-clause-maps
-end_if_done-requires-clause-maps c =
-    rw (c.deref.ensures.value, c.map_index-index.ensures)
-    (memory_dropped c.self.inside.table c.self.inside.shapes.items c.self.inside.tenants.items c.self.inside.pass c.self.inside.reserved c.args.tenant c.args.map c.args.shape c.args.self.now c.self.view_is c.self.invariant.0 c.requires.tenant c.requires.there
-    c.remove_all.new.self (rw (c.map_index-index.ensures, c.pages-count.ensures) at c.remove_all.ensures.contents) c.remove_all.ensures.used c.remove_all.ensures.arena).maps
+end_if_done-requires-clause-maps c = grind (arith, nat_tests, memory_dropped c.self.inside.table c.self.inside.shapes.items c.self.inside.tenants.items c.self.inside.pass c.self.inside.reserved c.args.tenant c.args.map c.args.shape c.args.self.now c.self.view_is c.self.invariant.0 c.requires.tenant c.requires.there c.remove_all.new.self)
 
 contents : (c : goal.After-end_if_done) → contents_of c.remove_all.new.self ≡ with_part (contents_of c.self.inside.table) (map_place c.args.tenant c.args.map * 256) (replicate (page_count c.args.shape) [])
 contents c = rw (c.map_index-index.ensures, c.pages-count.ensures) at c.remove_all.ensures.contents
-
-gone : (c : goal.After-end_if_done) → sharing_of c.remove_all.new.self c.self.inside.pass ≡ record (gone_from (sharing_of c.self.inside.table c.self.inside.pass) (map_place c.args.tenant c.args.map * 256) (page_count c.args.shape)) { pins = c.self.inside.pass.pins }
-gone c = rw (c.map_index-index.ensures, c.pages-count.ensures) at (c.remove_all.ensures.sharing c.self.inside.pass)
 
 ended : (c : goal.After-end_if_done) → sharing_of c.remove_all.new.self c.end_if_done.new.pass
     ≡ ended_at (sharing_of c.remove_all.new.self (left_outside (map_place c.args.tenant c.args.map * 256) (map_place c.args.tenant c.args.map * 256 + page_count c.args.shape) c.self.inside.pass)) c.self.inside.pass.cursor
@@ -50,9 +37,7 @@ invariant_of-self c = (
 )
 
 told : (c : goal.After-end_if_done) → Drops (view_of c.self.inside.table c.self.inside.shapes.items c.self.inside.tenants.items c.self.inside.pass) (view_of c.remove_all.new.self (slice_set c.self.inside.shapes.items (map_place c.args.tenant c.args.map) None) c.self.inside.tenants.items c.end_if_done.new.pass) c.args.tenant c.args.map c.args.shape
-told c =
-    drops c.self.inside.table c.self.inside.shapes.items c.self.inside.tenants.items c.self.inside.pass c.self.inside.reserved c.args.tenant c.args.map c.args.shape c.args.self.now c.self.view_is c.self.invariant.0 c.requires.tenant c.requires.there
-    c.remove_all.new.self (contents c) c.remove_all.ensures.used c.remove_all.ensures.arena c.facts.ensures.1.fits c.self.invariant.1.pins c.end_if_done.new.pass (ended c) (gone c)
+told c = grind (arith, nat_tests, drops c.self.inside.table c.self.inside.shapes.items c.self.inside.tenants.items c.self.inside.pass c.self.inside.reserved c.args.tenant c.args.map c.args.shape c.args.self.now c.self.view_is c.self.invariant.0 c.requires.tenant c.requires.there c.remove_all.new.self, contents c, ended c)
 
 pub returns : goal.returns
 returns c = rw (← c.self.view_is, c.map_index-index.ensures) (assumption (told c))

@@ -5,15 +5,7 @@ use Rattle.page_table.proofs.Unpinning.{pins-inside, part-unpinned, others-kept,
 use Rattle.page_table.proofs.memory.Memory.unpin.Goals as goal
 
 pub release_all-requires : goal.release_all-requires
-release_all-requires c = record {
-  maps = let eight : length (part (view_of c.self.inside.table c.self.inside.shapes.items c.self.inside.tenants.items c.self.inside.pass) c.args.tenant).maps ≡ 8 = rw (← c.self.view_is) at c.requires in
-      let there = tenant_there c.self.inside.table c.self.inside.shapes.items c.self.inside.tenants.items c.self.inside.pass c.self.inside.reserved c.self.invariant.0 c.args.tenant eight in
-      let inside = pins-inside c.self.inside.table c.self.inside.shapes.items c.self.inside.tenants.items c.self.inside.pass c.self.inside.reserved c.self.invariant.0 c.self.invariant.1.pins c.args.tenant there in
-      omega (arith, inside, c.map_index.ensures);
-  few = let eight : length (part (view_of c.self.inside.table c.self.inside.shapes.items c.self.inside.tenants.items c.self.inside.pass) c.args.tenant).maps ≡ 8 = rw (← c.self.view_is) at c.requires in
-      let there = tenant_there c.self.inside.table c.self.inside.shapes.items c.self.inside.tenants.items c.self.inside.pass c.self.inside.reserved c.self.invariant.0 c.args.tenant eight in
-      omega (arith, there, c.map_index.ensures, c.self.invariant.0.few);
-}
+release_all-requires c = grind (arith, nat_tests, tenant_there, pins-inside)
 
 released : (c : goal.After-release_all) → c.release_all.new.self ≡ with_part c.self.inside.pass.pins (c.args.tenant * 2048) (replicate 2048 false)
 released c = grind (arith, nat_tests)
