@@ -56,18 +56,8 @@ pub length-unused : (counts unused : List ℕ) (p : ℕ → Bool) → AreCounts 
     → ((f : ℕ) → 0 < f → f < length counts → one_if_zero (slice_index_or counts f 1) ≡ one_when (p f))
     → length unused ≡ length (filter p (range_with_len 1 (length counts - 1)))
 length-unused counts unused p are held tells =
-    sym (occurrences-all 1 (length counts - 1) unused within)
+    sym (occurrences-all 1 (length counts - 1) unused (λ f some. grind (arith, nat_tests, are.listed f, unused_default counts f, held)))
     ∙ occurrences-passed p 1 (length counts - 1) unused (λ f low high. are.listed f ∙ tells f (omega arith) (omega (arith, low, high)))
-  where
-    within : (f : ℕ) → 1 ≤ times f unused → (1 ≤ f) × (f < 1 + (length counts - 1))
-    within f some = (
-      above f (omega (arith, some, are.listed f)),
-      let there = (unused_default counts f (omega (arith, some, are.listed f))).0 in omega (arith, there, above f (omega (arith, some, are.listed f))),
-    )
-      where
-        above : (f : ℕ) → 1 ≤ one_if_zero (slice_index_or counts f 1) → 1 ≤ f
-        above zero h = absurd (omega (arith, h, held))
-        above (suc f) h = omega arith
 
 -- no page lies on a frame exactly if it isn't taken
 pub empty-frame : (f : ℕ) (xs : List (Option Entry)) → one_if_zero (pages_on f xs) ≡ one_when (not (list_any (is_frame f) (frames_of xs)))

@@ -45,22 +45,10 @@ pass-outside old new pass first n is kept arena long few inside =
     apart : {i : ℕ} → (i < first) ⊎ (first + 256 ≤ i) → (i < first) ⊎ (first + n ≤ i)
     apart out = ⊎_elim (λ less. inl less) (λ past. inr (omega (arith, past, few))) out
 
--- a page that goes isn't pinned
-gone-pins : (s : Sharing) (i : ℕ) → (gone s i).pins ≡ slice_set s.pins i false
-unfolding gone broken
-gone-pins s i = grind arith
-
 gone_from-pins : (s : Sharing) (i n : ℕ) → i + n ≤ length s.pins → (gone_from s i n).pins ≡ with_part s.pins i (replicate n false)
-unfolding gone_from
+unfolding gone_from gone broken
 gone_from-pins s i zero inside = with_part-none s.pins i
-gone_from-pins s i (suc n) inside =
-    let one : suc n ≡ n + 1 = omega arith in
-    ap (λ (m : ℕ). (gone_from s i m).pins) one
-    ∙ ap (λ (t : Sharing). t.pins) (gone_from-last s i n)
-    ∙ gone-pins (gone_from s i n) (i + n)
-    ∙ ap (λ (l : List Bool). slice_set l (i + n) false) (gone_from-pins s i n (omega (arith, inside)))
-    ∙ filled_more s.pins i n false (omega (arith, inside))
-    ∙ ap (λ (m : ℕ). with_part s.pins i (replicate m false)) (sym one)
+gone_from-pins s i (suc n) inside = let one : suc n ≡ n + 1 = omega arith in rw one (grind (arith, gone_from-last s i n, gone_from-pins s i n, filled_more s.pins i n false))
 
 -- behind a map's pages nothing is pinned
 filled-same : (pins : List Bool) (at n d : ℕ) → at + n + d ≤ length pins → ((i : ℕ) → at + n ≤ i → i < at + n + d → slice_index_or pins i false ≡ false)
@@ -78,18 +66,7 @@ pub sharing-outside : (old new : TableState) (pass : Pass) (first n : ℕ) → n
     → sharing_of new pass ≡ record (gone_from (sharing_of old pass) first n) { pins = pass.pins }
     → sharing_of new (left_outside first (first + n) pass) ≡ record (gone_from (sharing_of old pass) first n) { waiting = waiting_outside first n (sharing_of old pass).waiting }
 sharing-outside old new pass first n few inside none told =
-    ap (λ (s : Sharing). record s { waiting = map waiting_of (outside first (first + n) pass.waiting.listed); pins = with_part pass.pins first (replicate 256 false) }) told
-    ∙ ap (λ (w : List (ℕ × ℕ)). record (gone_from (sharing_of old pass) first n) { waiting = w; pins = with_part pass.pins first (replicate 256 false) }) (waiting-outside first n pass.waiting.listed)
-    ∙ ap (λ (pins : List Bool). record (gone_from (sharing_of old pass) first n) { waiting = waiting_outside first n (sharing_of old pass).waiting; pins = pins }) pins
-  where
-    rest : n + (256 - n) ≡ 256
-    rest = omega (arith, few)
-
-    pins : with_part pass.pins first (replicate 256 false) ≡ (gone_from (sharing_of old pass) first n).pins
-    pins =
-        ap (λ (m : ℕ). with_part pass.pins first (replicate m false)) (sym rest)
-        ∙ filled-same pass.pins first n (256 - n) (omega (arith, inside, few)) (λ i from less. none i from (omega (arith, less, few)))
-        ∙ sym (gone_from-pins (sharing_of old pass) first n (omega (arith, inside, few)))
+    grind (arith, nat_tests, waiting-outside first n pass.waiting.listed, filled-same pass.pins first n (256 - n), gone_from-pins (sharing_of old pass) first n)
 
 -- a map that is there has one of eight numbers
 pub number_small : (memory : MemoryState) (t m : ℕ) (shape : Shape) → option_map (λ (flat : FlatMap). flat.shape) (map_at (part memory t).maps m) ≡ Some shape → m < 8
@@ -142,23 +119,7 @@ module _ (table : TableState) (shapes : List (Option Shape)) (tenants : List Ten
 
   -- no place behind the map's pages is pinned
   pub unpinned_behind : IsTable table → PinsFit (states_of table.entries) pass.pins → (i : ℕ) → k * 256 + page_count shape ≤ i → i < k * 256 + 256 → slice_index_or pass.pins i false ≡ false
-  unpinned_behind fits fit i from less = by_test (slice_index_or pass.pins i false) refl
-    where
-      place : i ≡ k * 256 + (i - k * 256)
-      place = omega (arith, from)
-
-      empty : length (slice_index_or (contents_of table) i []) ≡ 0
-      empty =
-          ap (λ (j : ℕ). length (slice_index_or (contents_of table) j [])) place
-          ∙ ap length (content_in (contents_of table) k (i - k * 256) (omega (arith, from, less)) ∙ old_pages.none (i - k * 256) (omega (arith, from)))
-
-      by_entry : (x : Option Entry) → entry_at table.entries i ≡ x → IsSomeAnd (option_map state_of x) (λ state. state.status ≡ Volatile) → ⊥
-      by_entry None e v = v
-      by_entry (Some entry) e v = omega (arith, page_of_entry table i entry fits e, empty)
-
-      by_test : (b : Bool) → slice_index_or pass.pins i false ≡ b → slice_index_or pass.pins i false ≡ false
-      by_test false e = e
-      by_test true e = absurd (by_entry (entry_at table.entries i) refl (rw (state-at table pass i) at (fit.volatile i e)))
+  unpinned_behind fits fit i from less = grind (arith, nat_tests, content_in (contents_of table) k (i - k * 256), old_pages, state-at table pass i, page_of_entry table i, fit.volatile i)
 
   module _ (new : TableState) (contents : contents_of new ≡ with_part (contents_of table) (k * 256) (replicate (page_count shape) []))
       (used : used_by new ≤ used_by table) (arena : length new.arena ≡ length table.arena) where
@@ -179,9 +140,6 @@ module _ (table : TableState) (shapes : List (Option Shape)) (tenants : List Ten
 
     pub memory_dropped : IsMemory new shapes_new tenants reserved
     memory_dropped = grind (arith, nat_tests, memory_changed, small, index_inside, length-set, wide, get_or-set_other, others_new, shape_gone, filled_part, few, all, old_pages)
-
-    pub shapes_few : length shapes_new ≤ 128
-    shapes_few = let long = length-set shapes k None in omega (arith, long, is.numbers, is.few)
 
     pub long_new : length new.entries ≡ length table.entries
     long_new = sym (length-contents new) ∙ wide ∙ length-contents table

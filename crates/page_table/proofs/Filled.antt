@@ -2,7 +2,7 @@
 use Rattle.page_table.proofs.Base.{◌≡◌, ◌≢◌, ◌∙◌, ℕ, ◌+◌, ◌-◌, ◌*◌, ◌/◌, ◌%◌, ◌<◌, ◌≤◌, Bool, true, false, if◌then◌else◌, List, [], ◌∷◌, ◌++◌, length, take, drop, replicate, slice_index_or, slice_set, refl, sym, ap, subst, arith, get_or-set_same, get_or-set_other, length-set, length-replicate, take-replicate, drop-replicate, get_or-replicate, get_or-take, get_or-drop, ext_get_or, take-append_seam, sum_by-cons, sum_by-set, sum_by-replicate, nat_tests}
 use Rattle.page_table.proofs.Words.{part_of, with_part, length-part_of, length-with_part, part-with_part_same, with_part-same, pinned_among, ArePinsOf}
 use Rattle.page_table.proofs.Creating.{others-filled, filled_at}
-use Rattle.page_table.proofs.Maps.{part_of-set_same, part_of-set_other}
+use Rattle.page_table.proofs.Maps.{part_of-set_other, part_of-set_same}
 
 abbrev one_if : Bool → ℕ
 one_if b = if b then 1 else 0
@@ -26,23 +26,13 @@ filled-behind : (pins : List Bool) (at n m : ℕ) → at + n + m ≤ length pins
 filled-behind pins at n m h1 =
     grind (arith, nat_tests, length-replicate n false, length-replicate m false, length-replicate (n + m) false, length-with_part pins at (replicate n false), length-with_part (with_part pins at (replicate n false)) (at + n) (replicate m false), length-with_part pins at (replicate (n + m) false), ext_get_or false, filled_at (with_part pins at (replicate n false)) (at + n) m, filled_at pins at n, filled_at pins at (n + m))
 
+new-part : (maps k : ℕ) → k < maps → pinned_among (part_of (replicate (maps * 256) false) (k * 256) 256) ≡ 0
+unfolding part_of
+new-part maps k less = rw (drop-replicate (k * 256) (maps * 256) false, take-replicate 256 (maps * 256 - k * 256) false (omega (arith, less))) (none-pinned 256)
+
 -- the memory without a map
 pub pins-new : (maps : ℕ) → ArePinsOf (replicate (maps * 256) false) (replicate maps 0)
-unfolding part_of
-pins-new maps =
-    let long = length-replicate (maps * 256) false in
-    let count = length-replicate {A = ℕ} maps 0 in
-    record {
-      maps = omega (arith, long, count);
-      each = λ k less. get_or-replicate maps k 0 0 (omega (arith, less, count)) ∙ sym (part k (omega (arith, less, count)));
-    }
-  where
-    part : (k : ℕ) → k < maps → pinned_among (part_of (replicate (maps * 256) false) (k * 256) 256) ≡ 0
-    part k less =
-        let rest : ℕ = maps * 256 - k * 256 in
-        ap (λ (l : List Bool). pinned_among (take 256 l)) (drop-replicate (k * 256) (maps * 256) false)
-        ∙ ap pinned_among (take-replicate 256 (maps * 256 - k * 256) false (omega (arith, less)))
-        ∙ none-pinned 256
+pins-new maps = grind (arith, nat_tests, length-replicate, get_or-replicate, new-part maps)
 
 -- the pins of one map changed, and its number with them
 pins-changed : (pins now : List Bool) (numbers : List ℕ) (k n : ℕ) → ArePinsOf pins numbers → k < length numbers → length now ≡ length pins

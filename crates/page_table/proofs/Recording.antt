@@ -63,10 +63,6 @@ module _ (table : TableState) (shapes : List (Option Shape)) (tenants : List Ten
     abbrev after : MemoryState
     after = view_of table shapes recorded pass
 
-    pub others_recorded : IsKeptBut t memory after
-    unfolding view_of part
-    others_recorded s ne = rw (get_or-set_other tenants t s kept unreserved_tenant ne) refl
-
     pub have_recorded : have_of after + kept.reserve ≡ have_of memory + (part memory t).reserve
     unfolding view_of part
     have_recorded = grind (arith, nat_tests, sum-recorded tenants t kept, tenant_there t eight, reserve-small tenants t, free_is table shapes tenants pass, free_is table shapes recorded pass)
@@ -87,4 +83,4 @@ pub records : (table : TableState) (shapes : List (Option Shape)) (tenants : Lis
     → length (part now t).maps ≡ 8 → kept.reserve ≤ have_of now + (part now t).reserve → before ≡ (part now t).reserve
     → Records now (view_of table shapes (slice_set tenants t kept) pass) table shapes tenants reserved t before kept
 unfolding view_of part
-records table shapes tenants pass reserved is now same t before kept eight room told = grind (arith, nat_tests, tenant_there table shapes tenants pass reserved is t, before_small table shapes tenants pass reserved is t kept, fits table shapes tenants pass reserved is t kept, memory_recorded table shapes tenants pass reserved is t kept, get_or-set_same, tenant_there, others_recorded table shapes tenants pass reserved is t kept, have_recorded table shapes tenants pass reserved is t kept)
+records table shapes tenants pass reserved is now same t before kept eight room told = grind (arith, nat_tests, tenant_there table shapes tenants pass reserved is t, before_small table shapes tenants pass reserved is t kept, fits table shapes tenants pass reserved is t kept, memory_recorded table shapes tenants pass reserved is t kept, get_or-set_same, tenant_there, get_or-set_other, have_recorded table shapes tenants pass reserved is t kept)

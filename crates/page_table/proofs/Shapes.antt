@@ -1,6 +1,7 @@
 -- What a memory tells of a tenant's maps by their numbers.
 use Rattle.page_table.proofs.Base.{◌≡◌, ◌∙◌, ℕ, zero, suc, ◌*◌, ◌<◌, ◌≤◌, List, [], ◌∷◌, length, map, drop, slice_index_or, Option, Some, None, IfSome, option_map, is_none, position, refl, ap, arith, All, min, ◌-◌, position_or_len, get_or_past, get_or-take, get_or-drop, length-take, length-drop, concat, length-take-le, All-nil, All-cons, All-head, All-tail, All-append, All-take, All-drop, nat_tests}
 use Rattle.page_table.proofs.Words.{Pass, Shape, part_of, FlatMap, FlatMaps, map_at, map_place, byte_len_of, IsFlatMap, IsPage, page_at, page_count, Entry, Tenant, MemoryState, part, free_number, TableState, maps_of, flat_of, entry_content, contents_of, ArePages, ArePagesOf, AreMaps, view_of}
+pub use Rattle.page_table.proofs.Maps.{length-part}
 use Rattle.page_table.proofs.Maps.{map_at-maps_of, length-maps_of, length-concat}
 use Rattle.page_table.proofs.Reading.{map_at-part, map_at-past}
 
@@ -10,14 +11,7 @@ same_prefix : (maps : FlatMaps) (shapes : List (Option Shape)) → length maps �
 same_prefix [] [] e h = refl
 same_prefix [] (s ∷ shapes) e h = absurd (omega arith)
 same_prefix (m ∷ maps) [] e h = absurd (omega arith)
-same_prefix (m ∷ maps) (s ∷ shapes) e h =
-    let first = h 0 in
-    let rest = same_prefix maps shapes (omega arith) (λ i. h (suc i)) in
-    rw (first, rest) refl
-
-pub length-part : {X : Type 0} (xs : List X) (at w : ℕ) → length (part_of xs at w) ≡ min w (length xs - at)
-unfolding part_of
-length-part xs at w = length-take w (drop at xs) ∙ ap (min w) (length-drop at xs)
+same_prefix (m ∷ maps) (s ∷ shapes) e h = grind (arith, h 0, same_prefix maps shapes (omega arith) (λ i. h (suc i)))
 
 -- the maps' places are free where no shape is
 free_of_maps : (shapes : List (Option Shape)) (contents : List (List ℕ)) (from width : ℕ)

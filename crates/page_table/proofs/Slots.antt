@@ -46,8 +46,7 @@ groups-emptied (x ∷ xs) zero f h here once =
     let absent : All (λ g. g ≢ f) xs = λ k d less same. let place = once (suc k) (omega (arith, less)) (get_or_default xs k 0 d less ∙ same) in absurd (omega (arith, place)) in
     grind (arith, nat_tests, filter-absent (groups_in xs) f (All-filter (λ g. not (g == 0)) (λ g. g ≢ f) xs absent))
 groups-emptied (x ∷ xs) (suc i) f h here once =
-    let apart : x ≢ f = λ same. let place = once 0 (omega arith) same in omega (arith, place) in
-    grind (arith, nat_tests, apart, groups-emptied xs i f (omega arith) here (λ j less e. let place = once (suc j) (omega (arith, less)) e in omega (arith, place)))
+    grind (arith, nat_tests, once 0, groups-emptied xs i f (omega arith) here (λ j less e. let place = once (suc j) (omega (arith, less)) e in omega (arith, place)))
 
 module _ (slots slot_of : List ℕ) (are : ArePlaced slots slot_of) where
   -- a group stands once
@@ -58,50 +57,20 @@ module _ (slots slot_of : List ℕ) (are : ArePlaced slots slot_of) where
   pub placed-pushed : (f : ℕ) → 0 < f → f < length slot_of → times f (groups_in slots) ≡ 0 → ArePlaced (slots ++ f ∷ []) (slice_set slot_of f (length slots))
   placed-pushed f above there none =
       record {
-        below = λ j less. let inside = more j less in grind (arith, nat_tests, inside, pushed j inside, length-set slot_of f (length slots), are.below j, there);
-        placed = λ j less full. placed j (more j less) full (is_same j (length slots));
+        below = λ j less. grind (arith, nat_tests, length-append slots (f ∷ []), get_or-append-add slots (f ∷ []) 0 0, get_or_append_left slots (f ∷ []) 0 j, length-set slot_of f (length slots), are.below j, is_same j (length slots));
+        placed = λ j less full. grind (arith, nat_tests, length-append slots (f ∷ []), get_or-append-add slots (f ∷ []) 0 0, get_or_append_left slots (f ∷ []) 0 j, in-groups slots j, get_or-set_same slot_of f (length slots) 0, get_or-set_other slot_of f (slice_index_or slots j 0) (length slots) 0, are.placed j, is_same j (length slots));
       }
-    where
-      more : (j : ℕ) → j < length (slots ++ f ∷ []) → j < length slots + 1
-      more j less = let long = length-append slots (f ∷ []) in omega (arith, long, less)
-
-      pushed : (j : ℕ) → j < length slots + 1 → slice_index_or (slots ++ f ∷ []) j 0 ≡ (if j == length slots then f else slice_index_or slots j 0)
-      pushed j less =
-          ⊎_elim (λ last. ap (λ (n : ℕ). slice_index_or (slots ++ f ∷ []) n 0) (omega (arith, last)) ∙ get_or-append-add slots (f ∷ []) 0 0 ∙ grind (arith, nat_tests))
-          (λ front. get_or_append_left slots (f ∷ []) 0 j (omega (arith, less, front)) ∙ grind (arith, nat_tests)) (is_same j (length slots))
-
-      placed : (j : ℕ) → j < length slots + 1 → 0 < slice_index_or (slots ++ f ∷ []) j 0 → (j ≡ length slots) ⊎ (j ≢ length slots)
-          → slice_index_or (slice_set slot_of f (length slots)) (slice_index_or (slots ++ f ∷ []) j 0) 0 ≡ j
-      placed j less full (inl last) = grind (arith, nat_tests, pushed j less, get_or-set_same slot_of f (length slots) 0)
-      placed j less full (inr front) =
-          let listed = in-groups slots j (omega (arith, less, front)) in
-          let apart : 0 < slice_index_or slots j 0 → slice_index_or slots j 0 ≢ f = λ some same. let also = ap (λ (n : ℕ). times n (groups_in slots)) same in omega (arith, also, none, listed some) in
-          grind (arith, nat_tests, pushed j less, apart, get_or-set_other slot_of f (slice_index_or slots j 0) (length slots) 0, are.placed j)
 
   -- the groups alone
   pub groups-below : All (λ f. f < length slot_of) (groups_in slots)
-  groups-below =
-      All-filter (λ g. not (g == 0)) (λ f. f < length slot_of) slots
-      (λ k d less. let same = get_or_default slots k d 0 less in let below = are.below k less in omega (arith, same, below))
+  groups-below = All-filter (λ g. not (g == 0)) (λ f. f < length slot_of) slots (λ k d less. grind (arith, get_or_default slots k d 0, are.below k))
 
   pub groups-apart : AllPairs (λ f g. f ≢ g) (groups_in slots)
-  groups-apart = λ i j d less there same. kept i j d less there (passed i d (omega (arith, less, there))) same
+  groups-apart = λ i j d less there same. grind (arith, nat_tests, kept i j d less there, filter_passes (λ g. not (g == 0)) slots i d)
     where
       kept : AllPairs (λ f g. 0 < f → f ≢ g) (groups_in slots)
       kept =
-          AllPairs-filter (λ f g. 0 < f → f ≢ g) (λ g. not (g == 0)) slots
-          (λ i j d less there above same.
-          let first = get_or_default slots i 0 d (omega (arith, less, there)) in
-          let second = get_or_default slots j 0 d there in
-          let place = stands-once i j (omega (arith, less, there)) there (omega (arith, first, above)) (second ∙ sym same ∙ sym first) in
-          omega (arith, place, less))
-
-      passed : (i : ℕ) (d : ℕ) → i < length (groups_in slots) → 0 < slice_index_or (groups_in slots) i d
-      passed i d less = above (slice_index_or (groups_in slots) i d) (filter_passes (λ g. not (g == 0)) slots i d less)
-        where
-          above : (x : ℕ) → not (x == 0) ≡ true → 0 < x
-          above zero h = absurd (cc)
-          above (suc x) h = omega arith
+          AllPairs-filter (λ f g. 0 < f → f ≢ g) (λ g. not (g == 0)) slots (λ i j d less there above same. grind (arith, get_or_default slots i 0 d, get_or_default slots j 0 d, stands-once i j))
 
 -- the groups alone have no empty slot
 pub groups-again : (slots : List ℕ) → groups_in (groups_in slots) ≡ groups_in slots

@@ -35,7 +35,4 @@ contents-told table shapes tenants pass reserved is fits = by_groups table.group
     by_groups : (gs : List ℕ) → ((g : ℕ) → 1 ≤ times g gs → group_bytes (contents_now (view_of table shapes tenants pass)) (places_on 0 g table.entries) ≡ page_at table.arena g)
         → map (group_bytes (contents_now (view_of table shapes tenants pass))) (map (λ f. places_on 0 f table.entries) gs) ≡ map (page_at table.arena) gs
     by_groups [] h = refl
-    by_groups (g ∷ gs) h =
-        let first = h g (times-head g gs) in
-        let rest = by_groups gs (λ f some. let more = times-tail f g gs in h f (omega (arith, more, some))) in
-        cc
+    by_groups (g ∷ gs) h = grind (arith, h g (times-head g gs), by_groups gs, times-tail)

@@ -4,7 +4,7 @@ use Rattle.page_table.proofs.Words.{Shape, part_of, FlatMap, map_at, map_place, 
 use Rattle.page_table.proofs.Sides.{order}
 use Rattle.page_table.proofs.Dropping.{number_small, few, map_pins, unpinned_behind}
 use Rattle.page_table.proofs.Reading.{map_at-part}
-use Rattle.page_table.proofs.Maps.{map_at-maps_of}
+use Rattle.page_table.proofs.Maps.{map_at-maps_of, part-at}
 
 abbrev one_if : Bool → ℕ
 one_if b = if b then 1 else 0
@@ -18,34 +18,24 @@ part-cons (b ∷ pins) (suc at) n inside = grind (arith, nat_tests, part-cons pi
 pinned-cons : (pins : List Bool) (at n : ℕ) → at < length pins → pinned_among (part_of pins at (suc n)) ≡ one_if (slice_index_or pins at false) + pinned_among (part_of pins (at + 1) n)
 pinned-cons pins at n inside = ap pinned_among (part-cons pins at n inside) ∙ sum_by-cons one_if (slice_index_or pins at false) (part_of pins (at + 1) n)
 
--- each of some pages is pinned or not
-all-told : (pins : List Bool) (at n : ℕ) → at + n ≤ length pins → unpinned_from pins at n + pinned_among (part_of pins at n) ≡ n
-unfolding unpinned_from part_of
-all-told pins at zero inside = refl
-all-told pins at (suc n) inside = grind (arith, pinned-cons pins at n, get_or_default pins at true false, all-told pins (at + 1) n)
-
 none-pinned : (pins : List Bool) (at n : ℕ) → at + n ≤ length pins → ((i : ℕ) → at ≤ i → i < at + n → slice_index_or pins i false ≡ false) → pinned_among (part_of pins at n) ≡ 0
 unfolding part_of
 none-pinned pins at zero inside none = refl
 none-pinned pins at (suc n) inside none = grind (arith, nat_tests, pinned-cons, none-pinned pins (at + 1) n)
 
--- behind some pages none is pinned
-fewer-pinned : (pins : List Bool) (at n d : ℕ) → at + n + d ≤ length pins → ((i : ℕ) → at + n ≤ i → i < at + n + d → slice_index_or pins i false ≡ false) → pinned_among (part_of pins at (n + d)) ≡ pinned_among (part_of pins at n)
-unfolding part_of
-fewer-pinned pins at zero d inside none = grind (arith, nat_tests, none-pinned)
-fewer-pinned pins at (suc n) d inside none =
+-- each of some pages is pinned or not, and behind them none is
+all-told : (pins : List Bool) (at n d : ℕ) → at + n + d ≤ length pins → ((i : ℕ) → at + n ≤ i → i < at + n + d → slice_index_or pins i false ≡ false) → unpinned_from pins at n + pinned_among (part_of pins at (n + d)) ≡ n
+unfolding unpinned_from part_of
+all-told pins at zero d inside none = grind (arith, nat_tests, none-pinned)
+all-told pins at (suc n) d inside none =
     let next : suc n + d ≡ suc (n + d) = omega arith in
-    let rest = fewer-pinned pins (at + 1) n d (omega (arith, inside)) (λ i from less. none i (omega (arith, from)) (omega (arith, less))) in
-    ap (λ (m : ℕ). pinned_among (part_of pins at m)) next ∙ grind (arith, pinned-cons pins at (n + d), pinned-cons pins at n, rest)
+    grind (arith, nat_tests, ap (λ (m : ℕ). pinned_among (part_of pins at m)) next, pinned-cons pins at (n + d), get_or_default pins at true false, all-told pins (at + 1) n d)
 
 -- a part's pages, in the part
 unpinned-in_part : (pins : List Bool) (first at n : ℕ) → at + n ≤ 2048 → unpinned_from (part_of pins first 2048) at n ≡ unpinned_from pins (first + at) n
-unfolding unpinned_from part_of
+unfolding unpinned_from
 unpinned-in_part pins first at zero small = refl
-unpinned-in_part pins first at (suc n) small =
-    let next : first + (at + 1) ≡ first + at + 1 = omega arith in
-    let here = get_or-take 2048 (drop first pins) at true (omega (arith, small)) ∙ get_or-drop first pins at true in
-    grind (arith, here, unpinned-in_part pins first (at + 1) n, ap (λ (i : ℕ). unpinned_from pins i n) next)
+unpinned-in_part pins first at (suc n) small = grind (arith, nat_tests, part-at, unpinned-in_part pins first (at + 1) n)
 
 module _ (table : TableState) (shapes : List (Option Shape)) (tenants : List Tenant) (pass : Pass) (reserved t m : ℕ) (shape : Shape) (now : MemoryState) (same : view_of table shapes tenants pass ≡ now)
     (is : IsMemory table shapes tenants reserved) (here : option_map (λ (flat : FlatMap). flat.shape) (map_at (part now t).maps m) ≡ Some shape) where
@@ -66,13 +56,8 @@ module _ (table : TableState) (shapes : List (Option Shape)) (tenants : List Ten
 
     pub pages-told : unpinned_from pass.pins (k * 256) (page_count shape) + pinned_among (part_of pass.pins (k * 256) 256) ≡ page_count shape
     pages-told =
-        let small = few_pages in
-        let inside = number-inside in
-        let rest : page_count shape + (256 - page_count shape) ≡ 256 = omega (arith, small) in
-        let none = fewer-pinned pass.pins (k * 256) (page_count shape) (256 - page_count shape) (omega (arith, inside, small))
-        (λ i from less. unpinned_behind table shapes tenants pass reserved t m shape now same is tenant-inside here fits fit i from (omega (arith, less, small))) in
-        let as_many = ap (λ (n : ℕ). pinned_among (part_of pass.pins (k * 256) n)) rest in
-        omega (arith, none, as_many, all-told pass.pins (k * 256) (page_count shape) (omega (arith, inside, small)))
+        let rest : page_count shape + (256 - page_count shape) ≡ 256 = omega (arith, few_pages) in
+        grind (arith, nat_tests, few_pages, number-inside, ap (λ (n : ℕ). pinned_among (part_of pass.pins (k * 256) n)) rest, all-told pass.pins (k * 256) (page_count shape) (256 - page_count shape), unpinned_behind table shapes tenants pass reserved t m shape now same is tenant-inside here fits fit)
 
     pins : (part now t).pins ≡ part_of pass.pins (t * 2048) 2048
     unfolding view_of part

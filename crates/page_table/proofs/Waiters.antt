@@ -18,17 +18,11 @@ waiters-kept old new c d (w ∷ ws) h are = (h w are.0, are.1, waiters-kept old 
 pub waiter-kept : (old new : List (Option Entry)) (c : Option ℕ) (w : Waiter) → ((entry : Entry) → entry_at old w.place ≡ Some entry → is_shared entry.status ≡ false → entry_at new w.place ≡ Some entry) → IsWaiter old c w → IsWaiter new c w
 waiter-kept old new c w h is = grind (arith, nat_tests, waiter_own old c w is)
 
-pub either : (a b : Bool) → (a || b) ≡ false → (a ≡ false) × (b ≡ false)
-either a b h1 = grind (arith, nat_tests)
-
-apart_places : (j i : ℕ) → (j == i) ≡ false → j ≢ i
-apart_places j i h e = grind (arith, nat_tests)
-
--- where no page waits at a place, what happens there keeps all that wait
-pub waiters-others : (old new : List (Option Entry)) (c : Option ℕ) (i : ℕ) (ws : List Waiter) → is_listed i ws ≡ false
-    → ((j : ℕ) → j ≢ i → entry_at new j ≡ entry_at old j) → AreWaiters old c ws → AreWaiters new c ws
-waiters-others old new c i [] none h are = tt
-waiters-others old new c i (w ∷ ws) none h are = grind (arith, nat_tests, either, waiter-kept, apart_places, waiters-others old new c i ws)
+-- where no page waits at two places, what happens there keeps all that wait
+waiters-both : (old new : List (Option Entry)) (c : Option ℕ) (i j : ℕ) (ws : List Waiter) → is_listed i ws ≡ false → is_listed j ws ≡ false
+    → ((k : ℕ) → k ≢ i → k ≢ j → entry_at new k ≡ entry_at old k) → AreWaiters old c ws → AreWaiters new c ws
+waiters-both old new c i j [] one other h are = tt
+waiters-both old new c i j (w ∷ ws) one other h are = grind (arith, nat_tests, waiter-kept old new c w, h w.place, waiters-both old new c i j ws)
 
 -- the waiting pages without one
 abbrev pub others_of : ℕ → List Waiter → List Waiter
@@ -55,16 +49,11 @@ waiting-forgets i (w ∷ ws) = grind (arith, waiting-forgets i ws)
 -- one more page waits
 pub waiters-more : (entries : List (Option Entry)) (c : Option ℕ) (ws : List Waiter) (w : Waiter) → AreWaiters entries c ws → IsWaiter entries c w → is_listed w.place ws ≡ false → AreWaiters entries c (ws ++ w ∷ [])
 waiters-more entries c [] w are is none = (is, refl, tt)
-waiters-more entries c (v ∷ ws) w are is none =
-    let parts = either (v.place == w.place) (is_listed w.place ws) none in
-    (are.0, last ws parts.0 are.1, waiters-more entries c ws w are.2 is parts.1)
+waiters-more entries c (v ∷ ws) w are is none = grind (arith, nat_tests, last ws, waiters-more entries c ws w are.2 is)
   where
-    turned : (v.place == w.place) ≡ false → (w.place == v.place) ≡ false
-    turned h = grind (arith, nat_tests)
-
-    last : (ws : List Waiter) → (v.place == w.place) ≡ false → is_listed v.place ws ≡ false → is_listed v.place (ws ++ w ∷ []) ≡ false
-    last [] h none = rw (turned h) refl
-    last (u ∷ us) h none = let parts = either (u.place == v.place) (is_listed v.place us) none in rw parts.0 (last us h parts.1)
+    last : (ws : List Waiter) → v.place ≢ w.place → is_listed v.place ws ≡ false → is_listed v.place (ws ++ w ∷ []) ≡ false
+    last [] h none = grind (arith, nat_tests)
+    last (u ∷ us) h none = grind (arith, nat_tests, last us h)
 
 -- as callers see it, too
 pub listed-told : (i : ℕ) (ws : List Waiter) → is_listed i ws ≡ list_any (λ (entry : ℕ × ℕ). entry.0 == i) (map waiting_of ws)
@@ -74,7 +63,7 @@ listed-told i (w ∷ ws) = ap (λ b. (w.place == i) || b) (listed-told i ws)
 -- as many pages have frames of their own as wait
 pub waiters-few : (entries : List (Option Entry)) (c : Option ℕ) (ws : List Waiter) → AreWaiters entries c ws → length ws ≤ own_pages entries
 waiters-few entries c [] are = omega arith
-waiters-few entries c (w ∷ ws) are = grind (arith, nat_tests, inside, waiters-others, get_or-set_other, own_pages-set, waiter_own, waiters-few (slice_set entries w.place None) c ws)
+waiters-few entries c (w ∷ ws) are = grind (arith, nat_tests, inside, waiters-both, get_or-set_other, own_pages-set, waiter_own, waiters-few (slice_set entries w.place None) c ws)
 
 -- no page waits that wasn't visited in this pass
 pub ahead-free : (entries : List (Option Entry)) (c i : ℕ) (ws : List Waiter) → c < i → AreWaiters entries (Some c) ws → is_listed i ws ≡ false
@@ -94,7 +83,7 @@ pass-kept old new pass is kept arena long =
 -- a page changes that doesn't wait and isn't pinned
 pub pass-others : (old new : TableState) (pass : Pass) (i : ℕ) → IsPass old pass → is_listed i pass.waiting.listed ≡ false → slice_index_or pass.pins i false ≡ false → AreOthersKept i old new
     → length new.arena ≡ length old.arena → length new.entries ≡ length old.entries → IsPass new pass
-pass-others old new pass i is none free others arena long = grind (arith, nat_tests, waiters-others, pins-kept, apart-pinned)
+pass-others old new pass i is none free others arena long = grind (arith, nat_tests, waiters-both, pins-kept, apart-pinned)
 
 pub pass-forgets : (table : TableState) (pass : Pass) (i : ℕ) → IsPass table pass → IsPass table (forgets i pass)
 pass-forgets table pass i is = grind (arith, nat_tests, waiters-fewer)
@@ -109,21 +98,13 @@ pass-left old new pass i is free others arena long =
 pub pass-left-both : (old new : TableState) (pass : Pass) (i j : ℕ) → IsPass old pass → slice_index_or pass.pins i false ≡ false → slice_index_or pass.pins j false ≡ false → ((k : ℕ) → k ≢ i → k ≢ j → entry_at new.entries k ≡ entry_at old.entries k) → length new.arena ≡ length old.arena
     → length new.entries ≡ length old.entries → IsPass new (forgets i (forgets j pass))
 pass-left-both old new pass i j is free_one free_other others arena long =
-    let fewer : Pass = forgets i (forgets j pass) in
     let are = pass-forgets old (forgets j pass) i (pass-forgets old pass j is) in
     record {
-      waiters = both fewer.waiting.listed (listed-others i (others_of j pass.waiting.listed)) (listed-fewer j i (others_of j pass.waiting.listed) (listed-others j pass.waiting.listed)) are.waiters;
+      waiters = waiters-both old.entries new.entries pass.cursor i j _ (listed-others i (others_of j pass.waiting.listed)) (listed-fewer j i (others_of j pass.waiting.listed) (listed-others j pass.waiting.listed)) others are.waiters;
       room = omega (arith, arena, is.room);
       cursor = is.cursor;
       pins = pins-kept old new pass is.pins long (λ k entry pinned e volatile. others k (apart-pinned pass.pins i k free_one pinned) (apart-pinned pass.pins j k free_other pinned) ∙ e);
     }
-  where
-    both : (ws : List Waiter) → is_listed i ws ≡ false → is_listed j ws ≡ false → AreWaiters old.entries pass.cursor ws → AreWaiters new.entries pass.cursor ws
-    both [] one other are = tt
-    both (w ∷ ws) one other are =
-        let first = either (w.place == i) (is_listed i ws) one in
-        let second = either (w.place == j) (is_listed j ws) other in
-        (waiter-kept old.entries new.entries pass.cursor w (λ entry e own. others w.place (apart_places w.place i first.0) (apart_places w.place j second.0) ∙ e) are.0, are.1, both ws first.1 second.1 are.2)
 
 -- every page stays that was there
 pub kept-own : (old new : TableState) → ((i : ℕ) (entry : Entry) → entry_at old.entries i ≡ Some entry → entry_at new.entries i ≡ Some entry) → AreOwnKept old new

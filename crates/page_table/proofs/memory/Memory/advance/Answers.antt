@@ -11,20 +11,13 @@ next : (c : After-is_some) → first_mergeable (look_from c.self.inside.pass.cur
 unfolding view_of
 next c = rw (← c.self.view_is) at c.requires.next
 
-start : (c : After-is_some) → c.self.inside.pass.cursor ≡ None → map waiting_of c.self.inside.pass.waiting.listed ≡ []
-unfolding view_of
-start c = rw (← c.self.view_is) at c.requires.start
-
 gone : (c : After-is_some) → AreWaiters c.self.inside.table.entries (Some (page_place c.args.page)) c.self.inside.pass.waiting.listed × (is_listed (page_place c.args.page) c.self.inside.pass.waiting.listed ≡ false)
+unfolding view_of
 gone c =
-    advanced c.self.inside.table.entries (states_of c.self.inside.table.entries) c.self.inside.pass.cursor c.self.inside.pass.waiting.listed (page_place c.args.page) c.self.invariant.1.waiters (next c) (start c)
+    grind (arith, nat_tests, advanced c.self.inside.table.entries (states_of c.self.inside.table.entries) c.self.inside.pass.cursor c.self.inside.pass.waiting.listed (page_place c.args.page) c.self.invariant.1.waiters, c.requires)
 
 small : (c : After-is_some) → page_place c.args.page < 32768
-small c =
-    let inside = (next-is (states_of c.self.inside.table.entries) (look_from c.self.inside.pass.cursor) (page_place c.args.page) (next c)).inside in
-    let long = length-map c.self.inside.table.entries (option_map state_of) in
-    let is = c.self.invariant.0 in
-    omega (arith, inside, long, length-contents c.self.inside.table, is.maps.places, is.numbers, is.few)
+small c = grind (arith, nat_tests, next-is (states_of c.self.inside.table.entries) (look_from c.self.inside.pass.cursor) (page_place c.args.page), next, length-map, length-contents)
 
 more : (c : After-is_some) → is_some (first_mergeable (page_place c.args.page + 1) (drop (page_place c.args.page + 1) (states_of c.self.inside.table.entries))) ≡ c.is_some.result
 more c = rw (← c.place_of-place.ensures) (ap is_some (sym c.next_mergeable.ensures) ∙ sym c.is_some.ensures)

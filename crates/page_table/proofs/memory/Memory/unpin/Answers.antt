@@ -1,7 +1,7 @@
 use Rattle.page_table.proofs.Base.{◌≡◌, ◌*◌, ◌<◌, false, length, replicate, refl, arith, nat_tests}
 use Rattle.page_table.proofs.Words.{with_part, frames_free, part, view_of}
 use Rattle.page_table.proofs.Recording.{tenant_there}
-use Rattle.page_table.proofs.Unpinning.{pins-inside, part-unpinned, others-kept, all-unpinned, fit-fewer}
+use Rattle.page_table.proofs.Unpinning.{pins-inside, part-unpinned, others-kept, fit-fewer}
 use Rattle.page_table.proofs.memory.Memory.unpin.Goals as goal
 
 pub release_all-requires : goal.release_all-requires
@@ -37,4 +37,5 @@ unfolding view_of frames_free
 returns-clause-have c = rw (← c.self.view_is) refl
 
 pub returns-clause-all : goal.returns-clause-all
-returns-clause-all c = rw (← c.self.view_is, released c) (all-unpinned c.self.inside.table c.self.inside.shapes.items c.self.inside.tenants.items c.self.inside.pass c.self.inside.reserved c.self.invariant.0 c.self.invariant.1.pins c.args.tenant (inside c))
+unfolding view_of
+returns-clause-all c = grind (arith, nat_tests, released)

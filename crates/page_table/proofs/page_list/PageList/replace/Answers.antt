@@ -6,18 +6,15 @@ use Rattle.page_table.proofs.Entries.{told_at}
 use Rattle.page_table.proofs.page_list.PageList.replace.Goals as goal
 use Rattle.page_table.proofs.page_list.PageList.replace.Goals.{After-of}
 
-inside : (c : After-of) → c.args.place < length c.self.inside.pages.items
-inside c = rw (← c.self.view_is) at c.requires
-
 -- what stood at the place
 was : (c : After-of) → c.index.result.now ≡ entry_at c.self.inside.pages.items c.args.place
-was c = sym (get_or_default c.self.inside.pages.items c.args.place None c.index.result.now (inside c) ∙ sym c.index.ensures)
+was c = grind (arith, nat_tests, get_or_default)
 
 -- one of the three numbers: what stood at the place is in it, one more fits, and so it becomes
 counts : (c : After-of) (f : Option PageState → ℕ) → ((x : Option PageState) → f x ≤ 1) → (count before after : ℕ) → count ≡ sum_by f (states_of c.self.inside.pages.items)
     → before ≡ f (option_map state_of c.index.result.now) → after ≡ f (option_map state_of c.args.page)
     → (before ≤ count) × (count + after < 4294967296) × (count - before + after ≡ sum_by f (states_of (slice_set c.self.inside.pages.items c.args.place c.args.page)))
-counts c f h1 count before after h2 h3 h4 = grind (arith, nat_tests, length-map, get_or-le-sum_by, sum_by-set, map-set, told_at, inside c, was c, sum_by-le)
+counts c f h1 count before after h2 h3 h4 = grind (arith, nat_tests, length-map, get_or-le-sum_by, sum_by-set, map-set, told_at, was c, sum_by-le)
 
 pub moved-self-inside-requires : goal.moved-self-inside-requires
 moved-self-inside-requires c =
@@ -28,4 +25,4 @@ moved-self-inside-requires c =
     }
 
 pub invariant_of-self : goal.invariant_of-self
-invariant_of-self c = grind (arith, nat_tests, length-set, inside, counts, unshared-one, volatile-one, shared-one)
+invariant_of-self c = grind (arith, nat_tests, length-set, counts, unshared-one, volatile-one, shared-one)
