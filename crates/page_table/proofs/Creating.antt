@@ -33,18 +33,12 @@ length-states entries = length-map entries (option_map state_of)
 zeros_joined : (n m : ℕ) → n ≡ 4096 → zero_page ++ replicate m 0 ≡ replicate (n + m) 0
 zeros_joined n m e = ap (λ l. l ++ replicate m 0) (sym (replicate-zero_page n e)) ∙ replicate-append-replicate n m 0
 
-concat-zeros : (pages : List (List ℕ)) (count : ℕ) → ((n : ℕ) → n < count → slice_index_or pages n [] ≡ zero_page) → ((n : ℕ) → count ≤ n → slice_index_or pages n [] ≡ [])
-    → concat pages ≡ replicate (count * 4096) 0
-concat-zeros [] zero there none = refl
-concat-zeros [] (suc count) there none = grind (arith, there 0, length-zero_page)
-concat-zeros (page ∷ pages) zero there none = grind (arith, none 0, concat-zeros pages 0 (λ n less. absurd (omega arith)) (λ n le. none (suc n) (omega arith)))
-concat-zeros (page ∷ pages) (suc count) there none =
-    grind (arith, there 0, concat-zeros pages count (λ n less. there (suc n) (omega arith)) (λ n le. none (suc n) (omega arith)), zeros_joined 4096 (count * 4096) refl)
-
--- what is read of a map's pages where the first ones were filled
-pub filled_part : (contents : List (List ℕ)) (k count n : ℕ) (page : List ℕ) → count ≤ 256 → k * 256 + 256 ≤ length contents
-    → slice_index_or (part_of (with_part contents (k * 256) (replicate count page)) (k * 256) 256) n [] ≡ (if nat_lt n count then page else slice_index_or (part_of contents (k * 256) 256) n [])
-filled_part contents k count n page few all = grind (arith, nat_tests, part-at, filled_at contents (k * 256) count (k * 256 + n) page [])
+concat-zeros : (pages : List (List ℕ)) (count : ℕ) → ((n : ℕ) → slice_index_or pages n [] ≡ (if nat_lt n count then zero_page else [])) → concat pages ≡ replicate (count * 4096) 0
+concat-zeros [] zero read = refl
+concat-zeros [] (suc count) read = grind (arith, nat_tests, read 0, length-zero_page)
+concat-zeros (page ∷ pages) zero read = grind (arith, nat_tests, read 0, concat-zeros pages 0 (λ n. grind (arith, nat_tests, read (suc n))))
+concat-zeros (page ∷ pages) (suc count) read =
+    grind (arith, nat_tests, read 0, concat-zeros pages count (λ n. grind (arith, nat_tests, read (suc n))), zeros_joined 4096 (count * 4096) refl)
 
 -- what is filled in one of several parts leaves the others
 pub others-filled : {X : Type 0} (xs : List X) (at k m n j width : ℕ) (x : X) → at ≡ k * width + m → m + n ≤ width → at + n ≤ length xs → j ≢ k
@@ -53,16 +47,18 @@ others-filled xs at k m n j width x place few inside ne =
     part-kept xs (with_part xs at (replicate n x)) (j * width) width x (grind (arith, length-with_part, length-replicate)) (λ i from less. grind (arith, nat_tests, lies-apart j k width, lies-apart k j width, filled_at xs at n i x x))
 
 -- a map whose pages are new
-module _ (shape : Shape) (pages : List (List ℕ)) (is : IsShape shape) (there : (n : ℕ) → n < page_count shape → slice_index_or pages n [] ≡ zero_page) (none : (n : ℕ) → page_count shape ≤ n → slice_index_or pages n [] ≡ []) where
+module _ (shape : Shape) (pages : List (List ℕ)) (is : IsShape shape) (read : (n : ℕ) → slice_index_or pages n [] ≡ (if nat_lt n (page_count shape) then zero_page else [])) where
   pub pages_created : ArePagesOf shape pages
   pages_created =
-      record { shaped = is; there = λ n less. grind (arith, there n, length-zero_page); none = none; padded = rw (concat-zeros pages (page_count shape) there none) (drop-replicate (byte_len_of shape) (page_count shape * 4096) 0) }
+      record {
+        shaped = is;
+        there = λ n less. grind (arith, nat_tests, read n, length-zero_page);
+        none = λ n past. grind (arith, nat_tests, read n);
+        padded = rw (concat-zeros pages (page_count shape) read) (drop-replicate (byte_len_of shape) (page_count shape * 4096) 0);
+      }
 
   pub flat_created : flat_of pages shape ≡ zero_map shape
-  flat_created =
-      let fits : byte_len_of shape ≤ page_count shape * 4096 = omega arith in
-      ap (λ l. record { shape = shape; bytes = take (byte_len_of shape) l }) (concat-zeros pages (page_count shape) there none)
-      ∙ ap (λ l. record { shape = shape; bytes = l }) (take-replicate (byte_len_of shape) (page_count shape * 4096) 0 fits)
+  flat_created = grind (arith, concat-zeros pages (page_count shape) read, take-replicate {X = ℕ} (byte_len_of shape) (page_count shape * 4096) 0)
 
 -- what a new map at a place without one needs is there
 module _ (table : TableState) (shapes : List (Option Shape)) (tenants : List Tenant) (pass : Pass) (reserved tenant m : ℕ) (shape : Shape)
@@ -72,6 +68,31 @@ module _ (table : TableState) (shapes : List (Option Shape)) (tenants : List Ten
 
   pub no_contents : (i : ℕ) → map_place tenant m * 256 ≤ i → i < map_place tenant m * 256 + page_count shape → slice_index_or (contents_of table) i [] ≡ []
   no_contents i from less = grind (arith, nat_tests, few_pages shape shaped, content_in (contents_of table) (map_place tenant m) (i - map_place tenant m * 256), is.maps.each (map_place tenant m) index_inside, empty)
+
+-- the first pages of one map were filled alike, and another shape stands at its place
+module _ (table new : TableState) (shapes : List (Option Shape)) (tenants : List Tenant) (reserved t m count : ℕ) (page : List ℕ) (shape : Option Shape) (is : IsMemory table shapes tenants reserved) (small : m < 8) (inside : map_place t m < length shapes)
+    (few : count ≤ 256) (contents : contents_of new ≡ with_part (contents_of table) (map_place t m * 256) (replicate count page)) (arena : length new.arena ≡ length table.arena) where
+  whole : map_place t m * 256 + 256 ≤ length (contents_of table)
+  whole = omega (arith, is.maps.places, inside)
+
+  pub wide_refilled : length (contents_of new) ≡ length (contents_of table)
+  wide_refilled = grind (arith, whole, length-replicate count page, length-with_part)
+
+  pub read_refilled : (n : ℕ) → slice_index_or (part_of (contents_of new) (map_place t m * 256) 256) n [] ≡ (if nat_lt n count then page else slice_index_or (part_of (contents_of table) (map_place t m * 256) 256) n [])
+  read_refilled n = grind (arith, whole, part-at, filled_at)
+
+  others_refilled : (j : ℕ) → j ≢ map_place t m → part_of (contents_of new) (j * 256) 256 ≡ part_of (contents_of table) (j * 256) 256
+  others_refilled j ne = grind (arith, whole, others-filled (contents_of table) (map_place t m * 256) (map_place t m) 0 count j 256 page)
+
+  pub memory_refilled : reserved + used_by new ≤ length table.arena → ArePages shape (part_of (contents_of new) (map_place t m * 256) 256) → IsMemory new (slice_set shapes (map_place t m) shape) tenants reserved
+  memory_refilled room right =
+      grind (arith, nat_tests, memory_changed table new shapes (slice_set shapes (map_place t m) shape) tenants reserved t m is small inside, length-set, wide_refilled, get_or-set_other, others_refilled, get_or-set_same)
+
+  pub one_refilled : (pass now : Pass) (pins : List Bool) → part_of now.pins (t * 2048) 2048 ≡ pins → ((u : ℕ) → u ≢ t → part_of now.pins (u * 2048) 2048 ≡ part_of pass.pins (u * 2048) 2048)
+      → OneMap (view_of table shapes tenants pass) (view_of new (slice_set shapes (map_place t m) shape) tenants now) t m (option_map (flat_of (part_of (contents_of new) (map_place t m * 256) 256)) shape) pins
+  one_refilled pass now pins own others =
+      one_map table new shapes (slice_set shapes (map_place t m) shape) tenants reserved t m is small inside (length-set shapes (map_place t m) shape) wide_refilled (λ j ne. get_or-set_other shapes (map_place t m) j shape None ne) others_refilled arena
+      pass now _ pins (ap (option_map (flat_of (part_of (contents_of new) (map_place t m * 256) 256))) (get_or-set_same shapes (map_place t m) shape None inside)) own others
 
 -- a number without a map has no shape
 pub shape_none : (shapes : List (Option Shape)) (contents : List (List ℕ)) (t m : ℕ) → m < 8 → map_at (part_of (maps_of shapes contents) (t * 8) 8) m ≡ None → slice_index_or shapes (map_place t m) None ≡ None
@@ -102,45 +123,25 @@ module _ (table new : TableState) (shapes : List (Option Shape)) (tenants : List
   few : page_count shape ≤ 256
   few = few_pages shape shaped
 
-  all : k * 256 + 256 ≤ length (contents_of table)
-  all = let h = place_inside in omega (arith, is.maps.places, h)
-
-  others_new : (j : ℕ) → j ≢ k → part_of (contents_of new) (j * 256) 256 ≡ part_of (contents_of table) (j * 256) 256
-  others_new j ne = ap (λ l. part_of l (j * 256) 256) contents ∙ others-filled (contents_of table) (k * 256) k 0 (page_count shape) j 256 zero_page (omega arith) (let f = few in omega (arith, f)) (let f = few in let h = all in omega (arith, f, h)) ne
-
   abbrev pages_new : List (List ℕ)
   pages_new = part_of (contents_of new) (k * 256) 256
 
-  new_there : (n : ℕ) → n < page_count shape → slice_index_or pages_new n [] ≡ zero_page
-  new_there n less = grind (arith, nat_tests, filled_part, few, all)
+  read : (n : ℕ) → slice_index_or pages_new n [] ≡ (if nat_lt n (page_count shape) then zero_page else [])
+  read n = grind (arith, nat_tests, read_refilled table new shapes tenants reserved tenant m (page_count shape) zero_page (Some shape) is small place_inside few contents arena n, is.maps.each k place_inside, empty)
 
-  new_none : (n : ℕ) → page_count shape ≤ n → slice_index_or pages_new n [] ≡ []
-  new_none n past = grind (arith, nat_tests, filled_part, few, all, place_inside)
-
-  abbrev shapes_new : List (Option Shape)
-  shapes_new = slice_set shapes k (Some shape)
-
-  shape_there : slice_index_or shapes_new k None ≡ Some shape
-  shape_there = get_or-set_same shapes k (Some shape) None place_inside
-
-  wide : length (contents_of new) ≡ length (contents_of table)
-  wide = grind (arith, nat_tests, length-replicate, all, few, length-with_part)
-
-  pub memory_created : IsMemory new shapes_new tenants reserved
+  pub memory_created : IsMemory new (slice_set shapes k (Some shape)) tenants reserved
   memory_created =
-      grind (arith, nat_tests, memory_changed, place_inside, length-set, wide, get_or-set_other, others_new, pages_new, shape_there, pages_created, new_there, new_none)
+      memory_refilled table new shapes tenants reserved tenant m (page_count shape) zero_page (Some shape) is small place_inside few contents arena (omega (arith, used, room)) (pages_created shape pages_new shaped read)
 
   abbrev before : MemoryState
   before = view_of table shapes tenants pass
 
   abbrev after : MemoryState
-  after = view_of new shapes_new tenants pass
+  after = view_of new (slice_set shapes k (Some shape)) tenants pass
 
   one : OneMap before after tenant m (Some (zero_map shape)) (part_of pass.pins (tenant * 2048) 2048)
   one =
-      one_map table new shapes shapes_new tenants reserved tenant m is small place_inside (length-set shapes k (Some shape)) wide
-      (λ j ne. get_or-set_other shapes k j (Some shape) None ne) others_new arena pass pass (Some (zero_map shape)) (part_of pass.pins (tenant * 2048) 2048)
-      (ap (option_map (flat_of pages_new)) shape_there ∙ ap (λ f. Some f) (flat_created shape pages_new shaped new_there new_none)) refl (λ u ne. refl)
+      rw (← ap (λ f. Some f) (flat_created shape pages_new shaped read)) (one_refilled table new shapes tenants reserved tenant m (page_count shape) zero_page (Some shape) is small place_inside few contents arena pass pass (part_of pass.pins (tenant * 2048) 2048) refl (λ u ne. refl))
 
   created_after : part after tenant ≡ part_created (part before tenant) m shape
   unfolding view_of part

@@ -2,7 +2,7 @@
 use Rattle.page_table.proofs.Base.{◌≡◌, ◌≢◌, ◌∙◌, ◌⊎◌, inl, inr, ⊎_elim, ℕ, zero, suc, ◌+◌, ◌-◌, ◌*◌, ◌<◌, ◌≤◌, ◌&&◌, nat_le, nat_lt, not, Bool, true, false, if◌then◌else◌, List, [], ◌∷◌, length, map, filter, replicate, slice_index_or, slice_set, Option, Some, None, IsSomeAnd, option_map, refl, sym, ap, subst, arith, get_or-set_same, get_or-set_other, length-map, length-replicate, length-set, ext_get_or, nat_tests}
 use Rattle.page_table.proofs.Words.{Pass, Shape, part_of, with_part, FlatMap, map_at, map_place, Volatile, PinsFit, Sharing, is_shared, broken, gone, gone_from, part_dropped, waiting_outside, ended_at, dropped, moved_on, length-with_part, Waiter, Entry, Tenant, page_count, MemoryState, part, free_of, have_of, IsKeptBut, AreMapsKeptBut, KeepsSettings, TableState, IsTable, AreOwnKeptOutside, ArePagesOf, ArePages, IsPageAt, entry_at, state_of, states_of, contents_of, sharing_of, waiting_of, used_by, flat_of, view_of, is_listed, AreWaiters, IsMemory, IsPass}
 use Rattle.page_table.proofs.Sides.{order}
-use Rattle.page_table.proofs.Creating.{filled_more, with_part-none, length-contents, others-filled, filled_at, filled_part}
+use Rattle.page_table.proofs.Creating.{filled_more, with_part-none, length-contents, others-filled, filled_at, read_refilled, wide_refilled, memory_refilled, one_refilled}
 use Rattle.page_table.proofs.Costs.{state-at}
 use Rattle.page_table.proofs.Fitting.{pins-kept}
 use Rattle.page_table.proofs.Free.{free_is}
@@ -38,12 +38,8 @@ pass-outside old new pass first n is kept arena long few inside =
       waiters = waiters-outside old new pass.cursor first n pass.waiting.listed kept is.waiters;
       room = omega (arith, arena, is.room);
       cursor = is.cursor;
-      pins = pins-kept old new (left_outside first (first + n) pass) (fit-fewer (states_of old.entries) pass.pins first 256 inside is.pins) long
-          (λ i entry pinned e volatile. kept i entry (apart (outside-pinned pass.pins first 256 i inside pinned).0) e (ap is_shared volatile));
+      pins = pins-kept old new (left_outside first (first + n) pass) (fit-fewer (states_of old.entries) pass.pins first 256 inside is.pins) long (λ i entry pinned e volatile. kept i entry (grind (arith, outside-pinned pass.pins first 256 i inside pinned)) e (ap is_shared volatile));
     }
-  where
-    apart : {i : ℕ} → (i < first) ⊎ (first + 256 ≤ i) → (i < first) ⊎ (first + n ≤ i)
-    apart out = ⊎_elim (λ less. inl less) (λ past. inr (omega (arith, past, few))) out
 
 gone_from-pins : (s : Sharing) (i n : ℕ) → i + n ≤ length s.pins → (gone_from s i n).pins ≡ with_part s.pins i (replicate n false)
 unfolding gone_from gone broken
@@ -123,26 +119,20 @@ module _ (table : TableState) (shapes : List (Option Shape)) (tenants : List Ten
 
   module _ (new : TableState) (contents : contents_of new ≡ with_part (contents_of table) (k * 256) (replicate (page_count shape) []))
       (used : used_by new ≤ used_by table) (arena : length new.arena ≡ length table.arena) where
-    others_new : (j : ℕ) → j ≢ k → part_of (contents_of new) (j * 256) 256 ≡ part_of (contents_of table) (j * 256) 256
-    others_new j ne = ap (λ l. part_of l (j * 256) 256) contents ∙ others-filled (contents_of table) (k * 256) k 0 (page_count shape) j 256 [] (omega arith) (let f = few in omega (arith, f)) (let f = few in let h = all in omega (arith, f, h)) ne
-
     abbrev pages_new : List (List ℕ)
     pages_new = part_of (contents_of new) (k * 256) 256
+
+    none_new : (n : ℕ) → slice_index_or pages_new n [] ≡ []
+    none_new n = grind (arith, nat_tests, read_refilled table new shapes tenants reserved tenant m (page_count shape) [] None is small index_inside few contents arena n, old_pages.none n)
 
     abbrev shapes_new : List (Option Shape)
     shapes_new = slice_set shapes k None
 
-    shape_gone : slice_index_or shapes_new k None ≡ None
-    shape_gone = get_or-set_same shapes k None None index_inside
-
-    wide : length (contents_of new) ≡ length (contents_of table)
-    wide = grind (arith, nat_tests, length-replicate, all, few, length-with_part)
-
     pub memory_dropped : IsMemory new shapes_new tenants reserved
-    memory_dropped = grind (arith, nat_tests, memory_changed, small, index_inside, length-set, wide, get_or-set_other, others_new, shape_gone, filled_part, few, all, old_pages)
+    memory_dropped = memory_refilled table new shapes tenants reserved tenant m (page_count shape) [] None is small index_inside few contents arena (omega (arith, used, is.room)) none_new
 
     pub long_new : length new.entries ≡ length table.entries
-    long_new = sym (length-contents new) ∙ wide ∙ length-contents table
+    long_new = grind (arith, length-contents, wide_refilled table new shapes tenants reserved tenant m (page_count shape) [] None is small index_inside few contents arena)
 
     module _ (fits : IsTable table) (fit : PinsFit (states_of table.entries) pass.pins) (done : Pass) (ended : sharing_of new done ≡ ended_at (sharing_of new (left_outside (k * 256) (k * 256 + page_count shape) pass)) pass.cursor)
         (told : sharing_of new pass ≡ record (gone_from (sharing_of table pass) (k * 256) (page_count shape)) { pins = pass.pins }) where
@@ -162,10 +152,8 @@ module _ (table : TableState) (shapes : List (Option Shape)) (tenants : List Ten
       one : OneMap before after tenant m None (with_part (part_of pass.pins (tenant * 2048) 2048) (m * 256) (replicate 256 false))
       one =
           let within : m * 256 + 256 ≤ 2048 = omega (arith, small) in
-          one_map table new shapes shapes_new tenants reserved tenant m is small index_inside (length-set shapes k None) wide (λ j ne. get_or-set_other shapes k j None None ne) others_new arena
-          pass done None (with_part (part_of pass.pins (tenant * 2048) 2048) (m * 256) (replicate 256 false)) (ap (option_map (flat_of pages_new)) shape_gone)
-          (ap (λ (pins : List Bool). part_of pins (tenant * 2048) 2048) pins_after ∙ tenant-unpinned pass.pins tenant (m * 256) 256 within tenant_pins)
-          (λ u ne. ap (λ (pins : List Bool). part_of pins (u * 2048) 2048) pins_after ∙ others-unpinned pass.pins tenant (m * 256) 256 u within tenant_pins ne)
+          one_refilled table new shapes tenants reserved tenant m (page_count shape) [] None is small index_inside few contents arena pass done (with_part (part_of pass.pins (tenant * 2048) 2048) (m * 256) (replicate 256 false))
+          (rw pins_after (tenant-unpinned pass.pins tenant (m * 256) 256 within tenant_pins)) (λ u ne. rw pins_after (others-unpinned pass.pins tenant (m * 256) 256 u within tenant_pins ne))
 
       pub drops : Drops before after tenant m shape
       unfolding view_of dropped part

@@ -4,15 +4,12 @@ use Rattle.page_table.proofs.Words.{Options, part_of, zero_page, map-replicate, 
 use Rattle.page_table.proofs.Changing.{own_one}
 use Rattle.page_table.proofs.Sides.{order}
 use Rattle.page_table.proofs.Putting.{empty_table, all_same}
+use Rattle.page_table.proofs.Maps.{part-at}
 
 no_maps : (n : ℕ) (contents : List (List ℕ)) → maps_of (replicate n None) contents ≡ replicate n None
 unfolding maps_of
 no_maps zero contents = refl
 no_maps (suc n) contents = ap (λ l. None ∷ l) (no_maps n (drop 256 contents))
-
-part_nothing : (xs : List (List ℕ)) (at w n : ℕ) → ((i : ℕ) → slice_index_or xs i [] ≡ []) → slice_index_or (part_of xs at w) n [] ≡ []
-unfolding part_of
-part_nothing xs at w n none = ⊎_elim (λ less. get_or-take w (drop at xs) n [] less ∙ get_or-drop at xs n [] ∙ none (at + n)) (λ more. get_or_past (take w (drop at xs)) n [] (let h = length-take w (drop at xs) in omega arith)) (order n w)
 
 module _ (frames tenants : ℕ) (options : Options) (limits : AreLimits frames tenants) where
   abbrev table : TableState
@@ -20,7 +17,7 @@ module _ (frames tenants : ℕ) (options : Options) (limits : AreLimits frames t
 
   pub memory_new : IsMemory table (replicate (tenants * 8) None) (replicate tenants unreserved_tenant) 0
   unfolding contents_of own_pages
-  memory_new = grind (arith, nat_tests, length-replicate, map-replicate, sum_by-replicate, all_same, part_nothing)
+  memory_new = grind (arith, nat_tests, length-replicate, map-replicate, sum_by-replicate, all_same, part-at)
 
   pub view_new : view_of table (replicate (tenants * 8) None) (replicate tenants unreserved_tenant) (new_pass frames (tenants * 2048) options) ≡ new_memory frames tenants options
   unfolding view_of groups_of new_memory

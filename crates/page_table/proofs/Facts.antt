@@ -34,13 +34,6 @@ told table pass i status h1 h2 = grind (arith, nat_tests, status_is table pass i
 status_there : (table : TableState) (pass : Pass) (i : ℕ) (entry : Entry) (status : Status) → entry_at table.entries i ≡ Some entry → entry.status ≡ status → status_at (sharing_of table pass) i ≡ Some status
 status_there table pass i entry status e same = status_is table pass i ∙ ap (option_map (λ (entry : Entry). entry.status)) e ∙ ap Some same
 
--- a page is alone, or grouped on a group's frame, or on the zero frame
-abbrev Kind : TableState → Entry → Type 0
-Kind table entry = IsAlone table entry.frame ⊎ (((entry.status ≡ Grouped) × (times entry.frame table.groups ≡ 1)) ⊎ ((entry.status ≡ Zero) × (entry.frame ≡ 0)))
-
-kind : (table : TableState) (entry : Entry) → IsEntry table entry → Kind table entry
-kind table entry fits = grind (arith, nat_tests, fits)
-
 among : (f : ℕ) (xs : List (Option Entry)) (i : ℕ) → is_among i (places_on 0 f xs) ≡ is_on f (entry_at xs i)
 among f xs i = let same : 0 + i ≡ i = omega arith in ap (λ n. is_among n (places_on 0 f xs)) (sym same) ∙ among-places 0 f xs i
 
@@ -81,7 +74,7 @@ places_ordered n f (x ∷ xs) = grind (arith, nat_tests, places_above, AllPairs-
 
 module _ (table : TableState) (pass : Pass) (is : IsTable table) where
   member : (g i : ℕ) → 1 ≤ times g table.groups → is_on g (entry_at table.entries i) ≡ true → status_at (sharing_of table pass) i ≡ Some Grouped
-  member g i some h = grind (arith, nat_tests, entry_fits table i, group_of, kind, status_is table pass i)
+  member g i some h = grind (arith, nat_tests, entry_fits table i, group_of, status_is table pass i)
 
   pub are_groups : AreGroups (sharing_of table pass)
   unfolding groups_of
@@ -95,7 +88,7 @@ module _ (table : TableState) (pass : Pass) (is : IsTable table) where
 
   apart : (i j x y : ℕ) → i ≢ j → Lies table i x → Lies table j y → x ≡ y → AreMerged (sharing_of table pass) i j
   unfolding groups_of
-  apart i j x y ne a b e = grind (arith, nat_tests, a, b, kind table a.entry a.fits, both_there table.entries table.groups i j x, alone x table.entries i j (inside table.entries i a.entry a.here), status_there table pass i a.entry Zero a.here, status_there table pass j b.entry Zero b.here, group_of, kind)
+  apart i j x y ne a b e = grind (arith, nat_tests, a, b, both_there table.entries table.groups i j x, alone x table.entries i j (inside table.entries i a.entry a.here), status_there table pass i a.entry Zero a.here, status_there table pass j b.entry Zero b.here, group_of)
 
   together : (i j x y : ℕ) → Lies table i x → Lies table j y → AreMerged (sharing_of table pass) i j → x ≡ y
   unfolding groups_of
@@ -131,4 +124,4 @@ module _ (table : TableState) (shapes : List (Option Shape)) (tenants : List Ten
 
   pub reads_as : IfSome pass.cursor (λ c. IsSome (next_from (sharing_of table pass) (c + 1))) → PinsFit (states_of table.entries) pass.pins → ReadsAs (view_of table shapes tenants pass)
   unfolding view_of
-  reads_as ahead pins = record { one_frame = one_frame table pass sound.fits; zero_frame = λ i. (λ h. grind (arith, nat_tests, lies table i 0 sound.fits h, status_is table pass i, group_of, kind), λ h. grind (arith, nat_tests, told table pass i Zero sound.fits h, told_at (λ (entry : Entry). entry.frame) table.entries i)); zeros = sound.fits.zero; placed = λ i. grind (arith, told_at (λ (entry : Entry). entry.frame) table.entries i, told_at state_of table.entries i); there = λ i. grind (arith, nat_tests, told_at (λ (entry : Entry). entry.frame) table.entries i, entry_fits table i); free = free_is_counted; reserved = reserved_fits table shapes tenants pass reserved is; bytes = bytes_of_frame table shapes tenants pass reserved is sound.fits; paged = paged_there table shapes tenants pass reserved is sound.fits; eight = length-maps_of shapes (contents_of table) ∙ is.numbers; places = omega (arith, pins.as_many, length-map table.entries (option_map state_of), length-contents table, is.maps.places, is.numbers); pinned = fit-own (sharing_of table pass) pins; groups = are_groups table pass sound.fits; ahead = ahead }
+  reads_as ahead pins = record { one_frame = one_frame table pass sound.fits; zero_frame = λ i. (λ h. grind (arith, nat_tests, lies table i 0 sound.fits h, status_is table pass i, group_of), λ h. grind (arith, nat_tests, told table pass i Zero sound.fits h, told_at (λ (entry : Entry). entry.frame) table.entries i)); zeros = sound.fits.zero; placed = λ i. grind (arith, told_at (λ (entry : Entry). entry.frame) table.entries i, told_at state_of table.entries i); there = λ i. grind (arith, nat_tests, told_at (λ (entry : Entry). entry.frame) table.entries i, entry_fits table i); free = free_is_counted; reserved = reserved_fits table shapes tenants pass reserved is; bytes = bytes_of_frame table shapes tenants pass reserved is sound.fits; paged = paged_there table shapes tenants pass reserved is sound.fits; eight = length-maps_of shapes (contents_of table) ∙ is.numbers; places = omega (arith, pins.as_many, length-map table.entries (option_map state_of), length-contents table, is.maps.places, is.numbers); pinned = fit-own (sharing_of table pass) pins; groups = are_groups table pass sound.fits; ahead = ahead }

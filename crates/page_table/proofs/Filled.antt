@@ -2,7 +2,7 @@
 use Rattle.page_table.proofs.Base.{◌≡◌, ◌≢◌, ◌∙◌, ℕ, ◌+◌, ◌-◌, ◌*◌, ◌/◌, ◌%◌, ◌<◌, ◌≤◌, Bool, true, false, if◌then◌else◌, List, [], ◌∷◌, ◌++◌, length, take, drop, replicate, slice_index_or, slice_set, refl, sym, ap, subst, arith, get_or-set_same, get_or-set_other, length-set, length-replicate, take-replicate, drop-replicate, get_or-replicate, get_or-take, get_or-drop, ext_get_or, take-append_seam, sum_by-cons, sum_by-set, sum_by-replicate, nat_tests}
 use Rattle.page_table.proofs.Words.{part_of, with_part, length-part_of, length-with_part, part-with_part_same, with_part-same, pinned_among, ArePinsOf}
 use Rattle.page_table.proofs.Creating.{others-filled, filled_at}
-use Rattle.page_table.proofs.Maps.{part_of-set_other, part_of-set_same}
+use Rattle.page_table.proofs.Maps.{part_of-set_other, part_of-set_same, part-at}
 
 abbrev one_if : Bool → ℕ
 one_if b = if b then 1 else 0
@@ -52,25 +52,16 @@ module _ (pins : List Bool) (numbers : List ℕ) (are : ArePinsOf pins numbers) 
     long = let h = here in length-part_of pins (k * 256) 256 (omega (arith, are.maps, h))
 
     was : slice_index_or part n false ≡ false
-    unfolding part_of
-    was = content n small ∙ free
-      where
-        content : (n : ℕ) → n < 256 → slice_index_or part n false ≡ slice_index_or pins (k * 256 + n) false
-        content n less = get_or-take 256 (drop (k * 256) pins) n false less ∙ get_or-drop (k * 256) pins n false
-
-    more : pinned_among (slice_set part n true) ≡ pinned_among part + 1
-    more = grind (arith, nat_tests, long, sum_by-set, was)
+    was = grind (arith, nat_tests, part-at pins (k * 256) 256 n false)
 
     pub pins-more : ArePinsOf (slice_set pins (k * 256 + n) true) (slice_set numbers k (slice_index_or numbers k 0 + 1))
-    pins-more = grind (arith, nat_tests, pins-changed, here, length-set, part_of-set_other, more, part_of-set_same)
+    pins-more = grind (arith, nat_tests, pins-changed, here, length-set, part_of-set_other, long, sum_by-set, was, part_of-set_same)
 
   -- the same by the page's place
   pub pins-more-at : (place now : ℕ) → place < length pins → slice_index_or pins place false ≡ false → now ≡ slice_index_or numbers (place / 256) 0 → ArePinsOf (slice_set pins place true) (slice_set numbers (place / 256) (now + 1))
   pins-more-at place now inside free told =
-      let at : place / 256 * 256 + place % 256 ≡ place = omega arith in
-      let more = pins-more (place / 256) (place % 256) (omega arith) (omega (arith, at, inside)) (ap (λ (i : ℕ). slice_index_or pins i false) at ∙ free) in
-      subst (λ (n : ℕ). ArePinsOf (slice_set pins place true) (slice_set numbers (place / 256) (n + 1))) (sym told)
-      (subst (λ (i : ℕ). ArePinsOf (slice_set pins i true) (slice_set numbers (place / 256) (slice_index_or numbers (place / 256) 0 + 1))) at more)
+      let at : place ≡ place / 256 * 256 + place % 256 = omega arith in
+      grind (arith, pins-more (place / 256) (place % 256), ap (λ (i : ℕ). slice_index_or pins i false) at, ap (λ (i : ℕ). slice_set pins i true) at)
 
   -- no page of a map is pinned any more
   module _ (k : ℕ) (inside : k < length numbers) where
@@ -79,10 +70,7 @@ module _ (pins : List Bool) (numbers : List ℕ) (are : ArePinsOf pins numbers) 
 
     -- where none was, nothing changes
     pub pins-none : slice_index_or numbers k 0 ≡ 0 → with_part pins (k * 256) (replicate 256 false) ≡ pins
-    pins-none none =
-        let long = length-part_of pins (k * 256) 256 whole in
-        let same : part_of pins (k * 256) 256 ≡ replicate 256 false = all-false (part_of pins (k * 256) 256) (sym (are.each k inside) ∙ none) ∙ ap (λ (n : ℕ). replicate n false) long in
-        ap (with_part pins (k * 256)) (sym same) ∙ with_part-same pins (k * 256) 256 whole
+    pins-none none = grind (arith, whole, length-part_of pins (k * 256) 256, all-false (part_of pins (k * 256) 256), are.each k inside, with_part-same pins (k * 256) 256)
 
     pub pins-cleared : ArePinsOf (with_part pins (k * 256) (replicate 256 false)) (slice_set numbers k 0)
     pins-cleared =

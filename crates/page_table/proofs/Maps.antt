@@ -1,5 +1,5 @@
 -- Maps as flat bytes, out of the contents of their pages.
-use Rattle.page_table.proofs.Base.{◌≡◌, ◌≢◌, ◌∙◌, ⊎_elim, ℕ, zero, suc, ◌+◌, ◌-◌, ◌*◌, ◌<◌, ◌≤◌, List, [], ◌∷◌, ◌++◌, length, take, drop, replicate, slice_index_or, slice_set, Option, None, option_map, refl, sym, ap, arith, append_assoc, concat, get_or-set_same, get_or-set_other, length-set, ext_get_or, length-take-le, drop_at, take_at, append-nil, drop-append-le, take-append-le, drop-drop, take-append-drop, take-replicate, drop-set-lt, drop-set-add, take-set-le, take-set-lt, take-append-add, if◌then◌else◌, nat_lt, nat_le, ◌&&◌, nat_tests, get_or-take, get_or-drop, get_or_past, length-take, get_or_append_left, min}
+use Rattle.page_table.proofs.Base.{◌≡◌, ◌≢◌, ◌∙◌, ⊎_elim, ℕ, zero, suc, ◌+◌, ◌-◌, ◌*◌, ◌<◌, ◌≤◌, List, [], ◌∷◌, ◌++◌, length, take, drop, replicate, slice_index_or, slice_set, Option, None, option_map, refl, sym, ap, arith, append_assoc, concat, get_or-set_same, get_or-set_other, length-set, ext_get_or, length-take-le, drop_at, take_at, append-nil, drop-append-le, take-append-le, drop-drop, take-append-drop, take-replicate, drop-set-lt, drop-set-add, take-set-le, take-set-lt, take-append-add, if◌then◌else◌, nat_lt, nat_le, ◌&&◌, nat_tests, get_or-take, get_or-drop, get_or_past, length-take, get_or_append_left, min, get_or-replicate, length-replicate}
 use Rattle.page_table.proofs.Words.{Shape, part_of, with_part, FlatMap, page_bytes, byte_len_of, part_of-drop, part_of-first, with_part-append, page_count, maps_of, flat_of, ArePagesOf}
 use Rattle.std.proofs.Common.{length-append, length-drop}
 use Rattle.page_table.proofs.Sides.{apart_order}
@@ -76,35 +76,11 @@ maps_of-changed old new before after k flat h1 h2 h3 h4 h5 =
 -- bytes written into a page
 pub concat-written : (pages : List (List ℕ)) (n at : ℕ) (bytes : List ℕ) → ((m : ℕ) → m ≤ n → length (slice_index_or pages m []) ≡ 4096) → at + length bytes ≤ 4096
     → concat (slice_set pages n (with_part (slice_index_or pages n []) at bytes)) ≡ with_part (concat pages) (n * 4096 + at) bytes
-concat-written [] n at bytes there fits = absurd (let e = there 0 (omega arith) in omega (arith, e))
-concat-written (page ∷ pages) zero at bytes there fits =
-    let e = there 0 (omega arith) in
-    let place : at ≡ 0 * 4096 + at = omega arith in
-    sym (with_part-append page (concat pages) bytes at (omega (arith, e, fits))) ∙ ap (λ (m : ℕ). with_part (page ++ concat pages) m bytes) place
+concat-written [] n at bytes there fits = grind (arith, there 0)
+concat-written (page ∷ pages) zero at bytes there fits = grind (arith, there 0, with_part-append page (concat pages) bytes at)
 concat-written (page ∷ pages) (suc n) at bytes there fits =
-    let e = there 0 (omega arith) in
-    let rest = concat-written pages n at bytes (λ m le. there (suc m) (omega arith)) fits in
     let place : 4096 + (n * 4096 + at) ≡ suc n * 4096 + at = omega arith in
-    ap (λ l. page ++ l) rest ∙ sym (with_part-behind page (concat pages) bytes 4096 (n * 4096 + at) e) ∙ ap (λ (m : ℕ). with_part (page ++ concat pages) m bytes) place
-
--- a part of a page
-pub part_of-concat : (pages : List (List ℕ)) (n at size : ℕ) → ((m : ℕ) → m ≤ n → length (slice_index_or pages m []) ≡ 4096) → at + size ≤ 4096
-    → part_of (concat pages) (n * 4096 + at) size ≡ part_of (slice_index_or pages n []) at size
-unfolding part_of
-part_of-concat [] n at size there fits = absurd (let e = there 0 (omega arith) in omega (arith, e))
-part_of-concat (page ∷ pages) zero at size there fits =
-    let e = there 0 (omega arith) in
-    let left = length-drop at page in
-    let place : 0 * 4096 + at ≡ at = omega arith in
-    ap (λ (m : ℕ). take size (drop m (page ++ concat pages))) place
-    ∙ ap (take size) (drop-append-le at page (concat pages) (omega (arith, e, fits))) ∙ take-append-le size (drop at page) (concat pages) (omega (arith, e, fits, left))
-part_of-concat (page ∷ pages) (suc n) at size there fits =
-    let e = there 0 (omega arith) in
-    let rest = part_of-concat pages n at size (λ m le. there (suc m) (omega arith)) fits in
-    let place : suc n * 4096 + at ≡ 4096 + (n * 4096 + at) = omega arith in
-    ap (λ (m : ℕ). take size (drop m (page ++ concat pages))) place
-    ∙ ap (take size) (sym (drop-drop (n * 4096 + at) 4096 (page ++ concat pages)) ∙ ap (drop (n * 4096 + at)) (drop_at page (concat pages) 4096 e))
-    ∙ rest
+    grind (arith, there 0, concat-written pages n at bytes (λ m le. there (suc m) (omega arith)), with_part-behind page (concat pages) bytes 4096 (n * 4096 + at), ap (λ (m : ℕ). with_part (page ++ concat pages) m bytes) place)
 
 -- pages that are there up to a number, and not from it on
 pub length-concat : (pages : List (List ℕ)) (count : ℕ) → ((n : ℕ) → n < count → length (slice_index_or pages n []) ≡ 4096) → ((n : ℕ) → count ≤ n → slice_index_or pages n [] ≡ [])
@@ -115,35 +91,41 @@ length-concat (page ∷ pages) zero there none = grind (arith, none 0, length-co
 length-concat (page ∷ pages) (suc count) there none =
     grind (arith, there 0, length-concat pages count (λ n less. there (suc n) (omega arith)) (λ n le. none (suc n) (omega arith)), length-append page (concat pages))
 
--- zeros behind a list, as many as are asked for
-take-zeros : (xs : List ℕ) (n z w : ℕ) → n ≤ length xs + z → n ≤ length xs + w → take n (xs ++ replicate z 0) ≡ take n (xs ++ replicate w 0)
-take-zeros [] n z w h k = take-replicate n z 0 (omega arith) ∙ sym (take-replicate n w 0 (omega arith))
-take-zeros (x ∷ xs) zero z w h k = refl
-take-zeros (x ∷ xs) (suc n) z w h k = ap (λ l. x ∷ l) (take-zeros xs n z w (omega arith) (omega arith))
-
-take_whole : (xs : List ℕ) (n : ℕ) → length xs ≡ n → take n xs ≡ xs
-take_whole xs n e = ap (take n) (sym (append-nil xs)) ∙ take_at xs [] n e
+-- a byte of a page
+concat-at : (pages : List (List ℕ)) (n i : ℕ) → ((m : ℕ) → m ≤ n → length (slice_index_or pages m []) ≡ 4096) → i < 4096 → slice_index_or (concat pages) (n * 4096 + i) 0 ≡ slice_index_or (slice_index_or pages n []) i 0
+concat-at [] n i there less = grind (arith, there 0)
+concat-at (page ∷ pages) zero i there less = grind (arith, there 0, get_or_append_left page (concat pages) 0 i)
+concat-at (page ∷ pages) (suc n) i there less = grind (arith, there 0, get_or-append_right page (concat pages) 4096 (suc n * 4096 + i) 0, concat-at pages n i (λ m le. there (suc m) (omega arith)))
 
 -- the content of a map's page is that of the page
 pub page_bytes-page : (shape : Shape) (pages : List (List ℕ)) (n : ℕ) → ArePagesOf shape pages → n < page_count shape
     → page_bytes (take (byte_len_of shape) (concat pages)) n ≡ slice_index_or pages n []
-unfolding page_bytes part_of
+unfolding page_bytes
 page_bytes-page shape pages n are small =
     let whole = length-concat pages (page_count shape) are.there are.none in
-    let size : ℕ = byte_len_of shape in
-    let fits : size ≤ page_count shape * 4096 = omega arith in
-    let some : n * 4096 < size = omega (arith, small) in
-    let front = length-take-le size (concat pages) (omega (arith, whole, fits)) in
-    let rest = length-drop (n * 4096) (take size (concat pages)) in
-    let first = length-drop (n * 4096) (concat pages) in
-    let page = length-take-le 4096 (drop (n * 4096) (concat pages)) in
-    let lengths : (m : ℕ) → m ≤ n → length (slice_index_or pages m []) ≡ 4096 = λ m le. are.there m (omega (arith, le, small)) in
-    let place : n * 4096 + 0 ≡ n * 4096 = omega arith in
-    let split : concat pages ≡ take size (concat pages) ++ replicate (page_count shape * 4096 - size) 0 =
-    sym (take-append-drop size (concat pages)) ∙ ap (λ l. take size (concat pages) ++ l) are.padded in
-    take-zeros (drop (n * 4096) (take size (concat pages))) 4096 4096 (page_count shape * 4096 - size) (omega arith) (omega (arith, rest, front, fits, small, some))
-    ∙ ap (take 4096) (sym (drop-append-le (n * 4096) (take size (concat pages)) (replicate (page_count shape * 4096 - size) 0) (omega (arith, front, some))))
-    ∙ ap (λ l. take 4096 (drop (n * 4096) l)) (sym split)
-    ∙ ap (λ (m : ℕ). take 4096 (drop m (concat pages))) (sym place)
-    ∙ part_of-concat pages n 0 4096 lengths (omega arith)
-    ∙ take_whole (slice_index_or pages n []) 4096 (are.there n small)
+    let front = length-take-le (byte_len_of shape) (concat pages) (omega (arith, whole)) in
+    let rest = length-drop (n * 4096) (take (byte_len_of shape) (concat pages)) in
+    let long = length-take 4096 (drop (n * 4096) (take (byte_len_of shape) (concat pages)) ++ replicate 4096 0) in
+    let joined = length-append (drop (n * 4096) (take (byte_len_of shape) (concat pages))) (replicate 4096 0) in
+    let zeros = length-replicate {A = ℕ} 4096 0 in
+    ext_get_or 0 _ _ (omega (arith, long, joined, zeros, are.there n small))
+    (λ i less. grind (
+      arith,
+      nat_tests,
+      front,
+      rest,
+      long,
+      joined,
+      zeros,
+      are.there n,
+      get_or-take 4096 (drop (n * 4096) (take (byte_len_of shape) (concat pages)) ++ replicate 4096 0) i 0,
+      get_or_append_left (drop (n * 4096) (take (byte_len_of shape) (concat pages))) (replicate 4096 0) 0 i,
+      get_or-append_right (drop (n * 4096) (take (byte_len_of shape) (concat pages))) (replicate 4096 0) (byte_len_of shape - n * 4096) i 0,
+      get_or-drop (n * 4096) (take (byte_len_of shape) (concat pages)) i 0,
+      get_or-take (byte_len_of shape) (concat pages) (n * 4096 + i) 0,
+      concat-at pages n i (λ m le. are.there m (omega (arith, le, small))),
+      get_or-replicate {A = ℕ} 4096 (i - (byte_len_of shape - n * 4096)) 0 0,
+      get_or-drop (byte_len_of shape) (concat pages) (n * 4096 + i - byte_len_of shape) 0,
+      are.padded,
+      get_or-replicate {A = ℕ} (page_count shape * 4096 - byte_len_of shape) (n * 4096 + i - byte_len_of shape) 0 0,
+    ))

@@ -57,9 +57,6 @@ module _ (table : TableState) (shapes : List (Option Shape)) (tenants : List Ten
     unfolding view_of part
     fits = omega (arith, free_is table shapes tenants pass (omega (arith, is.room)), is.room, is.sum, room, before_small)
 
-    pub memory_recorded : IsMemory table shapes recorded (reserved - before + kept.reserve)
-    memory_recorded = grind (arith, nat_tests, sum-recorded, tenant_there, before_small, length-set, fits)
-
     abbrev after : MemoryState
     after = view_of table shapes recorded pass
 
@@ -83,4 +80,4 @@ pub records : (table : TableState) (shapes : List (Option Shape)) (tenants : Lis
     → length (part now t).maps ≡ 8 → kept.reserve ≤ have_of now + (part now t).reserve → before ≡ (part now t).reserve
     → Records now (view_of table shapes (slice_set tenants t kept) pass) table shapes tenants reserved t before kept
 unfolding view_of part
-records table shapes tenants pass reserved is now same t before kept eight room told = grind (arith, nat_tests, tenant_there table shapes tenants pass reserved is t, before_small table shapes tenants pass reserved is t kept, fits table shapes tenants pass reserved is t kept, memory_recorded table shapes tenants pass reserved is t kept, get_or-set_same, tenant_there, get_or-set_other, have_recorded table shapes tenants pass reserved is t kept)
+records table shapes tenants pass reserved is now same t before kept eight room told = grind (arith, nat_tests, tenant_there table shapes tenants pass reserved is t, before_small table shapes tenants pass reserved is t kept, fits table shapes tenants pass reserved is t kept, sum-recorded, tenant_there, before_small, length-set, fits, get_or-set_same, get_or-set_other, have_recorded table shapes tenants pass reserved is t kept)

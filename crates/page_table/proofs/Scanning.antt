@@ -123,12 +123,7 @@ module _ (table : TableState) (shapes : List (Option Shape)) (tenants : List Ten
   pub open-frame : (i : ℕ) → open_frame memory i ≡ find (opens (contents i)) table.groups
   unfolding view_of groups_of
   open-frame i =
-      ap (frame_of_group memory) (find-places (is_open contents (sharing_of table pass) (contents i)) (opens (contents i)) (λ g. places_on 0 g table.entries) table.groups (open-group (contents i)))
-      ∙ by_found (find (opens (contents i)) table.groups) refl
-    where
-      by_found : (x : Option ℕ) → find (opens (contents i)) table.groups ≡ x → frame_of_group memory (option_map (λ g. places_on 0 g table.entries) x) ≡ x
-      by_found None e = refl
-      by_found (Some g) e = frame-of_group g (find-in (opens (contents i)) table.groups g e).0
+      grind (arith, find-places (is_open contents (sharing_of table pass) (contents i)) (opens (contents i)) (λ g. places_on 0 g table.entries) table.groups (open-group (contents i)), frame-of_group, find-in (opens (contents i)) table.groups)
 
   pub has-open : (i : ℕ) → has_open contents memory.sharing i ≡ is_some (find (opens (contents i)) table.groups)
   unfolding view_of groups_of has_open
@@ -138,9 +133,7 @@ module _ (table : TableState) (shapes : List (Option Shape)) (tenants : List Ten
       → join_first (is_open contents (sharing_of table pass) (contents i)) i (groups_of table) ≡ map (joined_on table i f) table.groups
   unfolding groups_of
   joins i f e =
-      let there = (find-in (opens (contents i)) table.groups f e).0 in
-      let once = (group_of table f fits there).once in
-      join-places (is_open contents (sharing_of table pass) (contents i)) (opens (contents i)) (λ g. places_on 0 g table.entries) i f table.groups (open-group (contents i)) e (omega (arith, once))
+      grind (arith, find-in (opens (contents i)) table.groups f e, group_of table f fits, join-places (is_open contents (sharing_of table pass) (contents i)) (opens (contents i)) (λ g. places_on 0 g table.entries) i f table.groups (open-group (contents i)) e)
 
 -- an open group has the bytes
 pub open-bytes : (table : TableState) (bytes : List ℕ) (limit f : ℕ) → is_open_frame table bytes limit f ≡ true → page_at table.arena f ≡ bytes

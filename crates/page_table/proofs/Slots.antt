@@ -3,7 +3,7 @@ use Rattle.page_table.proofs.Base.{◌≡◌, ◌≢◌, ◌∙◌, ◌⊎◌, �
 use Rattle.page_table.proofs.Words.{filter-absent, ArePlaced, groups_in, times}
 use Rattle.std.proofs.Common.{length-append}
 use Rattle.page_table.proofs.Ending.{but}
-use Rattle.page_table.proofs.Entries.{one_when, times-head, times-tail}
+use Rattle.page_table.proofs.Entries.{one_when, times-head, times-tail, times-cons}
 use Rattle.page_table.proofs.Sides.{is_same}
 
 pub full : (x : ℕ) → 0 < x → (x == 0) ≡ false
@@ -24,19 +24,11 @@ in-groups (x ∷ xs) (suc i) h above = grind (arith, in-groups xs i, times-tail 
 -- where a group stands
 pub slot-of-group : (slots : List ℕ) (f : ℕ) → 1 ≤ times f (groups_in slots) → (i : ℕ) × (i < length slots) × (slice_index_or slots i 0 ≡ f) × (0 < f)
 slot-of-group [] f h = absurd (omega (arith, h))
-slot-of-group (x ∷ xs) f h = by_test (x == 0) refl (slot-of-group xs f) h
+slot-of-group (x ∷ xs) f h =
+    ⊎_elim (λ here. (0, omega arith, here.0, here.1)) (λ rest. let found = slot-of-group xs f rest in let within = found.1 in (suc found.0, omega (arith, within), found.2, found.3)) by_head
   where
-    later : ((i : ℕ) × (i < length xs) × (slice_index_or xs i 0 ≡ f) × (0 < f)) → (i : ℕ) × (i < length (x ∷ xs)) × (slice_index_or (x ∷ xs) i 0 ≡ f) × (0 < f)
-    later found = let within = found.1 in (suc found.0, omega (arith, within), found.2, found.3)
-
-    by_test : (b : Bool) → (x == 0) ≡ b → (1 ≤ times f (groups_in xs) → (i : ℕ) × (i < length xs) × (slice_index_or xs i 0 ≡ f) × (0 < f))
-        → 1 ≤ times f (if not b then x ∷ groups_in xs else groups_in xs) → (i : ℕ) × (i < length (x ∷ xs)) × (slice_index_or (x ∷ xs) i 0 ≡ f) × (0 < f)
-    by_test true e rest h = later (rest h)
-    by_test false e rest h =
-        ⊎_elim
-        (λ same. (0, omega arith, same.1, subst (λ (n : ℕ). 0 < n) same.1 (some x e)))
-        (λ apart. let split = sum_by-cons (λ (y : ℕ). one_when (y == f)) x (groups_in xs) in let none = ap one_when apart.0 in later (rest (omega (arith, h, split, none))))
-        (eqb_tells x f)
+    by_head : ((x ≡ f) × (0 < f)) ⊎ (1 ≤ times f (groups_in xs))
+    by_head = grind (arith, nat_tests, times-cons f x (groups_in xs), is_same x f)
 
 -- a slot that is emptied
 pub groups-emptied : (slots : List ℕ) (i f : ℕ) → i < length slots → slice_index_or slots i 0 ≡ f → ((j : ℕ) → j < length slots → slice_index_or slots j 0 ≡ f → j ≡ i)

@@ -1,19 +1,16 @@
 -- How many pages of a map aren't pinned, told by how many are.
-use Rattle.page_table.proofs.Base.{◌≡◌, ◌∙◌, ⊎_elim, ℕ, zero, suc, ◌+◌, ◌-◌, ◌*◌, ◌<◌, ◌≤◌, Bool, true, false, if◌then◌else◌, List, [], ◌∷◌, length, take, drop, slice_index_or, Option, Some, None, option_map, unwrap_or, refl, sym, ap, arith, get_or_default, get_or_past, get_or-take, get_or-drop, sum_by-cons, nat_tests}
+use Rattle.page_table.proofs.Base.{◌≡◌, ◌∙◌, ⊎_elim, ℕ, zero, suc, ◌+◌, ◌-◌, ◌*◌, ◌<◌, ◌≤◌, Bool, true, false, if◌then◌else◌, List, [], ◌∷◌, length, take, drop, slice_index_or, Option, Some, None, option_map, unwrap_or, refl, sym, ap, arith, get_or_default, get_or_past, get_or-take, get_or-drop, sum_by-cons, nat_tests, ext_get_or}
 use Rattle.page_table.proofs.Words.{Shape, part_of, FlatMap, map_at, map_place, unpinned_from, PinsFit, Pass, Tenant, page_count, pinned_among, MemoryState, part, pages_of_map, TableState, IsTable, states_of, view_of, IsMemory}
 use Rattle.page_table.proofs.Sides.{order}
 use Rattle.page_table.proofs.Dropping.{number_small, few, map_pins, unpinned_behind}
 use Rattle.page_table.proofs.Reading.{map_at-part}
-use Rattle.page_table.proofs.Maps.{map_at-maps_of, part-at}
+use Rattle.page_table.proofs.Maps.{map_at-maps_of, part-at, length-part}
 
 abbrev one_if : Bool → ℕ
 one_if b = if b then 1 else 0
 
 part-cons : (pins : List Bool) (at n : ℕ) → at < length pins → part_of pins at (suc n) ≡ slice_index_or pins at false ∷ part_of pins (at + 1) n
-unfolding part_of
-part-cons [] at n inside = absurd (omega (arith, inside))
-part-cons (b ∷ pins) zero n inside = refl
-part-cons (b ∷ pins) (suc at) n inside = grind (arith, nat_tests, part-cons pins at n)
+part-cons pins at n inside = ext_get_or false _ _ (grind (arith, length-part)) (λ i less. grind (arith, nat_tests, part-at))
 
 pinned-cons : (pins : List Bool) (at n : ℕ) → at < length pins → pinned_among (part_of pins at (suc n)) ≡ one_if (slice_index_or pins at false) + pinned_among (part_of pins (at + 1) n)
 pinned-cons pins at n inside = ap pinned_among (part-cons pins at n inside) ∙ sum_by-cons one_if (slice_index_or pins at false) (part_of pins (at + 1) n)

@@ -5,11 +5,8 @@ use Rattle.page_table.proofs.Slots.{placed-pushed, full}
 use Rattle.page_table.proofs.order.GroupOrder.push.Goals as goal
 use Rattle.page_table.proofs.order.GroupOrder.push.Goals.{Else-prove}
 
-length_is : (c : Else-prove) → c.len.result ≡ length c.make_room.new.slots.items
-length_is c = omega (arith, c.len.ensures)
-
 pub invariant_of-self : goal.invariant_of-self
-invariant_of-self c = grind (arith, nat_tests, length-set, take_at, length_is, placed-pushed)
+invariant_of-self c = grind (arith, nat_tests, length-set, take_at, placed-pushed)
 
 pub returns : goal.returns
-returns c = grind (arith, nat_tests, length-set, take_at, length_is, filter-append, full)
+returns c = grind (arith, nat_tests, length-set, take_at, filter-append, full)

@@ -18,11 +18,7 @@ counts c f h1 count before after h2 h3 h4 = grind (arith, nat_tests, length-map,
 
 pub moved-self-inside-requires : goal.moved-self-inside-requires
 moved-self-inside-requires c =
-    record {
-      unshared = let told = counts c unshared_at unshared-one _ _ _ c.self.invariant.1.waiting c.of-before.ensures.unshared c.of.ensures.unshared in (told.0, told.1);
-      volatile = let told = counts c volatile_at volatile-one _ _ _ c.self.invariant.1.changed c.of-before.ensures.volatile c.of.ensures.volatile in (told.0, told.1);
-      shared = let told = counts c shared_at shared-one _ _ _ c.self.invariant.1.shared c.of-before.ensures.shared c.of.ensures.shared in (told.0, told.1);
-    }
+    grind (arith, counts c unshared_at unshared-one _ _ _ c.self.invariant.1.waiting c.of-before.ensures.unshared c.of.ensures.unshared, counts c volatile_at volatile-one _ _ _ c.self.invariant.1.changed c.of-before.ensures.volatile c.of.ensures.volatile, counts c shared_at shared-one _ _ _ c.self.invariant.1.shared c.of-before.ensures.shared c.of.ensures.shared)
 
 pub invariant_of-self : goal.invariant_of-self
 invariant_of-self c = grind (arith, nat_tests, length-set, counts, unshared-one, volatile-one, shared-one)
