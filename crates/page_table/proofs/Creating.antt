@@ -72,17 +72,14 @@ module _ (table : TableState) (shapes : List (Option Shape)) (tenants : List Ten
 -- the first pages of one map were filled alike, and another shape stands at its place
 module _ (table new : TableState) (shapes : List (Option Shape)) (tenants : List Tenant) (reserved t m count : ℕ) (page : List ℕ) (shape : Option Shape) (is : IsMemory table shapes tenants reserved) (small : m < 8) (inside : map_place t m < length shapes)
     (few : count ≤ 256) (contents : contents_of new ≡ with_part (contents_of table) (map_place t m * 256) (replicate count page)) (arena : length new.arena ≡ length table.arena) where
-  whole : map_place t m * 256 + 256 ≤ length (contents_of table)
-  whole = omega (arith, is.maps.places, inside)
-
   pub wide_refilled : length (contents_of new) ≡ length (contents_of table)
-  wide_refilled = grind (arith, whole, length-replicate count page, length-with_part)
+  wide_refilled = grind (arith, length-replicate count page, length-with_part)
 
   pub read_refilled : (n : ℕ) → slice_index_or (part_of (contents_of new) (map_place t m * 256) 256) n [] ≡ (if nat_lt n count then page else slice_index_or (part_of (contents_of table) (map_place t m * 256) 256) n [])
-  read_refilled n = grind (arith, whole, part-at, filled_at)
+  read_refilled n = grind (arith, part-at, filled_at)
 
   others_refilled : (j : ℕ) → j ≢ map_place t m → part_of (contents_of new) (j * 256) 256 ≡ part_of (contents_of table) (j * 256) 256
-  others_refilled j ne = grind (arith, whole, others-filled (contents_of table) (map_place t m * 256) (map_place t m) 0 count j 256 page)
+  others_refilled j ne = grind (arith, others-filled (contents_of table) (map_place t m * 256) (map_place t m) 0 count j 256 page)
 
   pub memory_refilled : reserved + used_by new ≤ length table.arena → ArePages shape (part_of (contents_of new) (map_place t m * 256) 256) → IsMemory new (slice_set shapes (map_place t m) shape) tenants reserved
   memory_refilled room right =

@@ -24,9 +24,7 @@ record Lies (table : TableState) (i x : ℕ) : Type 0 where
   pub fits : IsEntry table entry
 
 lies : (table : TableState) (i x : ℕ) → IsTable table → slice_index_or (frames_of table.entries) i None ≡ Some x → Lies table i x
-lies table i x is h =
-    let found = entry_told (λ (entry : Entry). entry.frame) table.entries i x h in
-    record { entry = found.0; here = found.1; on = found.2; fits = entry_fits table i found.0 is found.1 }
+lies table i x is h = grind (arith, entry_told (λ (entry : Entry). entry.frame) table.entries i x h, entry_fits table i)
 
 told : (table : TableState) (pass : Pass) (i : ℕ) (status : Status) → IsTable table → status_at (sharing_of table pass) i ≡ Some status → (entry : Entry) × (entry_at table.entries i ≡ Some entry) × (entry.status ≡ status) × IsEntry table entry
 told table pass i status h1 h2 = grind (arith, nat_tests, status_is table pass i, entry_fits table i, entry_told, told_at)

@@ -43,10 +43,6 @@ abbrev first_in : {X : Type 0} → X → (ℕ → X) → List ℕ → X
 first_in none read [] = none
 first_in none read (i ∷ places) = read i
 
-bytes-first : (contents : ℕ → List ℕ) (places : List ℕ) → group_bytes contents places ≡ first_in [] contents places
-unfolding group_bytes
-bytes-first contents places = grind (arith, nat_tests, contents)
-
 -- what all pages on a frame read as, the first one does
 first-places : {X : Type 0} (none : X) (read : ℕ → X) (told : X) (g n : ℕ) (xs : List (Option Entry)) → ((k : ℕ) → is_on g (entry_at xs k) ≡ true → read (n + k) ≡ told) → 1 ≤ pages_on g xs
     → first_in none read (places_on n g xs) ≡ told
@@ -100,10 +96,8 @@ module _ (table : TableState) (shapes : List (Option Shape)) (tenants : List Ten
   on-frame g k x h1 h2 = grind (arith, nat_tests, frame_told)
 
   pub bytes-of_group : (g : ℕ) → 1 ≤ times g table.groups → group_bytes contents (places_on 0 g table.entries) ≡ page_at table.arena g
-  bytes-of_group g some =
-      bytes-first contents (places_on 0 g table.entries)
-      ∙ first-places [] contents (page_at table.arena g) g 0 table.entries
-      (λ k on. let start : 0 + k ≡ k = omega arith in ap contents start ∙ on-frame g k (entry_at table.entries k) refl on) (group_of table g fits some).some
+  unfolding group_bytes
+  bytes-of_group g some = grind (arith, first-places [] contents (page_at table.arena g) g 0 table.entries (λ k on. let start : 0 + k ≡ k = omega arith in ap contents start ∙ on-frame g k (entry_at table.entries k) refl on), group_of table g fits some)
 
   -- whether a group is open is told by its frame
   pub open-group : (bytes : List ℕ) (g : ℕ) → 1 ≤ times g table.groups

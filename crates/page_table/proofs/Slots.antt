@@ -35,7 +35,7 @@ pub groups-emptied : (slots : List ℕ) (i f : ℕ) → i < length slots → sli
     → groups_in (slice_set slots i 0) ≡ but f (groups_in slots)
 groups-emptied [] i f h here once = absurd (omega (arith, h))
 groups-emptied (x ∷ xs) zero f h here once =
-    let absent : All (λ g. g ≢ f) xs = λ k d less same. let place = once (suc k) (omega (arith, less)) (get_or_default xs k 0 d less ∙ same) in absurd (omega (arith, place)) in
+    let absent : All (λ g. g ≢ f) xs = λ k d less. grind (arith, once (suc k), get_or_default xs k 0 d less) in
     grind (arith, nat_tests, filter-absent (groups_in xs) f (All-filter (λ g. not (g == 0)) (λ g. g ≢ f) xs absent))
 groups-emptied (x ∷ xs) (suc i) f h here once =
     grind (arith, nat_tests, once 0, groups-emptied xs i f (omega arith) here (λ j less e. let place = once (suc j) (omega (arith, less)) e in omega (arith, place)))

@@ -91,8 +91,7 @@ pass-forgets table pass i is = grind (arith, nat_tests, waiters-fewer)
 -- a page changes that isn't pinned, and doesn't wait any more
 pub pass-left : (old new : TableState) (pass : Pass) (i : ℕ) → IsPass old pass → slice_index_or pass.pins i false ≡ false → AreOthersKept i old new → length new.arena ≡ length old.arena
     → length new.entries ≡ length old.entries → IsPass new (forgets i pass)
-pass-left old new pass i is free others arena long =
-    pass-others old new (forgets i pass) i (pass-forgets old pass i is) (listed-others i pass.waiting.listed) free others arena long
+pass-left old new pass i is free others arena long = grind (arith, pass-others old new (forgets i pass) i, pass-forgets old pass i, listed-others i)
 
 -- two pages change that aren't pinned, and don't wait any more
 pub pass-left-both : (old new : TableState) (pass : Pass) (i j : ℕ) → IsPass old pass → slice_index_or pass.pins i false ≡ false → slice_index_or pass.pins j false ≡ false → ((k : ℕ) → k ≢ i → k ≢ j → entry_at new.entries k ≡ entry_at old.entries k) → length new.arena ≡ length old.arena
