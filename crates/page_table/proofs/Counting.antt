@@ -1,8 +1,7 @@
 -- A list that has each frame of count 0 once is as long as there are such frames.
-use Rattle.page_table.proofs.Base.{◌≡◌, ◌∙◌, ℕ, zero, suc, ◌+◌, ◌-◌, ◌<◌, ◌≤◌, Bool, not, List, [], ◌∷◌, length, sum_by, filter, slice_index_or, Option, Some, None, refl, sym, arith, list_any, range_with_len, sum_by-cons, length-filter, nat_tests}
+use Rattle.page_table.proofs.Base.{◌≡◌, ◌∙◌, ℕ, zero, suc, ◌+◌, ◌-◌, ◌<◌, ◌≤◌, Bool, not, List, [], ◌∷◌, length, sum_by, filter, slice_index_or, Option, Some, None, refl, sym, arith, list_any, range_with_len, sum_by-cons, length-filter, nat_tests, get_or_past}
 use Rattle.page_table.proofs.Words.{Entry, AreCounts, times, one_if_zero, frames_of, pages_on, is_frame}
 use Rattle.page_table.proofs.Entries.{one_when, times-head, times-tail, one_if_zero-above, times-cons, pages_on-cons}
-use Rattle.page_table.proofs.Unused.{unused_default}
 
 -- a number isn't among those above it
 range-below : (f a n : ℕ) → f < a → times f (range_with_len a n) ≡ 0
@@ -41,33 +40,16 @@ occurrences-all a n (x ∷ xs) h =
 -- where each number that passes a test occurs once and no other does, as many occur as pass
 occurrences-passed : (p : ℕ → Bool) (a n : ℕ) (xs : List ℕ) → ((f : ℕ) → a ≤ f → f < a + n → times f xs ≡ one_when (p f))
     → occurrences (range_with_len a n) xs ≡ length (filter p (range_with_len a n))
-occurrences-passed p a n xs h = counted a n h ∙ sym (length-filter p (range_with_len a n))
-  where
-    counted : (a n : ℕ) → ((f : ℕ) → a ≤ f → f < a + n → times f xs ≡ one_when (p f)) → occurrences (range_with_len a n) xs ≡ sum_by (λ f. one_when (p f)) (range_with_len a n)
-    counted a zero h = refl
-    counted a (suc n) h =
-        let whole = sum_by-cons (λ f. times f xs) a (range_with_len (a + 1) n) in
-        let passed = sum_by-cons (λ f. one_when (p f)) a (range_with_len (a + 1) n) in
-        omega (arith, whole, passed, h a (omega arith) (omega arith), counted (a + 1) n (λ f low high. h f (omega arith) (omega arith)))
+occurrences-passed p a zero xs h = refl
+occurrences-passed p a (suc n) xs h =
+    grind (arith, nat_tests, sum_by-cons (λ f. times f xs) a (range_with_len (a + 1) n), h a, occurrences-passed p (a + 1) n xs (λ f low high. h f (omega arith) (omega arith)))
 
 -- as many frames are unused as pass a test which just those above the zero frame pass that nobody holds
 pub length-unused : (counts unused : List ℕ) (p : ℕ → Bool) → AreCounts (record { counts = counts; unused = unused })
     → one_if_zero (slice_index_or counts 0 1) ≡ 0
     → ((f : ℕ) → 0 < f → f < length counts → one_if_zero (slice_index_or counts f 1) ≡ one_when (p f))
     → length unused ≡ length (filter p (range_with_len 1 (length counts - 1)))
-length-unused counts unused p are held tells =
-    sym (occurrences-all 1 (length counts - 1) unused within)
-    ∙ occurrences-passed p 1 (length counts - 1) unused (λ f low high. are.listed f ∙ tells f (omega arith) (omega (arith, low, high)))
-  where
-    within : (f : ℕ) → 1 ≤ times f unused → (1 ≤ f) × (f < 1 + (length counts - 1))
-    within f some = (
-      above f (omega (arith, some, are.listed f)),
-      let there = (unused_default counts f (omega (arith, some, are.listed f))).0 in omega (arith, there, above f (omega (arith, some, are.listed f))),
-    )
-      where
-        above : (f : ℕ) → 1 ≤ one_if_zero (slice_index_or counts f 1) → 1 ≤ f
-        above zero h = absurd (omega (arith, h, held))
-        above (suc f) h = omega arith
+length-unused counts unused p are held tells = sym (occurrences-all 1 (length counts - 1) unused (λ f some. grind (arith, nat_tests, are.listed f, get_or_past, held))) ∙ occurrences-passed p 1 (length counts - 1) unused (λ f low high. are.listed f ∙ tells f (omega arith) (omega (arith, low, high)))
 
 -- no page lies on a frame exactly if it isn't taken
 pub empty-frame : (f : ℕ) (xs : List (Option Entry)) → one_if_zero (pages_on f xs) ≡ one_when (not (list_any (is_frame f) (frames_of xs)))

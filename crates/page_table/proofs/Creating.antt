@@ -1,38 +1,12 @@
 -- New pages at places one after another, and what a memory tells of a new map.
-use Rattle.page_table.proofs.Base.{◌≡◌, ◌≢◌, ◌∙◌, ⊎_elim, ℕ, zero, suc, ◌+◌, ◌-◌, ◌*◌, ◌<◌, ◌≤◌, List, [], ◌∷◌, ◌++◌, length, take, drop, replicate, slice_index_or, slice_set, Option, Some, None, Bool, option_map, refl, sym, ap, subst, arith, append_assoc, nat_le, nat_lt, ◌&&◌, if◌then◌else◌, concat, get_or-set_same, get_or-set_other, get_or_past, length-take-le, length-take, length-append, length-replicate, set-append_right, append-nil, take-append-drop, replicate-append-replicate, take-replicate, drop-replicate, length-map, nat_tests}
+use Rattle.page_table.proofs.Base.{◌≡◌, ◌≢◌, ◌∙◌, ⊎_elim, ℕ, zero, suc, ◌+◌, ◌-◌, ◌*◌, ◌<◌, ◌≤◌, List, [], ◌∷◌, ◌++◌, length, take, drop, replicate, slice_index_or, slice_set, Option, Some, None, Bool, option_map, refl, sym, ap, subst, arith, append_assoc, nat_le, nat_lt, ◌&&◌, if◌then◌else◌, concat, get_or-set_same, get_or-set_other, get_or_past, length-take-le, length-take, length-append, length-replicate, set-append_right, append-nil, take-append-drop, replicate-append-replicate, take-replicate, drop-replicate, length-map, nat_tests, get_or-replicate, ext_get_or}
 use Rattle.page_table.proofs.Words.{Pass, Shape, part_of, with_part, map_at, map_place, zero_page, IsShape, byte_len_of, new_page, length-with_part, replicate-zero_page, length-zero_page, Entry, Tenant, page_count, MemoryState, part, free_of, have_of, zero_map, part_created, IsKeptBut, AreMapsKeptBut, KeepsSettings, with_new_pages, view_of, IsMemory, TableState, groups_of, used_by, state_of, states_of, maps_of, flat_of, ArePages, ArePagesOf, contents_of, entry_content}
 use Rattle.std.proofs.Common.{length-set}
 use Rattle.page_table.proofs.Sides.{order}
-use Rattle.page_table.proofs.Maps.{map_at-maps_of, part_of-set_other}
+use Rattle.page_table.proofs.Maps.{map_at-maps_of, part-at, written-at, part-kept, lies-apart}
 use Rattle.page_table.proofs.Reading.{content_in, few_pages, map_at-part}
 use Rattle.page_table.proofs.Writing.{OneMap, memory_changed, one_map}
 use Rattle.page_table.proofs.Free.{free_is}
-
--- a part longer by one element is that element set behind it
-pub with_part-more : {X : Type 0} (xs ys : List X) (at : ℕ) (x : X) → at + length ys < length xs → slice_set (with_part xs at ys) (at + length ys) x ≡ with_part xs at (ys ++ x ∷ [])
-unfolding with_part
-with_part-more {X = X} xs ys at x h =
-    let front = length-take-le at xs (omega arith) in
-    let long : length (take at xs ++ ys) ≡ at + length ys = length-append (take at xs) ys ∙ omega (arith, front) in
-    let longer : length (ys ++ x ∷ []) ≡ length ys + 1 = length-append ys (x ∷ []) in
-    let none : at + length ys - (at + length ys) ≡ 0 = omega arith in
-    let next : at + length (ys ++ x ∷ []) ≡ suc (at + length ys) = omega (arith, longer) in
-    set-append_right (take at xs ++ ys) (drop (at + length ys) xs) (at + length ys) (at + length ys) x long (omega arith)
-    ∙ ap (λ (n : ℕ). (take at xs ++ ys) ++ slice_set (drop (at + length ys) xs) n x) none
-    ∙ ap (λ l. (take at xs ++ ys) ++ l) (first xs (at + length ys) h)
-    ∙ sym (ap (λ (n : ℕ). take at xs ++ (ys ++ x ∷ []) ++ drop n xs) next ∙ ap (λ l. l ++ drop (suc (at + length ys)) xs) (sym (append_assoc (take at xs) ys (x ∷ []))) ∙ append_assoc (take at xs ++ ys) (x ∷ []) (drop (suc (at + length ys)) xs))
-  where
-    first : (xs : List X) (n : ℕ) → n < length xs → slice_set (drop n xs) 0 x ≡ x ∷ drop (suc n) xs
-    first [] n h = absurd (omega arith)
-    first (y ∷ ys) zero h = refl
-    first (y ∷ ys) (suc n) h = first ys n (omega arith)
-
-replicate-more : {X : Type 0} (n : ℕ) (x : X) → replicate n x ++ x ∷ [] ≡ replicate (n + 1) x
-replicate-more n x = replicate-append-replicate n 1 x
-
--- one more of many equal elements
-pub filled_more : {X : Type 0} (xs : List X) (at n : ℕ) (x : X) → at + n < length xs → slice_set (with_part xs at (replicate n x)) (at + n) x ≡ with_part xs at (replicate (n + 1) x)
-filled_more xs at n x h1 = grind (arith, nat_tests, length-replicate n x, with_part-more xs (replicate n x) at x, replicate-more n x)
 
 pub with_part-none : {X : Type 0} (xs : List X) (at : ℕ) → xs ≡ with_part xs at []
 unfolding with_part
@@ -41,14 +15,12 @@ with_part-none xs at = grind (arith, nat_tests, append-nil (take at xs), take-ap
 -- what is read where equal elements were filled in
 pub filled_at : {X : Type 0} (xs : List X) (at n i : ℕ) (x d : X) → at + n ≤ length xs
     → slice_index_or (with_part xs at (replicate n x)) i d ≡ (if nat_le at i && nat_lt i (at + n) then x else slice_index_or xs i d)
-filled_at xs at zero i x d fits = ap (λ l. slice_index_or l i d) (sym (with_part-none xs at)) ∙ grind (arith, nat_tests)
-filled_at xs at (suc n) i x d fits =
-    let one : suc n ≡ n + 1 = omega arith in
-    let filled = length-replicate n x in
-    let long = length-with_part xs at (replicate n x) (omega (arith, filled, fits)) in
-    ap (λ (m : ℕ). slice_index_or (with_part xs at (replicate m x)) i d) one
-    ∙ ap (λ l. slice_index_or l i d) (sym (filled_more xs at n x (omega (arith, fits))))
-    ∙ grind (arith, nat_tests, filled_at xs at n i x d, get_or-set_same (with_part xs at (replicate n x)) (at + n) x d, get_or-set_other (with_part xs at (replicate n x)) (at + n) i x d, long)
+filled_at xs at n i x d fits = grind (arith, nat_tests, written-at xs (replicate n x) at i d, length-replicate n x, get_or-replicate n (i - at) x d)
+
+-- one more of many equal elements
+pub filled_more : {X : Type 0} (xs : List X) (at n : ℕ) (x : X) → at + n < length xs → slice_set (with_part xs at (replicate n x)) (at + n) x ≡ with_part xs at (replicate (n + 1) x)
+filled_more xs at n x inside =
+    ext_get_or x _ _ (grind (arith, length-set, length-with_part, length-replicate)) (λ i less. grind (arith, nat_tests, filled_at xs at n i x x, filled_at xs at (n + 1) i x x, get_or-set_same (with_part xs at (replicate n x)) (at + n) x x, get_or-set_other (with_part xs at (replicate n x)) (at + n) i x x, length-set, length-with_part xs at (replicate n x), length-replicate n x))
 
 pub length-contents : (table : TableState) → length (contents_of table) ≡ length table.entries
 unfolding contents_of
@@ -61,66 +33,32 @@ length-states entries = length-map entries (option_map state_of)
 zeros_joined : (n m : ℕ) → n ≡ 4096 → zero_page ++ replicate m 0 ≡ replicate (n + m) 0
 zeros_joined n m e = ap (λ l. l ++ replicate m 0) (sym (replicate-zero_page n e)) ∙ replicate-append-replicate n m 0
 
-concat-zeros : (pages : List (List ℕ)) (count : ℕ) → ((n : ℕ) → n < count → slice_index_or pages n [] ≡ zero_page) → ((n : ℕ) → count ≤ n → slice_index_or pages n [] ≡ [])
-    → concat pages ≡ replicate (count * 4096) 0
-concat-zeros [] zero there none = refl
-concat-zeros [] (suc count) there none = absurd (let e = ap length (there 0 (omega arith)) in omega (arith, e, length-zero_page))
-concat-zeros (page ∷ pages) zero there none =
-    let rest = concat-zeros pages 0 (λ n less. absurd (omega arith)) (λ n le. none (suc n) (omega arith)) in
-    ap (λ l. l ++ concat pages) (none 0 (omega arith)) ∙ rest
-concat-zeros (page ∷ pages) (suc count) there none =
-    let rest = concat-zeros pages count (λ n less. there (suc n) (omega arith)) (λ n le. none (suc n) (omega arith)) in
-    ap (λ l. l ++ concat pages) (there 0 (omega arith)) ∙ ap (λ l. zero_page ++ l) rest ∙ joined 4096 refl
-  where
-    joined : (n : ℕ) → n ≡ 4096 → zero_page ++ replicate (count * 4096) 0 ≡ replicate (suc count * 4096) 0
-    joined n e =
-        let more : n + count * 4096 ≡ suc count * 4096 = omega (arith, e) in
-        zeros_joined n (count * 4096) e ∙ ap (λ (m : ℕ). replicate m 0) more
-
-pub part_of-short : {X : Type 0} (xs : List X) (at size : ℕ) → length (part_of xs at size) ≤ size
-unfolding part_of
-part_of-short xs at size = let h = length-take size (drop at xs) in omega arith
-
--- what is read of a map's pages where the first ones were filled
-pub filled_part : (contents : List (List ℕ)) (k count n : ℕ) (page : List ℕ) → count ≤ 256 → k * 256 + 256 ≤ length contents
-    → slice_index_or (part_of (with_part contents (k * 256) (replicate count page)) (k * 256) 256) n [] ≡ (if nat_lt n count then page else slice_index_or (part_of contents (k * 256) 256) n [])
-filled_part contents k count n page few all =
-    ⊎_elim
-    (λ less. sym (content_in (with_part contents (k * 256) (replicate count page)) k n less)
-    ∙ grind (arith, nat_tests, filled_at contents (k * 256) count (k * 256 + n) page [], content_in contents k n less))
-    (λ more. get_or_past (part_of (with_part contents (k * 256) (replicate count page)) (k * 256) 256) n [] (omega (arith, part_of-short (with_part contents (k * 256) (replicate count page)) (k * 256) 256, more))
-    ∙ grind (arith, nat_tests, get_or_past (part_of contents (k * 256) 256) n [], part_of-short contents (k * 256) 256))
-    (order n 256)
+concat-zeros : (pages : List (List ℕ)) (count : ℕ) → ((n : ℕ) → slice_index_or pages n [] ≡ (if nat_lt n count then zero_page else [])) → concat pages ≡ replicate (count * 4096) 0
+concat-zeros [] zero read = refl
+concat-zeros [] (suc count) read = grind (arith, nat_tests, read 0, length-zero_page)
+concat-zeros (page ∷ pages) zero read = grind (arith, nat_tests, read 0, concat-zeros pages 0 (λ n. grind (arith, nat_tests, read (suc n))))
+concat-zeros (page ∷ pages) (suc count) read =
+    grind (arith, nat_tests, read 0, concat-zeros pages count (λ n. grind (arith, nat_tests, read (suc n))), zeros_joined 4096 (count * 4096) refl)
 
 -- what is filled in one of several parts leaves the others
 pub others-filled : {X : Type 0} (xs : List X) (at k m n j width : ℕ) (x : X) → at ≡ k * width + m → m + n ≤ width → at + n ≤ length xs → j ≢ k
     → part_of (with_part xs at (replicate n x)) (j * width) width ≡ part_of xs (j * width) width
-others-filled xs at k m zero j width x place few inside ne = ap (λ l. part_of l (j * width) width) (sym (with_part-none xs at))
-others-filled xs at k m (suc n) j width x place few inside ne =
-    let one : suc n ≡ n + 1 = omega arith in
-    let last : at + n ≡ k * width + (m + n) = omega (arith, place) in
-    ap (λ (c : ℕ). part_of (with_part xs at (replicate c x)) (j * width) width) one
-    ∙ ap (λ l. part_of l (j * width) width) (sym (filled_more xs at n x (omega (arith, inside))))
-    ∙ ap (λ (i : ℕ). part_of (slice_set (with_part xs at (replicate n x)) i x) (j * width) width) last
-    ∙ part_of-set_other (with_part xs at (replicate n x)) k (m + n) j width x (omega (arith, few)) ne
-    ∙ others-filled xs at k m n j width x place (omega (arith, few)) (omega (arith, inside)) ne
+others-filled xs at k m n j width x place few inside ne =
+    part-kept xs (with_part xs at (replicate n x)) (j * width) width x (grind (arith, length-with_part, length-replicate)) (λ i from less. grind (arith, nat_tests, lies-apart j k width, lies-apart k j width, filled_at xs at n i x x))
 
 -- a map whose pages are new
-module _ (shape : Shape) (pages : List (List ℕ)) (is : IsShape shape) (there : (n : ℕ) → n < page_count shape → slice_index_or pages n [] ≡ zero_page) (none : (n : ℕ) → page_count shape ≤ n → slice_index_or pages n [] ≡ []) where
+module _ (shape : Shape) (pages : List (List ℕ)) (is : IsShape shape) (read : (n : ℕ) → slice_index_or pages n [] ≡ (if nat_lt n (page_count shape) then zero_page else [])) where
   pub pages_created : ArePagesOf shape pages
   pages_created =
       record {
         shaped = is;
-        there = λ n less. ap length (there n less) ∙ length-zero_page;
-        none = none;
-        padded = ap (drop (byte_len_of shape)) (concat-zeros pages (page_count shape) there none) ∙ drop-replicate (byte_len_of shape) (page_count shape * 4096) 0;
+        there = λ n less. grind (arith, nat_tests, read n, length-zero_page);
+        none = λ n past. grind (arith, nat_tests, read n);
+        padded = rw (concat-zeros pages (page_count shape) read) (drop-replicate (byte_len_of shape) (page_count shape * 4096) 0);
       }
 
   pub flat_created : flat_of pages shape ≡ zero_map shape
-  flat_created =
-      let fits : byte_len_of shape ≤ page_count shape * 4096 = omega arith in
-      ap (λ l. record { shape = shape; bytes = take (byte_len_of shape) l }) (concat-zeros pages (page_count shape) there none)
-      ∙ ap (λ l. record { shape = shape; bytes = l }) (take-replicate (byte_len_of shape) (page_count shape * 4096) 0 fits)
+  flat_created = grind (arith, concat-zeros pages (page_count shape) read, take-replicate {X = ℕ} (byte_len_of shape) (page_count shape * 4096) 0)
 
 -- what a new map at a place without one needs is there
 module _ (table : TableState) (shapes : List (Option Shape)) (tenants : List Tenant) (pass : Pass) (reserved tenant m : ℕ) (shape : Shape)
@@ -128,20 +66,30 @@ module _ (table : TableState) (shapes : List (Option Shape)) (tenants : List Ten
   pub index_inside : map_place tenant m < length shapes
   index_inside = omega (arith, is.numbers, inside, small)
 
-  pub places_inside : map_place tenant m * 256 + page_count shape ≤ length table.entries
-  places_inside = omega (arith, is.maps.places, length-contents table, few_pages shape shaped, index_inside)
-
-  pub few_entries : length table.entries ≤ 32768
-  few_entries = let long = length-contents table in omega (arith, is.maps.places, long, is.numbers, is.few)
-
   pub no_contents : (i : ℕ) → map_place tenant m * 256 ≤ i → i < map_place tenant m * 256 + page_count shape → slice_index_or (contents_of table) i [] ≡ []
-  no_contents i from less =
-      let few = few_pages shape shaped in
-      let n : ℕ = i - map_place tenant m * 256 in
-      let place : i ≡ map_place tenant m * 256 + n = omega (arith, from) in
-      let none : (n : ℕ) → slice_index_or (part_of (contents_of table) (map_place tenant m * 256) 256) n [] ≡ [] =
-      subst (λ s. ArePages s (part_of (contents_of table) (map_place tenant m * 256) 256)) empty (is.maps.each (map_place tenant m) index_inside) in
-      ap (λ (j : ℕ). slice_index_or (contents_of table) j []) place ∙ content_in (contents_of table) (map_place tenant m) n (omega (arith, less, few, place)) ∙ none n
+  no_contents i from less = grind (arith, nat_tests, few_pages shape shaped, content_in (contents_of table) (map_place tenant m) (i - map_place tenant m * 256), is.maps.each (map_place tenant m) index_inside, empty)
+
+-- the first pages of one map were filled alike, and another shape stands at its place
+module _ (table new : TableState) (shapes : List (Option Shape)) (tenants : List Tenant) (reserved t m count : ℕ) (page : List ℕ) (shape : Option Shape) (is : IsMemory table shapes tenants reserved) (small : m < 8) (inside : map_place t m < length shapes)
+    (few : count ≤ 256) (contents : contents_of new ≡ with_part (contents_of table) (map_place t m * 256) (replicate count page)) (arena : length new.arena ≡ length table.arena) where
+  pub wide_refilled : length (contents_of new) ≡ length (contents_of table)
+  wide_refilled = grind (arith, length-replicate count page, length-with_part)
+
+  pub read_refilled : (n : ℕ) → slice_index_or (part_of (contents_of new) (map_place t m * 256) 256) n [] ≡ (if nat_lt n count then page else slice_index_or (part_of (contents_of table) (map_place t m * 256) 256) n [])
+  read_refilled n = grind (arith, part-at, filled_at)
+
+  others_refilled : (j : ℕ) → j ≢ map_place t m → part_of (contents_of new) (j * 256) 256 ≡ part_of (contents_of table) (j * 256) 256
+  others_refilled j ne = grind (arith, others-filled (contents_of table) (map_place t m * 256) (map_place t m) 0 count j 256 page)
+
+  pub memory_refilled : reserved + used_by new ≤ length table.arena → ArePages shape (part_of (contents_of new) (map_place t m * 256) 256) → IsMemory new (slice_set shapes (map_place t m) shape) tenants reserved
+  memory_refilled room right =
+      grind (arith, nat_tests, memory_changed table new shapes (slice_set shapes (map_place t m) shape) tenants reserved t m is small inside, length-set, wide_refilled, get_or-set_other, others_refilled, get_or-set_same)
+
+  pub one_refilled : (pass now : Pass) (pins : List Bool) → part_of now.pins (t * 2048) 2048 ≡ pins → ((u : ℕ) → u ≢ t → part_of now.pins (u * 2048) 2048 ≡ part_of pass.pins (u * 2048) 2048)
+      → OneMap (view_of table shapes tenants pass) (view_of new (slice_set shapes (map_place t m) shape) tenants now) t m (option_map (flat_of (part_of (contents_of new) (map_place t m * 256) 256)) shape) pins
+  one_refilled pass now pins own others =
+      one_map table new shapes (slice_set shapes (map_place t m) shape) tenants reserved t m is small inside (length-set shapes (map_place t m) shape) wide_refilled (λ j ne. get_or-set_other shapes (map_place t m) j shape None ne) others_refilled arena
+      pass now _ pins (ap (option_map (flat_of (part_of (contents_of new) (map_place t m * 256) 256))) (get_or-set_same shapes (map_place t m) shape None inside)) own others
 
 -- a number without a map has no shape
 pub shape_none : (shapes : List (Option Shape)) (contents : List (List ℕ)) (t m : ℕ) → m < 8 → map_at (part_of (maps_of shapes contents) (t * 8) 8) m ≡ None → slice_index_or shapes (map_place t m) None ≡ None
@@ -172,48 +120,25 @@ module _ (table new : TableState) (shapes : List (Option Shape)) (tenants : List
   few : page_count shape ≤ 256
   few = few_pages shape shaped
 
-  all : k * 256 + 256 ≤ length (contents_of table)
-  all = let h = place_inside in omega (arith, is.maps.places, h)
-
-  old_none : (n : ℕ) → slice_index_or (part_of (contents_of table) (k * 256) 256) n [] ≡ []
-  old_none = subst (λ s. ArePages s (part_of (contents_of table) (k * 256) 256)) empty (is.maps.each k place_inside)
-
-  others_new : (j : ℕ) → j ≢ k → part_of (contents_of new) (j * 256) 256 ≡ part_of (contents_of table) (j * 256) 256
-  others_new j ne = ap (λ l. part_of l (j * 256) 256) contents ∙ others-filled (contents_of table) (k * 256) k 0 (page_count shape) j 256 zero_page (omega arith) (let f = few in omega (arith, f)) (let f = few in let h = all in omega (arith, f, h)) ne
-
   abbrev pages_new : List (List ℕ)
   pages_new = part_of (contents_of new) (k * 256) 256
 
-  new_there : (n : ℕ) → n < page_count shape → slice_index_or pages_new n [] ≡ zero_page
-  new_there n less = grind (arith, nat_tests, filled_part, few, all)
+  read : (n : ℕ) → slice_index_or pages_new n [] ≡ (if nat_lt n (page_count shape) then zero_page else [])
+  read n = grind (arith, nat_tests, read_refilled table new shapes tenants reserved tenant m (page_count shape) zero_page (Some shape) is small place_inside few contents arena n, is.maps.each k place_inside, empty)
 
-  new_none : (n : ℕ) → page_count shape ≤ n → slice_index_or pages_new n [] ≡ []
-  new_none n past = grind (arith, nat_tests, filled_part, few, all, old_none)
-
-  abbrev shapes_new : List (Option Shape)
-  shapes_new = slice_set shapes k (Some shape)
-
-  shape_there : slice_index_or shapes_new k None ≡ Some shape
-  shape_there = get_or-set_same shapes k (Some shape) None place_inside
-
-  wide : length (contents_of new) ≡ length (contents_of table)
-  wide = grind (arith, nat_tests, length-replicate, all, few, length-with_part)
-
-  pub memory_created : IsMemory new shapes_new tenants reserved
+  pub memory_created : IsMemory new (slice_set shapes k (Some shape)) tenants reserved
   memory_created =
-      grind (arith, nat_tests, memory_changed, place_inside, length-set, wide, get_or-set_other, others_new, pages_new, shape_there, pages_created, new_there, new_none)
+      memory_refilled table new shapes tenants reserved tenant m (page_count shape) zero_page (Some shape) is small place_inside few contents arena (omega (arith, used, room)) (pages_created shape pages_new shaped read)
 
   abbrev before : MemoryState
   before = view_of table shapes tenants pass
 
   abbrev after : MemoryState
-  after = view_of new shapes_new tenants pass
+  after = view_of new (slice_set shapes k (Some shape)) tenants pass
 
   one : OneMap before after tenant m (Some (zero_map shape)) (part_of pass.pins (tenant * 2048) 2048)
   one =
-      one_map table new shapes shapes_new tenants reserved tenant m is small place_inside (length-set shapes k (Some shape)) wide
-      (λ j ne. get_or-set_other shapes k j (Some shape) None ne) others_new arena pass pass (Some (zero_map shape)) (part_of pass.pins (tenant * 2048) 2048)
-      (ap (option_map (flat_of pages_new)) shape_there ∙ ap (λ f. Some f) (flat_created shape pages_new shaped new_there new_none)) refl (λ u ne. refl)
+      rw (← ap (λ f. Some f) (flat_created shape pages_new shaped read)) (one_refilled table new shapes tenants reserved tenant m (page_count shape) zero_page (Some shape) is small place_inside few contents arena pass pass (part_of pass.pins (tenant * 2048) 2048) refl (λ u ne. refl))
 
   created_after : part after tenant ≡ part_created (part before tenant) m shape
   unfolding view_of part
@@ -224,18 +149,7 @@ module _ (table new : TableState) (shapes : List (Option Shape)) (tenants : List
   sharing_after = rw (states, groups) refl
 
   pub creates : Creates before after tenant m shape mergeable
-  creates =
-      let old = free_is table shapes tenants pass (omega (arith, room)) in
-      let newer = free_is new shapes_new tenants pass (omega (arith, room, used, arena)) in
-      record {
-        created = created_after;
-        there = one.there;
-        other_maps = one.other_maps;
-        others = one.others;
-        sharing = sharing_after;
-        free = omega (arith, old, newer, used, arena);
-        settings = one.settings;
-      }
+  creates = grind (arith, nat_tests, free_is, created_after, one, sharing_after)
 
 -- the conditions of a new map, over what callers see
 module _ (table : TableState) (shapes : List (Option Shape)) (tenants : List Tenant) (pass : Pass) (now : MemoryState) (same : view_of table shapes tenants pass ≡ now) where
@@ -249,6 +163,4 @@ module _ (table : TableState) (shapes : List (Option Shape)) (tenants : List Ten
 
   pub room_inside : (reserved count : ℕ) → IsMemory table shapes tenants reserved → count ≤ have_of now → reserved + used_by table + count ≤ length table.arena
   unfolding view_of
-  room_inside reserved count is h =
-      let enough = rw (← same) at h in
-      omega (arith, free_is table shapes tenants pass (omega (arith, is.room)), enough, is.sum, is.room)
+  room_inside reserved count is h = grind (arith, nat_tests, free_is table shapes tenants pass)

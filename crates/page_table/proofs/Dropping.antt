@@ -2,24 +2,21 @@
 use Rattle.page_table.proofs.Base.{◌≡◌, ◌≢◌, ◌∙◌, ◌⊎◌, inl, inr, ⊎_elim, ℕ, zero, suc, ◌+◌, ◌-◌, ◌*◌, ◌<◌, ◌≤◌, ◌&&◌, nat_le, nat_lt, not, Bool, true, false, if◌then◌else◌, List, [], ◌∷◌, length, map, filter, replicate, slice_index_or, slice_set, Option, Some, None, IsSomeAnd, option_map, refl, sym, ap, subst, arith, get_or-set_same, get_or-set_other, length-map, length-replicate, length-set, ext_get_or, nat_tests}
 use Rattle.page_table.proofs.Words.{Pass, Shape, part_of, with_part, FlatMap, map_at, map_place, Volatile, PinsFit, Sharing, is_shared, broken, gone, gone_from, part_dropped, waiting_outside, ended_at, dropped, moved_on, length-with_part, Waiter, Entry, Tenant, page_count, MemoryState, part, free_of, have_of, IsKeptBut, AreMapsKeptBut, KeepsSettings, TableState, IsTable, AreOwnKeptOutside, ArePagesOf, ArePages, IsPageAt, entry_at, state_of, states_of, contents_of, sharing_of, waiting_of, used_by, flat_of, view_of, is_listed, AreWaiters, IsMemory, IsPass}
 use Rattle.page_table.proofs.Sides.{order}
-use Rattle.page_table.proofs.Creating.{filled_more, with_part-none, length-contents, others-filled, filled_at, filled_part}
+use Rattle.page_table.proofs.Creating.{filled_more, with_part-none, length-contents, others-filled, filled_at, read_refilled, wide_refilled, memory_refilled, one_refilled}
 use Rattle.page_table.proofs.Costs.{state-at}
 use Rattle.page_table.proofs.Fitting.{pins-kept}
 use Rattle.page_table.proofs.Free.{free_is}
-use Rattle.page_table.proofs.Reading.{content_in, few_pages}
-use Rattle.page_table.proofs.Shapes.{map_past, shape_told}
+use Rattle.page_table.proofs.Reading.{content_in, few_pages, map_at-part, map_at-past}
 use Rattle.page_table.proofs.Waiters.{waiter-kept}
 use Rattle.page_table.proofs.Writing.{OneMap, memory_changed, one_map}
 use Rattle.page_table.proofs.Unpinning.{fit-fewer, outside-pinned, others-unpinned, tenant-unpinned, pins-inside}
 use Rattle.page_table.proofs.Vacating.{gone_from-last}
 use Rattle.page_table.proofs.Putting.{page_of_entry}
+use Rattle.page_table.proofs.Maps.{map_at-maps_of}
 
 -- the waiting pages outside some places
 abbrev pub outside : ℕ → ℕ → List Waiter → List Waiter
 outside first end ws = filter (λ w. not (nat_le first w.place && nat_lt w.place end)) ws
-
-outside-place : (first end place : ℕ) → not (nat_le first place && nat_lt place end) ≡ true → (place < first) ⊎ (end ≤ place)
-outside-place first end place h = grind (arith, nat_tests)
 
 listed-outside : (first end i : ℕ) (ws : List Waiter) → is_listed i ws ≡ false → is_listed i (outside first end ws) ≡ false
 listed-outside first end i [] none = refl
@@ -27,17 +24,7 @@ listed-outside first end i (w ∷ ws) none = grind (arith, listed-outside first 
 
 waiters-outside : (old new : TableState) (c : Option ℕ) (first n : ℕ) (ws : List Waiter) → AreOwnKeptOutside first n old new → AreWaiters old.entries c ws → AreWaiters new.entries c (outside first (first + n) ws)
 waiters-outside old new c first n [] kept are = tt
-waiters-outside old new c first n (w ∷ ws) kept are =
-    by_head (not (nat_le first w.place && nat_lt w.place (first + n))) refl (waiters-outside old new c first n ws kept are.2)
-  where
-    by_head : (b : Bool) → not (nat_le first w.place && nat_lt w.place (first + n)) ≡ b → AreWaiters new.entries c (outside first (first + n) ws)
-        → AreWaiters new.entries c (if b then w ∷ outside first (first + n) ws else outside first (first + n) ws)
-    by_head true e rest = (
-      waiter-kept old.entries new.entries c w (λ entry here own. kept w.place entry (outside-place first (first + n) w.place e) here own) are.0,
-      listed-outside first (first + n) w.place ws are.1,
-      rest,
-    )
-    by_head false e rest = rest
+waiters-outside old new c first n (w ∷ ws) kept are = grind (arith, nat_tests, waiter-kept, listed-outside, waiters-outside old new c first n ws kept are.2)
 
 -- the pass without the waiting pages at some places, and without the pins of their map
 abbrev pub left_outside : ℕ → ℕ → Pass → Pass
@@ -51,44 +38,18 @@ pass-outside old new pass first n is kept arena long few inside =
       waiters = waiters-outside old new pass.cursor first n pass.waiting.listed kept is.waiters;
       room = omega (arith, arena, is.room);
       cursor = is.cursor;
-      pins = pins-kept old new (left_outside first (first + n) pass) (fit-fewer (states_of old.entries) pass.pins first 256 inside is.pins) long
-          (λ i entry pinned e volatile. kept i entry (apart (outside-pinned pass.pins first 256 i inside pinned).0) e (ap is_shared volatile));
+      pins = pins-kept old new (left_outside first (first + n) pass) (fit-fewer (states_of old.entries) pass.pins first 256 inside is.pins) long (λ i entry pinned e volatile. kept i entry (grind (arith, outside-pinned pass.pins first 256 i inside pinned)) e (ap is_shared volatile));
     }
-  where
-    apart : {i : ℕ} → (i < first) ⊎ (first + 256 ≤ i) → (i < first) ⊎ (first + n ≤ i)
-    apart out = ⊎_elim (λ less. inl less) (λ past. inr (omega (arith, past, few))) out
-
--- a page that goes isn't pinned
-gone-pins : (s : Sharing) (i : ℕ) → (gone s i).pins ≡ slice_set s.pins i false
-unfolding gone broken
-gone-pins s i = grind arith
 
 gone_from-pins : (s : Sharing) (i n : ℕ) → i + n ≤ length s.pins → (gone_from s i n).pins ≡ with_part s.pins i (replicate n false)
-unfolding gone_from
+unfolding gone_from gone broken
 gone_from-pins s i zero inside = with_part-none s.pins i
-gone_from-pins s i (suc n) inside =
-    let one : suc n ≡ n + 1 = omega arith in
-    ap (λ (m : ℕ). (gone_from s i m).pins) one
-    ∙ ap (λ (t : Sharing). t.pins) (gone_from-last s i n)
-    ∙ gone-pins (gone_from s i n) (i + n)
-    ∙ ap (λ (l : List Bool). slice_set l (i + n) false) (gone_from-pins s i n (omega (arith, inside)))
-    ∙ filled_more s.pins i n false (omega (arith, inside))
-    ∙ ap (λ (m : ℕ). with_part s.pins i (replicate m false)) (sym one)
+gone_from-pins s i (suc n) inside = let one : suc n ≡ n + 1 = omega arith in rw one (grind (arith, gone_from-last s i n, gone_from-pins s i n, filled_more s.pins i n false))
 
 -- behind a map's pages nothing is pinned
 filled-same : (pins : List Bool) (at n d : ℕ) → at + n + d ≤ length pins → ((i : ℕ) → at + n ≤ i → i < at + n + d → slice_index_or pins i false ≡ false)
     → with_part pins at (replicate (n + d) false) ≡ with_part pins at (replicate n false)
-filled-same pins at n d inside none =
-    let some = length-replicate n false in
-    let all = length-replicate (n + d) false in
-    let long = length-with_part pins at (replicate (n + d) false) (omega (arith, all, inside)) in
-    let short = length-with_part pins at (replicate n false) (omega (arith, some, inside)) in
-    ext_get_or false _ _ (omega (arith, long, short)) (λ i less. grind (arith, nat_tests, filled_at pins at (n + d) i false false, filled_at pins at n i false false, none i))
-
--- the end of a pass leaves the pins
-ended-pins : (s : Sharing) (c : Option ℕ) → (ended_at s c).pins ≡ s.pins
-unfolding moved_on
-ended-pins s c = grind (arith, nat_tests)
+filled-same pins at n d inside none = grind (arith, nat_tests, length-replicate n false, length-replicate, length-with_part pins at, ext_get_or false, filled_at pins at, filled_at pins at n)
 
 -- the waiting list without some pages, as callers see it
 waiting-outside : (first n : ℕ) (ws : List Waiter) → map waiting_of (outside first (first + n) ws) ≡ waiting_outside first n (map waiting_of ws)
@@ -101,22 +62,12 @@ pub sharing-outside : (old new : TableState) (pass : Pass) (first n : ℕ) → n
     → sharing_of new pass ≡ record (gone_from (sharing_of old pass) first n) { pins = pass.pins }
     → sharing_of new (left_outside first (first + n) pass) ≡ record (gone_from (sharing_of old pass) first n) { waiting = waiting_outside first n (sharing_of old pass).waiting }
 sharing-outside old new pass first n few inside none told =
-    ap (λ (s : Sharing). record s { waiting = map waiting_of (outside first (first + n) pass.waiting.listed); pins = with_part pass.pins first (replicate 256 false) }) told
-    ∙ ap (λ (w : List (ℕ × ℕ)). record (gone_from (sharing_of old pass) first n) { waiting = w; pins = with_part pass.pins first (replicate 256 false) }) (waiting-outside first n pass.waiting.listed)
-    ∙ ap (λ (pins : List Bool). record (gone_from (sharing_of old pass) first n) { waiting = waiting_outside first n (sharing_of old pass).waiting; pins = pins }) pins
-  where
-    rest : n + (256 - n) ≡ 256
-    rest = omega (arith, few)
-
-    pins : with_part pass.pins first (replicate 256 false) ≡ (gone_from (sharing_of old pass) first n).pins
-    pins =
-        ap (λ (m : ℕ). with_part pass.pins first (replicate m false)) (sym rest)
-        ∙ filled-same pass.pins first n (256 - n) (omega (arith, inside, few)) (λ i from less. none i from (omega (arith, less, few)))
-        ∙ sym (gone_from-pins (sharing_of old pass) first n (omega (arith, inside, few)))
+    grind (arith, nat_tests, waiting-outside first n pass.waiting.listed, filled-same pass.pins first n (256 - n), gone_from-pins (sharing_of old pass) first n)
 
 -- a map that is there has one of eight numbers
 pub number_small : (memory : MemoryState) (t m : ℕ) (shape : Shape) → option_map (λ (flat : FlatMap). flat.shape) (map_at (part memory t).maps m) ≡ Some shape → m < 8
-number_small memory t m shape e = grind (arith, nat_tests, map_past, order)
+unfolding part
+number_small memory t m shape e = grind (arith, nat_tests, map_at-past, order)
 
 -- a map was taken away, and nothing else has changed
 pub record Drops (old new : MemoryState) (tenant m : ℕ) (shape : Shape) : Type 0 where
@@ -143,11 +94,9 @@ module _ (table : TableState) (shapes : List (Option Shape)) (tenants : List Ten
   pub index_inside : k < length shapes
   index_inside = let h = small in let t = tenant_inside in omega (arith, is.numbers, h, t)
 
-  shape_here : slice_index_or shapes k None ≡ Some shape
-  shape_here = grind (arith, nat_tests, shape_told, small)
-
   old_pages : ArePagesOf shape (part_of (contents_of table) (k * 256) 256)
-  old_pages = subst (λ s. ArePages s (part_of (contents_of table) (k * 256) 256)) shape_here (is.maps.each k index_inside)
+  unfolding view_of part
+  old_pages = grind (arith, nat_tests, map_at-part, map_at-maps_of, small, index_inside)
 
   pub few : page_count shape ≤ 256
   few = few_pages shape old_pages.shaped
@@ -166,58 +115,24 @@ module _ (table : TableState) (shapes : List (Option Shape)) (tenants : List Ten
 
   -- no place behind the map's pages is pinned
   pub unpinned_behind : IsTable table → PinsFit (states_of table.entries) pass.pins → (i : ℕ) → k * 256 + page_count shape ≤ i → i < k * 256 + 256 → slice_index_or pass.pins i false ≡ false
-  unpinned_behind fits fit i from less = by_test (slice_index_or pass.pins i false) refl
-    where
-      place : i ≡ k * 256 + (i - k * 256)
-      place = omega (arith, from)
-
-      empty : length (slice_index_or (contents_of table) i []) ≡ 0
-      empty =
-          ap (λ (j : ℕ). length (slice_index_or (contents_of table) j [])) place
-          ∙ ap length (content_in (contents_of table) k (i - k * 256) (omega (arith, from, less)) ∙ old_pages.none (i - k * 256) (omega (arith, from)))
-
-      by_entry : (x : Option Entry) → entry_at table.entries i ≡ x → IsSomeAnd (option_map state_of x) (λ state. state.status ≡ Volatile) → ⊥
-      by_entry None e v = v
-      by_entry (Some entry) e v = omega (arith, page_of_entry table i entry fits e, empty)
-
-      by_test : (b : Bool) → slice_index_or pass.pins i false ≡ b → slice_index_or pass.pins i false ≡ false
-      by_test false e = e
-      by_test true e = absurd (by_entry (entry_at table.entries i) refl (rw (state-at table pass i) at (fit.volatile i e)))
+  unpinned_behind fits fit i from less = grind (arith, nat_tests, content_in (contents_of table) k (i - k * 256), old_pages, state-at table pass i, page_of_entry table i, fit.volatile i)
 
   module _ (new : TableState) (contents : contents_of new ≡ with_part (contents_of table) (k * 256) (replicate (page_count shape) []))
       (used : used_by new ≤ used_by table) (arena : length new.arena ≡ length table.arena) where
-    others_new : (j : ℕ) → j ≢ k → part_of (contents_of new) (j * 256) 256 ≡ part_of (contents_of table) (j * 256) 256
-    others_new j ne = ap (λ l. part_of l (j * 256) 256) contents ∙ others-filled (contents_of table) (k * 256) k 0 (page_count shape) j 256 [] (omega arith) (let f = few in omega (arith, f)) (let f = few in let h = all in omega (arith, f, h)) ne
-
     abbrev pages_new : List (List ℕ)
     pages_new = part_of (contents_of new) (k * 256) 256
 
     none_new : (n : ℕ) → slice_index_or pages_new n [] ≡ []
-    none_new n =
-        ap (λ (l : List (List ℕ)). slice_index_or (part_of l (k * 256) 256) n []) contents
-        ∙ grind (arith, nat_tests, filled_part (contents_of table) k (page_count shape) n [] few all, old_pages.none n)
+    none_new n = grind (arith, nat_tests, read_refilled table new shapes tenants reserved tenant m (page_count shape) [] None is small index_inside few contents arena n, old_pages.none n)
 
     abbrev shapes_new : List (Option Shape)
     shapes_new = slice_set shapes k None
 
-    shape_gone : slice_index_or shapes_new k None ≡ None
-    shape_gone = get_or-set_same shapes k None None index_inside
-
-    wide : length (contents_of new) ≡ length (contents_of table)
-    wide =
-        let fits : k * 256 + length (replicate {A = List ℕ} (page_count shape) []) ≤ length (contents_of table) = omega (arith, length-replicate {A = List ℕ} (page_count shape) [], all, few) in
-        ap length contents ∙ length-with_part (contents_of table) (k * 256) (replicate (page_count shape) []) fits
-
     pub memory_dropped : IsMemory new shapes_new tenants reserved
-    memory_dropped =
-        memory_changed table new shapes shapes_new tenants reserved tenant m is small index_inside (length-set shapes k None) wide
-        (λ j ne. get_or-set_other shapes k j None None ne) others_new arena (omega (arith, used, is.room)) (subst (λ s. ArePages s pages_new) (sym shape_gone) none_new)
-
-    pub shapes_few : length shapes_new ≤ 128
-    shapes_few = let long = length-set shapes k None in omega (arith, long, is.numbers, is.few)
+    memory_dropped = memory_refilled table new shapes tenants reserved tenant m (page_count shape) [] None is small index_inside few contents arena (omega (arith, used, is.room)) none_new
 
     pub long_new : length new.entries ≡ length table.entries
-    long_new = sym (length-contents new) ∙ wide ∙ length-contents table
+    long_new = grind (arith, length-contents, wide_refilled table new shapes tenants reserved tenant m (page_count shape) [] None is small index_inside few contents arena)
 
     module _ (fits : IsTable table) (fit : PinsFit (states_of table.entries) pass.pins) (done : Pass) (ended : sharing_of new done ≡ ended_at (sharing_of new (left_outside (k * 256) (k * 256 + page_count shape) pass)) pass.cursor)
         (told : sharing_of new pass ≡ record (gone_from (sharing_of table pass) (k * 256) (page_count shape)) { pins = pass.pins }) where
@@ -227,15 +142,9 @@ module _ (table : TableState) (shapes : List (Option Shape)) (tenants : List Ten
       abbrev after : MemoryState
       after = view_of new shapes_new tenants done
 
-      sharing_after : after.sharing ≡ dropped before.sharing (k * 256) (page_count shape)
-      unfolding view_of dropped
-      sharing_after = ended ∙ ap (λ (s : Sharing). ended_at s pass.cursor) (sharing-outside table new pass (k * 256) (page_count shape) few (map_pins fit) (unpinned_behind fits fit) told)
-
       pins_after : done.pins ≡ with_part pass.pins (tenant * 2048 + m * 256) (replicate 256 false)
-      pins_after =
-          let place : k * 256 ≡ tenant * 2048 + m * 256 = omega arith in
-          ap (λ (s : Sharing). s.pins) ended ∙ ended-pins (sharing_of new (left_outside (k * 256) (k * 256 + page_count shape) pass)) pass.cursor
-          ∙ ap (λ (i : ℕ). with_part pass.pins i (replicate 256 false)) place
+      unfolding moved_on
+      pins_after = grind (arith, nat_tests)
 
       tenant_pins : tenant * 2048 + 2048 ≤ length pass.pins
       tenant_pins = let t = tenant_inside in pins-inside table shapes tenants pass reserved is fit tenant t
@@ -243,26 +152,9 @@ module _ (table : TableState) (shapes : List (Option Shape)) (tenants : List Ten
       one : OneMap before after tenant m None (with_part (part_of pass.pins (tenant * 2048) 2048) (m * 256) (replicate 256 false))
       one =
           let within : m * 256 + 256 ≤ 2048 = omega (arith, small) in
-          one_map table new shapes shapes_new tenants reserved tenant m is small index_inside (length-set shapes k None) wide (λ j ne. get_or-set_other shapes k j None None ne) others_new arena
-          pass done None (with_part (part_of pass.pins (tenant * 2048) 2048) (m * 256) (replicate 256 false)) (ap (option_map (flat_of pages_new)) shape_gone)
-          (ap (λ (pins : List Bool). part_of pins (tenant * 2048) 2048) pins_after ∙ tenant-unpinned pass.pins tenant (m * 256) 256 within tenant_pins)
-          (λ u ne. ap (λ (pins : List Bool). part_of pins (u * 2048) 2048) pins_after ∙ others-unpinned pass.pins tenant (m * 256) 256 u within tenant_pins ne)
-
-      taken_after : part after tenant ≡ part_dropped (part before tenant) m
-      unfolding view_of part
-      taken_after = one.part_new
+          one_refilled table new shapes tenants reserved tenant m (page_count shape) [] None is small index_inside few contents arena pass done (with_part (part_of pass.pins (tenant * 2048) 2048) (m * 256) (replicate 256 false))
+          (rw pins_after (tenant-unpinned pass.pins tenant (m * 256) 256 within tenant_pins)) (λ u ne. rw pins_after (others-unpinned pass.pins tenant (m * 256) 256 u within tenant_pins ne))
 
       pub drops : Drops before after tenant m shape
-      unfolding view_of
-      drops =
-          let old = free_is table shapes tenants pass (omega (arith, is.room)) in
-          let newer = free_is new shapes_new tenants done (omega (arith, used, arena, is.room)) in
-          record {
-            taken = taken_after;
-            other_maps = one.other_maps;
-            others = one.others;
-            sharing = sharing_after;
-            freed = omega (arith, old, newer, used, arena);
-            have = omega (arith, old, newer, is.room, is.sum, used, arena);
-            settings = one.settings;
-          }
+      unfolding view_of dropped part
+      drops = grind (arith, nat_tests, free_is table shapes tenants pass, free_is new shapes_new tenants done, one, sharing-outside, few, map_pins, unpinned_behind)

@@ -2,7 +2,7 @@
 use Rattle.page_table.proofs.Base.{◌≡◌, ◌≢◌, ◌∙◌, ℕ, ◌+◌, ◌-◌, ◌*◌, ◌/◌, ◌%◌, ◌<◌, ◌≤◌, Bool, true, false, if◌then◌else◌, List, [], ◌∷◌, ◌++◌, length, take, drop, replicate, slice_index_or, slice_set, refl, sym, ap, subst, arith, get_or-set_same, get_or-set_other, length-set, length-replicate, take-replicate, drop-replicate, get_or-replicate, get_or-take, get_or-drop, ext_get_or, take-append_seam, sum_by-cons, sum_by-set, sum_by-replicate, nat_tests}
 use Rattle.page_table.proofs.Words.{part_of, with_part, length-part_of, length-with_part, part-with_part_same, with_part-same, pinned_among, ArePinsOf}
 use Rattle.page_table.proofs.Creating.{others-filled, filled_at}
-use Rattle.page_table.proofs.Maps.{part_of-set_same, part_of-set_other}
+use Rattle.page_table.proofs.Maps.{part_of-set_other, part_of-set_same, part-at}
 
 abbrev one_if : Bool → ℕ
 one_if b = if b then 1 else 0
@@ -26,23 +26,13 @@ filled-behind : (pins : List Bool) (at n m : ℕ) → at + n + m ≤ length pins
 filled-behind pins at n m h1 =
     grind (arith, nat_tests, length-replicate n false, length-replicate m false, length-replicate (n + m) false, length-with_part pins at (replicate n false), length-with_part (with_part pins at (replicate n false)) (at + n) (replicate m false), length-with_part pins at (replicate (n + m) false), ext_get_or false, filled_at (with_part pins at (replicate n false)) (at + n) m, filled_at pins at n, filled_at pins at (n + m))
 
+new-part : (maps k : ℕ) → k < maps → pinned_among (part_of (replicate (maps * 256) false) (k * 256) 256) ≡ 0
+unfolding part_of
+new-part maps k less = rw (drop-replicate (k * 256) (maps * 256) false, take-replicate 256 (maps * 256 - k * 256) false (omega (arith, less))) (none-pinned 256)
+
 -- the memory without a map
 pub pins-new : (maps : ℕ) → ArePinsOf (replicate (maps * 256) false) (replicate maps 0)
-unfolding part_of
-pins-new maps =
-    let long = length-replicate (maps * 256) false in
-    let count = length-replicate {A = ℕ} maps 0 in
-    record {
-      maps = omega (arith, long, count);
-      each = λ k less. get_or-replicate maps k 0 0 (omega (arith, less, count)) ∙ sym (part k (omega (arith, less, count)));
-    }
-  where
-    part : (k : ℕ) → k < maps → pinned_among (part_of (replicate (maps * 256) false) (k * 256) 256) ≡ 0
-    part k less =
-        let rest : ℕ = maps * 256 - k * 256 in
-        ap (λ (l : List Bool). pinned_among (take 256 l)) (drop-replicate (k * 256) (maps * 256) false)
-        ∙ ap pinned_among (take-replicate 256 (maps * 256 - k * 256) false (omega (arith, less)))
-        ∙ none-pinned 256
+pins-new maps = grind (arith, nat_tests, length-replicate, get_or-replicate, new-part maps)
 
 -- the pins of one map changed, and its number with them
 pins-changed : (pins now : List Bool) (numbers : List ℕ) (k n : ℕ) → ArePinsOf pins numbers → k < length numbers → length now ≡ length pins
@@ -50,9 +40,6 @@ pins-changed : (pins now : List Bool) (numbers : List ℕ) (k n : ℕ) → ArePi
 pins-changed pins now numbers k n are inside long others here = grind (arith, nat_tests, length-set, get_or-set_same, get_or-set_other)
 
 module _ (pins : List Bool) (numbers : List ℕ) (are : ArePinsOf pins numbers) where
-  pub map-inside : (k : ℕ) → k * 256 < length pins → k < length numbers
-  map-inside k less = omega (arith, are.maps, less)
-
   -- one page more is pinned
   module _ (k n : ℕ) (small : n < 256) (inside : k * 256 + n < length pins) (free : slice_index_or pins (k * 256 + n) false ≡ false) where
     here : k < length numbers
@@ -65,30 +52,16 @@ module _ (pins : List Bool) (numbers : List ℕ) (are : ArePinsOf pins numbers) 
     long = let h = here in length-part_of pins (k * 256) 256 (omega (arith, are.maps, h))
 
     was : slice_index_or part n false ≡ false
-    unfolding part_of
-    was = content n small ∙ free
-      where
-        content : (n : ℕ) → n < 256 → slice_index_or part n false ≡ slice_index_or pins (k * 256 + n) false
-        content n less = get_or-take 256 (drop (k * 256) pins) n false less ∙ get_or-drop (k * 256) pins n false
-
-    more : pinned_among (slice_set part n true) ≡ pinned_among part + 1
-    more =
-        let l = long in
-        omega (arith, sum_by-set one_if part n true false (omega (arith, l, small)), ap one_if was)
+    was = grind (arith, nat_tests, part-at pins (k * 256) 256 n false)
 
     pub pins-more : ArePinsOf (slice_set pins (k * 256 + n) true) (slice_set numbers k (slice_index_or numbers k 0 + 1))
-    pins-more =
-        pins-changed pins (slice_set pins (k * 256 + n) true) numbers k (slice_index_or numbers k 0 + 1) are here (length-set pins (k * 256 + n) true)
-        (λ j ne. part_of-set_other pins k n j 256 true small ne)
-        (ap (λ (m : ℕ). m + 1) (are.each k here) ∙ sym more ∙ sym (ap pinned_among (part_of-set_same pins (k * 256) n 256 true small)))
+    pins-more = grind (arith, nat_tests, pins-changed, here, length-set, part_of-set_other, long, sum_by-set, was, part_of-set_same)
 
   -- the same by the page's place
   pub pins-more-at : (place now : ℕ) → place < length pins → slice_index_or pins place false ≡ false → now ≡ slice_index_or numbers (place / 256) 0 → ArePinsOf (slice_set pins place true) (slice_set numbers (place / 256) (now + 1))
   pins-more-at place now inside free told =
-      let at : place / 256 * 256 + place % 256 ≡ place = omega arith in
-      let more = pins-more (place / 256) (place % 256) (omega arith) (omega (arith, at, inside)) (ap (λ (i : ℕ). slice_index_or pins i false) at ∙ free) in
-      subst (λ (n : ℕ). ArePinsOf (slice_set pins place true) (slice_set numbers (place / 256) (n + 1))) (sym told)
-      (subst (λ (i : ℕ). ArePinsOf (slice_set pins i true) (slice_set numbers (place / 256) (slice_index_or numbers (place / 256) 0 + 1))) at more)
+      let at : place ≡ place / 256 * 256 + place % 256 = omega arith in
+      grind (arith, pins-more (place / 256) (place % 256), ap (λ (i : ℕ). slice_index_or pins i false) at, ap (λ (i : ℕ). slice_set pins i true) at)
 
   -- no page of a map is pinned any more
   module _ (k : ℕ) (inside : k < length numbers) where
@@ -97,10 +70,7 @@ module _ (pins : List Bool) (numbers : List ℕ) (are : ArePinsOf pins numbers) 
 
     -- where none was, nothing changes
     pub pins-none : slice_index_or numbers k 0 ≡ 0 → with_part pins (k * 256) (replicate 256 false) ≡ pins
-    pins-none none =
-        let long = length-part_of pins (k * 256) 256 whole in
-        let same : part_of pins (k * 256) 256 ≡ replicate 256 false = all-false (part_of pins (k * 256) 256) (sym (are.each k inside) ∙ none) ∙ ap (λ (n : ℕ). replicate n false) long in
-        ap (with_part pins (k * 256)) (sym same) ∙ with_part-same pins (k * 256) 256 whole
+    pins-none none = grind (arith, whole, length-part_of pins (k * 256) 256, all-false (part_of pins (k * 256) 256), are.each k inside, with_part-same pins (k * 256) 256)
 
     pub pins-cleared : ArePinsOf (with_part pins (k * 256) (replicate 256 false)) (slice_set numbers k 0)
     pins-cleared =

@@ -1,5 +1,5 @@
 -- The pins fit the pages after each change of the table.
-use Rattle.page_table.proofs.Base.{◌≡◌, ◌≢◌, ◌∙◌, ℕ, zero, suc, ◌&&◌, Bool, true, false, if◌then◌else◌, List, [], ◌∷◌, length, slice_index_or, slice_set, Some, option_map, sym, ap, subst, arith, get_or_default, length-map, nat_tests}
+use Rattle.page_table.proofs.Base.{◌≡◌, ◌≢◌, ◌∙◌, ℕ, zero, suc, ◌&&◌, Bool, true, false, if◌then◌else◌, List, [], ◌∷◌, length, slice_index_or, slice_set, Some, option_map, sym, ap, subst, arith, get_or_default, length-map, nat_tests, get_or_past}
 use Rattle.page_table.proofs.Words.{Volatile, Waiting, is_pinned, pinned, broken_by, PinsFit, Sharing, state_at, is_shared_page, broken, fit-by, Entry, Pass, TableState, entry_at, entry_content, contents_of, state_of, states_of, sharing_of}
 use Rattle.page_table.proofs.Costs.{state-at}
 use Rattle.page_table.proofs.Entries.{inside}
@@ -11,9 +11,7 @@ entries-long old new e = sym (length-map new.entries (entry_content new.arena)) 
 
 -- a page that is told not to be pinned has a place in the list
 pub not-pinned : (pins : List Bool) (i : ℕ) → is_pinned pins i ≡ false → slice_index_or pins i false ≡ false
-not-pinned [] i h = absurd cc
-not-pinned (b ∷ pins) zero h = h
-not-pinned (b ∷ pins) (suc i) h = not-pinned pins i h
+not-pinned pins i h = grind (arith, get_or_default pins i true false, get_or_past pins i)
 
 -- the pins fit where each page that is pinned stays
 pub pins-kept : (old new : TableState) (pass : Pass) → PinsFit (states_of old.entries) pass.pins → length new.entries ≡ length old.entries

@@ -13,7 +13,6 @@ pub mod Recording
 pub mod Free
 pub mod Writing
 pub mod Creating
-pub mod Empty
 pub mod Shapes
 pub mod Groups
 pub mod Costs
@@ -31,7 +30,6 @@ pub mod Waiters
 pub mod Marking
 pub mod Joining
 pub mod Next
-pub mod Searching
 pub mod Scanning
 pub mod Tallying
 pub mod Partners
@@ -44,4 +42,3 @@ pub mod Dropping
 pub mod Fitting
 pub mod Filled
 pub mod Unpinning
-pub mod Unpinned

@@ -1,8 +1,9 @@
 -- Maps as flat bytes, out of the contents of their pages.
-use Rattle.page_table.proofs.Base.{◌≡◌, ◌≢◌, ◌∙◌, ⊎_elim, ℕ, zero, suc, ◌+◌, ◌-◌, ◌*◌, ◌<◌, ◌≤◌, List, [], ◌∷◌, ◌++◌, length, take, drop, replicate, slice_index_or, slice_set, Option, None, option_map, refl, sym, ap, arith, append_assoc, concat, get_or-set_same, get_or-set_other, length-set, ext_get_or, length-take-le, drop_at, take_at, append-nil, drop-append-le, take-append-le, drop-drop, take-append-drop, take-replicate, drop-set-lt, drop-set-add, take-set-le, take-set-lt, take-append-add}
+use Rattle.page_table.proofs.Base.{◌≡◌, ◌≢◌, ◌∙◌, ⊎_elim, ℕ, zero, suc, ◌+◌, ◌-◌, ◌*◌, ◌<◌, ◌≤◌, List, [], ◌∷◌, ◌++◌, length, take, drop, replicate, slice_index_or, slice_set, Option, None, option_map, refl, sym, ap, arith, append_assoc, concat, get_or-set_same, get_or-set_other, length-set, ext_get_or, length-take-le, drop_at, take_at, append-nil, drop-append-le, take-append-le, drop-drop, take-append-drop, take-replicate, drop-set-lt, drop-set-add, take-set-le, take-set-lt, take-append-add, if◌then◌else◌, nat_lt, nat_le, ◌&&◌, nat_tests, get_or-take, get_or-drop, get_or_past, length-take, get_or_append_left, min, get_or-replicate, length-replicate}
 use Rattle.page_table.proofs.Words.{Shape, part_of, with_part, FlatMap, page_bytes, byte_len_of, part_of-drop, part_of-first, with_part-append, page_count, maps_of, flat_of, ArePagesOf}
 use Rattle.std.proofs.Common.{length-append, length-drop}
 use Rattle.page_table.proofs.Sides.{apart_order}
+use Rattle.std.proofs.lemmas.List.{get_or-append_right}
 
 -- parts of lists
 
@@ -15,30 +16,37 @@ with_part-behind xs ys part n at h =
     sym (drop-drop (at + length part) (length xs) (xs ++ ys)) ∙ ap (drop (at + length part)) (drop_at xs ys (length xs) refl) in
     rw (place, front, take-append-add xs ys at, back, append_assoc xs (take at ys) part, append_assoc xs (take at ys ++ part) (drop (at + length part) ys)) refl
 
+-- what is read of a part, and of a list with a part written
+pub part-at : {X : Type 0} (xs : List X) (at size i : ℕ) (d : X) → slice_index_or (part_of xs at size) i d ≡ (if nat_lt i size then slice_index_or xs (at + i) d else d)
+unfolding part_of
+part-at xs at size i d =
+    grind (arith, nat_tests, get_or-take size (drop at xs) i d, get_or-drop at xs i d, get_or_past (take size (drop at xs)) i d, length-take size (drop at xs))
+
+pub written-at : {X : Type 0} (xs ys : List X) (at i : ℕ) (d : X) → at + length ys ≤ length xs
+    → slice_index_or (with_part xs at ys) i d ≡ (if nat_le at i && nat_lt i (at + length ys) then slice_index_or ys (i - at) d else slice_index_or xs i d)
+unfolding with_part
+written-at xs ys at i d fits =
+    grind (arith, nat_tests, length-take-le at xs, length-append (take at xs) ys, get_or_append_left (take at xs ++ ys) (drop (at + length ys) xs) d i, get_or-append_right (take at xs ++ ys) (drop (at + length ys) xs) (at + length ys) i d, get_or_append_left (take at xs) ys d i, get_or-append_right (take at xs) ys at i d, get_or-drop (at + length ys) xs (i - (at + length ys)) d, get_or-take at xs i d)
+
+pub length-part : {X : Type 0} (xs : List X) (at size : ℕ) → length (part_of xs at size) ≡ min size (length xs - at)
+unfolding part_of
+length-part xs at size = grind (arith, nat_tests, length-take size (drop at xs), length-drop at xs)
+
+-- a part stays where each of its elements does
+pub part-kept : {X : Type 0} (xs ys : List X) (at size : ℕ) (d : X) → length ys ≡ length xs → ((i : ℕ) → at ≤ i → i < at + size → slice_index_or ys i d ≡ slice_index_or xs i d) → part_of ys at size ≡ part_of xs at size
+part-kept xs ys at size d long same = grind (arith, nat_tests, ext_get_or d, length-part ys at size, length-part xs at size, part-at ys at size, part-at xs at size)
+
+-- of two parts of one width, the first ends before the other begins
+pub lies-apart : (j k width : ℕ) → j < k → j * width + width ≤ k * width
+lies-apart j k width less = let apart : k * width ≡ (suc j + (k - suc j)) * width = ap (λ (m : ℕ). m * width) (omega arith) in omega (arith, apart)
+
 -- one element set, in a part
 pub part_of-set_same : {X : Type 0} (xs : List X) (k n width : ℕ) (x : X) → n < width → part_of (slice_set xs (k + n) x) k width ≡ slice_set (part_of xs k width) n x
-unfolding part_of
-part_of-set_same xs k n width x h = ap (take width) (drop-set-add k xs n x) ∙ take-set-lt width (drop k xs) n x h
+part_of-set_same xs k n width x h = ext_get_or x _ _ (grind (arith, length-part, length-set)) (λ i less. grind (arith, nat_tests, part-at, length-part, length-set, get_or-set_same, get_or-set_other))
 
 pub part_of-set_other : {X : Type 0} (xs : List X) (k n j width : ℕ) (x : X) → n < width → j ≢ k → part_of (slice_set xs (k * width + n) x) (j * width) width ≡ part_of xs (j * width) width
-unfolding part_of
-part_of-set_other xs k n j width x h ne = ⊎_elim (λ less. before less) (λ more. behind more) (apart_order j k ne)
-  where
-    before : j < k → take width (drop (j * width) (slice_set xs (k * width + n) x)) ≡ take width (drop (j * width) xs)
-    before less =
-        let rest : ℕ = k - suc j in
-        let apart : k ≡ suc j + rest = omega (arith, less) in
-        let place : k * width + n ≡ j * width + (width + rest * width + n) = ap (λ (m : ℕ). m * width + n) apart ∙ omega arith in
-        ap (λ (m : ℕ). take width (drop (j * width) (slice_set xs m x))) place
-        ∙ ap (take width) (drop-set-add (j * width) xs (width + rest * width + n) x)
-        ∙ take-set-le width (drop (j * width) xs) (width + rest * width + n) x (omega arith)
-
-    behind : k < j → take width (drop (j * width) (slice_set xs (k * width + n) x)) ≡ take width (drop (j * width) xs)
-    behind more =
-        let rest : ℕ = j - suc k in
-        let apart : j ≡ suc k + rest = omega (arith, more) in
-        let place : j * width ≡ k * width + width + rest * width = ap (λ (m : ℕ). m * width) apart ∙ omega arith in
-        ap (take width) (drop-set-lt (j * width) xs (k * width + n) x (omega (arith, place, h)))
+part_of-set_other xs k n j width x h ne =
+    part-kept xs (slice_set xs (k * width + n) x) (j * width) width x (length-set xs (k * width + n) x) (λ i from less. grind (arith, lies-apart j k width, lies-apart k j width, get_or-set_other xs (k * width + n) i x x))
 
 -- the map at a place
 pub map_at-maps_of : (shapes : List (Option Shape)) (contents : List (List ℕ)) (k : ℕ)
@@ -68,79 +76,56 @@ maps_of-changed old new before after k flat h1 h2 h3 h4 h5 =
 -- bytes written into a page
 pub concat-written : (pages : List (List ℕ)) (n at : ℕ) (bytes : List ℕ) → ((m : ℕ) → m ≤ n → length (slice_index_or pages m []) ≡ 4096) → at + length bytes ≤ 4096
     → concat (slice_set pages n (with_part (slice_index_or pages n []) at bytes)) ≡ with_part (concat pages) (n * 4096 + at) bytes
-concat-written [] n at bytes there fits = absurd (let e = there 0 (omega arith) in omega (arith, e))
-concat-written (page ∷ pages) zero at bytes there fits =
-    let e = there 0 (omega arith) in
-    let place : at ≡ 0 * 4096 + at = omega arith in
-    sym (with_part-append page (concat pages) bytes at (omega (arith, e, fits))) ∙ ap (λ (m : ℕ). with_part (page ++ concat pages) m bytes) place
+concat-written [] n at bytes there fits = grind (arith, there 0)
+concat-written (page ∷ pages) zero at bytes there fits = grind (arith, there 0, with_part-append page (concat pages) bytes at)
 concat-written (page ∷ pages) (suc n) at bytes there fits =
-    let e = there 0 (omega arith) in
-    let rest = concat-written pages n at bytes (λ m le. there (suc m) (omega arith)) fits in
     let place : 4096 + (n * 4096 + at) ≡ suc n * 4096 + at = omega arith in
-    ap (λ l. page ++ l) rest ∙ sym (with_part-behind page (concat pages) bytes 4096 (n * 4096 + at) e) ∙ ap (λ (m : ℕ). with_part (page ++ concat pages) m bytes) place
-
--- a part of a page
-pub part_of-concat : (pages : List (List ℕ)) (n at size : ℕ) → ((m : ℕ) → m ≤ n → length (slice_index_or pages m []) ≡ 4096) → at + size ≤ 4096
-    → part_of (concat pages) (n * 4096 + at) size ≡ part_of (slice_index_or pages n []) at size
-unfolding part_of
-part_of-concat [] n at size there fits = absurd (let e = there 0 (omega arith) in omega (arith, e))
-part_of-concat (page ∷ pages) zero at size there fits =
-    let e = there 0 (omega arith) in
-    let left = length-drop at page in
-    let place : 0 * 4096 + at ≡ at = omega arith in
-    ap (λ (m : ℕ). take size (drop m (page ++ concat pages))) place
-    ∙ ap (take size) (drop-append-le at page (concat pages) (omega (arith, e, fits))) ∙ take-append-le size (drop at page) (concat pages) (omega (arith, e, fits, left))
-part_of-concat (page ∷ pages) (suc n) at size there fits =
-    let e = there 0 (omega arith) in
-    let rest = part_of-concat pages n at size (λ m le. there (suc m) (omega arith)) fits in
-    let place : suc n * 4096 + at ≡ 4096 + (n * 4096 + at) = omega arith in
-    ap (λ (m : ℕ). take size (drop m (page ++ concat pages))) place
-    ∙ ap (take size) (sym (drop-drop (n * 4096 + at) 4096 (page ++ concat pages)) ∙ ap (drop (n * 4096 + at)) (drop_at page (concat pages) 4096 e))
-    ∙ rest
+    grind (arith, there 0, concat-written pages n at bytes (λ m le. there (suc m) (omega arith)), with_part-behind page (concat pages) bytes 4096 (n * 4096 + at), ap (λ (m : ℕ). with_part (page ++ concat pages) m bytes) place)
 
 -- pages that are there up to a number, and not from it on
 pub length-concat : (pages : List (List ℕ)) (count : ℕ) → ((n : ℕ) → n < count → length (slice_index_or pages n []) ≡ 4096) → ((n : ℕ) → count ≤ n → slice_index_or pages n [] ≡ [])
     → length (concat pages) ≡ count * 4096
 length-concat [] zero there none = refl
-length-concat [] (suc count) there none = absurd (let e = there 0 (omega arith) in omega (arith, e))
-length-concat (page ∷ pages) zero there none =
-    let first = ap length (none 0 (omega arith)) in
-    let rest = length-concat pages 0 (λ n less. absurd (omega arith)) (λ n le. none (suc n) (omega arith)) in
-    length-append page (concat pages) ∙ omega (arith, first, rest)
+length-concat [] (suc count) there none = grind (arith, there 0)
+length-concat (page ∷ pages) zero there none = grind (arith, none 0, length-concat pages 0 (λ n less. absurd (omega arith)) (λ n le. none (suc n) (omega arith)), length-append page (concat pages))
 length-concat (page ∷ pages) (suc count) there none =
-    let first = there 0 (omega arith) in
-    let rest = length-concat pages count (λ n less. there (suc n) (omega arith)) (λ n le. none (suc n) (omega arith)) in
-    length-append page (concat pages) ∙ omega (arith, first, rest)
+    grind (arith, there 0, length-concat pages count (λ n less. there (suc n) (omega arith)) (λ n le. none (suc n) (omega arith)), length-append page (concat pages))
 
--- zeros behind a list, as many as are asked for
-take-zeros : (xs : List ℕ) (n z w : ℕ) → n ≤ length xs + z → n ≤ length xs + w → take n (xs ++ replicate z 0) ≡ take n (xs ++ replicate w 0)
-take-zeros [] n z w h k = take-replicate n z 0 (omega arith) ∙ sym (take-replicate n w 0 (omega arith))
-take-zeros (x ∷ xs) zero z w h k = refl
-take-zeros (x ∷ xs) (suc n) z w h k = ap (λ l. x ∷ l) (take-zeros xs n z w (omega arith) (omega arith))
-
-take_whole : (xs : List ℕ) (n : ℕ) → length xs ≡ n → take n xs ≡ xs
-take_whole xs n e = ap (take n) (sym (append-nil xs)) ∙ take_at xs [] n e
+-- a byte of a page
+concat-at : (pages : List (List ℕ)) (n i : ℕ) → ((m : ℕ) → m ≤ n → length (slice_index_or pages m []) ≡ 4096) → i < 4096 → slice_index_or (concat pages) (n * 4096 + i) 0 ≡ slice_index_or (slice_index_or pages n []) i 0
+concat-at [] n i there less = grind (arith, there 0)
+concat-at (page ∷ pages) zero i there less = grind (arith, there 0, get_or_append_left page (concat pages) 0 i)
+concat-at (page ∷ pages) (suc n) i there less = grind (arith, there 0, get_or-append_right page (concat pages) 4096 (suc n * 4096 + i) 0, concat-at pages n i (λ m le. there (suc m) (omega arith)))
 
 -- the content of a map's page is that of the page
 pub page_bytes-page : (shape : Shape) (pages : List (List ℕ)) (n : ℕ) → ArePagesOf shape pages → n < page_count shape
     → page_bytes (take (byte_len_of shape) (concat pages)) n ≡ slice_index_or pages n []
-unfolding page_bytes part_of
+unfolding page_bytes
 page_bytes-page shape pages n are small =
     let whole = length-concat pages (page_count shape) are.there are.none in
-    let size : ℕ = byte_len_of shape in
-    let fits : size ≤ page_count shape * 4096 = omega arith in
-    let some : n * 4096 < size = omega (arith, small) in
-    let front = length-take-le size (concat pages) (omega (arith, whole, fits)) in
-    let rest = length-drop (n * 4096) (take size (concat pages)) in
-    let first = length-drop (n * 4096) (concat pages) in
-    let page = length-take-le 4096 (drop (n * 4096) (concat pages)) in
-    let lengths : (m : ℕ) → m ≤ n → length (slice_index_or pages m []) ≡ 4096 = λ m le. are.there m (omega (arith, le, small)) in
-    let place : n * 4096 + 0 ≡ n * 4096 = omega arith in
-    let split : concat pages ≡ take size (concat pages) ++ replicate (page_count shape * 4096 - size) 0 =
-    sym (take-append-drop size (concat pages)) ∙ ap (λ l. take size (concat pages) ++ l) are.padded in
-    take-zeros (drop (n * 4096) (take size (concat pages))) 4096 4096 (page_count shape * 4096 - size) (omega arith) (omega (arith, rest, front, fits, small, some))
-    ∙ ap (take 4096) (sym (drop-append-le (n * 4096) (take size (concat pages)) (replicate (page_count shape * 4096 - size) 0) (omega (arith, front, some))))
-    ∙ ap (λ l. take 4096 (drop (n * 4096) l)) (sym split)
-    ∙ ap (λ (m : ℕ). take 4096 (drop m (concat pages))) (sym place)
-    ∙ part_of-concat pages n 0 4096 lengths (omega arith)
-    ∙ take_whole (slice_index_or pages n []) 4096 (are.there n small)
+    let front = length-take-le (byte_len_of shape) (concat pages) (omega (arith, whole)) in
+    let rest = length-drop (n * 4096) (take (byte_len_of shape) (concat pages)) in
+    let long = length-take 4096 (drop (n * 4096) (take (byte_len_of shape) (concat pages)) ++ replicate 4096 0) in
+    let joined = length-append (drop (n * 4096) (take (byte_len_of shape) (concat pages))) (replicate 4096 0) in
+    let zeros = length-replicate {A = ℕ} 4096 0 in
+    ext_get_or 0 _ _ (omega (arith, long, joined, zeros, are.there n small))
+    (λ i less. grind (
+      arith,
+      nat_tests,
+      front,
+      rest,
+      long,
+      joined,
+      zeros,
+      are.there n,
+      get_or-take 4096 (drop (n * 4096) (take (byte_len_of shape) (concat pages)) ++ replicate 4096 0) i 0,
+      get_or_append_left (drop (n * 4096) (take (byte_len_of shape) (concat pages))) (replicate 4096 0) 0 i,
+      get_or-append_right (drop (n * 4096) (take (byte_len_of shape) (concat pages))) (replicate 4096 0) (byte_len_of shape - n * 4096) i 0,
+      get_or-drop (n * 4096) (take (byte_len_of shape) (concat pages)) i 0,
+      get_or-take (byte_len_of shape) (concat pages) (n * 4096 + i) 0,
+      concat-at pages n i (λ m le. are.there m (omega (arith, le, small))),
+      get_or-replicate {A = ℕ} 4096 (i - (byte_len_of shape - n * 4096)) 0 0,
+      get_or-drop (byte_len_of shape) (concat pages) (n * 4096 + i - byte_len_of shape) 0,
+      are.padded,
+      get_or-replicate {A = ℕ} (page_count shape * 4096 - byte_len_of shape) (n * 4096 + i - byte_len_of shape) 0 0,
+    ))

@@ -1,6 +1,6 @@
 -- How many contents have more than one group, told by the chains of the tree: of all contents one is taken out
 -- after another, and how often it occurs is the length of its chain.
-use Rattle.page_table.proofs.Base.{◌≡◌, ◌≢◌, ◌∙◌, ◌⊎◌, inl, inr, ⊎_elim, ℕ, suc, ◌+◌, ◌==◌, nat_lt, not, bytes_eq, Bool, true, false, if◌then◌else◌, List, [], ◌∷◌, ◌++◌, length, map, filter, slice_index_or, All, AllPairs, refl, sym, ap, arith, concat, is_eq, Less, length-append, append-nil, All-tail, filter-append, sum_by-cons, sum_by-append, is_eq-slice_cmp, bytes_eq-Decides, nat_tests}
+use Rattle.page_table.proofs.Base.{◌≡◌, ◌≢◌, ◌∙◌, ◌⊎◌, inl, inr, ⊎_elim, ℕ, suc, ◌+◌, ◌==◌, nat_lt, not, bytes_eq, Bool, true, false, if◌then◌else◌, List, [], ◌∷◌, ◌++◌, length, map, filter, slice_index_or, All, AllPairs, refl, sym, ap, arith, concat, is_eq, Less, length-append, append-nil, All-tail, filter-append, sum_by-cons, sum_by-append, is_eq-slice_cmp, bytes_eq-Decides, nat_tests, All-head}
 use Rattle.page_table.proofs.Words.{times_among, repeated_among, seconds_behind, page_at, Groups, IsChain, has, content, order, many_in, dups_in, chains_among, dups_among, filter-chain, filter-no_chain, IsTreeOf}
 use Rattle.page_table.proofs.Entries.{one_when}
 
@@ -9,11 +9,7 @@ abbrev out : List ℕ → List (List ℕ) → List (List ℕ)
 out c all = filter (λ other. not (bytes_eq other c)) all
 
 tells : (x c : List ℕ) → ((bytes_eq x c ≡ true) × (x ≡ c)) ⊎ ((bytes_eq x c ≡ false) × (x ≢ c))
-tells x c = by_test (bytes_eq x c) refl
-  where
-    by_test : (t : Bool) → bytes_eq x c ≡ t → ((bytes_eq x c ≡ true) × (x ≡ c)) ⊎ ((bytes_eq x c ≡ false) × (x ≢ c))
-    by_test true e = inl (e, (bytes_eq-Decides x c).0 e)
-    by_test false e = inr (e, λ same. let yes = (bytes_eq-Decides x c).1 same in cc)
+tells x c = grind (arith, nat_tests, bytes_eq-Decides)
 
 differ : (x c : List ℕ) → x ≢ c → bytes_eq x c ≡ false
 differ x c ne = ⊎_elim (λ is. absurd (ne is.1)) (λ is. is.0) (tells x c)
@@ -26,10 +22,6 @@ times-none : (b : List ℕ) → times_among b [] ≡ 0
 unfolding times_among
 times-none b = refl
 
-times-last : (b : List ℕ) (xs : List (List ℕ)) (x : List ℕ) → times_among b (xs ++ x ∷ []) ≡ times_among b xs + one_when (bytes_eq x b)
-unfolding times_among
-times-last b xs x = grind (arith, nat_tests, sum_by-append, times-cons, times-none)
-
 times-gone : (c : List ℕ) (xs : List (List ℕ)) → times_among c (out c xs) ≡ 0
 times-gone c [] = times-none c
 times-gone c (x ∷ xs) = grind (arith, times-cons c x (out c xs), times-gone c xs)
@@ -38,37 +30,15 @@ times-other : (b c : List ℕ) (xs : List (List ℕ)) → b ≢ c → times_amon
 times-other b c [] ne = refl
 times-other b c (x ∷ xs) ne = grind (arith, times-cons b x xs, times-cons b x (out c xs), (bytes_eq-Decides x c).0, (bytes_eq-Decides x b).0, times-other b c xs)
 
-many-more : (k : ℕ) → one_when (k == 1) + many_in k ≡ many_in (k + 1)
-many-more k = grind (arith, nat_tests)
-
-seconds-cons : (before : List (List ℕ)) (x : List ℕ) (xs : List (List ℕ)) → seconds_behind before (x ∷ xs) ≡ one_when (times_among x before == 1) + seconds_behind (before ++ x ∷ []) xs
-unfolding seconds_behind
-seconds-cons before x xs = refl
-
 seconds-none : (before : List (List ℕ)) → seconds_behind before [] ≡ 0
 unfolding seconds_behind
 seconds-none before = refl
 
 -- the second one of a content, and those of all others
 seconds-split : (c : List ℕ) (before xs : List (List ℕ)) → seconds_behind before xs + many_in (times_among c before) ≡ many_in (times_among c before + times_among c xs) + seconds_behind (out c before) (out c xs)
+unfolding times_among seconds_behind
 seconds-split c before [] = grind (arith, times-none c, seconds-none before, seconds-none (out c before))
-seconds-split c before (x ∷ xs) =
-    let last : out c (before ++ x ∷ []) ≡ out c before ++ out c (x ∷ []) = filter-append (λ (other : List ℕ). not (bytes_eq other c)) before (x ∷ []) in
-    grind (
-      arith,
-      nat_tests,
-      last,
-      append-nil (out c before),
-      (bytes_eq-Decides x c).0,
-      (bytes_eq-Decides x c).1,
-      times-last c before x,
-      times-cons c x xs,
-      times-other x c before,
-      seconds-cons before x xs,
-      seconds-cons (out c before) x (out c xs),
-      many-more (times_among c before),
-      seconds-split c (before ++ x ∷ []) xs,
-    )
+seconds-split c before (x ∷ xs) = grind (arith, nat_tests, filter-append, append-nil, bytes_eq-Decides, sum_by-append, times-cons, times-none, times-other, seconds-split c (before ++ x ∷ []) xs)
 
 -- as many, where a content occurs more than once
 abbrev share : ℕ → ℕ → ℕ
@@ -94,9 +64,20 @@ module _ (arena : List (List ℕ)) where
   times-has b [] = times-none b
   times-has b (f ∷ fs) = grind (arith, times-cons b (page_at arena f) (map (page_at arena) fs), times-has b fs)
 
-  has-split : (b chain : List ℕ) (chains : List (List ℕ)) → IsChain arena chain
-      → length (filter (has arena b) (chain ++ concat chains)) ≡ length (if bytes_eq (content arena chain) b then chain else []) + length (filter (has arena b) (concat chains))
-  has-split b chain chains h1 = grind (arith, nat_tests, filter-append, filter-chain, length-append, content)
+  -- no other chain has the content of the first one
+  unlike : (chain : List ℕ) (chains : List (List ℕ)) → All (IsChain arena) (chain ∷ chains) → AllPairs (λ c d. order (content arena c) (content arena d) ≡ Less) (chain ∷ chains) → filter (has arena (content arena chain)) (concat chains) ≡ []
+  unlike chain chains are ascending =
+      filter-no_chain arena (content arena chain) chains (All-tail (IsChain arena) chain chains are)
+      (λ i less. grind (arith, ascending 0 (suc i) [], is_eq-slice_cmp (content arena chain) (content arena (slice_index_or chains i [])), (bytes_eq-Decides (content arena chain) (content arena (slice_index_or chains i []))).1, differ (content arena (slice_index_or chains i [])) (content arena chain)))
+
+  -- as often as the first chain is long, its content occurs, and without it all others are those of the other chains
+  module _ (chain : List ℕ) (chains all : List (List ℕ)) (is : IsChain arena chain) (none : filter (has arena (content arena chain)) (concat chains) ≡ [])
+      (same : (b : List ℕ) → times_among b all ≡ length (filter (has arena b) (concat (chain ∷ chains)))) where
+    whole : times_among (content arena chain) all ≡ length chain
+    whole = grind (arith, nat_tests, filter-append, filter-chain, length-append, (bytes_eq-Decides (content arena chain) (content arena chain)).1, same (content arena chain))
+
+    less : (b : List ℕ) → times_among b (out (content arena chain) all) ≡ length (filter (has arena b) (concat chains))
+    less b = grind (arith, nat_tests, filter-append, filter-chain, length-append, tells b (content arena chain), differ, times-gone (content arena chain) all, times-other b (content arena chain) all, same b)
 
   -- the numbers of contents that occur twice or more are those of the chains
   pub nodes-told : (chains all : List (List ℕ)) → All (IsChain arena) chains → AllPairs (λ c d. order (content arena c) (content arena d) ≡ Less) chains
@@ -104,56 +85,18 @@ module _ (arena : List (List ℕ)) where
       → (seconds_behind [] all ≡ chains_among chains) × (repeated_among all all ≡ dups_among chains)
   unfolding chains_among dups_among
   nodes-told [] [] are ascending same = (seconds-none [], repeated-none [])
-  nodes-told [] (x ∷ xs) are ascending same =
-      let split = times-cons x x xs in
-      let one = ap one_when ((bytes_eq-Decides x x).1 refl) in
-      let none = same x in
-      absurd (omega (arith, split, one, none))
+  nodes-told [] (x ∷ xs) are ascending same = absurd (omega (arith, times-cons x x xs, ap one_when ((bytes_eq-Decides x x).1 refl), same x))
   nodes-told (chain ∷ chains) all are ascending same =
-      let rest = nodes-told chains (out (content arena chain) all) (All-tail (IsChain arena) chain chains are) (λ i j d less there. ascending (suc i) (suc j) d (omega arith) (omega arith)) less in
-      let more = sum_by-cons (λ (one : List ℕ). many_in (length one)) chain chains in
-      let most = sum_by-cons (λ (one : List ℕ). dups_in (length one)) chain chains in (
-        grind (arith, nat_tests, seconds-split (content arena chain) [] all, times-none (content arena chain), whole, rest.0, more),
-        grind (arith, nat_tests, repeated-split (content arena chain) all all, whole, rest.1, most),
+      let is = All-head (IsChain arena) chain chains are in
+      let none = unlike chain chains are ascending in
+      let here = whole chain chains all is none same in
+      let rest = nodes-told chains (out (content arena chain) all) (All-tail (IsChain arena) chain chains are) (λ i j d less there. ascending (suc i) (suc j) d (omega arith) (omega arith)) (less chain chains all is none same) in (
+        grind (arith, nat_tests, seconds-split (content arena chain) [] all, times-none (content arena chain), here, rest.0, sum_by-cons (λ (one : List ℕ). many_in (length one)) chain chains),
+        grind (arith, nat_tests, repeated-split (content arena chain) all all, here, rest.1, sum_by-cons (λ (one : List ℕ). dups_in (length one)) chain chains),
       )
-    where
-      is : IsChain arena chain
-      is = are 0 [] (omega arith)
-
-      unlike : filter (has arena (content arena chain)) (concat chains) ≡ []
-      unlike =
-          filter-no_chain arena (content arena chain) chains (All-tail (IsChain arena) chain chains are)
-          (λ i less. differ (content arena (slice_index_or chains i [])) (content arena chain) (λ e.
-          let below = ascending 0 (suc i) [] (omega arith) (omega arith) in
-          let other : bytes_eq (content arena chain) (content arena (slice_index_or chains i [])) ≡ false = sym (is_eq-slice_cmp (content arena chain) (content arena (slice_index_or chains i []))) ∙ ap is_eq below in
-          let yes = (bytes_eq-Decides (content arena chain) (content arena (slice_index_or chains i []))).1 (sym e) in
-          cc))
-
-      whole : times_among (content arena chain) all ≡ length chain
-      whole =
-          let split = has-split (content arena chain) chain chains is in
-          let yes : length (if bytes_eq (content arena chain) (content arena chain) then chain else []) ≡ length chain = ap (λ (b : Bool). length (if b then chain else [])) ((bytes_eq-Decides (content arena chain) (content arena chain)).1 refl) in
-          let no : length (filter (has arena (content arena chain)) (concat chains)) ≡ 0 = ap length unlike in
-          let told : times_among (content arena chain) all ≡ length (filter (has arena (content arena chain)) (chain ++ concat chains)) = same (content arena chain) in
-          omega (arith, split, yes, no, told)
-
-      less : (b : List ℕ) → times_among b (out (content arena chain) all) ≡ length (filter (has arena b) (concat chains))
-      less b =
-          ⊎_elim
-          (λ here. ap (λ (n : List ℕ). times_among n (out (content arena chain) all)) here.1 ∙ times-gone (content arena chain) all
-          ∙ sym (ap (λ (n : List ℕ). length (filter (has arena n) (concat chains))) here.1 ∙ ap length unlike))
-          (λ other.
-          let kept = times-other b (content arena chain) all other.1 in
-          let split = has-split b chain chains is in
-          let no : length (if bytes_eq (content arena chain) b then chain else []) ≡ 0 = ap (λ (t : Bool). length (if t then chain else [])) (differ (content arena chain) b (λ e. other.1 (sym e))) in
-          let told : times_among b all ≡ length (filter (has arena b) (chain ++ concat chains)) = same b in
-          omega (arith, kept, split, no, told))
-          (tells b (content arena chain))
 
   -- the numbers of the tree are those of the groups' contents
   pub tree-nodes : (groups : List ℕ) (tree : Groups) → IsTreeOf arena groups tree
       → (seconds_behind [] (map (page_at arena) groups) ≡ chains_among tree.chains)
       × (repeated_among (map (page_at arena) groups) (map (page_at arena) groups) ≡ dups_among tree.chains)
-  tree-nodes groups tree is =
-      nodes-told tree.chains (map (page_at arena) groups) is.sorted.alike is.sorted.ascending
-      (λ b. times-has b groups ∙ ap length (sym (is.listed b)))
+  tree-nodes groups tree is = grind (arith, nat_tests, nodes-told tree.chains, times-has)

@@ -5,7 +5,7 @@ use Rattle.page_table.proofs.Words.{Shape, AreFlatMaps, IsPage, Pass, Tenant, Me
 use Rattle.std.proofs.Common.{length-set}
 use Rattle.page_table.proofs.Maps.{length-maps_of}
 use Rattle.page_table.proofs.Free.{free_is}
-use Rattle.page_table.proofs.Shapes.{length-part, map_past, map_is, map_told}
+use Rattle.page_table.proofs.Shapes.{length-part, map_is, map_told}
 
 -- what is reserved for a tenant's open run
 abbrev pub reserve_in : Tenant → ℕ
@@ -37,10 +37,6 @@ module _ (table : TableState) (shapes : List (Option Shape)) (tenants : List Ten
   unfolding view_of part
   tenant_there t eight = omega (arith, length-part (maps_of shapes (contents_of table)) (t * 8) 8, long, eight)
 
-  -- the maps of a tenant are flat maps
-  pub flat_maps : All IsPage table.arena → (t : ℕ) → length (part memory t).maps ≡ 8 → AreFlatMaps (part memory t).maps
-  flat_maps bytes t eight = grind (arith, nat_tests, map_past, memory, map_told, map_is, get_or_past, order)
-
   -- no more frames are reserved than are free
   pub reserved_fits : sum_by reserve_in memory.tenants ≤ free_of memory
   unfolding view_of
@@ -61,41 +57,12 @@ module _ (table : TableState) (shapes : List (Option Shape)) (tenants : List Ten
     unfolding view_of part
     fits = omega (arith, free_is table shapes tenants pass (omega (arith, is.room)), is.room, is.sum, room, before_small)
 
-    pub memory_recorded : IsMemory table shapes recorded (reserved - before + kept.reserve)
-    memory_recorded =
-        let sum = sum-recorded tenants t kept (tenant_there t eight) in
-        let small = before_small in
-        record {
-          maps = is.maps;
-          numbers = is.numbers ∙ ap (λ (n : ℕ). n * 8) (sym (length-set tenants t kept));
-          few = let same = length-set tenants t kept in omega (arith, same, is.few);
-          frames = is.frames;
-          sum = omega (arith, sum, small, is.sum);
-          room = fits;
-        }
-
     abbrev after : MemoryState
     after = view_of table shapes recorded pass
 
-    pub all_recorded : after ≡ record memory { tenants = slice_set memory.tenants t kept }
-    unfolding view_of
-    all_recorded = refl
-
-    pub part_recorded : part after t ≡ record (part memory t) { reserve = kept.reserve; running = kept.running }
-    unfolding view_of part
-    part_recorded = rw (get_or-set_same tenants t kept unreserved_tenant (tenant_there t eight)) refl
-
-    pub others_recorded : IsKeptBut t memory after
-    unfolding view_of part
-    others_recorded s ne = rw (get_or-set_other tenants t s kept unreserved_tenant ne) refl
-
     pub have_recorded : have_of after + kept.reserve ≡ have_of memory + (part memory t).reserve
     unfolding view_of part
-    have_recorded =
-        let sum = sum-recorded tenants t kept (tenant_there t eight) in
-        let small = reserve-small tenants t (tenant_there t eight) in
-        let told = free_is table shapes tenants pass (omega (arith, is.room)) in
-        omega (arith, sum, small, told, free_is table shapes recorded pass (omega (arith, is.room)), is.room, is.sum, room)
+    have_recorded = grind (arith, nat_tests, sum-recorded tenants t kept, tenant_there t eight, reserve-small tenants t, free_is table shapes tenants pass, free_is table shapes recorded pass)
 
 -- what another record of one tenant needs and leaves, over what callers see
 pub record Records (old new : MemoryState) (table : TableState) (shapes : List (Option Shape)) (tenants : List Tenant) (reserved t before : ℕ) (kept : Tenant) : Type 0 where
@@ -108,27 +75,9 @@ pub record Records (old new : MemoryState) (table : TableState) (shapes : List (
   pub have : have_of new + kept.reserve ≡ have_of old + (part old t).reserve
   pub all : new ≡ record old { tenants = slice_set old.tenants t kept }
 
-reserve_told : (table : TableState) (shapes : List (Option Shape)) (tenants : List Tenant) (pass : Pass) (t : ℕ)
-    → (part (view_of table shapes tenants pass) t).reserve ≡ (slice_index_or tenants t unreserved_tenant).reserve
-unfolding view_of part
-reserve_told table shapes tenants pass t = refl
-
 pub records : (table : TableState) (shapes : List (Option Shape)) (tenants : List Tenant) (pass : Pass) (reserved : ℕ) → IsMemory table shapes tenants reserved
     → (now : MemoryState) → view_of table shapes tenants pass ≡ now → (t before : ℕ) (kept : Tenant)
     → length (part now t).maps ≡ 8 → kept.reserve ≤ have_of now + (part now t).reserve → before ≡ (part now t).reserve
     → Records now (view_of table shapes (slice_set tenants t kept) pass) table shapes tenants reserved t before kept
-records table shapes tenants pass reserved is now same t before kept eight room told =
-    let eight_here : length (part (view_of table shapes tenants pass) t).maps ≡ 8 = rw (← same) at eight in
-    let room_here : kept.reserve ≤ have_of (view_of table shapes tenants pass) + (part (view_of table shapes tenants pass) t).reserve = rw (← same) at room in
-    let before_is : before ≡ (slice_index_or tenants t unreserved_tenant).reserve = (rw (← same) at told) ∙ reserve_told table shapes tenants pass t in
-    rw (← same)
-    record {
-      there = tenant_there table shapes tenants pass reserved is t eight_here;
-      least = omega (arith, before_small table shapes tenants pass reserved is t kept eight_here room_here, before_is);
-      small = omega (arith, fits table shapes tenants pass reserved is t kept eight_here room_here, before_is, is.frames);
-      memory = rw before_is (memory_recorded table shapes tenants pass reserved is t kept eight_here room_here);
-      recorded_part = part_recorded table shapes tenants pass reserved is t kept eight_here room_here;
-      others = others_recorded table shapes tenants pass reserved is t kept eight_here room_here;
-      have = have_recorded table shapes tenants pass reserved is t kept eight_here room_here;
-      all = all_recorded table shapes tenants pass reserved is t kept eight_here room_here;
-    }
+unfolding view_of part
+records table shapes tenants pass reserved is now same t before kept eight room told = grind (arith, nat_tests, tenant_there table shapes tenants pass reserved is t, before_small table shapes tenants pass reserved is t kept, fits table shapes tenants pass reserved is t kept, sum-recorded, tenant_there, before_small, length-set, fits, get_or-set_same, get_or-set_other, have_recorded table shapes tenants pass reserved is t kept)

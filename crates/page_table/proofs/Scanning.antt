@@ -10,6 +10,10 @@ use Rattle.page_table.proofs.Groups.{length-places}
 use Rattle.page_table.proofs.Putting.{page_inside, content_at, page_of_entry}
 use Rattle.page_table.proofs.Merging.{map_small, number_small}
 
+-- a place's page by its tenant, map and number
+abbrev pub named : ℕ → Page
+named i = record { tenant = i / 2048; map = i / 256 % 8; number = i % 256 }
+
 module _ (table : TableState) (shapes : List (Option Shape)) (tenants : List Tenant) (pass : Pass) (reserved : ℕ) (is : IsMemory table shapes tenants reserved) where
   abbrev view : MemoryState
   view = view_of table shapes tenants pass
@@ -18,31 +22,7 @@ module _ (table : TableState) (shapes : List (Option Shape)) (tenants : List Ten
   pub page_there : (page : Page) → page.map < 8 → page.number < 256 → IsPageAt table (page_place page) → IsPageOf view page
   unfolding view_of part
   page_there page small few at =
-      by_shape (slice_index_or shapes (map_place page.tenant page.map) None) refl
-    where
-      k : ℕ
-      k = map_place page.tenant page.map
-
-      inside_shapes : map_place page.tenant page.map < length shapes
-      inside_shapes = omega (arith, page_inside table (page_place page) at, length-contents table, is.maps.places, few)
-
-      content : length (slice_index_or (part_of (contents_of table) (map_place page.tenant page.map * 256) 256) page.number []) ≡ 4096
-      content = sym (ap length (content_in (contents_of table) (map_place page.tenant page.map) page.number few)) ∙ at
-
-      by_shape : (shape : Option Shape) → slice_index_or shapes (map_place page.tenant page.map) None ≡ shape
-          → page.number * 4096 < length (bytes_in (map_at (part_of (maps_of shapes (contents_of table)) (page.tenant * 8) 8) page.map))
-      by_shape None e =
-          let none = subst (λ s. ArePages s (part_of (contents_of table) (map_place page.tenant page.map * 256) 256)) e (is.maps.each (map_place page.tenant page.map) inside_shapes) in
-          absurd (omega (arith, content, ap length (none page.number)))
-      by_shape (Some shape) e =
-          let pages : ArePagesOf shape (part_of (contents_of table) (map_place page.tenant page.map * 256) 256) = subst (λ s. ArePages s (part_of (contents_of table) (map_place page.tenant page.map * 256) 256)) e (is.maps.each (map_place page.tenant page.map) inside_shapes) in
-          let known : map_at (part_of (maps_of shapes (contents_of table)) (page.tenant * 8) 8) page.map ≡ Some (flat_of (part_of (contents_of table) (map_place page.tenant page.map * 256) 256) shape) =
-          map_at-part (maps_of shapes (contents_of table)) page.tenant page.map small ∙ map_at-maps_of shapes (contents_of table) (map_place page.tenant page.map) ∙ ap (option_map (flat_of (part_of (contents_of table) (map_place page.tenant page.map * 256) 256))) e in
-          let whole = length-concat (part_of (contents_of table) (map_place page.tenant page.map * 256) 256) (page_count shape) pages.there pages.none in
-          let front = length-take-le (byte_len_of shape) (concat (part_of (contents_of table) (map_place page.tenant page.map * 256) 256)) (omega (arith, whole)) in
-          let bytes = ap (λ flat. length (bytes_in flat)) known in
-          let below : page.number < page_count shape = ⊎_elim (λ less. less) (λ past. absurd (omega (arith, content, ap length (pages.none page.number past)))) (order page.number (page_count shape)) in
-          omega (arith, bytes, front, below)
+      grind (arith, nat_tests, page_inside table (page_place page) at, length-contents table, content_in (contents_of table) (map_place page.tenant page.map) page.number few, map_at-part (maps_of shapes (contents_of table)) page.tenant page.map small, map_at-maps_of shapes (contents_of table) (map_place page.tenant page.map), length-concat (part_of (contents_of table) (map_place page.tenant page.map * 256) 256), length-take-le)
 
   -- the bytes at a page's place
   pub contents_told : (page : Page) → page.map < 8 → page.number < 256 → contents_in view.maps (page_place page) ≡ page_bytes (bytes_of_map view page) page.number
@@ -56,23 +36,12 @@ module _ (table : TableState) (shapes : List (Option Shape)) (tenants : List Ten
   -- the bytes at each place with an entry are those of its frame
   pub frame_told : (i : ℕ) (entry : Entry) → IsTable table → entry_at table.entries i ≡ Some entry → contents_in view.maps i ≡ page_at table.arena entry.frame
   frame_told i entry fits e =
-      let place : page_place (named i) ≡ i = omega arith in
-      let there = page_there (named i) (omega arith) (omega arith) (subst (IsPageAt table) (sym place) (page_of_entry table i entry fits e)) in
-      ap (contents_in view.maps) (sym place) ∙ contents_told (named i) (omega arith) (omega arith)
-      ∙ sym (content_is table shapes tenants pass reserved (named i) is there)
-      ∙ ap (λ j. slice_index_or (contents_of table) j []) place ∙ content_at table i entry e
-    where
-      named : ℕ → Page
-      named i = record { tenant = i / 2048; map = i / 256 % 8; number = i % 256 }
+      grind (arith, nat_tests, page_there (named i), page_of_entry table i entry fits e, contents_told (named i), content_is table shapes tenants pass reserved (named i) is, content_at table i entry e)
 
 -- the first of some places, under a reading of places
 abbrev first_in : {X : Type 0} → X → (ℕ → X) → List ℕ → X
 first_in none read [] = none
 first_in none read (i ∷ places) = read i
-
-bytes-first : (contents : ℕ → List ℕ) (places : List ℕ) → group_bytes contents places ≡ first_in [] contents places
-unfolding group_bytes
-bytes-first contents places = grind (arith, nat_tests, contents)
 
 -- what all pages on a frame read as, the first one does
 first-places : {X : Type 0} (none : X) (read : ℕ → X) (told : X) (g n : ℕ) (xs : List (Option Entry)) → ((k : ℕ) → is_on g (entry_at xs k) ≡ true → read (n + k) ≡ told) → 1 ≤ pages_on g xs
@@ -81,13 +50,7 @@ unfolding places_on pages_on
 first-places none read told g n [] h some = absurd (omega arith)
 first-places {X} none read told g n (x ∷ xs) h some =
     let start : n ≡ n + 0 = omega arith in
-    grind (
-      arith,
-      sum_by-cons (on_one g) x xs,
-      ap read start,
-      h 0,
-      first-places none read told g (n + 1) xs (λ k on. let next : n + 1 + k ≡ n + suc k = omega arith in ap read next ∙ h (suc k) on),
-    )
+    grind (arith, sum_by-cons (on_one g) x xs, ap read start, h 0, first-places none read told g (n + 1) xs (λ k on. let next : n + 1 + k ≡ n + suc k = omega arith in ap read next ∙ h (suc k) on))
 
 -- what is found stands in the list, and passes the test
 pub find-in : (test : ℕ → Bool) (gs : List ℕ) (f : ℕ) → find test gs ≡ Some f → (1 ≤ times f gs) × (test f ≡ true)
@@ -133,10 +96,8 @@ module _ (table : TableState) (shapes : List (Option Shape)) (tenants : List Ten
   on-frame g k x h1 h2 = grind (arith, nat_tests, frame_told)
 
   pub bytes-of_group : (g : ℕ) → 1 ≤ times g table.groups → group_bytes contents (places_on 0 g table.entries) ≡ page_at table.arena g
-  bytes-of_group g some =
-      bytes-first contents (places_on 0 g table.entries)
-      ∙ first-places [] contents (page_at table.arena g) g 0 table.entries
-      (λ k on. let start : 0 + k ≡ k = omega arith in ap contents start ∙ on-frame g k (entry_at table.entries k) refl on) (group_of table g fits some).some
+  unfolding group_bytes
+  bytes-of_group g some = grind (arith, first-places [] contents (page_at table.arena g) g 0 table.entries (λ k on. let start : 0 + k ≡ k = omega arith in ap contents start ∙ on-frame g k (entry_at table.entries k) refl on), group_of table g fits some)
 
   -- whether a group is open is told by its frame
   pub open-group : (bytes : List ℕ) (g : ℕ) → 1 ≤ times g table.groups
@@ -156,12 +117,7 @@ module _ (table : TableState) (shapes : List (Option Shape)) (tenants : List Ten
   pub open-frame : (i : ℕ) → open_frame memory i ≡ find (opens (contents i)) table.groups
   unfolding view_of groups_of
   open-frame i =
-      ap (frame_of_group memory) (find-places (is_open contents (sharing_of table pass) (contents i)) (opens (contents i)) (λ g. places_on 0 g table.entries) table.groups (open-group (contents i)))
-      ∙ by_found (find (opens (contents i)) table.groups) refl
-    where
-      by_found : (x : Option ℕ) → find (opens (contents i)) table.groups ≡ x → frame_of_group memory (option_map (λ g. places_on 0 g table.entries) x) ≡ x
-      by_found None e = refl
-      by_found (Some g) e = frame-of_group g (find-in (opens (contents i)) table.groups g e).0
+      grind (arith, find-places (is_open contents (sharing_of table pass) (contents i)) (opens (contents i)) (λ g. places_on 0 g table.entries) table.groups (open-group (contents i)), frame-of_group, find-in (opens (contents i)) table.groups)
 
   pub has-open : (i : ℕ) → has_open contents memory.sharing i ≡ is_some (find (opens (contents i)) table.groups)
   unfolding view_of groups_of has_open
@@ -171,9 +127,7 @@ module _ (table : TableState) (shapes : List (Option Shape)) (tenants : List Ten
       → join_first (is_open contents (sharing_of table pass) (contents i)) i (groups_of table) ≡ map (joined_on table i f) table.groups
   unfolding groups_of
   joins i f e =
-      let there = (find-in (opens (contents i)) table.groups f e).0 in
-      let once = (group_of table f fits there).once in
-      join-places (is_open contents (sharing_of table pass) (contents i)) (opens (contents i)) (λ g. places_on 0 g table.entries) i f table.groups (open-group (contents i)) e (omega (arith, once))
+      grind (arith, find-in (opens (contents i)) table.groups f e, group_of table f fits, join-places (is_open contents (sharing_of table pass) (contents i)) (opens (contents i)) (λ g. places_on 0 g table.entries) i f table.groups (open-group (contents i)) e)
 
 -- an open group has the bytes
 pub open-bytes : (table : TableState) (bytes : List ℕ) (limit f : ℕ) → is_open_frame table bytes limit f ≡ true → page_at table.arena f ≡ bytes

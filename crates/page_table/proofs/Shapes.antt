@@ -1,6 +1,7 @@
 -- What a memory tells of a tenant's maps by their numbers.
 use Rattle.page_table.proofs.Base.{◌≡◌, ◌∙◌, ℕ, zero, suc, ◌*◌, ◌<◌, ◌≤◌, List, [], ◌∷◌, length, map, drop, slice_index_or, Option, Some, None, IfSome, option_map, is_none, position, refl, ap, arith, All, min, ◌-◌, position_or_len, get_or_past, get_or-take, get_or-drop, length-take, length-drop, concat, length-take-le, All-nil, All-cons, All-head, All-tail, All-append, All-take, All-drop, nat_tests}
 use Rattle.page_table.proofs.Words.{Pass, Shape, part_of, FlatMap, FlatMaps, map_at, map_place, byte_len_of, IsFlatMap, IsPage, page_at, page_count, Entry, Tenant, MemoryState, part, free_number, TableState, maps_of, flat_of, entry_content, contents_of, ArePages, ArePagesOf, AreMaps, view_of}
+pub use Rattle.page_table.proofs.Maps.{length-part}
 use Rattle.page_table.proofs.Maps.{map_at-maps_of, length-maps_of, length-concat}
 use Rattle.page_table.proofs.Reading.{map_at-part, map_at-past}
 
@@ -10,25 +11,13 @@ same_prefix : (maps : FlatMaps) (shapes : List (Option Shape)) → length maps �
 same_prefix [] [] e h = refl
 same_prefix [] (s ∷ shapes) e h = absurd (omega arith)
 same_prefix (m ∷ maps) [] e h = absurd (omega arith)
-same_prefix (m ∷ maps) (s ∷ shapes) e h =
-    let first = h 0 in
-    let rest = same_prefix maps shapes (omega arith) (λ i. h (suc i)) in
-    rw (first, rest) refl
-
-same_position : (maps : FlatMaps) (shapes : List (Option Shape)) → length maps ≡ length shapes → ((i : ℕ) → is_none (slice_index_or maps i None) ≡ is_none (slice_index_or shapes i None))
-    → position (λ (slot : Option FlatMap). is_none slot) maps ≡ position (λ (slot : Option Shape). is_none slot) shapes
-same_position maps shapes e h = rw (same_prefix maps shapes e h, e) refl
-
-pub length-part : {X : Type 0} (xs : List X) (at w : ℕ) → length (part_of xs at w) ≡ min w (length xs - at)
-unfolding part_of
-length-part xs at w = length-take w (drop at xs) ∙ ap (min w) (length-drop at xs)
+same_prefix (m ∷ maps) (s ∷ shapes) e h = grind (arith, h 0, same_prefix maps shapes (omega arith) (λ i. h (suc i)))
 
 -- the maps' places are free where no shape is
 free_of_maps : (shapes : List (Option Shape)) (contents : List (List ℕ)) (from width : ℕ)
     → position (λ (slot : Option FlatMap). is_none slot) (part_of (maps_of shapes contents) from width) ≡ position (λ (slot : Option Shape). is_none slot) (part_of shapes from width)
 unfolding part_of
-free_of_maps shapes contents from width =
-    grind (arith, nat_tests, same_position, length-part, length-maps_of, get_or-take, get_or-drop, map_at-maps_of, get_or_past)
+free_of_maps shapes contents from width = grind (arith, nat_tests, same_prefix, length-part, length-maps_of, get_or-take, get_or-drop, map_at-maps_of, get_or_past)
 
 -- the first free number of a tenant is the first place of its shapes without one
 pub free_number_told : (table : TableState) (shapes : List (Option Shape)) (tenants : List Tenant) (pass : Pass) (t : ℕ)
@@ -37,18 +26,9 @@ unfolding view_of part
 free_number_told table shapes tenants pass t = free_of_maps shapes (contents_of table) (t * 8) 8
 
 module _ (table : TableState) (shapes : List (Option Shape)) (tenants : List Tenant) (pass : Pass) (t : ℕ) where
-  pub shape_told : (m : ℕ) → m < 8 → option_map (λ (flat : FlatMap). flat.shape) (map_at (part (view_of table shapes tenants pass) t).maps m) ≡ slice_index_or shapes (map_place t m) None
-  unfolding view_of part
-  shape_told m h1 = grind (arith, nat_tests, map_at-part, map_at-maps_of)
-
   pub map_told : (m : ℕ) → m < 8 → map_at (part (view_of table shapes tenants pass) t).maps m ≡ option_map (flat_of (part_of (contents_of table) (map_place t m * 256) 256)) (slice_index_or shapes (map_place t m) None)
   unfolding view_of part
   map_told m small = map_at-part (maps_of shapes (contents_of table)) t m small ∙ map_at-maps_of shapes (contents_of table) (map_place t m)
-
--- a tenant has no map of another number
-pub map_past : (memory : MemoryState) (t m : ℕ) → 8 ≤ m → map_at (part memory t).maps m ≡ None
-unfolding part
-map_past memory t m past = map_at-past memory.maps t m past
 
 -- the bytes of pages
 
@@ -70,13 +50,7 @@ concat_small [] all = All-nil IsByte
 concat_small (page ∷ pages) all = All-append IsByte page (concat pages) (All-head (λ p. All IsByte p) page pages all) (concat_small pages (All-tail (λ p. All IsByte p) page pages all))
 
 flat_is : (shape : Shape) (pages : List (List ℕ)) → ArePagesOf shape pages → All (λ page. All IsByte page) pages → IsFlatMap (flat_of pages shape)
-flat_is shape pages are all =
-    let whole = length-concat pages (page_count shape) are.there are.none in
-    record {
-      shape = are.shaped;
-      sized = length-take-le (byte_len_of shape) (concat pages) (omega arith);
-      bytes = All-take IsByte (byte_len_of shape) (concat pages) (concat_small pages all);
-    }
+flat_is shape pages are all = grind (arith, nat_tests, length-concat pages, length-take-le, All-take IsByte, concat_small pages all)
 
 -- a map that is there is within the limits
 pub map_is : (table : TableState) (shapes : List (Option Shape)) (k : ℕ) → AreMaps shapes (contents_of table) → k < length shapes → All IsPage table.arena

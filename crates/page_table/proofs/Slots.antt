@@ -3,7 +3,7 @@ use Rattle.page_table.proofs.Base.{◌≡◌, ◌≢◌, ◌∙◌, ◌⊎◌, �
 use Rattle.page_table.proofs.Words.{filter-absent, ArePlaced, groups_in, times}
 use Rattle.std.proofs.Common.{length-append}
 use Rattle.page_table.proofs.Ending.{but}
-use Rattle.page_table.proofs.Entries.{one_when, times-head, times-tail}
+use Rattle.page_table.proofs.Entries.{one_when, times-head, times-tail, times-cons}
 use Rattle.page_table.proofs.Sides.{is_same}
 
 pub full : (x : ℕ) → 0 < x → (x == 0) ≡ false
@@ -24,99 +24,47 @@ in-groups (x ∷ xs) (suc i) h above = grind (arith, in-groups xs i, times-tail 
 -- where a group stands
 pub slot-of-group : (slots : List ℕ) (f : ℕ) → 1 ≤ times f (groups_in slots) → (i : ℕ) × (i < length slots) × (slice_index_or slots i 0 ≡ f) × (0 < f)
 slot-of-group [] f h = absurd (omega (arith, h))
-slot-of-group (x ∷ xs) f h = by_test (x == 0) refl (slot-of-group xs f) h
+slot-of-group (x ∷ xs) f h =
+    ⊎_elim (λ here. (0, omega arith, here.0, here.1)) (λ rest. let found = slot-of-group xs f rest in let within = found.1 in (suc found.0, omega (arith, within), found.2, found.3)) by_head
   where
-    later : ((i : ℕ) × (i < length xs) × (slice_index_or xs i 0 ≡ f) × (0 < f)) → (i : ℕ) × (i < length (x ∷ xs)) × (slice_index_or (x ∷ xs) i 0 ≡ f) × (0 < f)
-    later found = let within = found.1 in (suc found.0, omega (arith, within), found.2, found.3)
-
-    by_test : (b : Bool) → (x == 0) ≡ b → (1 ≤ times f (groups_in xs) → (i : ℕ) × (i < length xs) × (slice_index_or xs i 0 ≡ f) × (0 < f))
-        → 1 ≤ times f (if not b then x ∷ groups_in xs else groups_in xs) → (i : ℕ) × (i < length (x ∷ xs)) × (slice_index_or (x ∷ xs) i 0 ≡ f) × (0 < f)
-    by_test true e rest h = later (rest h)
-    by_test false e rest h =
-        ⊎_elim
-        (λ same. (0, omega arith, same.1, subst (λ (n : ℕ). 0 < n) same.1 (some x e)))
-        (λ apart. let split = sum_by-cons (λ (y : ℕ). one_when (y == f)) x (groups_in xs) in let none = ap one_when apart.0 in later (rest (omega (arith, h, split, none))))
-        (eqb_tells x f)
+    by_head : ((x ≡ f) × (0 < f)) ⊎ (1 ≤ times f (groups_in xs))
+    by_head = grind (arith, nat_tests, times-cons f x (groups_in xs), is_same x f)
 
 -- a slot that is emptied
 pub groups-emptied : (slots : List ℕ) (i f : ℕ) → i < length slots → slice_index_or slots i 0 ≡ f → ((j : ℕ) → j < length slots → slice_index_or slots j 0 ≡ f → j ≡ i)
     → groups_in (slice_set slots i 0) ≡ but f (groups_in slots)
 groups-emptied [] i f h here once = absurd (omega (arith, h))
 groups-emptied (x ∷ xs) zero f h here once =
-    let absent : All (λ g. g ≢ f) xs = λ k d less same. let place = once (suc k) (omega (arith, less)) (get_or_default xs k 0 d less ∙ same) in absurd (omega (arith, place)) in
+    let absent : All (λ g. g ≢ f) xs = λ k d less. grind (arith, once (suc k), get_or_default xs k 0 d less) in
     grind (arith, nat_tests, filter-absent (groups_in xs) f (All-filter (λ g. not (g == 0)) (λ g. g ≢ f) xs absent))
 groups-emptied (x ∷ xs) (suc i) f h here once =
-    let apart : x ≢ f = λ same. let place = once 0 (omega arith) same in omega (arith, place) in
-    grind (arith, nat_tests, apart, groups-emptied xs i f (omega arith) here (λ j less e. let place = once (suc j) (omega (arith, less)) e in omega (arith, place)))
+    grind (arith, nat_tests, once 0, groups-emptied xs i f (omega arith) here (λ j less e. let place = once (suc j) (omega (arith, less)) e in omega (arith, place)))
 
 module _ (slots slot_of : List ℕ) (are : ArePlaced slots slot_of) where
   -- a group stands once
   pub stands-once : (i j : ℕ) → i < length slots → j < length slots → 0 < slice_index_or slots i 0 → slice_index_or slots j 0 ≡ slice_index_or slots i 0 → j ≡ i
   stands-once i j h k above same = grind (arith, nat_tests)
 
-  -- the slot of a group is the one that is noted
-  pub noted : (f : ℕ) → 1 ≤ times f (groups_in slots)
-      → (f < length slot_of) × (slice_index_or slot_of f 0 < length slots) × (slice_index_or slots (slice_index_or slot_of f 0) 0 ≡ f) × (0 < f)
-  noted f h1 = grind (arith, nat_tests, slot-of-group)
-
   -- a new group behind the others
   pub placed-pushed : (f : ℕ) → 0 < f → f < length slot_of → times f (groups_in slots) ≡ 0 → ArePlaced (slots ++ f ∷ []) (slice_set slot_of f (length slots))
   placed-pushed f above there none =
       record {
-        below = λ j less. let inside = more j less in grind (arith, nat_tests, inside, pushed j inside, length-set slot_of f (length slots), are.below j, there);
-        placed = λ j less full. placed j (more j less) full (is_same j (length slots));
+        below = λ j less. grind (arith, nat_tests, length-append slots (f ∷ []), get_or-append-add slots (f ∷ []) 0 0, get_or_append_left slots (f ∷ []) 0 j, length-set slot_of f (length slots), are.below j, is_same j (length slots));
+        placed = λ j less full. grind (arith, nat_tests, length-append slots (f ∷ []), get_or-append-add slots (f ∷ []) 0 0, get_or_append_left slots (f ∷ []) 0 j, in-groups slots j, get_or-set_same slot_of f (length slots) 0, get_or-set_other slot_of f (slice_index_or slots j 0) (length slots) 0, are.placed j, is_same j (length slots));
       }
-    where
-      more : (j : ℕ) → j < length (slots ++ f ∷ []) → j < length slots + 1
-      more j less = let long = length-append slots (f ∷ []) in omega (arith, long, less)
-
-      pushed : (j : ℕ) → j < length slots + 1 → slice_index_or (slots ++ f ∷ []) j 0 ≡ (if j == length slots then f else slice_index_or slots j 0)
-      pushed j less =
-          ⊎_elim (λ last. ap (λ (n : ℕ). slice_index_or (slots ++ f ∷ []) n 0) (omega (arith, last)) ∙ get_or-append-add slots (f ∷ []) 0 0 ∙ grind (arith, nat_tests))
-          (λ front. get_or_append_left slots (f ∷ []) 0 j (omega (arith, less, front)) ∙ grind (arith, nat_tests)) (is_same j (length slots))
-
-      placed : (j : ℕ) → j < length slots + 1 → 0 < slice_index_or (slots ++ f ∷ []) j 0 → (j ≡ length slots) ⊎ (j ≢ length slots)
-          → slice_index_or (slice_set slot_of f (length slots)) (slice_index_or (slots ++ f ∷ []) j 0) 0 ≡ j
-      placed j less full (inl last) = grind (arith, nat_tests, pushed j less, get_or-set_same slot_of f (length slots) 0)
-      placed j less full (inr front) =
-          let listed = in-groups slots j (omega (arith, less, front)) in
-          let apart : 0 < slice_index_or slots j 0 → slice_index_or slots j 0 ≢ f = λ some same. let also = ap (λ (n : ℕ). times n (groups_in slots)) same in omega (arith, also, none, listed some) in
-          grind (arith, nat_tests, pushed j less, apart, get_or-set_other slot_of f (slice_index_or slots j 0) (length slots) 0, are.placed j)
 
   -- the groups alone
   pub groups-below : All (λ f. f < length slot_of) (groups_in slots)
-  groups-below =
-      All-filter (λ g. not (g == 0)) (λ f. f < length slot_of) slots
-      (λ k d less. let same = get_or_default slots k d 0 less in let below = are.below k less in omega (arith, same, below))
+  groups-below = All-filter (λ g. not (g == 0)) (λ f. f < length slot_of) slots (λ k d less. grind (arith, get_or_default slots k d 0, are.below k))
 
   pub groups-apart : AllPairs (λ f g. f ≢ g) (groups_in slots)
-  groups-apart = λ i j d less there same. kept i j d less there (passed i d (omega (arith, less, there))) same
+  groups-apart = λ i j d less there same. grind (arith, nat_tests, kept i j d less there, filter_passes (λ g. not (g == 0)) slots i d)
     where
       kept : AllPairs (λ f g. 0 < f → f ≢ g) (groups_in slots)
       kept =
-          AllPairs-filter (λ f g. 0 < f → f ≢ g) (λ g. not (g == 0)) slots
-          (λ i j d less there above same.
-          let first = get_or_default slots i 0 d (omega (arith, less, there)) in
-          let second = get_or_default slots j 0 d there in
-          let place = stands-once i j (omega (arith, less, there)) there (omega (arith, first, above)) (second ∙ sym same ∙ sym first) in
-          omega (arith, place, less))
-
-      passed : (i : ℕ) (d : ℕ) → i < length (groups_in slots) → 0 < slice_index_or (groups_in slots) i d
-      passed i d less = above (slice_index_or (groups_in slots) i d) (filter_passes (λ g. not (g == 0)) slots i d less)
-        where
-          above : (x : ℕ) → not (x == 0) ≡ true → 0 < x
-          above zero h = absurd (cc)
-          above (suc x) h = omega arith
+          AllPairs-filter (λ f g. 0 < f → f ≢ g) (λ g. not (g == 0)) slots (λ i j d less there above same. grind (arith, get_or_default slots i 0 d, get_or_default slots j 0 d, stands-once i j))
 
 -- the groups alone have no empty slot
 pub groups-again : (slots : List ℕ) → groups_in (groups_in slots) ≡ groups_in slots
 groups-again [] = refl
 groups-again (x ∷ xs) = grind (arith, groups-again xs)
-
--- what is read of a list that reaches so far
-pub read-told : (xs : List ℕ) (i x : ℕ) → i < length xs → x ≡ slice_index_or xs i x → x ≡ slice_index_or xs i 0
-read-told xs i x inside e = e ∙ sym (get_or_default xs i 0 x inside)
-
--- what was written into the whole of a list
-pub all-written : (new old : List ℕ) (n : ℕ) → length new ≡ n → take n (new ++ drop (length new) old) ≡ new
-all-written new old n e = take_at new (drop (length new) old) n e

@@ -1,22 +1,8 @@
 -- What is counted of pages, and the contents of the groups.
-use Rattle.page_table.proofs.Base.{◌≡◌, ℕ, zero, suc, ◌+◌, ◌-◌, ◌<◌, ◌≤◌, replicate, List, [], ◌∷◌, length, map, sum_by, slice_set, Option, None, option_map, refl, ap, arith, length-map, map-set, sum_by-cons, sum_by-set, get_or-le-sum_by}
+use Rattle.page_table.proofs.Base.{◌≡◌, ℕ, zero, suc, ◌+◌, ◌-◌, ◌<◌, ◌≤◌, replicate, List, [], ◌∷◌, length, map, sum_by, slice_set, Option, None, option_map, refl, ap, arith, length-map, map-set, sum_by-cons, sum_by-set, get_or-le-sum_by, nat_tests}
 use Rattle.page_table.proofs.Words.{group_contents, unshared_at, volatile_at, PageState, Shape, group_bytes, page_at, Entry, Pass, Tenant, contents_now, TableState, IsTable, entry_at, states_of, state_of, groups_of, places_on, times, IsTally, shared_at, view_of, IsMemory}
 use Rattle.page_table.proofs.Entries.{times-head, times-tail, told_at}
 use Rattle.page_table.proofs.Scanning.{bytes-of_group}
-
--- what is counted after another page stands at a place
-pub counted-set : (f : Option PageState → ℕ) (pages : List (Option Entry)) (i count : ℕ) (x : Option Entry) → i < length pages
-    → count ≡ sum_by f (states_of pages)
-    → (f (option_map state_of (entry_at pages i)) ≤ count)
-    × (count - f (option_map state_of (entry_at pages i)) + f (option_map state_of x) ≡ sum_by f (states_of (slice_set pages i x)))
-counted-set f pages i count x inside e =
-    let long = length-map pages (option_map state_of) in
-    let there : i < length (states_of pages) = omega (arith, inside, long) in
-    let least = get_or-le-sum_by f (states_of pages) i None there in
-    let moved = sum_by-set f (states_of pages) i (option_map state_of x) None there in
-    let same = ap (sum_by f) (map-set (option_map state_of) pages i x) in
-    let here = ap f (told_at state_of pages i) in
-    (omega (arith, e, least, here), omega (arith, e, least, moved, same, here))
 
 pub unshared-one : (x : Option PageState) → unshared_at x ≤ 1
 unshared-one x = grind arith
@@ -49,7 +35,4 @@ contents-told table shapes tenants pass reserved is fits = by_groups table.group
     by_groups : (gs : List ℕ) → ((g : ℕ) → 1 ≤ times g gs → group_bytes (contents_now (view_of table shapes tenants pass)) (places_on 0 g table.entries) ≡ page_at table.arena g)
         → map (group_bytes (contents_now (view_of table shapes tenants pass))) (map (λ f. places_on 0 f table.entries) gs) ≡ map (page_at table.arena) gs
     by_groups [] h = refl
-    by_groups (g ∷ gs) h =
-        let first = h g (times-head g gs) in
-        let rest = by_groups gs (λ f some. let more = times-tail f g gs in h f (omega (arith, more, some))) in
-        cc
+    by_groups (g ∷ gs) h = grind (arith, h g (times-head g gs), by_groups gs, times-tail)

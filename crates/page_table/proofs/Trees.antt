@@ -7,11 +7,8 @@ use Rattle.page_table.proofs.Joining.{page-on}
 
 -- a number that stands nowhere
 pub nowhere : (f : ℕ) (xs : List ℕ) → times f xs ≡ 0 → All (λ g. g ≢ f) xs
-nowhere f [] none = All-nil (λ g. g ≢ f)
-nowhere f (x ∷ xs) none =
-    let split = sum_by-cons (λ (y : ℕ). one_when (y == f)) x xs in
-    All-cons (λ g. g ≢ f) x xs (λ same. let here = times-head x xs in let there : times f (x ∷ xs) ≡ times x (x ∷ xs) = ap (λ n. times n (x ∷ xs)) (sym same) in omega (arith, none, here, there))
-    (nowhere f xs (omega (arith, split, none)))
+nowhere f [] none = grind arith
+nowhere f (x ∷ xs) none = grind (arith, nat_tests, times-cons f x xs, nowhere f xs)
 
 -- a number passes a test as often as it stands there
 times-filter : (f : ℕ) (test : ℕ → Bool) (xs : List ℕ) → test f ≡ true → times f (filter test xs) ≡ times f xs
@@ -33,10 +30,7 @@ same-length (suc n) (x ∷ xs) ys few same =
 
 module _ (arena : List (List ℕ)) (groups : List ℕ) (tree : Groups) (is : IsTreeOf arena groups tree) where
   pub tree-times : (f : ℕ) → times f (concat tree.chains) ≡ times f groups
-  tree-times f =
-      sym (times-filter f (has arena (page_at arena f)) (concat tree.chains) (has-itself arena f))
-      ∙ ap (times f) (is.listed (page_at arena f))
-      ∙ times-filter f (has arena (page_at arena f)) groups (has-itself arena f)
+  tree-times f = grind (arith, times-filter f (has arena (page_at arena f)), has-itself arena f, is.listed (page_at arena f))
 
   pub tree-length : length (concat tree.chains) ≡ length groups
   tree-length = same-length (length (concat tree.chains)) (concat tree.chains) groups (omega arith) tree-times
@@ -54,15 +48,12 @@ stands (x ∷ xs) (suc i) d h = let rest = stands xs i d (omega arith) in let mo
 in-chain : (chains : List (List ℕ)) (k : ℕ) (d : List ℕ) (f : ℕ) → k < length chains → 1 ≤ times f (slice_index_or chains k d) → 1 ≤ times f (concat chains)
 in-chain [] k d f h some = absurd (omega (arith, h))
 in-chain (c ∷ cs) zero d f h some = let split = sum_by-append (λ (y : ℕ). one_when (y == f)) c (concat cs) in omega (arith, split, some)
-in-chain (c ∷ cs) (suc k) d f h some =
-    omega (arith, sum_by-append (λ (y : ℕ). one_when (y == f)) c (concat cs), in-chain cs k d f (omega arith) some)
+in-chain (c ∷ cs) (suc k) d f h some = grind (arith, nat_tests, sum_by-append, in-chain cs k d f)
 
 -- frames whose pages stay have their bytes still
 filter-kept : (old new : List (List ℕ)) (bytes xs : List ℕ) → ((f : ℕ) → 1 ≤ times f xs → page_at new f ≡ page_at old f) → filter (has new bytes) xs ≡ filter (has old bytes) xs
 filter-kept old new bytes [] same = refl
-filter-kept old new bytes (x ∷ xs) same =
-    let rest = filter-kept old new bytes xs (λ f some. let more = times-tail f x xs in same f (omega (arith, some, more))) in
-    grind (arith, same x (times-head x xs), rest)
+filter-kept old new bytes (x ∷ xs) same = grind (arith, nat_tests, times-tail, times-head, filter-kept old new bytes xs)
 
 module _ (old new : List (List ℕ)) (size : length new ≡ length old) where
   entry_content-kept : (chain : List ℕ) → 0 < length chain → ((f : ℕ) → 1 ≤ times f chain → page_at new f ≡ page_at old f) → content new chain ≡ content old chain
@@ -71,19 +62,8 @@ module _ (old new : List (List ℕ)) (size : length new ≡ length old) where
   chain-kept : (chain : List ℕ) → IsChain old chain → ((f : ℕ) → 1 ≤ times f chain → page_at new f ≡ page_at old f) → IsChain new chain
   chain-kept chain is same = grind (arith, nat_tests, stands chain, entry_content-kept chain is.filled same)
 
-  sorted-kept : (chains : List (List ℕ)) → IsSorted old chains → ((f : ℕ) → 1 ≤ times f (concat chains) → page_at new f ≡ page_at old f) → IsSorted new chains
-  sorted-kept chains sorted same = grind (arith, nat_tests, chain-kept, in-chain, content, entry_content-kept)
-
   pub tree-kept : (groups : List ℕ) (tree : Groups) → IsTreeOf old groups tree → ((f : ℕ) → 1 ≤ times f groups → page_at new f ≡ page_at old f) → IsTreeOf new groups tree
-  tree-kept groups tree is same =
-      record {
-        sorted = sorted-kept tree.chains is.sorted in_tree;
-        listed = λ bytes. filter-kept old new bytes (concat tree.chains) in_tree ∙ is.listed bytes ∙ sym (filter-kept old new bytes groups same);
-        room = let room = is.room in omega (arith, room, size);
-      }
-    where
-      in_tree : (f : ℕ) → 1 ≤ times f (concat tree.chains) → page_at new f ≡ page_at old f
-      in_tree f some = let known = tree-times old groups tree is f in same f (omega (arith, some, known))
+  tree-kept groups tree is same = let in_tree : (f : ℕ) → 1 ≤ times f (concat tree.chains) → page_at new f ≡ page_at old f = λ f some. grind (arith, tree-times old groups tree is f, same f) in grind (arith, chain-kept, in-chain, entry_content-kept, filter-kept old new, in_tree, is.listed)
 
 -- another page in a frame that no group has
 pub tree-set : (arena : List (List ℕ)) (groups : List ℕ) (tree : Groups) (f : ℕ) (page : List ℕ) → IsTreeOf arena groups tree → times f groups ≡ 0 → IsTreeOf (slice_set arena f page) groups tree
@@ -113,6 +93,4 @@ module _ (table : TableState) (counts : CountsState) (tree : Groups) (sound : Is
   -- the earliest open group is the earliest one of its bytes in the tree
   pub found-open : (bytes : List ℕ) (limit : ℕ) (gs : List ℕ) → gs ≡ filter (has table.arena bytes) (concat tree.chains)
       → find (λ f. nat_lt (slice_index_or counts.counts f 0) limit) gs ≡ find (is_open_frame table bytes limit) table.groups
-  found-open bytes limit gs e =
-      ap (find (λ f. nat_lt (slice_index_or counts.counts f 0) limit)) (e ∙ is.listed bytes)
-      ∙ find-open table counts.counts bytes limit table.groups counted
+  found-open bytes limit gs e = grind (arith, nat_tests, find-open table counts.counts bytes limit table.groups counted, counted)

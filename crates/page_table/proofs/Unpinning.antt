@@ -1,10 +1,10 @@
 -- What a memory tells where the pins of one tenant changed.
-use Rattle.page_table.proofs.Base.{◌≡◌, ◌≢◌, ◌∙◌, ◌⊎◌, ℕ, zero, suc, ◌+◌, ◌*◌, ◌<◌, ◌≤◌, Bool, true, false, List, [], ◌∷◌, ◌++◌, length, take, drop, replicate, slice_index_or, Option, refl, sym, ap, arith, length-drop, length-replicate, length-map, nat_tests}
+use Rattle.page_table.proofs.Base.{◌≡◌, ◌≢◌, ◌∙◌, ◌⊎◌, ℕ, zero, suc, ◌+◌, ◌*◌, ◌<◌, ◌≤◌, Bool, true, false, List, [], ◌∷◌, ◌++◌, length, take, drop, replicate, slice_index_or, Option, refl, sym, ap, arith, length-drop, length-replicate, length-map, nat_tests, ext_get_or}
 use Rattle.page_table.proofs.Words.{Shape, part_of, with_part, map_place, PinsFit, released, PageState, length-part_of, length-with_part, take-with_part, with_part-whole, Pass, Tenant, IsKeptBut, with_pins, part, TableState, states_of, view_of, IsMemory}
 use Rattle.page_table.proofs.Sides.{order}
 use Rattle.page_table.proofs.Creating.{length-contents, filled_at, others-filled}
 use Rattle.page_table.proofs.Fitting.{pinned_if}
-use Rattle.page_table.proofs.Maps.{part_of-set_other}
+use Rattle.page_table.proofs.Maps.{part_of-set_other, part-at, length-part}
 
 -- a page that is pinned is one of its tenant
 pub pinned-others : (pins : List Bool) (is_pinned : Bool) (t m n u : ℕ) → m < 8 → n < 256 → u ≢ t
@@ -16,30 +16,14 @@ pub others-unpinned : (pins : List Bool) (t m n u : ℕ) → m + n ≤ 2048 → 
     → part_of (with_part pins (t * 2048 + m) (replicate n false)) (u * 2048) 2048 ≡ part_of pins (u * 2048) 2048
 others-unpinned pins t m n u few all ne = others-filled pins (t * 2048 + m) t m n u 2048 false refl few (omega (arith, few, all)) ne
 
-drop-with_part : (xs ys : List Bool) (a b : ℕ) → a ≤ length xs → drop a (with_part xs (a + b) ys) ≡ with_part (drop a xs) b ys
-unfolding with_part
-drop-with_part xs ys zero b h = let same : 0 + b ≡ b = omega arith in ap (λ (n : ℕ). with_part xs n ys) same
-drop-with_part [] ys (suc a) b h = absurd (omega (arith, h))
-drop-with_part (x ∷ xs) ys (suc a) b h =
-    let next : suc a + b ≡ suc (a + b) = omega arith in
-    let behind : suc (a + b) + length ys ≡ suc (a + b + length ys) = omega arith in
-    ap (λ (n : ℕ). drop (suc a) (with_part (x ∷ xs) n ys)) next
-    ∙ ap (λ (n : ℕ). drop (suc a) (x ∷ take (a + b) xs ++ ys ++ drop n (x ∷ xs))) behind
-    ∙ drop-with_part xs ys a b (omega (arith, h))
-
 -- a page that is pinned still stands outside, and was pinned
 pub outside-pinned : (pins : List Bool) (at n i : ℕ) → at + n ≤ length pins → slice_index_or (with_part pins at (replicate n false)) i false ≡ true → ((i < at) ⊎ (at + n ≤ i)) × (slice_index_or pins i false ≡ true)
 outside-pinned pins at n i inside pinned = grind (arith, nat_tests, at, filled_at, order)
 
-pub still-pinned : (pins : List Bool) (at n i : ℕ) → at + n ≤ length pins → slice_index_or (with_part pins at (replicate n false)) i false ≡ true → slice_index_or pins i false ≡ true
-still-pinned pins at n i inside pinned = (outside-pinned pins at n i inside pinned).1
-
 -- and so of the tenant itself
 pub tenant-unpinned : (pins : List Bool) (t m n : ℕ) → m + n ≤ 2048 → t * 2048 + 2048 ≤ length pins
     → part_of (with_part pins (t * 2048 + m) (replicate n false)) (t * 2048) 2048 ≡ with_part (part_of pins (t * 2048) 2048) m (replicate n false)
-unfolding part_of
-tenant-unpinned pins t m n h1 h2 =
-    grind (arith, length-replicate n false, length-drop (t * 2048) pins, drop-with_part pins (replicate n false) (t * 2048) m, take-with_part (drop (t * 2048) pins) (replicate n false) 2048 m)
+tenant-unpinned pins t m n few all = grind (arith, nat_tests, ext_get_or false, length-part, length-with_part, length-replicate, part-at, filled_at)
 
 -- the memory after a tenant's pins were taken away
 module _ (table : TableState) (shapes : List (Option Shape)) (tenants : List Tenant) (pass : Pass) (reserved : ℕ) (is : IsMemory table shapes tenants reserved) (fit : PinsFit (states_of table.entries) pass.pins)
@@ -58,11 +42,7 @@ module _ (table : TableState) (shapes : List (Option Shape)) (tenants : List Ten
 
   pub part-unpinned : part (view_of table shapes tenants left) t ≡ with_pins (replicate 2048 false) (part (view_of table shapes tenants pass) t)
   unfolding view_of part
-  part-unpinned =
-      ap (λ (pins : List Bool). with_pins pins (part (view_of table shapes tenants pass) t))
-      (ap (λ (i : ℕ). part_of (with_part pass.pins i (replicate 2048 false)) (t * 2048) 2048) (sym at)
-      ∙ tenant-unpinned pass.pins t 0 2048 (omega arith) pins-inside
-      ∙ with_part-whole (part_of pass.pins (t * 2048) 2048) (replicate 2048 false) (length-replicate 2048 false ∙ sym (length-part_of pass.pins (t * 2048) 2048 pins-inside)))
+  part-unpinned = grind (arith, nat_tests, at, tenant-unpinned pass.pins t 0 2048, pins-inside, with_part-whole, length-replicate 2048 false, length-part_of pass.pins)
 
   pub others-kept : IsKeptBut t (view_of table shapes tenants pass) (view_of table shapes tenants left)
   unfolding view_of part
@@ -71,10 +51,6 @@ module _ (table : TableState) (shapes : List (Option Shape)) (tenants : List Ten
       (ap (λ (i : ℕ). part_of (with_part pass.pins i (replicate 2048 false)) (u * 2048) 2048) (sym at)
       ∙ others-unpinned pass.pins t 0 2048 u (omega arith) pins-inside ne)
 
-  pub all-unpinned : view_of table shapes tenants left ≡ record (view_of table shapes tenants pass) { sharing = released (view_of table shapes tenants pass).sharing t }
-  unfolding view_of
-  all-unpinned = refl
-
 -- fewer pins fit, too
 pub fit-fewer : (pages : List (Option PageState)) (pins : List Bool) (at n : ℕ) → at + n ≤ length pins → PinsFit pages pins → PinsFit pages (with_part pins at (replicate n false))
-fit-fewer pages pins at n inside fit = grind (arith, nat_tests, at, length-with_part, length-replicate, still-pinned)
+fit-fewer pages pins at n inside fit = grind (arith, nat_tests, at, length-with_part, length-replicate, outside-pinned)

@@ -1,5 +1,5 @@
 -- Counts of frames, and the list of the unused ones.
-use Rattle.page_table.proofs.Base.{◌≡◌, ℕ, zero, suc, ◌+◌, ◌<◌, ◌≤◌, ◌==◌, ◌&&◌, nat_lt, Bool, List, [], ◌∷◌, ◌++◌, length, slice_index_or, refl, arith, sum_by_push, nat_tests}
+use Rattle.page_table.proofs.Base.{◌≡◌, ℕ, zero, suc, ◌+◌, ◌<◌, ◌≤◌, ◌==◌, ◌&&◌, nat_lt, Bool, List, [], ◌∷◌, ◌++◌, length, slice_index_or, refl, arith, sum_by_push, nat_tests, get_or_past}
 use Rattle.page_table.proofs.Words.{AreCounts, times, one_if_zero}
 use Rattle.page_table.proofs.Entries.{one_when, equal}
 
@@ -7,16 +7,10 @@ use Rattle.page_table.proofs.Entries.{one_when, equal}
 pub times-push : (g f : ℕ) (xs : List ℕ) → times g (xs ++ f ∷ []) ≡ times g xs + one_when (f == g)
 times-push g f xs = sum_by_push (λ (x : ℕ). one_when (x == g)) xs f
 
-pub unused_default : (counts : List ℕ) (f : ℕ) → 1 ≤ one_if_zero (slice_index_or counts f 1) → (f < length counts) × (slice_index_or counts f 1 ≡ 0)
-unused_default [] f h = absurd (omega arith)
-unused_default (zero ∷ counts) zero h = (omega arith, refl)
-unused_default (suc c ∷ counts) zero h = absurd (omega arith)
-unused_default (c ∷ counts) (suc f) h = let rest = unused_default counts f h in (omega arith, rest.1)
-
 -- the frame at the end of the unused ones is there, and nobody holds it
 pub popped : (counts unused rest : List ℕ) (f : ℕ) → AreCounts (record { counts = counts; unused = unused }) → unused ≡ rest ++ f ∷ []
     → (f < length counts) × (slice_index_or counts f 1 ≡ 0)
-popped counts unused rest f h1 h2 = grind (arith, nat_tests, times-push f f rest, equal f, unused_default counts f)
+popped counts unused rest f h1 h2 = grind (arith, nat_tests, times-push f f rest, equal f, get_or_past)
 
 -- a number of a range that begins with 1
 abbrev pub is_between : ℕ → ℕ → Bool

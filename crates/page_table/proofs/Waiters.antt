@@ -18,19 +18,11 @@ waiters-kept old new c d (w ∷ ws) h are = (h w are.0, are.1, waiters-kept old 
 pub waiter-kept : (old new : List (Option Entry)) (c : Option ℕ) (w : Waiter) → ((entry : Entry) → entry_at old w.place ≡ Some entry → is_shared entry.status ≡ false → entry_at new w.place ≡ Some entry) → IsWaiter old c w → IsWaiter new c w
 waiter-kept old new c w h is = grind (arith, nat_tests, waiter_own old c w is)
 
-pub either : (a b : Bool) → (a || b) ≡ false → (a ≡ false) × (b ≡ false)
-either a b h1 = grind (arith, nat_tests)
-
-apart_places : (j i : ℕ) → (j == i) ≡ false → j ≢ i
-apart_places j i h e = grind (arith, nat_tests)
-
--- where no page waits at a place, what happens there keeps all that wait
-pub waiters-others : (old new : List (Option Entry)) (c : Option ℕ) (i : ℕ) (ws : List Waiter) → is_listed i ws ≡ false
-    → ((j : ℕ) → j ≢ i → entry_at new j ≡ entry_at old j) → AreWaiters old c ws → AreWaiters new c ws
-waiters-others old new c i [] none h are = tt
-waiters-others old new c i (w ∷ ws) none h are =
-    let parts = either (w.place == i) (is_listed i ws) none in
-    (waiter-kept old new c w (λ entry e own. h w.place (apart_places w.place i parts.0) ∙ e) are.0, are.1, waiters-others old new c i ws parts.1 h are.2)
+-- where no page waits at two places, what happens there keeps all that wait
+waiters-both : (old new : List (Option Entry)) (c : Option ℕ) (i j : ℕ) (ws : List Waiter) → is_listed i ws ≡ false → is_listed j ws ≡ false
+    → ((k : ℕ) → k ≢ i → k ≢ j → entry_at new k ≡ entry_at old k) → AreWaiters old c ws → AreWaiters new c ws
+waiters-both old new c i j [] one other h are = tt
+waiters-both old new c i j (w ∷ ws) one other h are = grind (arith, nat_tests, waiter-kept old new c w, h w.place, waiters-both old new c i j ws)
 
 -- the waiting pages without one
 abbrev pub others_of : ℕ → List Waiter → List Waiter
@@ -47,11 +39,7 @@ listed-fewer i j (w ∷ ws) none = grind (arith, listed-fewer i j ws)
 
 pub waiters-fewer : (entries : List (Option Entry)) (c : Option ℕ) (i : ℕ) (ws : List Waiter) → AreWaiters entries c ws → AreWaiters entries c (others_of i ws)
 waiters-fewer entries c i [] are = tt
-waiters-fewer entries c i (w ∷ ws) are = by_head (not (w.place == i)) (waiters-fewer entries c i ws are.2)
-  where
-    by_head : (b : Bool) → AreWaiters entries c (others_of i ws) → AreWaiters entries c (if b then w ∷ others_of i ws else others_of i ws)
-    by_head true rest = (are.0, listed-fewer w.place i ws are.1, rest)
-    by_head false rest = rest
+waiters-fewer entries c i (w ∷ ws) are = grind (arith, nat_tests, listed-fewer, waiters-fewer entries c i ws are.2)
 
 -- the waiting list without a page, as callers see it
 pub waiting-forgets : (i : ℕ) (ws : List Waiter) → map waiting_of (others_of i ws) ≡ waiting_without i (map waiting_of ws)
@@ -61,16 +49,11 @@ waiting-forgets i (w ∷ ws) = grind (arith, waiting-forgets i ws)
 -- one more page waits
 pub waiters-more : (entries : List (Option Entry)) (c : Option ℕ) (ws : List Waiter) (w : Waiter) → AreWaiters entries c ws → IsWaiter entries c w → is_listed w.place ws ≡ false → AreWaiters entries c (ws ++ w ∷ [])
 waiters-more entries c [] w are is none = (is, refl, tt)
-waiters-more entries c (v ∷ ws) w are is none =
-    let parts = either (v.place == w.place) (is_listed w.place ws) none in
-    (are.0, last ws parts.0 are.1, waiters-more entries c ws w are.2 is parts.1)
+waiters-more entries c (v ∷ ws) w are is none = grind (arith, nat_tests, last ws, waiters-more entries c ws w are.2 is)
   where
-    turned : (v.place == w.place) ≡ false → (w.place == v.place) ≡ false
-    turned h = grind (arith, nat_tests)
-
-    last : (ws : List Waiter) → (v.place == w.place) ≡ false → is_listed v.place ws ≡ false → is_listed v.place (ws ++ w ∷ []) ≡ false
-    last [] h none = rw (turned h) refl
-    last (u ∷ us) h none = let parts = either (u.place == v.place) (is_listed v.place us) none in rw parts.0 (last us h parts.1)
+    last : (ws : List Waiter) → v.place ≢ w.place → is_listed v.place ws ≡ false → is_listed v.place (ws ++ w ∷ []) ≡ false
+    last [] h none = grind (arith, nat_tests)
+    last (u ∷ us) h none = grind (arith, nat_tests, last us h)
 
 -- as callers see it, too
 pub listed-told : (i : ℕ) (ws : List Waiter) → is_listed i ws ≡ list_any (λ (entry : ℕ × ℕ). entry.0 == i) (map waiting_of ws)
@@ -80,20 +63,12 @@ listed-told i (w ∷ ws) = ap (λ b. (w.place == i) || b) (listed-told i ws)
 -- as many pages have frames of their own as wait
 pub waiters-few : (entries : List (Option Entry)) (c : Option ℕ) (ws : List Waiter) → AreWaiters entries c ws → length ws ≤ own_pages entries
 waiters-few entries c [] are = omega arith
-waiters-few entries c (w ∷ ws) are =
-    let there = inside entries w.place are.0.entry are.0.here in
-    let rest = waiters-few (slice_set entries w.place None) c ws (waiters-others entries (slice_set entries w.place None) c w.place ws are.1 (λ j ne. get_or-set_other entries w.place j None None ne) are.2) in
-    let count = own_pages-set entries w.place None there in
-    let own : own_one (entry_at entries w.place) ≡ 1 = ap own_one are.0.here ∙ ap (λ (b : Bool). if b then 0 else 1) (waiter_own entries c w are.0) in
-    omega (arith, rest, count, own)
+waiters-few entries c (w ∷ ws) are = grind (arith, nat_tests, inside, waiters-both, get_or-set_other, own_pages-set, waiter_own, waiters-few (slice_set entries w.place None) c ws)
 
 -- no page waits that wasn't visited in this pass
 pub ahead-free : (entries : List (Option Entry)) (c i : ℕ) (ws : List Waiter) → c < i → AreWaiters entries (Some c) ws → is_listed i ws ≡ false
 ahead-free entries c i [] h are = refl
-ahead-free entries c i (w ∷ ws) h are = rw (off (are.0).behind) (ahead-free entries c i ws h are.2)
-  where
-    off : nat_le w.place c ≡ true → (w.place == i) ≡ false
-    off le = grind (arith, nat_tests)
+ahead-free entries c i (w ∷ ws) h are = grind (arith, nat_tests, ahead-free entries c i ws h are.2)
 
 -- the pass stays where each waiting page does
 pub pass-kept : (old new : TableState) (pass : Pass) → IsPass old pass → AreOwnKept old new → length new.arena ≡ length old.arena → length new.entries ≡ length old.entries → IsPass new pass
@@ -108,7 +83,7 @@ pass-kept old new pass is kept arena long =
 -- a page changes that doesn't wait and isn't pinned
 pub pass-others : (old new : TableState) (pass : Pass) (i : ℕ) → IsPass old pass → is_listed i pass.waiting.listed ≡ false → slice_index_or pass.pins i false ≡ false → AreOthersKept i old new
     → length new.arena ≡ length old.arena → length new.entries ≡ length old.entries → IsPass new pass
-pass-others old new pass i is none free others arena long = grind (arith, nat_tests, waiters-others, pins-kept, apart-pinned)
+pass-others old new pass i is none free others arena long = grind (arith, nat_tests, waiters-both, pins-kept, apart-pinned)
 
 pub pass-forgets : (table : TableState) (pass : Pass) (i : ℕ) → IsPass table pass → IsPass table (forgets i pass)
 pass-forgets table pass i is = grind (arith, nat_tests, waiters-fewer)
@@ -116,28 +91,19 @@ pass-forgets table pass i is = grind (arith, nat_tests, waiters-fewer)
 -- a page changes that isn't pinned, and doesn't wait any more
 pub pass-left : (old new : TableState) (pass : Pass) (i : ℕ) → IsPass old pass → slice_index_or pass.pins i false ≡ false → AreOthersKept i old new → length new.arena ≡ length old.arena
     → length new.entries ≡ length old.entries → IsPass new (forgets i pass)
-pass-left old new pass i is free others arena long =
-    pass-others old new (forgets i pass) i (pass-forgets old pass i is) (listed-others i pass.waiting.listed) free others arena long
+pass-left old new pass i is free others arena long = grind (arith, pass-others old new (forgets i pass) i, pass-forgets old pass i, listed-others i)
 
 -- two pages change that aren't pinned, and don't wait any more
 pub pass-left-both : (old new : TableState) (pass : Pass) (i j : ℕ) → IsPass old pass → slice_index_or pass.pins i false ≡ false → slice_index_or pass.pins j false ≡ false → ((k : ℕ) → k ≢ i → k ≢ j → entry_at new.entries k ≡ entry_at old.entries k) → length new.arena ≡ length old.arena
     → length new.entries ≡ length old.entries → IsPass new (forgets i (forgets j pass))
 pass-left-both old new pass i j is free_one free_other others arena long =
-    let fewer : Pass = forgets i (forgets j pass) in
     let are = pass-forgets old (forgets j pass) i (pass-forgets old pass j is) in
     record {
-      waiters = both fewer.waiting.listed (listed-others i (others_of j pass.waiting.listed)) (listed-fewer j i (others_of j pass.waiting.listed) (listed-others j pass.waiting.listed)) are.waiters;
+      waiters = waiters-both old.entries new.entries pass.cursor i j _ (listed-others i (others_of j pass.waiting.listed)) (listed-fewer j i (others_of j pass.waiting.listed) (listed-others j pass.waiting.listed)) others are.waiters;
       room = omega (arith, arena, is.room);
       cursor = is.cursor;
       pins = pins-kept old new pass is.pins long (λ k entry pinned e volatile. others k (apart-pinned pass.pins i k free_one pinned) (apart-pinned pass.pins j k free_other pinned) ∙ e);
     }
-  where
-    both : (ws : List Waiter) → is_listed i ws ≡ false → is_listed j ws ≡ false → AreWaiters old.entries pass.cursor ws → AreWaiters new.entries pass.cursor ws
-    both [] one other are = tt
-    both (w ∷ ws) one other are =
-        let first = either (w.place == i) (is_listed i ws) one in
-        let second = either (w.place == j) (is_listed j ws) other in
-        (waiter-kept old.entries new.entries pass.cursor w (λ entry e own. others w.place (apart_places w.place i first.0) (apart_places w.place j second.0) ∙ e) are.0, are.1, both ws first.1 second.1 are.2)
 
 -- every page stays that was there
 pub kept-own : (old new : TableState) → ((i : ℕ) (entry : Entry) → entry_at old.entries i ≡ Some entry → entry_at new.entries i ≡ Some entry) → AreOwnKept old new

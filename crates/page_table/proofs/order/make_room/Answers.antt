@@ -11,10 +11,10 @@ lent : (c : After-deref) → c.deref.result.now ≡ groups_in c.args.slots.now.i
 lent c = c.deref.ensures.value ∙ left c
 
 pub place_all-requires : goal.place_all-requires
-place_all-requires c = record {
-  there = subst (All (λ (f : ℕ). f < length c.args.slot_of.now)) (sym (lent (goal.at.place_all-requires c).After-deref)) (groups-below c.args.slots.now.items c.args.slot_of.now c.requires.placed);
-  apart = subst (AllPairs (λ (f g : ℕ). f ≢ g)) (sym (lent (goal.at.place_all-requires c).After-deref)) (groups-apart c.args.slots.now.items c.args.slot_of.now c.requires.placed);
-  few = let long = ap length (lent (goal.at.place_all-requires c).After-deref) in omega (arith, long, c.requires.room, c.requires.few);
+place_all-requires c = rw (lent (goal.at.place_all-requires c).After-deref) record {
+  there = groups-below c.args.slots.now.items c.args.slot_of.now c.requires.placed;
+  apart = groups-apart c.args.slots.now.items c.args.slot_of.now c.requires.placed;
+  few = omega (arith, c.requires.room, c.requires.few);
 }
 
 below : (c : After-deref) (i : ℕ) → i < length (groups_in c.args.slots.now.items) → slice_index_or (groups_in c.args.slots.now.items) i 0 < length c.args.slot_of.now
@@ -31,11 +31,7 @@ returns-clause-placed c =
     }
 
 pub returns-clause-listed : goal.returns-clause-listed
-returns-clause-listed c =
-    let d = (goal.at.returns-clause-listed c).After-deref in
-    ap groups_in (left d) ∙ groups-again c.args.slots.now.items
+returns-clause-listed c = ap groups_in (left (goal.at.returns-clause-listed c).After-deref) ∙ groups-again c.args.slots.now.items
 
 pub returns-clause-room : goal.returns-clause-room
-returns-clause-room c =
-    let d = (goal.at.returns-clause-room c).After-deref in
-    omega (arith, ap length (left d), c.requires.room, c.place_all.ensures.frames)
+returns-clause-room c = omega (arith, ap length (left (goal.at.returns-clause-room c).After-deref), c.requires.room, c.place_all.ensures.frames)

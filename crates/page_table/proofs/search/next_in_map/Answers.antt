@@ -1,9 +1,26 @@
-use Rattle.page_table.proofs.Base.{◌≡◌, ◌+◌, ◌*◌, ◌<◌, ◌≤◌, false, drop, slice_index_or, MatchOption, Option, None, Some, ℕ, arith, nat_tests}
-use Rattle.page_table.proofs.Words.{first_mergeable, is_mergeable, states_of}
+-- No page may be merged where no map is, or behind a map's pages.
+use Rattle.page_table.proofs.Base.{◌≡◌, ◌+◌, ◌*◌, ◌<◌, ◌≤◌, false, drop, slice_index_or, MatchOption, Option, None, Some, ℕ, arith, nat_tests, ◌∙◌, ◌-◌, List, [], length, option_map, sym, ap}
+use Rattle.page_table.proofs.Words.{first_mergeable, is_mergeable, states_of, Shape, part_of, page_count, TableState, IsTable, AreMaps, contents_of, state_of}
 use Rattle.page_table.proofs.Creating.{length-contents}
-use Rattle.page_table.proofs.Reading.{few_pages}
-use Rattle.page_table.proofs.Searching.{without-map, behind-pages}
+use Rattle.page_table.proofs.Reading.{few_pages, content_in}
+use Rattle.page_table.proofs.Putting.{no_entry_of_content}
+use Rattle.page_table.proofs.Entries.{told_at}
 use Rattle.page_table.proofs.search.next_in_map.Goals as goal
+
+module _ (table : TableState) (shapes : List (Option Shape)) (k i : ℕ) (fits : IsTable table) (are : AreMaps shapes (contents_of table)) (inside : k < length shapes) (from : k * 256 ≤ i) (to : i < k * 256 + 256) where
+  no_merge : slice_index_or (part_of (contents_of table) (k * 256) 256) (i - k * 256) [] ≡ [] → is_mergeable (slice_index_or (states_of table.entries) i None) ≡ false
+  no_merge none =
+      let place : k * 256 + (i - k * 256) ≡ i = omega (arith, from) in
+      let small : i - k * 256 < 256 = omega (arith, from, to) in
+      let empty : slice_index_or (contents_of table) i [] ≡ [] =
+      ap (λ (n : ℕ). slice_index_or (contents_of table) n []) (sym place) ∙ content_in (contents_of table) k (i - k * 256) small ∙ none in
+      ap is_mergeable (told_at state_of table.entries i ∙ ap (option_map state_of) (no_entry_of_content table i fits empty))
+
+  without-map : slice_index_or shapes k None ≡ None → is_mergeable (slice_index_or (states_of table.entries) i None) ≡ false
+  without-map h1 = grind (arith, nat_tests, no_merge)
+
+  behind-pages : (shape : Shape) → slice_index_or shapes k None ≡ Some shape → k * 256 + page_count shape ≤ i → is_mergeable (slice_index_or (states_of table.entries) i None) ≡ false
+  behind-pages shape h1 h2 = grind (arith, nat_tests, no_merge)
 
 pub returns-in_default : goal.returns-in_default
 returns-in_default c = grind (arith, nat_tests, without-map)

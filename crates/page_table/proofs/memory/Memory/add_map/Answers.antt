@@ -1,24 +1,16 @@
-use Rattle.page_table.proofs.Base.{◌≡◌, ◌∙◌, ◌+◌, ◌*◌, ℕ, replicate, slice_set, Some, ap, arith}
+use Rattle.page_table.proofs.Base.{◌≡◌, ◌∙◌, ◌+◌, ◌*◌, ℕ, replicate, slice_set, Some, ap, arith, nat_tests}
 use Rattle.page_table.proofs.Words.{with_part, map_place, zero_page, new_page, page_count, contents_of, states_of, used_by, view_of}
-use Rattle.page_table.proofs.Creating.{Creates, memory_created, creates, index_inside, places_inside, few_entries, no_contents, tenant_inside, number_empty, room_inside}
+use Rattle.page_table.proofs.Creating.{Creates, memory_created, creates, index_inside, no_contents, tenant_inside, number_empty, room_inside, length-contents}
 use Rattle.page_table.proofs.Waiters.{pass-kept, kept-own}
 use Rattle.page_table.proofs.Ahead.{ahead-more}
+use Rattle.page_table.proofs.Reading.{few_pages}
 use Rattle.page_table.proofs.memory.Memory.add_map.Goals as goal
 
 pub add_pages-requires : goal.add_pages-requires
-add_pages-requires c = record {
-  there = let told = places_inside c.self.inside.table c.self.inside.shapes.items c.self.inside.tenants.items c.self.inside.pass c.self.inside.reserved c.args.tenant c.args.number c.args.shape c.self.invariant.0 c.requires.number (tenant_inside c.self.inside.table c.self.inside.shapes.items c.self.inside.tenants.items c.self.inside.pass c.args.self.now c.self.view_is c.args.tenant c.requires.tenant) (number_empty c.self.inside.table c.self.inside.shapes.items c.self.inside.tenants.items c.self.inside.pass c.args.self.now c.self.view_is c.args.tenant c.args.number c.requires.number c.requires.none) c.requires.shape in
-      omega (arith, told, c.map_index-index.ensures, c.pages.ensures);
-  few = few_entries c.self.inside.table c.self.inside.shapes.items c.self.inside.tenants.items c.self.inside.pass c.self.inside.reserved c.args.tenant c.args.number c.args.shape c.self.invariant.0 c.requires.number (tenant_inside c.self.inside.table c.self.inside.shapes.items c.self.inside.tenants.items c.self.inside.pass c.args.self.now c.self.view_is c.args.tenant c.requires.tenant) (number_empty c.self.inside.table c.self.inside.shapes.items c.self.inside.tenants.items c.self.inside.pass c.args.self.now c.self.view_is c.args.tenant c.args.number c.requires.number c.requires.none) c.requires.shape;
-  empty = rw (c.map_index-index.ensures, c.pages.ensures) (no_contents c.self.inside.table c.self.inside.shapes.items c.self.inside.tenants.items c.self.inside.pass c.self.inside.reserved c.args.tenant c.args.number c.args.shape c.self.invariant.0 c.requires.number (tenant_inside c.self.inside.table c.self.inside.shapes.items c.self.inside.tenants.items c.self.inside.pass c.args.self.now c.self.view_is c.args.tenant c.requires.tenant) (number_empty c.self.inside.table c.self.inside.shapes.items c.self.inside.tenants.items c.self.inside.pass c.args.self.now c.self.view_is c.args.tenant c.args.number c.requires.number c.requires.none) c.requires.shape);
-  room = let told = (room_inside c.self.inside.table c.self.inside.shapes.items c.self.inside.tenants.items c.self.inside.pass c.args.self.now c.self.view_is c.self.inside.reserved (page_count c.args.shape) c.self.invariant.0 c.requires.room) in
-      omega (arith, told, c.pages.ensures);
-}
+add_pages-requires c = grind (arith, nat_tests, length-contents, few_pages, index_inside, tenant_inside c.self.inside.table c.self.inside.shapes.items c.self.inside.tenants.items c.self.inside.pass c.args.self.now c.self.view_is c.args.tenant c.requires.tenant, number_empty c.self.inside.table c.self.inside.shapes.items c.self.inside.tenants.items c.self.inside.pass c.args.self.now c.self.view_is c.args.tenant c.args.number c.requires.number c.requires.none, no_contents c.self.inside.table c.self.inside.shapes.items c.self.inside.tenants.items c.self.inside.pass c.self.inside.reserved c.args.tenant c.args.number c.args.shape c.self.invariant.0 c.requires.number, room_inside c.self.inside.table c.self.inside.shapes.items c.self.inside.tenants.items c.self.inside.pass c.args.self.now c.self.view_is c.self.inside.reserved)
 
 pub index_mut-requires : goal.index_mut-requires
-index_mut-requires c =
-    let told = index_inside c.self.inside.table c.self.inside.shapes.items c.self.inside.tenants.items c.self.inside.pass c.self.inside.reserved c.args.tenant c.args.number c.args.shape c.self.invariant.0 c.requires.number (tenant_inside c.self.inside.table c.self.inside.shapes.items c.self.inside.tenants.items c.self.inside.pass c.args.self.now c.self.view_is c.args.tenant c.requires.tenant) (number_empty c.self.inside.table c.self.inside.shapes.items c.self.inside.tenants.items c.self.inside.pass c.args.self.now c.self.view_is c.args.tenant c.args.number c.requires.number c.requires.none) c.requires.shape in
-    omega (arith, told, c.map_index-index.ensures)
+index_mut-requires c = grind (arith, nat_tests, index_inside, tenant_inside, number_empty)
 
 contents : (c : goal.After-self-1) → contents_of c.add_pages.new.table ≡ with_part (contents_of c.self.inside.table) (map_place c.args.tenant c.args.number * 256) (replicate (page_count c.args.shape) zero_page)
 contents c = rw (c.map_index-index.ensures, c.pages.ensures) at c.add_pages.ensures.contents

@@ -1,4 +1,4 @@
-use Rattle.page_table.proofs.Base.{◌≡◌, ◌∙◌, ◌+◌, ◌<◌, [], false, drop, map, is_some, None, Some, sym, ap, arith, option_map, length-map}
+use Rattle.page_table.proofs.Base.{◌≡◌, ◌∙◌, ◌+◌, ◌<◌, [], false, drop, map, is_some, None, Some, sym, ap, arith, option_map, length-map, nat_tests}
 use Rattle.page_table.proofs.Words.{page_place, first_mergeable, look_from, states_of, state_of, waiting_of, view_of, AreWaiters, is_listed}
 use Rattle.page_table.proofs.Creating.{length-contents}
 use Rattle.page_table.proofs.Next.{next-is}
@@ -11,20 +11,13 @@ next : (c : After-is_some) → first_mergeable (look_from c.self.inside.pass.cur
 unfolding view_of
 next c = rw (← c.self.view_is) at c.requires.next
 
-start : (c : After-is_some) → c.self.inside.pass.cursor ≡ None → map waiting_of c.self.inside.pass.waiting.listed ≡ []
-unfolding view_of
-start c = rw (← c.self.view_is) at c.requires.start
-
 gone : (c : After-is_some) → AreWaiters c.self.inside.table.entries (Some (page_place c.args.page)) c.self.inside.pass.waiting.listed × (is_listed (page_place c.args.page) c.self.inside.pass.waiting.listed ≡ false)
+unfolding view_of
 gone c =
-    advanced c.self.inside.table.entries (states_of c.self.inside.table.entries) c.self.inside.pass.cursor c.self.inside.pass.waiting.listed (page_place c.args.page) c.self.invariant.1.waiters (next c) (start c)
+    grind (arith, nat_tests, advanced c.self.inside.table.entries (states_of c.self.inside.table.entries) c.self.inside.pass.cursor c.self.inside.pass.waiting.listed (page_place c.args.page) c.self.invariant.1.waiters, c.requires)
 
 small : (c : After-is_some) → page_place c.args.page < 32768
-small c =
-    let inside = (next-is (states_of c.self.inside.table.entries) (look_from c.self.inside.pass.cursor) (page_place c.args.page) (next c)).inside in
-    let long = length-map c.self.inside.table.entries (option_map state_of) in
-    let is = c.self.invariant.0 in
-    omega (arith, inside, long, length-contents c.self.inside.table, is.maps.places, is.numbers, is.few)
+small c = grind (arith, nat_tests, next-is (states_of c.self.inside.table.entries) (look_from c.self.inside.pass.cursor) (page_place c.args.page), next, length-map, length-contents)
 
 more : (c : After-is_some) → is_some (first_mergeable (page_place c.args.page + 1) (drop (page_place c.args.page + 1) (states_of c.self.inside.table.entries))) ≡ c.is_some.result
 more c = rw (← c.place_of-place.ensures) (ap is_some (sym c.next_mergeable.ensures) ∙ sym c.is_some.ensures)
@@ -39,20 +32,8 @@ invariant_of-self-else-is_some c = (c.self.invariant.0, rw c.end.ensures (pass-e
 
 pub returns-then-is_some : goal.returns-then-is_some
 unfolding view_of
-returns-then-is_some c = record {
-  moved = let d = (goal.at.returns-then-is_some c).After-is_some in
-      rw (← c.self.view_is, c.place_of-place.ensures)
-      (moved-on c.self.inside.table c.self.inside.shapes.items c.self.inside.tenants.items c.self.inside.pass (page_place c.args.page) (more d ∙ c.if-is_some.true));
-  free = let d = (goal.at.returns-then-is_some c).After-is_some in
-      waits-not c.self.inside.table c.self.inside.shapes.items c.self.inside.tenants.items c.self.inside.pass c.args.page (gone d).1;
-}
+returns-then-is_some c = grind (arith, nat_tests, moved-on c.self.inside.table c.self.inside.shapes.items c.self.inside.tenants.items c.self.inside.pass, more, waits-not c.self.inside.table c.self.inside.shapes.items c.self.inside.tenants.items c.self.inside.pass c.args.page, gone)
 
 pub returns-else-is_some : goal.returns-else-is_some
 unfolding view_of
-returns-else-is_some c = record {
-  moved = let d = (goal.at.returns-else-is_some c).After-is_some in
-      rw (← c.self.view_is, c.end.ensures)
-      (moved-ended c.self.inside.table c.self.inside.shapes.items c.self.inside.tenants.items c.self.inside.pass (page_place c.args.page) (more d ∙ c.if-is_some.false));
-  free = let d = (goal.at.returns-else-is_some c).After-is_some in
-      rw (c.end.ensures) (waits-not c.self.inside.table c.self.inside.shapes.items c.self.inside.tenants.items c.self.inside.pass c.args.page (gone d).1);
-}
+returns-else-is_some c = grind (arith, nat_tests, moved-ended c.self.inside.table c.self.inside.shapes.items c.self.inside.tenants.items c.self.inside.pass, more, waits-not c.self.inside.table c.self.inside.shapes.items c.self.inside.tenants.items c.self.inside.pass c.args.page, gone)

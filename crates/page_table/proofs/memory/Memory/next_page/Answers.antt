@@ -1,4 +1,4 @@
-use Rattle.page_table.proofs.Base.{◌≡◌, ◌∙◌, ◌<◌, drop, Some, sym, ap, subst, option_map, arith, length-map}
+use Rattle.page_table.proofs.Base.{◌≡◌, ◌∙◌, ◌<◌, drop, Some, sym, ap, subst, option_map, arith, length-map, nat_tests}
 use Rattle.page_table.proofs.Words.{state_at, first_mergeable, is_mergeable, look_from, IsPageAt, state_of, states_of, sharing_of, view_of}
 use Rattle.page_table.proofs.Putting.{page_of_entry}
 use Rattle.page_table.proofs.Next.{IsNext, next-is}
@@ -13,27 +13,15 @@ told c = rw (← c.look_from.ensures) (sym c.next_mergeable.ensures ∙ c.in-Som
 next : (c : In-Some) → IsNext (states_of c.self.inside.table.entries) (look_from c.self.inside.pass.cursor) c.in-Some.place
 next c = next-is (states_of c.self.inside.table.entries) (look_from c.self.inside.pass.cursor) c.in-Some.place (told c)
 
-small : (c : In-Some) → c.in-Some.place < 32768
-small c = omega (arith, length-map c.self.inside.table.entries (option_map state_of), (next c).inside, (c.facts.ensures.1).fits.few)
-
 pub page_at-requires : goal.page_at-requires
-page_at-requires c = small (goal.at.page_at-requires c).In-Some
+page_at-requires c = grind (arith, nat_tests, length-map, next)
 
 there : (c : In-Some) → IsPageAt c.self.inside.table c.in-Some.place
-there c =
-    let entry = entry-may c.self.inside.table c.self.inside.pass c.in-Some.place (next c).mergeable in
-    page_of_entry c.self.inside.table c.in-Some.place entry.0 (c.facts.ensures.1).fits entry.1
+there c = grind (arith, nat_tests, entry-may c.self.inside.table c.self.inside.pass c.in-Some.place, next c, page_of_entry c.self.inside.table c.in-Some.place)
 
 pub returns-in-Some : goal.returns-in-Some
 unfolding view_of
-returns-in-Some c = record {
-  place = rw (← c.self.view_is) (ap Some c.page_at.ensures.place ∙ sym (told (goal.at.returns-in-Some c).In-Some));
-  there = rw (← c.self.view_is)
-      (page_there c.self.inside.table c.self.inside.shapes.items c.self.inside.tenants.items c.self.inside.pass c.self.inside.reserved c.self.invariant.0 c.page_at.result c.page_at.ensures.map c.page_at.ensures.number
-      (subst (IsPageAt c.self.inside.table) (sym c.page_at.ensures.place) (there (goal.at.returns-in-Some c).In-Some)));
-  mergeable = rw (← c.self.view_is)
-      (ap (λ i. is_mergeable (state_at (sharing_of c.self.inside.table c.self.inside.pass) i)) c.page_at.ensures.place ∙ (next (goal.at.returns-in-Some c).In-Some).mergeable);
-}
+returns-in-Some c = grind (arith, nat_tests, told, there, page_there c.self.inside.table c.self.inside.shapes.items c.self.inside.tenants.items c.self.inside.pass c.self.inside.reserved c.self.invariant.0 c.page_at.result c.page_at.ensures.map c.page_at.ensures.number, next)
 
 pub returns-in-None-clause-place : goal.returns-in-None-clause-place
 unfolding view_of

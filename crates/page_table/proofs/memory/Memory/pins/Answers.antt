@@ -8,8 +8,4 @@ is_shared-requires c = grind (arith, nat_tests, is_page_at)
 
 pub returns-then-is_running : goal.returns-then-is_running
 unfolding view_of
-returns-then-is_running c =
-    let shared : c.is_shared.result ≡ is_shared_page (state_at (sharing_of c.self.inside.table c.self.inside.pass) (page_place c.args.page)) =
-    rw c.place_of.ensures at c.is_shared.ensures c.self.inside.pass in
-    let running : (part c.args.self.now c.args.page.tenant).running ≡ true = sym c.is_running.ensures ∙ c.if-is_running.true in
-    rw running (rw (← c.self.view_is) shared)
+returns-then-is_running c = grind (arith, nat_tests, c.is_shared.ensures c.self.inside.pass)

@@ -1,10 +1,15 @@
 use Rattle.page_table.proofs.Base.{nat_tests, arith, get_or_past}
 use Rattle.page_table.proofs.Sides.{order}
-use Rattle.page_table.proofs.Shapes.{shape_told, map_past, map_is, map_told}
+use Rattle.page_table.proofs.Shapes.{map_is, map_told}
+use Rattle.page_table.proofs.Reading.{map_at-part, map_at-past}
+use Rattle.page_table.proofs.Maps.{map_at-maps_of}
+use Rattle.page_table.proofs.Words.{view_of, part}
 use Rattle.page_table.proofs.memory.Memory.shape.Goals as goal
 
 pub returns-then-map-ge-MAX_MAPS : goal.returns-then-map-ge-MAX_MAPS
-returns-then-map-ge-MAX_MAPS c = grind (arith, nat_tests, map_past)
+unfolding part
+returns-then-map-ge-MAX_MAPS c = grind (arith, nat_tests, map_at-past)
 
 pub returns : goal.returns
-returns c = grind (arith, nat_tests, shape_told, map_told, map_is, get_or_past, order)
+unfolding view_of part
+returns c = grind (arith, nat_tests, map_at-part, map_at-maps_of, map_told, map_is, get_or_past, order)

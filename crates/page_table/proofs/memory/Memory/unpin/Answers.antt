@@ -1,19 +1,11 @@
 use Rattle.page_table.proofs.Base.{◌≡◌, ◌*◌, ◌<◌, false, length, replicate, refl, arith, nat_tests}
-use Rattle.page_table.proofs.Words.{with_part, frames_free, part, view_of}
+use Rattle.page_table.proofs.Words.{with_part, frames_free, part, view_of, PinsFit, states_of}
 use Rattle.page_table.proofs.Recording.{tenant_there}
-use Rattle.page_table.proofs.Unpinning.{pins-inside, part-unpinned, others-kept, all-unpinned, fit-fewer}
+use Rattle.page_table.proofs.Unpinning.{pins-inside, part-unpinned, others-kept, fit-fewer}
 use Rattle.page_table.proofs.memory.Memory.unpin.Goals as goal
 
 pub release_all-requires : goal.release_all-requires
-release_all-requires c = record {
-  maps = let eight : length (part (view_of c.self.inside.table c.self.inside.shapes.items c.self.inside.tenants.items c.self.inside.pass) c.args.tenant).maps ≡ 8 = rw (← c.self.view_is) at c.requires in
-      let there = tenant_there c.self.inside.table c.self.inside.shapes.items c.self.inside.tenants.items c.self.inside.pass c.self.inside.reserved c.self.invariant.0 c.args.tenant eight in
-      let inside = pins-inside c.self.inside.table c.self.inside.shapes.items c.self.inside.tenants.items c.self.inside.pass c.self.inside.reserved c.self.invariant.0 c.self.invariant.1.pins c.args.tenant there in
-      omega (arith, inside, c.map_index.ensures);
-  few = let eight : length (part (view_of c.self.inside.table c.self.inside.shapes.items c.self.inside.tenants.items c.self.inside.pass) c.args.tenant).maps ≡ 8 = rw (← c.self.view_is) at c.requires in
-      let there = tenant_there c.self.inside.table c.self.inside.shapes.items c.self.inside.tenants.items c.self.inside.pass c.self.inside.reserved c.self.invariant.0 c.args.tenant eight in
-      omega (arith, there, c.map_index.ensures, c.self.invariant.0.few);
-}
+release_all-requires c = grind (arith, nat_tests, tenant_there, pins-inside)
 
 released : (c : goal.After-release_all) → c.release_all.new.self ≡ with_part c.self.inside.pass.pins (c.args.tenant * 2048) (replicate 2048 false)
 released c = grind (arith, nat_tests)
@@ -21,18 +13,12 @@ released c = grind (arith, nat_tests)
 inside : (c : goal.After-release_all) → c.args.tenant < length c.self.inside.tenants.items
 inside c = grind (arith, nat_tests, tenant_there)
 
+fits : (c : goal.After-release_all) → PinsFit (states_of c.self.inside.table.entries) (with_part c.self.inside.pass.pins (c.args.tenant * 2048) (replicate 2048 false))
+fits c =
+    grind (arith, inside c, fit-fewer (states_of c.self.inside.table.entries) c.self.inside.pass.pins (c.args.tenant * 2048) 2048, pins-inside c.self.inside.table c.self.inside.shapes.items c.self.inside.tenants.items c.self.inside.pass c.self.inside.reserved c.self.invariant.0)
+
 pub invariant_of-self : goal.invariant_of-self
-invariant_of-self c = (
-  c.self.invariant.0,
-  rw (released c)
-      record {
-        waiters = c.self.invariant.1.waiters;
-        room = c.self.invariant.1.room;
-        cursor = c.self.invariant.1.cursor;
-        pins = fit-fewer _ c.self.inside.pass.pins (c.args.tenant * 2048) 2048 (pins-inside c.self.inside.table c.self.inside.shapes.items c.self.inside.tenants.items c.self.inside.pass c.self.inside.reserved c.self.invariant.0 c.self.invariant.1.pins c.args.tenant (inside c)) c.self.invariant.1.pins;
-      },
-  c.self.invariant.2,
-)
+invariant_of-self c = grind (arith, nat_tests, released c, fits c)
 
 pub returns-clause-part : goal.returns-clause-part
 returns-clause-part c = rw (← c.self.view_is, released c) (part-unpinned c.self.inside.table c.self.inside.shapes.items c.self.inside.tenants.items c.self.inside.pass c.self.inside.reserved c.self.invariant.0 c.self.invariant.1.pins c.args.tenant (inside c))
@@ -45,4 +31,5 @@ unfolding view_of frames_free
 returns-clause-have c = rw (← c.self.view_is) refl
 
 pub returns-clause-all : goal.returns-clause-all
-returns-clause-all c = rw (← c.self.view_is, released c) (all-unpinned c.self.inside.table c.self.inside.shapes.items c.self.inside.tenants.items c.self.inside.pass c.self.inside.reserved c.self.invariant.0 c.self.invariant.1.pins c.args.tenant (inside c))
+unfolding view_of
+returns-clause-all c = grind (arith, nat_tests, released)

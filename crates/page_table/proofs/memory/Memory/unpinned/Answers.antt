@@ -1,30 +1,77 @@
-use Rattle.page_table.proofs.Base.{◌≡◌, ◌∙◌, ◌*◌, ℕ, Some, option_map, sym, ap, arith, nat_tests}
-use Rattle.page_table.proofs.Words.{part_of, FlatMap, map_at, map_place, unpinned_from, pinned_among, part}
-use Rattle.page_table.proofs.Unpinned.{number-inside, pages-told, unpinned-told}
+-- How many pages of a map aren't pinned, told by how many are.
+use Rattle.page_table.proofs.Base.{◌≡◌, ◌∙◌, ◌*◌, ℕ, Some, option_map, sym, ap, arith, nat_tests, ⊎_elim, zero, suc, ◌+◌, ◌-◌, ◌<◌, ◌≤◌, Bool, true, false, if◌then◌else◌, List, [], ◌∷◌, length, take, drop, slice_index_or, Option, None, unwrap_or, refl, get_or_default, get_or_past, get_or-take, get_or-drop, sum_by-cons, ext_get_or}
+use Rattle.page_table.proofs.Words.{part_of, FlatMap, map_at, map_place, unpinned_from, pinned_among, part, Shape, PinsFit, Pass, Tenant, page_count, MemoryState, pages_of_map, TableState, IsTable, states_of, view_of, IsMemory}
+use Rattle.page_table.proofs.Sides.{order}
+use Rattle.page_table.proofs.Dropping.{number_small, few, map_pins, unpinned_behind}
+use Rattle.page_table.proofs.Reading.{map_at-part}
+use Rattle.page_table.proofs.Maps.{map_at-maps_of, part-at, length-part}
 use Rattle.page_table.proofs.memory.Memory.unpinned.Goals as goal
 
+abbrev one_if : Bool → ℕ
+one_if b = if b then 1 else 0
+
+part-cons : (pins : List Bool) (at n : ℕ) → at < length pins → part_of pins at (suc n) ≡ slice_index_or pins at false ∷ part_of pins (at + 1) n
+part-cons pins at n inside = ext_get_or false _ _ (grind (arith, length-part)) (λ i less. grind (arith, nat_tests, part-at))
+
+pinned-cons : (pins : List Bool) (at n : ℕ) → at < length pins → pinned_among (part_of pins at (suc n)) ≡ one_if (slice_index_or pins at false) + pinned_among (part_of pins (at + 1) n)
+pinned-cons pins at n inside = ap pinned_among (part-cons pins at n inside) ∙ sum_by-cons one_if (slice_index_or pins at false) (part_of pins (at + 1) n)
+
+none-pinned : (pins : List Bool) (at n : ℕ) → at + n ≤ length pins → ((i : ℕ) → at ≤ i → i < at + n → slice_index_or pins i false ≡ false) → pinned_among (part_of pins at n) ≡ 0
+unfolding part_of
+none-pinned pins at zero inside none = refl
+none-pinned pins at (suc n) inside none = grind (arith, nat_tests, pinned-cons, none-pinned pins (at + 1) n)
+
+-- each of some pages is pinned or not, and behind them none is
+all-told : (pins : List Bool) (at n d : ℕ) → at + n + d ≤ length pins → ((i : ℕ) → at + n ≤ i → i < at + n + d → slice_index_or pins i false ≡ false) → unpinned_from pins at n + pinned_among (part_of pins at (n + d)) ≡ n
+unfolding unpinned_from part_of
+all-told pins at zero d inside none = grind (arith, nat_tests, none-pinned)
+all-told pins at (suc n) d inside none =
+    let next : suc n + d ≡ suc (n + d) = omega arith in
+    grind (arith, nat_tests, ap (λ (m : ℕ). pinned_among (part_of pins at m)) next, pinned-cons pins at (n + d), get_or_default pins at true false, all-told pins (at + 1) n d)
+
+-- a part's pages, in the part
+unpinned-in_part : (pins : List Bool) (first at n : ℕ) → at + n ≤ 2048 → unpinned_from (part_of pins first 2048) at n ≡ unpinned_from pins (first + at) n
+unfolding unpinned_from
+unpinned-in_part pins first at zero small = refl
+unpinned-in_part pins first at (suc n) small = grind (arith, nat_tests, part-at, unpinned-in_part pins first (at + 1) n)
+
+module _ (table : TableState) (shapes : List (Option Shape)) (tenants : List Tenant) (pass : Pass) (reserved t m : ℕ) (shape : Shape) (now : MemoryState) (same : view_of table shapes tenants pass ≡ now)
+    (is : IsMemory table shapes tenants reserved) (here : option_map (λ (flat : FlatMap). flat.shape) (map_at (part now t).maps m) ≡ Some shape) where
+  -- a tenant that has a map is there
+  tenant-inside : t < length now.tenants
+  unfolding view_of part
+  tenant-inside = grind (arith, nat_tests, number_small now t m shape here, map_at-part, map_at-maps_of, get_or_past shapes, order)
+
+  module _ (fits : IsTable table) (fit : PinsFit (states_of table.entries) pass.pins) where
+    abbrev k : ℕ
+    k = map_place t m
+
+    number-inside : k * 256 + 256 ≤ length pass.pins
+    number-inside = map_pins table shapes tenants pass reserved t m shape now same is tenant-inside here fit
+
+    few_pages : page_count shape ≤ 256
+    few_pages = few table shapes tenants pass reserved t m shape now same is tenant-inside here
+
+    pages-told : unpinned_from pass.pins (k * 256) (page_count shape) + pinned_among (part_of pass.pins (k * 256) 256) ≡ page_count shape
+    pages-told =
+        let rest : page_count shape + (256 - page_count shape) ≡ 256 = omega (arith, few_pages) in
+        grind (arith, nat_tests, few_pages, number-inside, ap (λ (n : ℕ). pinned_among (part_of pass.pins (k * 256) n)) rest, all-told pass.pins (k * 256) (page_count shape) (256 - page_count shape), unpinned_behind table shapes tenants pass reserved t m shape now same is tenant-inside here fits fit)
+
+    pins : (part now t).pins ≡ part_of pass.pins (t * 2048) 2048
+    unfolding view_of part
+    pins = rw (← same) refl
+
+    unpinned-told : unpinned_from (part now t).pins (m * 256) (pages_of_map (part now t) m) ≡ unpinned_from pass.pins (k * 256) (page_count shape)
+    unpinned-told = grind (arith, nat_tests, number_small, few_pages, pins, unpinned-in_part)
+
 pub pinned-requires : goal.pinned-requires
-pinned-requires c =
-    let here : option_map (λ (flat : FlatMap). flat.shape) (map_at (part c.args.self.now c.args.tenant).maps c.args.map) ≡ Some c.in-Some.shape = sym c.shape.ensures.shape ∙ c.in-Some.is in
-    let inside = number-inside c.self.inside.table c.self.inside.shapes.items c.self.inside.tenants.items c.self.inside.pass c.self.inside.reserved c.args.tenant c.args.map c.in-Some.shape c.args.self.now c.self.view_is c.self.invariant.0 here c.facts.ensures.1.fits c.self.invariant.1.pins in
-    omega (arith, inside, c.map_index.ensures)
+pinned-requires c = grind (arith, nat_tests, number-inside)
 
 pub overflow_sub-result : goal.overflow_sub-result
-overflow_sub-result c =
-    let here : option_map (λ (flat : FlatMap). flat.shape) (map_at (part c.args.self.now c.args.tenant).maps c.args.map) ≡ Some c.in-Some.shape = sym c.shape.ensures.shape ∙ c.in-Some.is in
-    let told = pages-told c.self.inside.table c.self.inside.shapes.items c.self.inside.tenants.items c.self.inside.pass c.self.inside.reserved c.args.tenant c.args.map c.in-Some.shape c.args.self.now c.self.view_is c.self.invariant.0 here c.facts.ensures.1.fits c.self.invariant.1.pins in
-    let pinned : c.pinned.result ≡ pinned_among (part_of c.self.inside.pass.pins (map_place c.args.tenant c.args.map * 256) 256) =
-    c.pinned.ensures ∙ ap (λ (k : ℕ). pinned_among (part_of c.self.inside.pass.pins (k * 256) 256)) c.map_index.ensures in
-    omega (arith, told, pinned, c.pages.ensures)
+overflow_sub-result c = grind (arith, nat_tests, pages-told c.self.inside.table c.self.inside.shapes.items c.self.inside.tenants.items c.self.inside.pass c.self.inside.reserved c.args.tenant c.args.map c.in-Some.shape c.args.self.now c.self.view_is c.self.invariant.0)
 
 pub returns-in-Some : goal.returns-in-Some
-returns-in-Some c =
-    let here : option_map (λ (flat : FlatMap). flat.shape) (map_at (part c.args.self.now c.args.tenant).maps c.args.map) ≡ Some c.in-Some.shape = sym c.shape.ensures.shape ∙ c.in-Some.is in
-    let told = pages-told c.self.inside.table c.self.inside.shapes.items c.self.inside.tenants.items c.self.inside.pass c.self.inside.reserved c.args.tenant c.args.map c.in-Some.shape c.args.self.now c.self.view_is c.self.invariant.0 here c.facts.ensures.1.fits c.self.invariant.1.pins in
-    let unpinned = unpinned-told c.self.inside.table c.self.inside.shapes.items c.self.inside.tenants.items c.self.inside.pass c.self.inside.reserved c.args.tenant c.args.map c.in-Some.shape c.args.self.now c.self.view_is c.self.invariant.0 here c.facts.ensures.1.fits c.self.invariant.1.pins in
-    let pinned : c.pinned.result ≡ pinned_among (part_of c.self.inside.pass.pins (map_place c.args.tenant c.args.map * 256) 256) =
-    c.pinned.ensures ∙ ap (λ (k : ℕ). pinned_among (part_of c.self.inside.pass.pins (k * 256) 256)) c.map_index.ensures in
-    omega (arith, told, unpinned, pinned, c.pages.ensures)
+returns-in-Some c = grind (arith, nat_tests, pages-told c.self.inside.table c.self.inside.shapes.items c.self.inside.tenants.items c.self.inside.pass c.self.inside.reserved c.args.tenant c.args.map c.in-Some.shape c.args.self.now c.self.view_is c.self.invariant.0, unpinned-told c.self.inside.table c.self.inside.shapes.items c.self.inside.tenants.items c.self.inside.pass c.self.inside.reserved c.args.tenant c.args.map c.in-Some.shape c.args.self.now c.self.view_is c.self.invariant.0)
 
 pub returns-in-None : goal.returns-in-None
 unfolding unpinned_from

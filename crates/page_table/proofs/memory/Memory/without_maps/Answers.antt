@@ -1,8 +1,24 @@
-use Rattle.page_table.proofs.Base.{◌≡◌, ◌*◌, replicate, None, arith, rules, nat_tests, length-map, length-replicate}
-use Rattle.page_table.proofs.Putting.{all_same}
-use Rattle.page_table.proofs.Words.{unreserved_tenant, new_pass}
-use Rattle.page_table.proofs.Empty.{memory_new, view_new}
+-- A memory without maps.
+use Rattle.page_table.proofs.Base.{◌≡◌, ◌*◌, replicate, None, arith, rules, nat_tests, length-map, length-replicate, ◌∙◌, ℕ, zero, suc, ◌+◌, List, [], ◌∷◌, take, drop, slice_index_or, sum_by, Option, option_map, refl, ap, ⊎_elim, length-take, get_or-take, get_or-drop, get_or_past, sum_by-replicate}
+use Rattle.page_table.proofs.Putting.{all_same, empty_table}
+use Rattle.page_table.proofs.Words.{unreserved_tenant, new_pass, Options, part_of, zero_page, map-replicate, Entry, Tenant, AreLimits, new_memory, TableState, entry_content, contents_of, groups_of, own_pages, state_of, maps_of, used_by, view_of, IsMemory}
+use Rattle.page_table.proofs.Changing.{own_one}
+use Rattle.page_table.proofs.Sides.{order}
+use Rattle.page_table.proofs.Maps.{part-at}
 use Rattle.page_table.proofs.memory.Memory.without_maps.Goals as goal
+
+no_maps : (n : ℕ) (contents : List (List ℕ)) → maps_of (replicate n None) contents ≡ replicate n None
+unfolding maps_of
+no_maps zero contents = refl
+no_maps (suc n) contents = ap (λ l. None ∷ l) (no_maps n (drop 256 contents))
+
+module _ (frames tenants : ℕ) (options : Options) (limits : AreLimits frames tenants) where
+  abbrev table : TableState
+  table = empty_table frames (tenants * 2048)
+
+  view_new : view_of table (replicate (tenants * 8) None) (replicate tenants unreserved_tenant) (new_pass frames (tenants * 2048) options) ≡ new_memory frames tenants options
+  unfolding view_of groups_of new_memory
+  view_new = rw (no_maps (tenants * 8) (contents_of table), map-replicate {X = Option Entry} (option_map state_of) (tenants * 2048) None, map-replicate {X = Option Entry} (option_map (λ (entry : Entry). entry.frame)) (tenants * 2048) None) refl
 
 shapes : (c : goal.In_ok-tenants) → c.in_ok-shapes.shapes.items ≡ replicate (c.args.tenants * 8) None
 shapes c = search rules
@@ -14,8 +30,8 @@ started : (c : goal.In_ok-tenants) → c.in_ok-pass.pass ≡ new_pass c.args.fra
 started c = grind (arith, nat_tests)
 
 pub invariant_of-result : goal.invariant_of-result
-invariant_of-result c =
-    grind (arith, nat_tests, shapes c, tenants c, memory_new c.args.frames c.args.tenants c.args.options c.requires, started c, length-replicate, length-map, all_same)
+unfolding contents_of own_pages
+invariant_of-result c = grind (arith, nat_tests, shapes c, tenants c, length-replicate, map-replicate, sum_by-replicate, all_same, part-at, started c, length-map)
 
 pub returns : goal.returns
 returns c = rw (c.in_ok-table.ensures, started c, shapes c, tenants c) (view_new c.args.frames c.args.tenants c.args.options c.requires)

@@ -1,39 +1,24 @@
-use Rattle.page_table.proofs.Base.{◌≡◌, ◌∙◌, ◌<◌, ◌≤◌, ◌+◌, ◌-◌, ℕ, sum_by, length, slice_set, Option, None, option_map, sym, arith, get_or_default, nat_tests, length-map, sum_by-le}
+use Rattle.page_table.proofs.Base.{◌≡◌, ◌∙◌, ◌<◌, ◌≤◌, ◌+◌, ◌-◌, ℕ, sum_by, length, slice_set, Option, None, option_map, sym, arith, get_or_default, nat_tests, length-map, sum_by-le, get_or-le-sum_by, sum_by-set, map-set}
 use Rattle.page_table.proofs.Words.{unshared_at, volatile_at, PageState, entry_at, state_of, states_of, shared_at}
 use Rattle.std.proofs.Common.{length-set}
-use Rattle.page_table.proofs.Tallying.{counted-set, unshared-one, volatile-one, shared-one}
+use Rattle.page_table.proofs.Tallying.{unshared-one, volatile-one, shared-one}
+use Rattle.page_table.proofs.Entries.{told_at}
 use Rattle.page_table.proofs.page_list.PageList.replace.Goals as goal
 use Rattle.page_table.proofs.page_list.PageList.replace.Goals.{After-of}
 
-inside : (c : After-of) → c.args.place < length c.self.inside.pages.items
-inside c = rw (← c.self.view_is) at c.requires
-
 -- what stood at the place
 was : (c : After-of) → c.index.result.now ≡ entry_at c.self.inside.pages.items c.args.place
-was c = sym (get_or_default c.self.inside.pages.items c.args.place None c.index.result.now (inside c) ∙ sym c.index.ensures)
+was c = grind (arith, nat_tests, get_or_default)
 
 -- one of the three numbers: what stood at the place is in it, one more fits, and so it becomes
 counts : (c : After-of) (f : Option PageState → ℕ) → ((x : Option PageState) → f x ≤ 1) → (count before after : ℕ) → count ≡ sum_by f (states_of c.self.inside.pages.items)
     → before ≡ f (option_map state_of c.index.result.now) → after ≡ f (option_map state_of c.args.page)
     → (before ≤ count) × (count + after < 4294967296) × (count - before + after ≡ sum_by f (states_of (slice_set c.self.inside.pages.items c.args.place c.args.page)))
-counts c f h1 count before after h2 h3 h4 =
-    grind (arith, nat_tests, counted-set f c.self.inside.pages.items c.args.place count c.args.page (inside c), inside c, was c, sum_by-le, length-map)
+counts c f h1 count before after h2 h3 h4 = grind (arith, nat_tests, length-map, get_or-le-sum_by, sum_by-set, map-set, told_at, was c, sum_by-le)
 
 pub moved-self-inside-requires : goal.moved-self-inside-requires
 moved-self-inside-requires c =
-    record {
-      unshared = let told = counts c unshared_at unshared-one _ _ _ c.self.invariant.1.waiting c.of-before.ensures.unshared c.of.ensures.unshared in (told.0, told.1);
-      volatile = let told = counts c volatile_at volatile-one _ _ _ c.self.invariant.1.changed c.of-before.ensures.volatile c.of.ensures.volatile in (told.0, told.1);
-      shared = let told = counts c shared_at shared-one _ _ _ c.self.invariant.1.shared c.of-before.ensures.shared c.of.ensures.shared in (told.0, told.1);
-    }
+    grind (arith, counts c unshared_at unshared-one _ _ _ c.self.invariant.1.waiting c.of-before.ensures.unshared c.of.ensures.unshared, counts c volatile_at volatile-one _ _ _ c.self.invariant.1.changed c.of-before.ensures.volatile c.of.ensures.volatile, counts c shared_at shared-one _ _ _ c.self.invariant.1.shared c.of-before.ensures.shared c.of.ensures.shared)
 
 pub invariant_of-self : goal.invariant_of-self
-invariant_of-self c =
-    let d = (goal.at.invariant_of-self c).After-of in (
-      rw (length-set c.self.inside.pages.items c.args.place c.args.page) c.self.invariant.0,
-      rw c.moved-self-inside.ensures (record {
-        waiting = (counts d unshared_at unshared-one _ _ _ c.self.invariant.1.waiting c.of-before.ensures.unshared c.of.ensures.unshared).2;
-        changed = (counts d volatile_at volatile-one _ _ _ c.self.invariant.1.changed c.of-before.ensures.volatile c.of.ensures.volatile).2;
-        shared = (counts d shared_at shared-one _ _ _ c.self.invariant.1.shared c.of-before.ensures.shared c.of.ensures.shared).2;
-      }),
-    )
+invariant_of-self c = grind (arith, nat_tests, length-set, counts, unshared-one, volatile-one, shared-one)
