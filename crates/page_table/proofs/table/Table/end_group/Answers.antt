@@ -23,12 +23,7 @@ invariant_of-self c =
     grind (arith, sound-ended (table c) c.args.place c.args.entry c.broken.result c.self.invariant.0.fits (here c) c.requires.shared (last c) c.broken.ensures.state c.broken.ensures.frame c.self.inside.counts c.broken.ensures.protected c.self.invariant.0.counted, filter-filter)
 
 pub remove-requires : goal.remove-requires
-remove-requires c =
-    let before : TableState = record { arena = c.self.inside.arena; entries = c.self.inside.entries; groups = c.self.inside.groups.listed } in
-    let there : entry_at before.entries c.args.place ≡ Some c.args.entry = rw (← c.self.view_is) at c.requires.there in
-    let last : one_if_zero c.args.entry.frame + pages_on c.args.entry.frame before.entries ≡ 1 = rw (← c.self.view_is) at c.requires.last in
-    let one = one_group before c.args.place c.args.entry c.broken.result c.self.invariant.0.fits there c.requires.shared last c.broken.ensures.state c.broken.ensures.frame in
-    omega (arith, one)
+remove-requires c = grind (arith, nat_tests, one_group _ c.args.place c.args.entry c.broken.result c.self.invariant.0.fits)
 
 pub returns : goal.returns
 returns c =

@@ -1,7 +1,8 @@
 use Rattle.page_table.proofs.Base.{◌≡◌, ◌+◌, ◌<◌, Some, true, arith, get_or-set_other, nat_tests}
 use Rattle.page_table.proofs.Words.{is_shared, TableState, entry_at, one_if_zero, pages_on}
+use Rattle.page_table.proofs.Changing.{entry_fits}
 use Rattle.page_table.proofs.Entries.{inside}
-use Rattle.page_table.proofs.Vacating.{fits, contents-vacated, sharing-vacated, used-vacated, sound-vacated}
+use Rattle.page_table.proofs.Vacating.{contents-vacated, sharing-vacated, used-vacated, sound-vacated}
 use Rattle.page_table.proofs.table.Table.vacate.Goals as goal
 
 abbrev table : goal.After-release → TableState
@@ -17,16 +18,10 @@ pub clear-requires : goal.clear-requires
 clear-requires c = grind (arith, nat_tests, inside)
 
 pub release-requires : goal.release-requires
-release-requires c = grind (arith, nat_tests, fits)
+release-requires c = grind (arith, nat_tests, entry_fits)
 
 pub invariant_of-self : goal.invariant_of-self
-invariant_of-self c = (
-  rw c.clear.ensures
-      (sound-vacated (table c) c.args.place c.args.entry c.self.invariant.0.fits (here c) (company c)
-      c.self.inside.counts c.release.new.self c.self.invariant.0.counted c.release.ensures.counts c.release.ensures.unused),
-  c.self.invariant.1,
-  c.self.invariant.2,
-)
+invariant_of-self c = grind (arith, sound-vacated (table c) c.args.place c.args.entry c.self.invariant.0.fits (here c) (company c) c.self.inside.counts c.release.new.self)
 
 pub returns : goal.returns
 returns c =
