@@ -39,16 +39,7 @@ stay-marked s i status last = stay-set s.pages i (marked status last) (λ state.
 
 pub stay-paired : (s : Sharing) (i j : ℕ) → i ≢ j → StayMergeable s.pages (paired s i j).pages
 unfolding paired
-stay-paired s i j apart k may =
-    stay-put first j (option_map (with_status Grouped) (state_at s j)) second k (stay-set s.pages i (with_status Grouped) (λ state. refl) k may)
-  where
-    first : List (Option PageState)
-    first = slice_set s.pages i (option_map (with_status Grouped) (state_at s i))
-
-    second : is_mergeable (slice_index_or first j None) ≡ true → is_mergeable (option_map (with_status Grouped) (state_at s j)) ≡ true
-    second h =
-        let same = get_or-set_other s.pages i j (option_map (with_status Grouped) (state_at s i)) None (λ e. apart (sym e)) in
-        flag-kept (with_status Grouped) (λ state. refl) (state_at s j) (sym (ap is_mergeable same) ∙ h)
+stay-paired s i j apart k may = grind (arith, nat_tests, get_or-set_same, get_or-set_other, set_past, get_or_past)
 
 -- what callers are told of a change tells it
 pub ahead-told : (old new : TableState) (pass : Pass) (s : Sharing) (c : Option ℕ) → sharing_of new pass ≡ s → StayMergeable (states_of old.entries) s.pages → IsAhead (states_of old.entries) c

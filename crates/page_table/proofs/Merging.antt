@@ -37,17 +37,7 @@ module _ (table new : TableState) (shapes : List (Option Shape)) (tenants : List
   moves_told : (taken given reserved : ℕ) → IsMemory table shapes tenants reserved → reserved + used_by new ≤ length table.arena → used_by new + given ≡ used_by table + taken
       → Moves before after pass.pins now.pins (sharing_of table pass) (sharing_of new now) taken given
   unfolding view_of part
-  moves_told taken given reserved is room used =
-      let old = free_is table shapes tenants pass (omega (arith, is.room)) in
-      let newer = free_is new shapes tenants now (omega (arith, room, arena)) in
-      record {
-        maps = ap (maps_of shapes) contents;
-        kept = λ pins t. rw (contents, pins) refl;
-        sharing = λ change same. same;
-        settings = record { tenants = refl; frames = arena };
-        free = omega (arith, old, newer, used, arena);
-        have = omega (arith, old, newer, used, arena, is.room, is.sum, room);
-      }
+  moves_told taken given reserved is room used = grind (arith, nat_tests, free_is table shapes tenants pass, free_is new shapes tenants now, contents, arena)
 
   -- the same of what callers saw before
   pub moves : (seen : MemoryState) → before ≡ seen → (taken given reserved : ℕ) → IsMemory table shapes tenants reserved → reserved + used_by new ≤ length table.arena
@@ -99,16 +89,11 @@ same_page t m n u k l a b c = rw (a, b, c) refl
 module _ (table : TableState) (shapes : List (Option Shape)) (tenants : List Tenant) (pass : Pass) (reserved : ℕ) (is : IsMemory table shapes tenants reserved) where
   pub number_small : (page : Page) → IsPageOf (view_of table shapes tenants pass) page → page.number < 256
   number_small page there =
-      let loc = page_located table shapes tenants pass reserved page is there in
-      omega (arith, page_number table shapes tenants pass reserved page is there, few_pages loc.shape loc.pages.shaped)
+      grind (arith, page_located table shapes tenants pass reserved page is there, page_number table shapes tenants pass reserved page is there, few_pages)
 
   pub map_small : (page : Page) → IsPageOf (view_of table shapes tenants pass) page → page.map < 8
   map_small page there = (page_located table shapes tenants pass reserved page is there).small
 
   pub places_apart : (now : MemoryState) → view_of table shapes tenants pass ≡ now → (first second : Page) → IsPageOf now first → IsPageOf now second → first ≢ second
       → page_place first ≢ page_place second
-  places_apart now seen first second there_first there_second apart same =
-      let one : IsPageOf (view_of table shapes tenants pass) first = rw (← seen) at there_first in
-      let other : IsPageOf (view_of table shapes tenants pass) second = rw (← seen) at there_second in
-      let told = same_place first.tenant first.map first.number second.tenant second.map second.number (map_small first one) (number_small first one) (map_small second other) (number_small second other) same in
-      apart (same_page first.tenant first.map first.number second.tenant second.map second.number told.0 told.1 told.2)
+  places_apart now seen first second there_first there_second apart same = grind (arith, nat_tests, map_small, number_small, seen)

@@ -40,12 +40,7 @@ module _ (table : TableState) (i : ℕ) (entry : Entry) (page : List ℕ) (is : 
   pub contents-put : contents_of (with_page table entry.frame page) ≡ slice_set (contents_of table) i page
   unfolding contents_of
   contents-put =
-      let fits = entry_fits table i entry is here in
-      let changed : map (entry_content (slice_set table.arena entry.frame page)) (slice_set table.entries i (entry_at table.entries i)) ≡ slice_set (map (entry_content table.arena) table.entries) i page =
-      contents-set table.arena (slice_set table.arena entry.frame page) table.entries i (entry_at table.entries i) page
-      (ap (entry_content (slice_set table.arena entry.frame page)) here ∙ get_or-set_same table.arena entry.frame page [] fits.frame)
-      (λ j ne. entry_content-kept table.arena entry.frame page (entry_at table.entries j) (alone entry.frame table.entries i j there lone.one lies ne)) in
-      ap (map (entry_content (slice_set table.arena entry.frame page))) (sym (set-get_or table.entries i None)) ∙ changed
+      grind (arith, contents-set table.arena (slice_set table.arena entry.frame page) table.entries i (Some entry) page, entry_fits, get_or-set_same table.arena entry.frame page [], entry_content-kept table.arena entry.frame page, alone entry.frame table.entries i, there, lies, lone, set-get_or table.entries i None)
 
   IsTable-put : IsTable (with_page table entry.frame page)
   IsTable-put = grind (arith, nat_tests, length-set, table-changed, set-get_or, pages-set, get_or-set_other, fits-after, entry_fits)

@@ -19,8 +19,7 @@ part-set_other old new t m flat small tenants maps pins u ne = rw (tenants, maps
 pub maps-set_other : (old new : MemoryState) (t m : ℕ) (flat : Option FlatMap) → m < 8 → new.tenants ≡ old.tenants → new.maps ≡ slice_set old.maps (map_place t m) flat
     → AreMapsKeptBut m (part old t) (part new t)
 maps-set_other old new t m flat small tenants maps j ne =
-    ap (λ (owned : TenantPart). map_at owned.maps j) (part-set_same old new t m flat (part_of new.sharing.pins (t * 2048) 2048) small tenants maps refl)
-    ∙ get_or-set_other (part old t).maps m j flat None ne
+    grind (arith, part-set_same old new t m flat (part_of new.sharing.pins (t * 2048) 2048), get_or-set_other (part old t).maps m j flat None)
 
 -- one map of a tenant became another one, or none, and nothing else of its part has changed but its pins
 pub record OneMap (old new : MemoryState) (t m : ℕ) (flat : Option FlatMap) (pins : List Bool) : Type 0 where
@@ -46,17 +45,7 @@ module _ (table new : TableState) (shapes renewed : List (Option Shape)) (tenant
       → OneMap (view_of table shapes tenants pass) (view_of new renewed tenants now) t m flat pins
   unfolding view_of part
   one_map pass now flat pins here own others =
-      let before : MemoryState = view_of table shapes tenants pass in
-      let after : MemoryState = view_of new renewed tenants now in
-      let maps = maps_of-changed shapes renewed (contents_of table) (contents_of new) (map_place t m) flat long inside other_shapes other_pages here in
-      record {
-        part_new = part-set_same before after t m flat pins small refl maps own;
-        there = map_at-part (maps_of renewed (contents_of new)) t m small ∙ ap (λ (maps : FlatMaps). map_at maps (map_place t m)) maps
-            ∙ get_or-set_same (maps_of shapes (contents_of table)) (map_place t m) flat None (omega (arith, length-maps_of shapes (contents_of table), inside));
-        other_maps = maps-set_other before after t m flat small refl maps;
-        others = part-set_other before after t m flat small refl maps others;
-        settings = record { tenants = refl; frames = arena };
-      }
+      grind (arith, nat_tests, maps_of-changed shapes renewed (contents_of table) (contents_of new) (map_place t m) flat, part-set_same (view_of table shapes tenants pass) (view_of new renewed tenants now) t m flat pins, maps-set_other (view_of table shapes tenants pass) (view_of new renewed tenants now) t m flat, part-set_other (view_of table shapes tenants pass) (view_of new renewed tenants now) t m flat, get_or-set_same, length-maps_of, map_at-part)
 
 -- bytes of a page were written, and nothing else has changed
 pub record Writes (old new : MemoryState) (page : Page) (at : ℕ) (bytes : List ℕ) : Type 0 where
@@ -138,12 +127,7 @@ module _ (table new : TableState) (shapes : List (Option Shape)) (tenants : List
 
   one : OneMap before after page.tenant page.map (Some flat_new) (part before page.tenant).pins
   unfolding view_of part
-  one =
-      one_map table new shapes shapes tenants reserved page.tenant page.map is loc.small loc.inside refl wide (λ j ne. refl) others_new arena pass pass (Some flat_new) (part before page.tenant).pins
-      (ap (option_map (flat_of (part_of (contents_of new) (k * 256) 256))) loc.here
-      ∙ ap (λ p. Some (flat_of p loc.shape)) pages_new
-      ∙ ap (λ f. Some f) (flat_written loc.shape old_pages page.number at bytes loc.pages number in_page in_bytes))
-      refl (λ u ne. refl)
+  one = grind (arith, nat_tests, one_map table new shapes shapes tenants reserved page.tenant page.map is loc.small loc.inside refl wide (λ j ne. refl) others_new arena pass pass (Some flat_new), loc, pages_new, flat_written loc.shape old_pages page.number at bytes loc.pages, number, in_bytes)
 
   sharing_after : after.sharing ≡ before.sharing
   unfolding view_of groups_of
@@ -154,18 +138,7 @@ module _ (table new : TableState) (shapes : List (Option Shape)) (tenants : List
   frames_after = ap frames_of entries
 
   pub writes : Writes before after page at bytes
-  writes =
-      record {
-        written = one.part_new
-            ∙ ap (λ (flat : Option FlatMap). record (part before page.tenant) { maps = slice_set (part before page.tenant).maps page.map flat })
-            (sym (ap (option_map (map_written (page.number * 4096 + at) bytes)) flat_before));
-        bytes_new = ap bytes_in one.there ∙ ap (λ flat. with_part (bytes_in flat) (page.number * 4096 + at) bytes) (sym flat_before);
-        other_maps = one.other_maps;
-        others = one.others;
-        sharing = sharing_after;
-        frames = frames_after;
-        settings = one.settings;
-      }
+  writes = grind (arith, nat_tests, one, flat_before, sharing_after, frames_after, loc)
 
 -- what holds of the state at a place holds of its entry
 pub entry_of_state : (P : PageState → Type 0) (entries : List (Option Entry)) (i : ℕ) → IfSome (slice_index_or (states_of entries) i None) P → IfSome (entry_at entries i) (λ entry. P (state_of entry))

@@ -22,16 +22,7 @@ in_groups c = find-in (is_open_frame c.self.inside.table (contents_now (view_of 
 
 pub join-requires : goal.join-requires
 join-requires c =
-    let seen = sees c.self.inside.table c.self.inside.shapes.items c.self.inside.tenants.items c.self.inside.pass c.self.inside.reserved c.self.invariant.0 c.args.self.now c.self.view_is c.args.page c.place_of.result c.place_of.ensures in
-    record {
-      there = seen.there c.requires.there;
-      own = seen.lone c.requires.may;
-      group = (in_groups c).0;
-      same = rw c.place_of.ensures
-          (content_is c.self.inside.table c.self.inside.shapes.items c.self.inside.tenants.items c.self.inside.pass c.self.inside.reserved c.args.page c.self.invariant.0 (there c)
-          ∙ sym (bytes_here c.self.inside.table c.self.inside.shapes.items c.self.inside.tenants.items c.self.inside.pass c.self.inside.reserved c.self.invariant.0 c.args.page (there c))
-          ∙ sym (open-bytes c.self.inside.table (contents_now (view_of c.self.inside.table c.self.inside.shapes.items c.self.inside.tenants.items c.self.inside.pass) (page_place c.args.page)) c.self.inside.pass.options.max_page_sharing c.args.group (in_groups c).1));
-    }
+    grind (arith, nat_tests, sees c.self.inside.table c.self.inside.shapes.items c.self.inside.tenants.items c.self.inside.pass c.self.inside.reserved c.self.invariant.0 c.args.self.now c.self.view_is c.args.page c.place_of.result c.place_of.ensures, in_groups c, content_is, bytes_here, open-bytes, there c)
 
 pub invariant_of-self : goal.invariant_of-self
 invariant_of-self c =

@@ -34,21 +34,16 @@ found c =
     grind (arith, found-waiter c.self.inside.table.entries c.self.inside.pass.cursor (is_match c.self.inside.table.arena c.args.fingerprint (bytes c.before)) c.self.inside.pass.waiting.listed c.in-Some.waiter c.self.invariant.1.waiters, told c.before)
 
 pub page_at-requires : goal.page_at-requires
-page_at-requires c =
-    let waiter = (found (goal.at.page_at-requires c).In-Some).waiter in
-    omega (arith, inside c.self.inside.table.entries c.in-Some.waiter.place waiter.entry waiter.here, (c.facts.ensures.1).fits.few)
+page_at-requires c = grind (arith, (found (goal.at.page_at-requires c).In-Some).waiter, inside, (c.facts.ensures.1).fits.few)
 
 partners : (c : After-find) → partner_place (view_of c.self.inside.table c.self.inside.shapes.items c.self.inside.tenants.items c.self.inside.pass) (page_place c.args.page) c.args.fingerprint ≡ option_map (λ (w : Waiter). w.place) c.find.result
 unfolding view_of
 partners c =
-    partners-told c.self.inside.table c.self.inside.shapes.items c.self.inside.tenants.items c.self.inside.pass c.self.inside.reserved c.self.invariant.0 (c.facts.ensures.1).fits c.args.fingerprint (bytes c) c.self.inside.pass.cursor c.self.inside.pass.waiting.listed c.self.invariant.1.waiters
-    ∙ ap (option_map (λ (w : Waiter). w.place)) (sym (told c))
+    grind (arith, nat_tests, partners-told c.self.inside.table c.self.inside.shapes.items c.self.inside.tenants.items c.self.inside.pass c.self.inside.reserved c.self.invariant.0 (c.facts.ensures.1).fits c.args.fingerprint (bytes c) c.self.inside.pass.cursor c.self.inside.pass.waiting.listed c.self.invariant.1.waiters, told c)
 
 page_is_there : (c : In-Some) → (page : Page) → page_place page ≡ c.in-Some.waiter.place → page.map < 8 → page.number < 256 → IsPageOf (view_of c.self.inside.table c.self.inside.shapes.items c.self.inside.tenants.items c.self.inside.pass) page
 page_is_there c page place small few =
-    let waiter = (found c).waiter in
-    page_there c.self.inside.table c.self.inside.shapes.items c.self.inside.tenants.items c.self.inside.pass c.self.inside.reserved c.self.invariant.0 page small few
-    (subst (IsPageAt c.self.inside.table) (sym place) (page_of_entry c.self.inside.table c.in-Some.waiter.place waiter.entry (c.facts.ensures.1).fits waiter.here))
+    grind (arith, nat_tests, found c, page_there c.self.inside.table c.self.inside.shapes.items c.self.inside.tenants.items c.self.inside.pass c.self.inside.reserved c.self.invariant.0 page small few, page_of_entry, c.facts.ensures.1)
 
 pub returns-in-Some : goal.returns-in-Some
 returns-in-Some c = record {

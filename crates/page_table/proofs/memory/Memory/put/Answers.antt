@@ -5,11 +5,8 @@ use Rattle.page_table.proofs.Seen.{sees}
 use Rattle.page_table.proofs.memory.Memory.put.Goals as goal
 
 pub put-requires : goal.put-requires
-put-requires c = record {
-  there = (sees c.self.inside.table c.self.inside.shapes.items c.self.inside.tenants.items c.self.inside.pass c.self.inside.reserved c.self.invariant.0 c.args.self.now c.self.view_is c.args.page _ c.place_of.ensures).there c.requires.there;
-  own = (sees c.self.inside.table c.self.inside.shapes.items c.self.inside.tenants.items c.self.inside.pass c.self.inside.reserved c.self.invariant.0 c.args.self.now c.self.view_is c.args.page _ c.place_of.ensures).own c.requires.own;
-  in_page = c.requires.in_page;
-}
+put-requires c =
+    grind (arith, sees c.self.inside.table c.self.inside.shapes.items c.self.inside.tenants.items c.self.inside.pass c.self.inside.reserved c.self.invariant.0 c.args.self.now c.self.view_is c.args.page c.place_of.result c.place_of.ensures)
 
 abbrev before : goal.After-put → MemoryState
 before c = view_of c.self.inside.table c.self.inside.shapes.items c.self.inside.tenants.items c.self.inside.pass

@@ -18,11 +18,7 @@ pin_if-requires c =
 
 pub take_out-requires : goal.take_out-requires
 take_out-requires c =
-    let seen = sees c.self.inside.table c.self.inside.shapes.items c.self.inside.tenants.items c.self.inside.pass c.self.inside.reserved c.self.invariant.0 c.args.self.now c.self.view_is c.args.page c.place_of-place.result c.place_of-place.ensures in
-    record {
-      there = seen.there c.requires.there;
-      room = rw c.place_of-place.ensures (cost_fits c.self.inside.table c.self.inside.shapes.items c.self.inside.tenants.items c.self.inside.pass c.costs_are_told.ensures c.self.inside.reserved (page_place c.args.page) c.self.invariant.0 (rw (← c.self.view_is) at c.requires.room));
-    }
+    grind (arith, nat_tests, sees c.self.inside.table c.self.inside.shapes.items c.self.inside.tenants.items c.self.inside.pass c.self.inside.reserved c.self.invariant.0 c.args.self.now c.self.view_is c.args.page c.place_of-place.result c.place_of-place.ensures, cost_fits c.self.inside.table c.self.inside.shapes.items c.self.inside.tenants.items c.self.inside.pass c.costs_are_told.ensures c.self.inside.reserved (page_place c.args.page) c.self.invariant.0)
 
 abbrev before : goal.After-pin_if → MemoryState
 before c = view_of c.self.inside.table c.self.inside.shapes.items c.self.inside.tenants.items c.self.inside.pass
@@ -48,14 +44,7 @@ taken c = rw c.place_of-place.ensures at c.take_out.ensures.sharing c.self.insid
 
 pass : (c : goal.After-pin_if) → IsPass c.take_out.new.self (record c.self.inside.pass { pins = c.pin_if.new.self })
 pass c =
-    let kept = pass-kept c.self.inside.table c.take_out.new.self c.self.inside.pass c.self.invariant.1 c.take_out.ensures.kept c.take_out.ensures.arena (entries-long c.self.inside.table c.take_out.new.self c.take_out.ensures.contents) in
-    rw (pinned c)
-    record {
-      waiters = kept.waiters;
-      room = kept.room;
-      cursor = kept.cursor;
-      pins = pins-taken c.self.inside.table c.take_out.new.self c.self.inside.pass (page_place c.args.page) (part (before c) c.args.page.tenant).running c.pins-is_pinned.result (pins c) (taken c) c.self.invariant.1.pins;
-    }
+    grind (arith, nat_tests, pinned c, pass-kept c.self.inside.table c.take_out.new.self c.self.inside.pass c.self.invariant.1, entries-long c.self.inside.table c.take_out.new.self c.take_out.ensures.contents, pins-taken c.self.inside.table c.take_out.new.self c.self.inside.pass (page_place c.args.page) (part (before c) c.args.page.tenant).running c.pins-is_pinned.result (pins c) (taken c) c.self.invariant.1.pins)
 
 pub invariant_of-self : goal.invariant_of-self
 invariant_of-self c =

@@ -29,16 +29,6 @@ unfolding view_of
 none c = grind (arith, nat_tests)
 
 pub returns : goal.returns
+unfolding view_of
 returns c =
-    let told = moves c.self.inside.table c.take_out_all.new.self c.self.inside.shapes.items c.self.inside.tenants.items c.self.inside.pass
-    c.set.new.self c.take_out_all.ensures.contents c.take_out_all.ensures.arena c.args.self.now c.self.view_is
-    (unmerge_need (sharing_of c.self.inside.table c.self.inside.pass)) 0 c.self.inside.reserved c.self.invariant.0 (room c) (let used = c.take_out_all.ensures.used c.self.inside.pass in omega (arith, used)) in
-    record {
-      maps = told.maps;
-      kept = told.kept (ap (λ (pass : Pass). pass.pins) c.set.ensures);
-      sharing = told.sharing unmerged (unmerged_is c.self.inside.table c.take_out_all.new.self c.self.inside.pass c.set.new.self c.set.ensures c.take_out_all.ensures.sharing);
-      none = none c;
-      free = omega (arith, told.free, need c);
-      have = omega (arith, told.have, need c);
-      settings = told.settings;
-    }
+    grind (arith, nat_tests, moves c.self.inside.table c.take_out_all.new.self c.self.inside.shapes.items c.self.inside.tenants.items c.self.inside.pass c.set.new.self c.take_out_all.ensures.contents c.take_out_all.ensures.arena c.args.self.now c.self.view_is (unmerge_need (sharing_of c.self.inside.table c.self.inside.pass)) 0 c.self.inside.reserved c.self.invariant.0 (room c), c.take_out_all.ensures.used c.self.inside.pass, unmerged_is c.self.inside.table c.take_out_all.new.self c.self.inside.pass c.set.new.self c.set.ensures c.take_out_all.ensures.sharing, none c, need c)
