@@ -9,16 +9,6 @@ use Rattle.page_table.proofs.Groups.{company-places}
 pub state-at : (table : TableState) (pass : Pass) (i : ℕ) → state_at (sharing_of table pass) i ≡ option_map state_of (entry_at table.entries i)
 state-at table pass i = told_at state_of table.entries i
 
--- what the break of the page of an entry takes
-cost-entry : (table : TableState) (i : ℕ) (entry : Entry) → entry_at table.entries i ≡ Some entry
-    → break_frames table i ≡ cost_of (nat_lt 1 (pages_on entry.frame table.entries)) entry.status
-unfolding break_frames
-cost-entry table i entry here = rw here refl
-
-cost-none : (table : TableState) (i : ℕ) → entry_at table.entries i ≡ None → break_frames table i ≡ 0
-unfolding break_frames
-cost-none table i none = rw none refl
-
 -- where a group has the frame, the frame isn't the zero frame
 pub group-frame : (table : TableState) (f : ℕ) → IsTable table → times f table.groups ≡ 1 → one_if_zero f ≡ 0
 group-frame table f is one = grind (arith, nat_tests, one_if_zero-above)
@@ -35,14 +25,15 @@ lies-there table i entry here = some_on entry.frame table.entries i (ap (is_on e
 -- the break of a page takes a frame where it shares its own, and others hold that too
 cost-told : (table : TableState) (i : ℕ) (entry : Entry) → IsTable table → entry_at table.entries i ≡ Some entry
     → break_frames table i ≡ one_when (is_shared entry.status && nat_lt 1 (one_if_zero entry.frame + pages_on entry.frame table.entries))
+unfolding break_frames
 cost-told table i entry h1 h2 =
-    grind (arith, nat_tests, cost-entry table i entry, shared-cost table entry.frame table.entries (nat_lt 1 (pages_on entry.frame table.entries)), lies-there table i entry)
+    grind (arith, nat_tests, shared-cost table entry.frame table.entries (nat_lt 1 (pages_on entry.frame table.entries)), lies-there table i entry)
 
 -- what the break of a page takes
 pub cost-is : (table : TableState) (pass : Pass) (i : ℕ) → IsTable table → break_cost (sharing_of table pass) i ≡ break_frames table i
-unfolding break_cost groups_of
+unfolding break_cost groups_of break_frames
 cost-is table pass i h1 =
-    grind (arith, nat_tests, state-at table pass i, cost-none table i, shared-cost table, lies-there table i, company-places table.entries table.groups i, cost-told table i)
+    grind (arith, nat_tests, state-at table pass i, shared-cost table, lies-there table i, company-places table.entries table.groups i, cost-told table i)
 
 -- the same, told by the count of the page's frame
 pub cost-counted : (table : TableState) (counts : CountsState) (i : ℕ) (entry : Entry) → IsSound table counts → entry_at table.entries i ≡ Some entry

@@ -1,7 +1,7 @@
 -- A page table stays sound where a page is added, where one leaves a frame on which others lie, and where the last page leaves its group and keeps the frame.
 use Rattle.page_table.proofs.Base.{◌≡◌, ◌≢◌, ◌∙◌, ◌⊎◌, ⊎_elim, ℕ, ◌+◌, ◌-◌, ◌<◌, ◌≤◌, ◌==◌, not, Bool, true, false, List, [], ◌∷◌, length, map, filter, slice_index_or, slice_set, Option, Some, None, option_map, refl, sym, ap, arith, get_or-set_same, get_or-set_other, set-get_or, length-set, map-set, nil_from_length, nat_tests, get_or_default, get_or_past}
 use Rattle.page_table.proofs.Words.{Pass, New, Volatile, new_page, broken, broken_page, is_shared, left_by, without, without-length, times-gone, times-kept, some_kept, zero_page, length-zero_page, page_at, Entry, TableState, CountsState, IsTable, IsAlone, IsGroup, IsSound, AreCountsOf, times, one_if_zero, entry_at, state_of, states_of, contents_of, groups_of, sharing_of, is_on, places_on, pages_on, used_by}
-use Rattle.page_table.proofs.Changing.{entry_fits, table-set, table-changed, counted-changed, lies_alone, lies_shared, apart_alone, pages_on-changed, own_pages-set, own_pages-changed}
+use Rattle.page_table.proofs.Changing.{entry_fits, table-set, table-changed, counted-changed, lies_alone, apart_alone, pages_on-changed, own_pages-set}
 use Rattle.page_table.proofs.Costs.{state-at, group-frame}
 use Rattle.page_table.proofs.Entries.{one_when, on_one, elsewhere, not_equal, equal, none_on, some_on, pages_on-set, inside, entry_content-kept, contents-set, pages-set, places_on-set, groups-kept, times-head, times-tail, one_if_zero-above, group_of, told_here, counts-set}
 use Rattle.page_table.proofs.Groups.{length-places, without-here}
@@ -115,7 +115,7 @@ module _ (table : TableState) (i : ℕ) (entry next : Entry) (is : IsTable table
   sharing-left = sharing-broken table (left table i entry next) i entry next here shared refl state groups_of-left
 
   pub used-left : used_by (left table i entry next) ≡ used_by table + 1
-  used-left = grind (arith, own_pages-changed table.entries i entry (Some next) here, shared, own)
+  used-left = grind (arith, own_pages-set, inside, shared, own)
 
   pub sound-left : (old taken new : CountsState) → next.protected ≡ false → AreCountsOf table old
       → taken.counts ≡ slice_set old.counts next.frame 1 → length taken.unused + 1 ≡ length old.unused
@@ -154,7 +154,7 @@ module _ (table : TableState) (i : ℕ) (entry new : Entry) (is : IsTable table)
     (last : one_if_zero entry.frame + pages_on entry.frame table.entries ≡ 1) (state : state_of new ≡ broken_page (state_of entry)) (frame : new.frame ≡ entry.frame) where
   -- the page is of a group
   pub one_group : times entry.frame table.groups ≡ 1
-  one_group = grind (arith, nat_tests, lies_shared, entry_fits, some_on entry.frame table.entries i, equal)
+  one_group = grind (arith, nat_tests, entry_fits, some_on entry.frame table.entries i, equal)
 
   alone_there : pages_on entry.frame table.entries ≡ 1
   alone_there = let none = group-frame table entry.frame is one_group in omega (arith, none, last)
@@ -179,7 +179,7 @@ module _ (table : TableState) (i : ℕ) (entry new : Entry) (is : IsTable table)
   sharing-ended = sharing-broken table (ended table i new entry.frame) i entry new here shared refl state groups-ended
 
   pub used-ended : used_by (ended table i new entry.frame) ≡ used_by table
-  used-ended = grind (arith, nat_tests, own_pages-changed table.entries i entry (Some new) here, shared, state, without-length entry.frame table.groups, one_group)
+  used-ended = grind (arith, nat_tests, own_pages-set, inside, shared, state, without-length entry.frame table.groups, one_group)
 
   each-ended : (g : ℕ) → (times g (but entry.frame table.groups) ≡ 0) ⊎ IsGroup (ended table i new entry.frame) g
   each-ended g = grind (arith, nat_tests, is.groups g, times-gone entry.frame table.groups, times-kept entry.frame g table.groups, pages_on-ended g)

@@ -34,15 +34,11 @@ module _ (table new : TableState) (shapes : List (Option Shape)) (tenants : List
   pub memory_kept : (reserved : ℕ) → IsMemory table shapes tenants reserved → reserved + used_by new ≤ length table.arena → IsMemory new shapes tenants reserved
   memory_kept reserved is room = grind (arith, nat_tests)
 
-  moves_told : (taken given reserved : ℕ) → IsMemory table shapes tenants reserved → reserved + used_by new ≤ length table.arena → used_by new + given ≡ used_by table + taken
-      → Moves before after pass.pins now.pins (sharing_of table pass) (sharing_of new now) taken given
-  unfolding view_of part
-  moves_told taken given reserved is room used = grind (arith, nat_tests, free_is table shapes tenants pass, free_is new shapes tenants now, contents, arena)
-
   -- the same of what callers saw before
   pub moves : (seen : MemoryState) → before ≡ seen → (taken given reserved : ℕ) → IsMemory table shapes tenants reserved → reserved + used_by new ≤ length table.arena
       → used_by new + given ≡ used_by table + taken → Moves seen after pass.pins now.pins (sharing_of table pass) (sharing_of new now) taken given
-  moves seen same taken given reserved is room used = grind (arith, nat_tests, moves_told taken given reserved is room used)
+  unfolding view_of part
+  moves seen same taken given reserved is room used = grind (arith, nat_tests, free_is table shapes tenants pass, free_is new shapes tenants now, contents, arena)
 
 -- how many frames the break of a page takes, as callers see it
 module _ (table : TableState) (shapes : List (Option Shape)) (tenants : List Tenant) (pass : Pass) (costs : (pass : Pass) (i : ℕ) → break_cost (sharing_of table pass) i ≡ break_frames table i) where
@@ -76,15 +72,8 @@ pub own_told : (table : TableState) (shapes : List (Option Shape)) (tenants : Li
 unfolding view_of
 own_told table shapes tenants pass page own = state_of_entry (λ state. is_shared state.status ≡ false) table.entries (page_place page) own
 
--- different pages that are there have different places
-same_place : (t m n u k l : ℕ) → m < 8 → n < 256 → k < 8 → l < 256 → map_place t m * 256 + n ≡ map_place u k * 256 + l → (t ≡ u) × (m ≡ k) × (n ≡ l)
-same_place t m n u k l h i p q e = (omega arith, omega arith, omega arith)
-
 abbrev page_of : ℕ → ℕ → ℕ → Page
 page_of t m n = record { tenant = t; map = m; number = n }
-
-same_page : (t m n u k l : ℕ) → t ≡ u → m ≡ k → n ≡ l → page_of t m n ≡ page_of u k l
-same_page t m n u k l a b c = rw (a, b, c) refl
 
 module _ (table : TableState) (shapes : List (Option Shape)) (tenants : List Tenant) (pass : Pass) (reserved : ℕ) (is : IsMemory table shapes tenants reserved) where
   pub number_small : (page : Page) → IsPageOf (view_of table shapes tenants pass) page → page.number < 256

@@ -1,7 +1,7 @@
 -- A page keeps its frame or moves to a shared frame of the same bytes: pages are marked, move, and join groups; and two pages become a new last group.
 use Rattle.page_table.proofs.Base.{◌≡◌, ◌≢◌, ◌∙◌, ◌⊎◌, ℕ, zero, suc, ◌+◌, ◌-◌, ◌<◌, ◌≤◌, ◌==◌, true, false, List, [], ◌∷◌, ◌++◌, length, map, slice_index_or, slice_set, Option, Some, None, option_map, refl, sym, ap, subst, arith, get_or-set_other, length-set, set-get_or, sum_by-cons, length-append, map-append, nat_tests, eqb_tells}
 use Rattle.page_table.proofs.Words.{Pass, Status, Grouped, Zero, is_shared, with_status, with_page, joined_by, paired, zeroed, zero_page, page_at, Entry, TableState, CountsState, IsOwnAt, IsTable, IsEntry, IsAlone, IsGroup, IsSound, AreCountsOf, LiesRight, times, one_if_zero, entry_at, contents_of, groups_of, state_of, states_of, sharing_of, forgets, is_on, places_on, pages_on, used_by, joined_on, marked}
-use Rattle.page_table.proofs.Changing.{is_alone, entry_fits, table-set, table-changed, counted-changed, apart_alone, fits-after, own_seen, pages_on-changed, own_pages-changed, lies_alone, lies_shared}
+use Rattle.page_table.proofs.Changing.{is_alone, entry_fits, table-set, table-changed, counted-changed, apart_alone, fits-after, own_seen, pages_on-changed, lies_alone, own_pages-set}
 use Rattle.page_table.proofs.Entries.{one_when, on_one, not_equal, equal, inside, alone, group_of, contents-set, places_on-set, groups-kept, groups-each, pages_on-cons, none_on, states-set, told_here, one_if_zero-above, counts-set}
 use Rattle.page_table.proofs.Putting.{content_at}
 use Rattle.page_table.proofs.Unused.{times-push}
@@ -44,7 +44,7 @@ module _ (table : TableState) (i : ℕ) (entry : Entry) (status : Status) (last 
   sharing-marked pass = grind (arith, nat_tests, states-set (marked status last), here, groups-kept table.entries (with_entry table i marks).entries, places_on-set)
 
   pub used-marked : used_by (with_entry table i marks) ≡ used_by table
-  used-marked = grind (arith, own_pages-changed table.entries i entry (Some marks) here, own, own_new)
+  used-marked = grind (arith, own_pages-set, inside, own, own_new)
 
   pub sound-marked : (counts : CountsState) → AreCountsOf table counts → IsSound (with_entry table i marks) counts
   sound-marked counts counted =
@@ -101,10 +101,7 @@ module _ (table : TableState) (i : ℕ) (entry x : Entry) (move : IsMove table i
 
   -- the new frame is no page's own
   not_alone : (f : ℕ) → IsAlone table f → x.frame ≢ f
-  not_alone f a e = grind (arith, nat_tests, lies_shared table x.frame x.status shared fits.right, a, e)
-
-  frames_apart : x.frame ≢ entry.frame
-  frames_apart = not_alone entry.frame lone
+  not_alone f a e = grind (arith, nat_tests, a, e)
 
   pages_on-moved : (g : ℕ) → pages_on g (with_entry table i x).entries + one_when (entry.frame == g) ≡ pages_on g table.entries + one_when (x.frame == g)
   pages_on-moved = pages_on-changed table.entries i entry (Some x) here
@@ -113,12 +110,12 @@ module _ (table : TableState) (i : ℕ) (entry x : Entry) (move : IsMove table i
   contents-moved = contents-entry table i entry x table.groups here same
 
   pub used-moved : used_by (with_entry table i x) + 1 ≡ used_by table
-  used-moved = grind (arith, own_pages-changed table.entries i entry (Some x) here, own, shared)
+  used-moved = grind (arith, own_pages-set, inside, own, shared)
 
   -- fewer pages lie on the new frame than there are places
   pub few : (counts : CountsState) → AreCountsOf table counts → slice_index_or counts.counts x.frame 0 ≤ 32768
   few counts counted =
-      grind (arith, nat_tests, counted.counted x.frame fits.frame, one_holder x.frame, pages_on-moved x.frame, frames_apart, pages_on-le x.frame (with_entry table i x).entries, length-set table.entries i (Some x), is.few)
+      grind (arith, nat_tests, counted.counted x.frame fits.frame, one_holder x.frame, pages_on-moved x.frame, not_alone, lone, pages_on-le x.frame (with_entry table i x).entries, length-set table.entries i (Some x), is.few)
 
   -- the places on the frame of a group that isn't the new one stay
   not_own : (g : ℕ) → 1 ≤ times g table.groups → (entry.frame == g) ≡ false
@@ -135,16 +132,12 @@ module _ (table : TableState) (i : ℕ) (entry x : Entry) (move : IsMove table i
             (grind (arith, nat_tests, fits-after table (with_entry table i x) x, not_alone, fits))
             (λ j y ne e a. grind (arith, nat_tests, pages_on-moved y.frame, a, apart_alone table i j entry y here e ne a.one, not_alone y.frame a))
             (λ g group. grind (arith, nat_tests, pages_on-moved g, group, not_own g));
-        counted = grind (arith, nat_tests, length-set, get_or-set_other old.counts, frames_apart, one_if_zero-above, counted-changed, used-moved, counts-set, pages_on-moved, lone);
+        counted = grind (arith, nat_tests, length-set, get_or-set_other old.counts, not_alone, one_if_zero-above, counted-changed, used-moved, counts-set, pages_on-moved, lone);
       }
 
-  groups-zeroed : IsMerged entry x 0 Zero → groups_of (with_entry table i x) ≡ groups_of table
-  unfolding groups_of
-  groups-zeroed to = grind (arith, nat_tests, groups-kept table.entries (with_entry table i x).entries table.groups, places_on-set, not_own, group_of, here)
-
   pub sharing-zeroed : IsMerged entry x 0 Zero → (pass : Pass) → sharing_of (with_entry table i x) (forgets i pass) ≡ zeroed (sharing_of table pass) i
-  unfolding zeroed
-  sharing-zeroed to pass = grind (arith, nat_tests, states-set (with_status Zero), groups-zeroed to, waiting-forgets)
+  unfolding zeroed groups_of
+  sharing-zeroed to pass = grind (arith, nat_tests, states-set (with_status Zero), groups-kept table.entries (with_entry table i x).entries table.groups, places_on-set, not_own, group_of, here, waiting-forgets)
 
 -- no places are on a frame without pages
 places-none : (n f : ℕ) (xs : List (Option Entry)) → pages_on f xs ≡ 0 → places_on n f xs ≡ []
@@ -221,7 +214,7 @@ module _ (table : TableState) (i : ℕ) (entry x : Entry) (founding : IsFounding
   contents-founded = contents-entry table i entry x (founded table i x).groups here (ap (page_at table.arena) to.frame)
 
   used-founded : used_by (founded table i x) ≡ used_by table
-  used-founded = grind (arith, nat_tests, own_pages-changed table.entries i entry (Some x) here, own, to, length-append table.groups (x.frame ∷ []))
+  used-founded = grind (arith, nat_tests, own_pages-set, inside, own, to, length-append table.groups (x.frame ∷ []))
 
   each-founded : (g : ℕ) → (times g (founded table i x).groups ≡ 0) ⊎ IsGroup (founded table i x) g
   each-founded g = grind (arith, nat_tests, is.groups g, times-founded g, pages_on-founded g, lone_founder)

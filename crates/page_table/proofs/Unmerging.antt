@@ -184,14 +184,11 @@ held-none : (x : Option Entry) → held x [] ≡ 0
 unfolding held
 held-none x = grind (arith, nat_tests)
 
-held-cons : (x : Option Entry) (g : ℕ) (gs : List ℕ) → held x (g ∷ gs) ≡ on_one g x + held x gs
-unfolding held
-held-cons x g gs = grind (arith, nat_tests, times-cons)
-
 listed-frames : (xs : List (Option Entry)) (groups : List ℕ) (i : ℕ) → law.listed i (map (λ g. places_on 0 g xs) groups) ≡ held (entry_at xs i) groups
+unfolding held
 listed-frames xs [] i = sym (held-none (entry_at xs i))
 listed-frames xs (g ∷ gs) i =
-    grind (arith, nat_tests, sum_by-cons (law_of_times.times i) (places_on 0 g xs) (map (λ g. places_on 0 g xs) gs), times-places 0 g xs i, listed-frames xs gs i, held-cons (entry_at xs i) g gs)
+    grind (arith, nat_tests, sum_by-cons (law_of_times.times i) (places_on 0 g xs) (map (λ g. places_on 0 g xs) gs), times-places 0 g xs i, listed-frames xs gs i, times-cons)
 
 -- what holds of each group's pages holds where one is left out
 some-groups : (xs : List (Option Entry)) (groups : List ℕ) → ((g : ℕ) → 1 ≤ times g groups → 1 ≤ pages_on g xs) → law.AreSome (map (λ g. places_on 0 g xs) groups)
@@ -209,7 +206,7 @@ some-members xs (g ∷ gs) h = grind (arith, sum_by-cons (λ (g : ℕ). pages_on
 
 -- the pages on the groups' frames, counted group by group and page by page
 held-frames : (xs : List (Option Entry)) (groups : List ℕ) → sum_by (λ (g : ℕ). pages_on g xs) groups ≡ sum_by (λ (x : Option Entry). held x groups) xs
-unfolding pages_on
+unfolding pages_on held
 held-frames [] [] = refl
 held-frames [] (g ∷ gs) = grind (arith, sum_by-cons (λ (g : ℕ). 0) g gs, held-frames [] gs)
 held-frames (x ∷ xs) groups = grind (arith, sum_by-cons (λ (y : Option Entry). held y groups) x xs, held-frames xs groups, one_more groups)
@@ -217,7 +214,7 @@ held-frames (x ∷ xs) groups = grind (arith, sum_by-cons (λ (y : Option Entry)
     one_more : (gs : List ℕ) → sum_by (λ (g : ℕ). sum_by (on_one g) (x ∷ xs)) gs ≡ held x gs + sum_by (λ (g : ℕ). sum_by (on_one g) xs) gs
     one_more [] = let none = held-none x in omega (arith, none)
     one_more (g ∷ gs) =
-        grind (arith, sum_by-cons (λ (g : ℕ). sum_by (on_one g) (x ∷ xs)) g gs, sum_by-cons (λ (g : ℕ). sum_by (on_one g) xs) g gs, sum_by-cons (on_one g) x xs, one_more gs, held-cons x g gs)
+        grind (arith, sum_by-cons (λ (g : ℕ). sum_by (on_one g) (x ∷ xs)) g gs, sum_by-cons (λ (g : ℕ). sum_by (on_one g) xs) g gs, sum_by-cons (on_one g) x xs, one_more gs, nat_tests, times-cons)
 
 zeros-frames : (xs : List (Option Entry)) → ((i : ℕ) → zeros_at (option_map state_of (entry_at xs i)) ≡ on_one 0 (entry_at xs i)) → sum_by zeros_at (states_of xs) ≡ pages_on 0 xs
 unfolding pages_on

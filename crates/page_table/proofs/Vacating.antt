@@ -1,9 +1,9 @@
 -- A page table stays sound where a page is taken away that has its own frame, or leaves others on its frame.
 use Rattle.page_table.proofs.Base.{◌≡◌, ◌≢◌, ◌∙◌, ℕ, zero, suc, ◌+◌, ◌-◌, ◌<◌, ◌≤◌, ◌==◌, Bool, true, false, if◌then◌else◌, List, [], length, slice_index_or, slice_set, Some, None, option_map, refl, sym, ap, arith, length-set, map-set, set-set, nat_tests, common_steps}
 use Rattle.page_table.proofs.Words.{Pass, Sharing, state_at, is_shared, is_shared_page, broken, gone, gone_from, left_by, broken-own, Entry, TableState, CountsState, IsTable, IsEntry, IsGroup, IsOwnAt, IsSound, AreCountsOf, times, one_if_zero, entry_at, entry_content, state_of, states_of, contents_of, groups_of, sharing_of, is_on, pages_on, used_by}
-use Rattle.page_table.proofs.Changing.{is_alone, entry_fits, table-changed, counted-changed, apart_alone, pages_on-changed, own_pages-changed}
+use Rattle.page_table.proofs.Changing.{is_alone, entry_fits, table-changed, counted-changed, apart_alone, pages_on-changed, own_pages-set}
 use Rattle.page_table.proofs.Costs.{state-at, count-some}
-use Rattle.page_table.proofs.Entries.{one_when, not_equal, places_on-set, groups-kept, one_if_zero-above, group_of, counts-set}
+use Rattle.page_table.proofs.Entries.{one_when, not_equal, places_on-set, groups-kept, one_if_zero-above, group_of, counts-set, inside}
 use Rattle.page_table.proofs.Groups.{without-here}
 use Rattle.page_table.proofs.Ending.{groups-left}
 
@@ -37,7 +37,7 @@ module _ (table : TableState) (i : ℕ) (entry : Entry) (is : IsTable table) (he
   sharing-vacated pass = grind (arith, nat_tests, common_steps, state-at, set-set, map-set (option_map state_of) table.entries i None, groups-shared, groups-own)
 
   pub used-vacated : used_by (vacated table i) + (if is_shared entry.status then 0 else 1) ≡ used_by table
-  used-vacated = grind (arith, own_pages-changed table.entries i entry None here)
+  used-vacated = grind (arith, own_pages-set, inside)
 
   -- the frame of a page that has its own is unused then
   freed : (old : CountsState) → AreCountsOf table old → one_if_zero (slice_index_or old.counts entry.frame 0 - 1) ≡ (if is_shared entry.status then 0 else 1)

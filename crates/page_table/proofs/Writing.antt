@@ -5,12 +5,6 @@ use Rattle.std.proofs.Common.{length-set}
 use Rattle.page_table.proofs.Maps.{maps_of-changed, length-maps_of, part_of-set_same, part_of-set_other, concat-written, length-concat}
 use Rattle.page_table.proofs.Reading.{IsLocated, page_located, page_number, few_pages, content_in, bytes_in, map_at-part}
 
--- a memory with one map of a tenant replaced
-pub part-set_same : (old new : MemoryState) (t m : ℕ) (flat : Option FlatMap) (pins : List Bool) → m < 8 → new.tenants ≡ old.tenants → new.maps ≡ slice_set old.maps (map_place t m) flat
-    → part_of new.sharing.pins (t * 2048) 2048 ≡ pins → part new t ≡ record (part old t) { maps = slice_set (part old t).maps m flat; pins = pins }
-unfolding part
-part-set_same old new t m flat pins small tenants maps pinned = rw (tenants, maps, pinned, part_of-set_same old.maps (t * 8) m 8 flat small) refl
-
 pub part-set_other : (old new : MemoryState) (t m : ℕ) (flat : Option FlatMap) → m < 8 → new.tenants ≡ old.tenants → new.maps ≡ slice_set old.maps (map_place t m) flat
     → ((u : ℕ) → u ≢ t → part_of new.sharing.pins (u * 2048) 2048 ≡ part_of old.sharing.pins (u * 2048) 2048) → IsKeptBut t old new
 unfolding part
@@ -18,8 +12,9 @@ part-set_other old new t m flat small tenants maps pins u ne = rw (tenants, maps
 
 pub maps-set_other : (old new : MemoryState) (t m : ℕ) (flat : Option FlatMap) → m < 8 → new.tenants ≡ old.tenants → new.maps ≡ slice_set old.maps (map_place t m) flat
     → AreMapsKeptBut m (part old t) (part new t)
+unfolding part
 maps-set_other old new t m flat small tenants maps j ne =
-    grind (arith, part-set_same old new t m flat (part_of new.sharing.pins (t * 2048) 2048), get_or-set_other (part old t).maps m j flat None)
+    grind (arith, part_of-set_same, get_or-set_other (part old t).maps m j flat None)
 
 -- one map of a tenant became another one, or none, and nothing else of its part has changed but its pins
 pub record OneMap (old new : MemoryState) (t m : ℕ) (flat : Option FlatMap) (pins : List Bool) : Type 0 where
@@ -45,7 +40,7 @@ module _ (table new : TableState) (shapes renewed : List (Option Shape)) (tenant
       → OneMap (view_of table shapes tenants pass) (view_of new renewed tenants now) t m flat pins
   unfolding view_of part
   one_map pass now flat pins here own others =
-      grind (arith, nat_tests, maps_of-changed shapes renewed (contents_of table) (contents_of new) (map_place t m) flat, part-set_same (view_of table shapes tenants pass) (view_of new renewed tenants now) t m flat pins, maps-set_other (view_of table shapes tenants pass) (view_of new renewed tenants now) t m flat, part-set_other (view_of table shapes tenants pass) (view_of new renewed tenants now) t m flat, get_or-set_same, length-maps_of, map_at-part)
+      grind (arith, nat_tests, maps_of-changed shapes renewed (contents_of table) (contents_of new) (map_place t m) flat, part_of-set_same, maps-set_other (view_of table shapes tenants pass) (view_of new renewed tenants now) t m flat, part-set_other (view_of table shapes tenants pass) (view_of new renewed tenants now) t m flat, get_or-set_same, length-maps_of, map_at-part)
 
 -- bytes of a page were written, and nothing else has changed
 pub record Writes (old new : MemoryState) (page : Page) (at : ℕ) (bytes : List ℕ) : Type 0 where
@@ -121,10 +116,6 @@ module _ (table new : TableState) (shapes : List (Option Shape)) (tenants : List
   abbrev after : MemoryState
   after = view_of new shapes tenants pass
 
-  flat_before : map_at (part before page.tenant).maps page.map ≡ Some (flat_of old_pages loc.shape)
-  unfolding view_of part
-  flat_before = loc.flat
-
   one : OneMap before after page.tenant page.map (Some flat_new) (part before page.tenant).pins
   unfolding view_of part
   one = grind (arith, nat_tests, one_map table new shapes shapes tenants reserved page.tenant page.map is loc.small loc.inside refl wide (λ j ne. refl) others_new arena pass pass (Some flat_new), loc, pages_new, flat_written loc.shape old_pages page.number at bytes loc.pages, number, in_bytes)
@@ -138,7 +129,8 @@ module _ (table new : TableState) (shapes : List (Option Shape)) (tenants : List
   frames_after = ap frames_of entries
 
   pub writes : Writes before after page at bytes
-  writes = grind (arith, nat_tests, one, flat_before, sharing_after, frames_after, loc)
+  unfolding view_of part
+  writes = grind (arith, nat_tests, one, sharing_after, frames_after, loc)
 
 -- what holds of the state at a place holds of its entry
 pub entry_of_state : (P : PageState → Type 0) (entries : List (Option Entry)) (i : ℕ) → IfSome (slice_index_or (states_of entries) i None) P → IfSome (entry_at entries i) (λ entry. P (state_of entry))
