@@ -30,16 +30,8 @@ unfolding broken_from
 stay-broken_from s i zero j may = may
 stay-broken_from s i (suc n) j may = stay-broken_from (broken s i) (i + 1) n j (stay-broken s i j may)
 
-pub stay-zeroed : (s : Sharing) (i : ℕ) → StayMergeable s.pages (zeroed s i).pages
-unfolding zeroed
-stay-zeroed s i = stay-set s.pages i (with_status Zero) (λ state. refl)
-
 pub stay-marked : (s : Sharing) (i : ℕ) (status : Status) (last : ℕ) → StayMergeable s.pages (with_page s i (marked status last)).pages
 stay-marked s i status last = stay-set s.pages i (marked status last) (λ state. refl)
-
-pub stay-paired : (s : Sharing) (i j : ℕ) → i ≢ j → StayMergeable s.pages (paired s i j).pages
-unfolding paired
-stay-paired s i j apart k may = grind (arith, nat_tests, get_or-set_same, get_or-set_other, set_past, get_or_past)
 
 -- what callers are told of a change tells it
 pub ahead-told : (old new : TableState) (pass : Pass) (s : Sharing) (c : Option ℕ) → sharing_of new pass ≡ s → StayMergeable (states_of old.entries) s.pages → IsAhead (states_of old.entries) c

@@ -28,7 +28,7 @@ filled table i x page = record table { arena = slice_set table.arena x.frame pag
 
 -- the frame was unused
 module _ (table : TableState) (i : ℕ) (x : Entry) (page : List ℕ) (is : IsTable table) (free : IsUnused table x.frame) where
-  contents-filled : contents_of (filled table i x page) ≡ slice_set (contents_of table) i page
+  pub contents-filled : contents_of (filled table i x page) ≡ slice_set (contents_of table) i page
   unfolding contents_of
   contents-filled =
       contents-set table.arena (slice_set table.arena x.frame page) table.entries i (Some x) page (get_or-set_same table.arena x.frame page [] free.there)
@@ -52,9 +52,6 @@ added table i f mergeable = filled table i (added_entry f mergeable) zero_page
 module _ (table : TableState) (i f : ℕ) (mergeable : Bool) (is : IsTable table) (free : IsUnused table f) (there : i < length table.entries) (empty : entry_at table.entries i ≡ None) where
   pages_on-added : (g : ℕ) → pages_on g (added table i f mergeable).entries ≡ pages_on g table.entries + one_when (f == g)
   pages_on-added g = grind (arith, nat_tests, pages_on-set, there, empty)
-
-  pub contents-added : contents_of (added table i f mergeable) ≡ slice_set (contents_of table) i zero_page
-  contents-added = contents-filled table i (added_entry f mergeable) zero_page is free
 
   pub states-added : states_of (added table i f mergeable).entries ≡ slice_set (states_of table.entries) i (Some (new_page mergeable))
   states-added = map-set (option_map state_of) table.entries i (Some (added_entry f mergeable))

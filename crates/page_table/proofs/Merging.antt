@@ -31,9 +31,6 @@ module _ (table new : TableState) (shapes : List (Option Shape)) (tenants : List
   unfolding view_of part
   part_pinned t = rw contents refl
 
-  pub memory_kept : (reserved : ℕ) → IsMemory table shapes tenants reserved → reserved + used_by new ≤ length table.arena → IsMemory new shapes tenants reserved
-  memory_kept reserved is room = grind (arith, nat_tests)
-
   -- the same of what callers saw before
   pub moves : (seen : MemoryState) → before ≡ seen → (taken given reserved : ℕ) → IsMemory table shapes tenants reserved → reserved + used_by new ≤ length table.arena
       → used_by new + given ≡ used_by table + taken → Moves seen after pass.pins now.pins (sharing_of table pass) (sharing_of new now) taken given
@@ -83,6 +80,3 @@ module _ (table : TableState) (shapes : List (Option Shape)) (tenants : List Ten
   pub map_small : (page : Page) → IsPageOf (view_of table shapes tenants pass) page → page.map < 8
   map_small page there = (page_located table shapes tenants pass reserved page is there).small
 
-  pub places_apart : (now : MemoryState) → view_of table shapes tenants pass ≡ now → (first second : Page) → IsPageOf now first → IsPageOf now second → first ≢ second
-      → page_place first ≢ page_place second
-  places_apart now seen first second there_first there_second apart same = grind (arith, nat_tests, map_small, number_small, seen)

@@ -46,10 +46,6 @@ module _ (table : TableState) (shapes : List (Option Shape)) (tenants : List Ten
   partners-told fingerprint bytes c [] are = refl
   partners-told fingerprint bytes c (w ∷ ws) are = grind (arith, partner-told fingerprint bytes c w are.0, partners-told fingerprint bytes c ws are.2)
 
--- there is room for one more
-pub room-left : (table : TableState) (shapes : List (Option Shape)) (tenants : List Tenant) (reserved : ℕ) (c : Option ℕ) (ws : List Waiter) (room : ℕ) → IsMemory table shapes tenants reserved → AreWaiters table.entries c ws → length table.arena ≤ room → length ws < room
-room-left table shapes tenants reserved c ws room is are fitting = omega (arith, waiters-few table.entries c ws are, fitting, is.room)
-
 -- a waiting page, where the cursor went on
 waiter-at : (entries : List (Option Entry)) (c d : Option ℕ) (w : Waiter) → IsWaiter entries c w → is_behind d w.place ≡ true → IsWaiter entries d w
 waiter-at entries c d w is behind = record { entry = is.entry; here = is.here; frame = is.frame; status = is.status; mergeable = is.mergeable; behind = behind }
@@ -101,14 +97,6 @@ not-waiting table shapes tenants pass page free = listed-told (page_place page) 
 pub waits-not : (table : TableState) (shapes : List (Option Shape)) (tenants : List Tenant) (pass : Pass) (page : Page) → is_listed (page_place page) pass.waiting.listed ≡ false → IsNotWaiting (view_of table shapes tenants pass) page
 unfolding view_of
 waits-not table shapes tenants pass page free = sym (listed-told (page_place page) pass.waiting.listed) ∙ free
-
--- a page that is marked as waiting, and put on the list
-pub pass-waits : (old new : TableState) (pass : Pass) (w : Waiter) (entry : Entry) → IsPass old pass → is_listed w.place pass.waiting.listed ≡ false → slice_index_or pass.pins w.place false ≡ false
-    → AreOthersKept w.place old new → length new.arena ≡ length old.arena → length new.entries ≡ length old.entries
-    → entry_at new.entries w.place ≡ Some entry → entry.frame ≡ w.frame → entry.status ≡ Waiting → entry.mergeable ≡ true → is_behind pass.cursor w.place ≡ true
-    → IsPass new (record pass { waiting = record pass.waiting { listed = pass.waiting.listed ++ w ∷ [] } })
-pass-waits old new pass w entry is free unpinned others arena long here frame status mergeable behind =
-    grind (arith, nat_tests, pass-others, waiters-more)
 
 pub is-behind : (c : Option ℕ) (i : ℕ) → IfSome c (λ n. i ≤ n) → is_behind c i ≡ true
 is-behind c i h1 = grind (arith, nat_tests)

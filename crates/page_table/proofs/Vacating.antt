@@ -16,10 +16,6 @@ module _ (table : TableState) (i : ℕ) (entry : Entry) (is : IsTable table) (he
   pages_on-vacated : (g : ℕ) → pages_on g (vacated table i).entries + one_when (entry.frame == g) ≡ pages_on g table.entries
   pages_on-vacated g = grind (arith, pages_on-changed table.entries i entry None here g)
 
-  pub contents-vacated : contents_of (vacated table i) ≡ slice_set (contents_of table) i []
-  unfolding contents_of
-  contents-vacated = map-set (entry_content table.arena) table.entries i None
-
   -- each group still has pages
   still : (g : ℕ) → IsGroup table g → 1 ≤ pages_on g (vacated table i).entries
   still g h1 = grind (arith, nat_tests, pages_on-vacated g, one_if_zero-above g, company, is_alone, entry_fits)

@@ -1,22 +1,22 @@
-use Rattle.page_table.proofs.Base.{◌≢◌, ◌∙◌, ℕ, ap, arith, sym, refl, nat_tests}
+use Rattle.page_table.proofs.Base.{◌≢◌, ◌∙◌, ℕ, ap, arith, sym, refl, nat_tests, get_or-set_other, get_or-set_same, get_or_past, set_past}
 use Rattle.page_table.proofs.Words.{page_place, Sharing, paired, WaitingList, sharing_of, view_of}
 use Rattle.page_table.proofs.Seen.{sees}
-use Rattle.page_table.proofs.Merging.{moves, places_apart}
+use Rattle.page_table.proofs.Merging.{moves, map_small, number_small}
 use Rattle.page_table.proofs.Waiters.{pass-left-both, others_of}
-use Rattle.page_table.proofs.Ahead.{stay-paired}
 use Rattle.page_table.proofs.Fitting.{entries-long}
 use Rattle.page_table.proofs.memory.Memory.pair.Goals as goal
 
 pub pair-requires : goal.pair-requires
 pair-requires c =
-    grind (arith, nat_tests, sees c.self.inside.table c.self.inside.shapes.items c.self.inside.tenants.items c.self.inside.pass c.self.inside.reserved c.self.invariant.0 c.args.self.now c.self.view_is c.args.first c.place_of-first.result c.place_of-first.ensures, sees c.self.inside.table c.self.inside.shapes.items c.self.inside.tenants.items c.self.inside.pass c.self.inside.reserved c.self.invariant.0 c.args.self.now c.self.view_is c.args.second c.place_of-second.result c.place_of-second.ensures, places_apart)
+    grind (arith, nat_tests, sees c.self.inside.table c.self.inside.shapes.items c.self.inside.tenants.items c.self.inside.pass c.self.inside.reserved c.self.invariant.0 c.args.self.now c.self.view_is c.args.first c.place_of-first.result c.place_of-first.ensures, sees c.self.inside.table c.self.inside.shapes.items c.self.inside.tenants.items c.self.inside.pass c.self.inside.reserved c.self.invariant.0 c.args.self.now c.self.view_is c.args.second c.place_of-second.result c.place_of-second.ensures, map_small, number_small)
 
 apart : (c : goal.After-forget-2) → c.place_of-first.result ≢ c.place_of-second.result
-apart c = grind (arith, nat_tests, places_apart)
+apart c = grind (arith, nat_tests, map_small, number_small)
 
 pub invariant_of-self : goal.invariant_of-self
+unfolding paired
 invariant_of-self c =
-    grind (arith, sees c.self.inside.table c.self.inside.shapes.items c.self.inside.tenants.items c.self.inside.pass c.self.inside.reserved c.self.invariant.0 c.args.self.now c.self.view_is c.args.first c.place_of-first.result c.place_of-first.ensures, sees c.self.inside.table c.self.inside.shapes.items c.self.inside.tenants.items c.self.inside.pass c.self.inside.reserved c.self.invariant.0 c.args.self.now c.self.view_is c.args.second c.place_of-second.result c.place_of-second.ensures, pass-left-both c.self.inside.table c.pair.new.self c.self.inside.pass c.place_of-first.result c.place_of-second.result c.self.invariant.1, entries-long c.self.inside.table c.pair.new.self c.pair.ensures.contents, stay-paired (sharing_of c.self.inside.table c.self.inside.pass) c.place_of-first.result c.place_of-second.result (apart c))
+    grind (arith, sees c.self.inside.table c.self.inside.shapes.items c.self.inside.tenants.items c.self.inside.pass c.self.inside.reserved c.self.invariant.0 c.args.self.now c.self.view_is c.args.first c.place_of-first.result c.place_of-first.ensures, sees c.self.inside.table c.self.inside.shapes.items c.self.inside.tenants.items c.self.inside.pass c.self.inside.reserved c.self.invariant.0 c.args.self.now c.self.view_is c.args.second c.place_of-second.result c.place_of-second.ensures, pass-left-both c.self.inside.table c.pair.new.self c.self.inside.pass c.place_of-first.result c.place_of-second.result c.self.invariant.1, entries-long c.self.inside.table c.pair.new.self c.pair.ensures.contents, nat_tests, get_or-set_same, get_or-set_other, set_past, get_or_past)
 
 pub returns : goal.returns
 unfolding view_of

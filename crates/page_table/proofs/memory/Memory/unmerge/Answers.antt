@@ -1,6 +1,6 @@
 use Rattle.page_table.proofs.Base.{◌≡◌, ◌≤◌, ◌+◌, length, ap, arith, nat_tests}
 use Rattle.page_table.proofs.Words.{unmerge_need, unmerged, SharesNothing, Pass, MemoryState, used_by, sharing_of, view_of}
-use Rattle.page_table.proofs.Merging.{memory_kept, moves}
+use Rattle.page_table.proofs.Merging.{moves}
 use Rattle.page_table.proofs.Unmerging.{need_reserved, need_fits, unmerged_is}
 use Rattle.page_table.proofs.Fitting.{entries-long}
 use Rattle.page_table.proofs.Waiters.{pass-kept}
@@ -18,7 +18,7 @@ room c =
 
 pub invariant_of-self : goal.invariant_of-self
 invariant_of-self c =
-    grind (arith, nat_tests, memory_kept c.self.inside.table c.take_out_all.new.self c.self.inside.shapes.items c.self.inside.tenants.items c.self.inside.pass c.self.inside.pass c.take_out_all.ensures.contents c.take_out_all.ensures.arena c.self.inside.reserved c.self.invariant.0 (room c), room c, pass-kept c.self.inside.table c.take_out_all.new.self c.self.inside.pass c.self.invariant.1 c.take_out_all.ensures.kept c.take_out_all.ensures.arena (entries-long c.self.inside.table c.take_out_all.new.self c.take_out_all.ensures.contents), entries-long c.self.inside.table c.take_out_all.new.self c.take_out_all.ensures.contents, ahead-told c.self.inside.table c.take_out_all.new.self c.self.inside.pass, stay-broken_from (sharing_of c.self.inside.table c.self.inside.pass) 0)
+    grind (arith, nat_tests, room c, pass-kept c.self.inside.table c.take_out_all.new.self c.self.inside.pass c.self.invariant.1 c.take_out_all.ensures.kept c.take_out_all.ensures.arena (entries-long c.self.inside.table c.take_out_all.new.self c.take_out_all.ensures.contents), entries-long c.self.inside.table c.take_out_all.new.self c.take_out_all.ensures.contents, ahead-told c.self.inside.table c.take_out_all.new.self c.self.inside.pass, stay-broken_from (sharing_of c.self.inside.table c.self.inside.pass) 0)
 
 need : (c : goal.After-set) → unmerge_need (sharing_of c.self.inside.table c.self.inside.pass) ≡ unmerge_need c.args.self.now.sharing
 unfolding view_of

@@ -1,8 +1,9 @@
+use Rattle.page_table.proofs.Waiters.{waiters-few, pass-others, waiters-more}
 use Rattle.page_table.proofs.Base.{◌≡◌, ◌≤◌, IfSome, refl, length, ap, arith, nat_tests, map-append}
 use Rattle.page_table.proofs.Words.{Waiting, page_place, waits, MayMerge, HadFingerprint, sharing_of, view_of, Sharing}
-use Rattle.page_table.proofs.Merging.{memory_kept, moves}
+use Rattle.page_table.proofs.Merging.{moves}
 use Rattle.page_table.proofs.Moving.{marked_entry}
-use Rattle.page_table.proofs.Partners.{room-left, pass-waits, is-behind, may-entry}
+use Rattle.page_table.proofs.Partners.{is-behind, may-entry}
 use Rattle.page_table.proofs.Ahead.{ahead-told, stay-marked}
 use Rattle.page_table.proofs.Fitting.{entries-long}
 use Rattle.page_table.proofs.Seen.{sees}
@@ -18,23 +19,17 @@ mark-requires c =
 
 pub insert-requires : goal.insert-requires
 insert-requires c =
-    grind (arith, room-left c.self.inside.table c.self.inside.shapes.items c.self.inside.tenants.items c.self.inside.reserved c.self.inside.pass.cursor c.self.inside.pass.waiting.listed c.self.inside.pass.waiting.room c.self.invariant.0 c.self.invariant.1.waiters c.self.invariant.1.room)
+    grind (arith, waiters-few)
 
 pub invariant_of-self : goal.invariant_of-self
 unfolding view_of
 invariant_of-self c =
-    grind (arith, nat_tests, sees c.self.inside.table c.self.inside.shapes.items c.self.inside.tenants.items c.self.inside.pass c.self.inside.reserved c.self.invariant.0 c.args.self.now c.self.view_is c.args.page c.place_of-place.result c.place_of-place.ensures, pass-waits c.self.inside.table c.mark.new.self c.self.inside.pass (record { place = c.place_of-place.result; frame = c.page-frame.result.frame; fingerprint = c.args.fingerprint }) (marked_entry c.page-frame.result Waiting c.args.fingerprint) c.self.invariant.1, entries-long c.self.inside.table c.mark.new.self c.mark.ensures.contents, may-entry c.self.inside.table c.self.inside.shapes.items c.self.inside.tenants.items c.self.inside.pass c.args.page c.page-frame.result, is-behind, ahead-told c.self.inside.table c.mark.new.self c.self.inside.pass, stay-marked (sharing_of c.self.inside.table c.self.inside.pass) c.place_of-place.result)
+    grind (arith, nat_tests, sees c.self.inside.table c.self.inside.shapes.items c.self.inside.tenants.items c.self.inside.pass c.self.inside.reserved c.self.invariant.0 c.args.self.now c.self.view_is c.args.page c.place_of-place.result c.place_of-place.ensures, pass-others, waiters-more, entries-long c.self.inside.table c.mark.new.self c.mark.ensures.contents, may-entry c.self.inside.table c.self.inside.shapes.items c.self.inside.tenants.items c.self.inside.pass c.args.page c.page-frame.result, is-behind, ahead-told c.self.inside.table c.mark.new.self c.self.inside.pass, stay-marked (sharing_of c.self.inside.table c.self.inside.pass) c.place_of-place.result)
 
 had : (c : goal.After-insert) → HadFingerprint (view_of c.self.inside.table c.self.inside.shapes.items c.self.inside.tenants.items c.self.inside.pass) c.args.page c.args.fingerprint
 had c = rw (← c.self.view_is) at c.requires.last
 
--- the page waits, as the table and the pass tell it
-waiting_told : (c : goal.After-insert)
-    → sharing_of c.mark.new.self (record c.self.inside.pass { waiting = c.insert.new.self }) ≡ waits (sharing_of c.self.inside.table c.self.inside.pass) (page_place c.args.page) c.args.fingerprint
-unfolding view_of waits
-waiting_told c = grind (arith, nat_tests, had c, map-append)
-
 pub returns : goal.returns
-unfolding view_of
+unfolding view_of waits
 returns c =
-    grind (arith, nat_tests, moves c.self.inside.table c.mark.new.self c.self.inside.shapes.items c.self.inside.tenants.items c.self.inside.pass (record c.self.inside.pass { waiting = c.insert.new.self }) c.mark.ensures.contents (ap length c.mark.ensures.arena) c.args.self.now c.self.view_is 0 0 c.self.inside.reserved c.self.invariant.0, waiting_told c)
+    grind (arith, nat_tests, moves c.self.inside.table c.mark.new.self c.self.inside.shapes.items c.self.inside.tenants.items c.self.inside.pass (record c.self.inside.pass { waiting = c.insert.new.self }) c.mark.ensures.contents (ap length c.mark.ensures.arena) c.args.self.now c.self.view_is 0 0 c.self.inside.reserved c.self.invariant.0, had, map-append)

@@ -1,9 +1,9 @@
+use Rattle.page_table.proofs.Ahead.{stay-set}
 use Rattle.page_table.proofs.Base.{◌∙◌, ap, arith, refl, nat_tests}
 use Rattle.page_table.proofs.Words.{page_place, Sharing, zeroed, WaitingList, sharing_of, view_of}
 use Rattle.page_table.proofs.Seen.{sees}
 use Rattle.page_table.proofs.Merging.{moves}
 use Rattle.page_table.proofs.Waiters.{pass-left}
-use Rattle.page_table.proofs.Ahead.{stay-zeroed}
 use Rattle.page_table.proofs.Fitting.{entries-long}
 use Rattle.page_table.proofs.memory.Memory.zero.Goals as goal
 
@@ -12,8 +12,9 @@ zero-requires c =
     grind (arith, sees c.self.inside.table c.self.inside.shapes.items c.self.inside.tenants.items c.self.inside.pass c.self.inside.reserved c.self.invariant.0 c.args.self.now c.self.view_is c.args.page c.place_of-place.result c.place_of-place.ensures)
 
 pub invariant_of-self : goal.invariant_of-self
+unfolding zeroed
 invariant_of-self c =
-    grind (arith, sees c.self.inside.table c.self.inside.shapes.items c.self.inside.tenants.items c.self.inside.pass c.self.inside.reserved c.self.invariant.0 c.args.self.now c.self.view_is c.args.page c.place_of-place.result c.place_of-place.ensures, pass-left c.self.inside.table c.zero.new.self c.self.inside.pass c.place_of-place.result c.self.invariant.1, entries-long c.self.inside.table c.zero.new.self c.zero.ensures.contents, stay-zeroed (sharing_of c.self.inside.table c.self.inside.pass) c.place_of-place.result)
+    grind (arith, sees c.self.inside.table c.self.inside.shapes.items c.self.inside.tenants.items c.self.inside.pass c.self.inside.reserved c.self.invariant.0 c.args.self.now c.self.view_is c.args.page c.place_of-place.result c.place_of-place.ensures, pass-left c.self.inside.table c.zero.new.self c.self.inside.pass c.place_of-place.result c.self.invariant.1, entries-long c.self.inside.table c.zero.new.self c.zero.ensures.contents, stay-set)
 
 pub returns : goal.returns
 unfolding view_of

@@ -1,7 +1,7 @@
 use Rattle.page_table.proofs.Base.{◌≡◌, ◌<◌, length, None, nat_tests, arith, common_steps, get_or-set_other}
 use Rattle.page_table.proofs.Words.{zero_page, TableState, entry_at}
 use Rattle.std.proofs.Common.{length-set}
-use Rattle.page_table.proofs.Ending.{IsUnused, unused-frame, sound-added, contents-added, states-added, groups-added, used-added}
+use Rattle.page_table.proofs.Ending.{IsUnused, unused-frame, sound-added, states-added, groups-added, used-added, contents-filled}
 use Rattle.page_table.proofs.Putting.{no_entry_of_content}
 use Rattle.page_table.proofs.Trees.{tree-set}
 use Rattle.page_table.proofs.table.Table.add.Goals as goal
@@ -23,4 +23,4 @@ invariant_of-self c =
     grind (arith, sound-added (table c) c.args.place c.take-frame.result c.args.mergeable c.self.invariant.0.fits (unused c) (there c) (empty c) c.self.inside.counts c.take-frame.new.self, unused c, tree-set c.self.inside.arena c.self.inside.groups.listed c.self.inside.tree c.take-frame.result zero_page, length-set)
 
 pub returns : goal.returns
-returns c = grind (arith, nat_tests, common_steps, contents-added, unused, there, empty, states-added, groups-added, used-added, get_or-set_other)
+returns c = grind (arith, nat_tests, common_steps, contents-filled, unused, there, empty, states-added, groups-added, used-added, get_or-set_other)

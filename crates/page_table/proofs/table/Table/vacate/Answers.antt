@@ -1,8 +1,8 @@
-use Rattle.page_table.proofs.Base.{◌≡◌, ◌+◌, ◌<◌, Some, true, arith, get_or-set_other, nat_tests}
-use Rattle.page_table.proofs.Words.{is_shared, TableState, entry_at, one_if_zero, pages_on}
+use Rattle.page_table.proofs.Base.{◌≡◌, ◌+◌, ◌<◌, Some, true, arith, get_or-set_other, nat_tests, map-set}
+use Rattle.page_table.proofs.Words.{is_shared, TableState, entry_at, one_if_zero, pages_on, contents_of}
 use Rattle.page_table.proofs.Changing.{entry_fits}
 use Rattle.page_table.proofs.Entries.{inside}
-use Rattle.page_table.proofs.Vacating.{contents-vacated, sharing-vacated, used-vacated, sound-vacated}
+use Rattle.page_table.proofs.Vacating.{sharing-vacated, used-vacated, sound-vacated}
 use Rattle.page_table.proofs.table.Table.vacate.Goals as goal
 
 abbrev table : goal.After-release → TableState
@@ -24,5 +24,6 @@ pub invariant_of-self : goal.invariant_of-self
 invariant_of-self c = grind (arith, sound-vacated (table c) c.args.place c.args.entry c.self.invariant.0.fits (here c) (company c) c.self.inside.counts c.release.new.self)
 
 pub returns : goal.returns
+unfolding contents_of
 returns c =
-    grind (arith, contents-vacated (table c) c.args.place c.args.entry c.self.invariant.0.fits (here c) (company c), sharing-vacated (table c) c.args.place c.args.entry c.self.invariant.0.fits (here c) (company c), used-vacated (table c) c.args.place c.args.entry c.self.invariant.0.fits (here c) (company c), get_or-set_other)
+    grind (arith, map-set, sharing-vacated (table c) c.args.place c.args.entry c.self.invariant.0.fits (here c) (company c), used-vacated (table c) c.args.place c.args.entry c.self.invariant.0.fits (here c) (company c), get_or-set_other)
