@@ -8,16 +8,12 @@ share-requires-clause-few c =
     let move = move-zeroed _ c.args.self.now c.args.place c.page-entry.result c.merged.result c.self.view_is c.self.invariant.0.fits c.page-entry.ensures c.requires.own c.requires.zeros (grind arith) in
     rw c.merged.ensures.frame at (few _ c.args.place c.page-entry.result c.merged.result move c.self.inside.counts c.self.invariant.0.counted)
 
-abbrev table : goal.After-release → TableState
-table c = record { arena = c.self.inside.arena; entries = c.self.inside.entries; groups = c.self.inside.groups.listed }
-
-move : (c : goal.After-release) → IsMove (table c) c.args.place c.page-entry.result c.merged.result
-move c = move-zeroed (table c) c.args.self.now c.args.place c.page-entry.result c.merged.result c.self.view_is c.self.invariant.0.fits c.page-entry.ensures c.requires.own c.requires.zeros (grind arith)
-
 pub invariant_of-self : goal.invariant_of-self
 invariant_of-self c =
-    grind (arith, sound-moved (table c) c.args.place c.page-entry.result c.merged.result (move c) c.self.inside.counts c.share.new.self c.release.new.self c.self.invariant.0.counted)
+    let move = move-zeroed _ c.args.self.now c.args.place c.page-entry.result c.merged.result c.self.view_is c.self.invariant.0.fits c.page-entry.ensures c.requires.own c.requires.zeros (grind arith) in
+    grind (arith, sound-moved _ c.args.place c.page-entry.result c.merged.result move c.self.inside.counts c.share.new.self c.release.new.self)
 
 pub returns : goal.returns
 returns c =
-    grind (arith, contents-moved (table c) c.args.place c.page-entry.result c.merged.result (move c), sharing-zeroed (table c) c.args.place c.page-entry.result c.merged.result (move c), used-moved (table c) c.args.place c.page-entry.result c.merged.result (move c), get_or-set_other)
+    let move = move-zeroed _ c.args.self.now c.args.place c.page-entry.result c.merged.result c.self.view_is c.self.invariant.0.fits c.page-entry.ensures c.requires.own c.requires.zeros (grind arith) in
+    grind (arith, contents-moved _ c.args.place c.page-entry.result c.merged.result move, sharing-zeroed _ c.args.place c.page-entry.result c.merged.result move, used-moved _ c.args.place c.page-entry.result c.merged.result move, get_or-set_other)
