@@ -5,15 +5,8 @@ use Rattle.page_table.proofs.Sides.{order}
 
 over : (pages : List (Option PageState)) (n d : ℕ) → ((i : ℕ) → n ≤ i → i < n + d → is_mergeable (slice_index_or pages i None) ≡ false)
     → first_mergeable n (drop n pages) ≡ first_mergeable (n + d) (drop (n + d) pages)
-over pages n zero apart = let same : n + 0 ≡ n = omega arith in rw same refl
-over pages n (suc d) apart =
-    let place : n + suc d ≡ n + 1 + d = omega arith in
-    rw place (step (λ later. over pages (n + 1) d later) (order n (length pages)))
-  where
-    step : (((i : ℕ) → n + 1 ≤ i → i < n + 1 + d → is_mergeable (slice_index_or pages i None) ≡ false) → first_mergeable (n + 1) (drop (n + 1) pages) ≡ first_mergeable (n + 1 + d) (drop (n + 1 + d) pages))
-        → (n < length pages) ⊎ (length pages ≤ n) → first_mergeable n (drop n pages) ≡ first_mergeable (n + 1 + d) (drop (n + 1 + d) pages)
-    step rest (inl less) = next-after pages n less (apart n (omega arith) (omega arith)) ∙ rest (λ i le lt. apart i (omega (arith, le)) (omega (arith, lt)))
-    step rest (inr past) = next-none pages n past ∙ sym (next-none pages (n + 1 + d) (omega (arith, past)))
+over pages n zero apart = grind arith
+over pages n (suc d) apart = grind (arith, nat_tests, order n (length pages), next-after pages n, next-none pages, over pages (n + 1) d)
 
 -- pages that may not be merged are passed over
 pub next-over : (pages : List (Option PageState)) (n m : ℕ) → n ≤ m → ((i : ℕ) → n ≤ i → i < m → is_mergeable (slice_index_or pages i None) ≡ false)

@@ -10,9 +10,6 @@ pub pair-requires : goal.pair-requires
 pair-requires c =
     grind (arith, nat_tests, sees c.self.inside.table c.self.inside.shapes.items c.self.inside.tenants.items c.self.inside.pass c.self.inside.reserved c.self.invariant.0 c.args.self.now c.self.view_is c.args.first c.place_of-first.result c.place_of-first.ensures, sees c.self.inside.table c.self.inside.shapes.items c.self.inside.tenants.items c.self.inside.pass c.self.inside.reserved c.self.invariant.0 c.args.self.now c.self.view_is c.args.second c.place_of-second.result c.place_of-second.ensures, map_small, number_small)
 
-apart : (c : goal.After-forget-2) → c.place_of-first.result ≢ c.place_of-second.result
-apart c = grind (arith, nat_tests, map_small, number_small)
-
 pub invariant_of-self : goal.invariant_of-self
 unfolding paired
 invariant_of-self c =

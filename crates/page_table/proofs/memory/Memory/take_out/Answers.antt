@@ -23,24 +23,18 @@ take_out-requires c =
 abbrev before : goal.After-pin_if → MemoryState
 before c = view_of c.self.inside.table c.self.inside.shapes.items c.self.inside.tenants.items c.self.inside.pass
 
-told : (c : goal.After-pin_if) → break_cost c.args.self.now.sharing (page_place c.args.page) ≡ break_frames c.self.inside.table (page_place c.args.page)
-told c = rw (← c.self.view_is) (cost_told c.self.inside.table c.self.inside.shapes.items c.self.inside.tenants.items c.self.inside.pass c.costs_are_told.ensures (page_place c.args.page))
-
-used : (c : goal.After-pin_if) → used_by c.take_out.new.self ≡ used_by c.self.inside.table + break_cost c.args.self.now.sharing (page_place c.args.page)
-used c = rw (told c) (rw c.place_of-place.ensures at c.take_out.ensures.used)
-
 room : (c : goal.After-pin_if) → c.self.inside.reserved + used_by c.take_out.new.self ≤ length c.self.inside.table.arena
-room c = grind (arith, nat_tests, cost_reserved, used, told)
+room c = grind (arith, nat_tests, cost_reserved, cost_told)
 
 pinned : (c : goal.After-pin_if) → c.pin_if.new.self ≡ pinned_if c.pins-is_pinned.result (page_place c.args.page) c.self.inside.pass.pins
-pinned c = c.pin_if.ensures ∙ ap (λ (i : ℕ). pinned_if c.pins-is_pinned.result i c.self.inside.pass.pins) c.place_of-place.ensures
+pinned c = grind arith
 
 pins : (c : goal.After-pin_if) → c.pins-is_pinned.result ≡ ((part (before c) c.args.page.tenant).running && is_shared_page (state_at (sharing_of c.self.inside.table c.self.inside.pass) (page_place c.args.page)))
 unfolding view_of
 pins c = rw (← c.self.view_is) at c.pins-is_pinned.ensures
 
 taken : (c : goal.After-pin_if) → sharing_of c.take_out.new.self c.self.inside.pass ≡ broken (sharing_of c.self.inside.table c.self.inside.pass) (page_place c.args.page)
-taken c = rw c.place_of-place.ensures at c.take_out.ensures.sharing c.self.inside.pass
+taken c = grind (arith, c.take_out.ensures.sharing c.self.inside.pass, c.place_of-place.ensures)
 
 pass : (c : goal.After-pin_if) → IsPass c.take_out.new.self (record c.self.inside.pass { pins = c.pin_if.new.self })
 pass c =
@@ -53,13 +47,13 @@ invariant_of-self c =
 frames : (c : goal.After-pin_if) → break_cost c.args.self.now.sharing (page_place c.args.page) ≡ 0
     → (view_of c.take_out.new.self c.self.inside.shapes.items c.self.inside.tenants.items (record c.self.inside.pass { pins = c.pin_if.new.self })).frames ≡ c.args.self.now.frames
 unfolding view_of
-frames c none = rw (← c.self.view_is) ((rw c.place_of-place.ensures at c.take_out.ensures.frames) (sym (told c) ∙ none))
+frames c none = grind (arith, nat_tests, cost_told)
 
 pub returns : goal.returns
 returns c =
     let moved = moves c.self.inside.table c.take_out.new.self c.self.inside.shapes.items c.self.inside.tenants.items c.self.inside.pass
     (record c.self.inside.pass { pins = c.pin_if.new.self }) c.take_out.ensures.contents c.take_out.ensures.arena c.args.self.now c.self.view_is
-    (break_cost c.args.self.now.sharing (page_place c.args.page)) 0 c.self.inside.reserved c.self.invariant.0 (room c) (omega (arith, used c)) in
+    (break_cost c.args.self.now.sharing (page_place c.args.page)) 0 c.self.inside.reserved c.self.invariant.0 (room c) (grind (arith, nat_tests, cost_told)) in
     record {
       frames = frames c;
       maps = moved.maps;

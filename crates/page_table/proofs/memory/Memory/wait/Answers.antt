@@ -26,10 +26,7 @@ unfolding view_of
 invariant_of-self c =
     grind (arith, nat_tests, sees c.self.inside.table c.self.inside.shapes.items c.self.inside.tenants.items c.self.inside.pass c.self.inside.reserved c.self.invariant.0 c.args.self.now c.self.view_is c.args.page c.place_of-place.result c.place_of-place.ensures, pass-others, waiters-more, entries-long c.self.inside.table c.mark.new.self c.mark.ensures.contents, may-entry c.self.inside.table c.self.inside.shapes.items c.self.inside.tenants.items c.self.inside.pass c.args.page c.page-frame.result, is-behind, ahead-told c.self.inside.table c.mark.new.self c.self.inside.pass, stay-marked (sharing_of c.self.inside.table c.self.inside.pass) c.place_of-place.result)
 
-had : (c : goal.After-insert) → HadFingerprint (view_of c.self.inside.table c.self.inside.shapes.items c.self.inside.tenants.items c.self.inside.pass) c.args.page c.args.fingerprint
-had c = rw (← c.self.view_is) at c.requires.last
-
 pub returns : goal.returns
 unfolding view_of waits
 returns c =
-    grind (arith, nat_tests, moves c.self.inside.table c.mark.new.self c.self.inside.shapes.items c.self.inside.tenants.items c.self.inside.pass (record c.self.inside.pass { waiting = c.insert.new.self }) c.mark.ensures.contents (ap length c.mark.ensures.arena) c.args.self.now c.self.view_is 0 0 c.self.inside.reserved c.self.invariant.0, had, map-append)
+    grind (arith, nat_tests, moves c.self.inside.table c.mark.new.self c.self.inside.shapes.items c.self.inside.tenants.items c.self.inside.pass (record c.self.inside.pass { waiting = c.insert.new.self }) c.mark.ensures.contents (ap length c.mark.ensures.arena) c.args.self.now c.self.view_is 0 0 c.self.inside.reserved c.self.invariant.0, map-append)

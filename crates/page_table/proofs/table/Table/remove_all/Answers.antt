@@ -14,9 +14,9 @@ remove-requires c = grind (arith, nat_tests, length-contents, filled_at)
 pub loop-number-preserved : goal.loop-number-preserved
 loop-number-preserved c =
     record {
-      contents = grind (arith, length-contents c.args.self.now, c.remove.ensures.contents, c.loop-number.invariant.contents, filled_more (contents_of c.args.self.now) c.args.first c.loop-number.number []);
-      sharing = λ pass. gone-more c.args.self.now c.loop-number.self c.remove.new.self pass c.args.first c.loop-number.number (c.loop-number.invariant.sharing pass) (c.remove.ensures.sharing pass);
-      used = omega (arith, c.remove.ensures.used, c.loop-number.invariant.used);
-      arena = c.remove.ensures.arena ∙ c.loop-number.invariant.arena;
+      contents = grind (arith, length-contents, filled_more (contents_of c.args.self.now) c.args.first c.loop-number.number []);
+      sharing = grind (arith, gone-more c.args.self.now c.loop-number.self c.remove.new.self);
+      used = grind arith;
+      arena = grind arith;
       kept = grind (arith, c.remove.ensures.kept, c.loop-number.invariant.kept);
     }
