@@ -2,6 +2,7 @@
 use Rattle.page_table.proofs.Base.{◌≡◌, ◌≢◌, ℕ, zero, suc, ◌+◌, ◌*◌, ◌<◌, ◌≤◌, List, [], ◌∷◌, length, slice_index_or, Option, Some, None, IfSome, false, refl, ap, arith, Bool, nat_tests}
 use Rattle.page_table.proofs.Words.{Pass, Shape, Page, part_of, map_place, page_place, PageState, is_shared, break_cost, Sharing, Entry, Tenant, MemoryState, part, free_of, have_of, IsPageOf, IsOwn, AreKept, IsKeptBut, KeepsSettings, with_pins, TableState, IsOwnAt, entry_at, state_of, states_of, contents_of, maps_of, sharing_of, used_by, break_frames, view_of, IsMemory}
 use Rattle.page_table.proofs.Reading.{page_located, page_number, few_pages}
+use Rattle.page_table.proofs.Costs.{state-at}
 use Rattle.page_table.proofs.Free.{free_is}
 
 -- The pages' bytes stay, and frames were taken and given back. The pins and what is told of sharing are those of the table and the pass, before and after.
@@ -43,34 +44,16 @@ module _ (table : TableState) (shapes : List (Option Shape)) (tenants : List Ten
   unfolding view_of
   cost_told i = costs pass i
 
-  -- where the frames that a break takes may be had, there is room for it
-  pub cost_fits : (reserved i : ℕ) → IsMemory table shapes tenants reserved → break_cost (view_of table shapes tenants pass).sharing i ≤ have_of (view_of table shapes tenants pass)
-      → used_by table + break_frames table i ≤ length table.arena
-  unfolding view_of
-  cost_fits reserved i is enough =
-      omega (arith, costs pass i, enough, free_is table shapes tenants pass (omega (arith, is.room)), is.room, is.sum)
-
   pub cost_reserved : (reserved i : ℕ) → IsMemory table shapes tenants reserved → break_cost (view_of table shapes tenants pass).sharing i ≤ have_of (view_of table shapes tenants pass)
       → reserved + (used_by table + break_frames table i) ≤ length table.arena
   unfolding view_of
-  cost_reserved reserved i is enough =
-      omega (arith, costs pass i, enough, free_is table shapes tenants pass (omega (arith, is.room)), is.room, is.sum)
-
--- what holds of an entry holds of the state at its place
-pub state_of_entry : (P : PageState → Type 0) (entries : List (Option Entry)) (i : ℕ) → IfSome (entry_at entries i) (λ entry. P (state_of entry)) → IfSome (slice_index_or (states_of entries) i None) P
-state_of_entry P [] i h = tt
-state_of_entry P (None ∷ xs) zero h = tt
-state_of_entry P (Some x ∷ xs) zero h = h
-state_of_entry P (x ∷ xs) (suc i) h = state_of_entry P xs i h
+  cost_reserved reserved i is enough = grind (arith, costs pass i, free_is table shapes tenants pass)
 
 -- a page with a frame of its own, as callers see it
 pub own_told : (table : TableState) (shapes : List (Option Shape)) (tenants : List Tenant) (pass : Pass) (page : Page) → IsOwnAt table (page_place page)
     → IsOwn (view_of table shapes tenants pass) page
 unfolding view_of
-own_told table shapes tenants pass page own = state_of_entry (λ state. is_shared state.status ≡ false) table.entries (page_place page) own
-
-abbrev page_of : ℕ → ℕ → ℕ → Page
-page_of t m n = record { tenant = t; map = m; number = n }
+own_told table shapes tenants pass page own = grind (arith, nat_tests, state-at table pass (page_place page))
 
 module _ (table : TableState) (shapes : List (Option Shape)) (tenants : List Tenant) (pass : Pass) (reserved : ℕ) (is : IsMemory table shapes tenants reserved) where
   pub number_small : (page : Page) → IsPageOf (view_of table shapes tenants pass) page → page.number < 256
@@ -79,4 +62,3 @@ module _ (table : TableState) (shapes : List (Option Shape)) (tenants : List Ten
 
   pub map_small : (page : Page) → IsPageOf (view_of table shapes tenants pass) page → page.map < 8
   map_small page there = (page_located table shapes tenants pass reserved page is there).small
-

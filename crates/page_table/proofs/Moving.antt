@@ -191,42 +191,6 @@ joined-two i j ne = grind (arith, nat_tests)
 abbrev pub founded : TableState → ℕ → Entry → TableState
 founded table i x = record table { entries = slice_set table.entries i (Some x); groups = table.groups ++ x.frame ∷ [] }
 
--- The page at a place has its own frame, and another entry makes it a group of its own.
-pub record IsFounding (table : TableState) (i : ℕ) (entry x : Entry) : Type 0 where
-  pub is : IsTable table
-  pub here : entry_at table.entries i ≡ Some entry
-  pub own : is_shared entry.status ≡ false
-  pub to : IsMerged entry x entry.frame Grouped
-
-module _ (table : TableState) (i : ℕ) (entry x : Entry) (founding : IsFounding table i entry x) where
-  open founding use {is, here, own, to}
-
-  lone_founder : IsAlone table entry.frame
-  lone_founder = is_alone table entry (entry_fits table i entry is here) own
-
-  pages_on-founded : (g : ℕ) → pages_on g (founded table i x).entries ≡ pages_on g table.entries
-  pages_on-founded g = grind (arith, pages_on-changed table.entries i entry (Some x) here g, to.frame)
-
-  times-founded : (g : ℕ) → times g (founded table i x).groups ≡ times g table.groups + one_when (entry.frame == g)
-  times-founded g = grind (arith, times-push g x.frame table.groups, to.frame)
-
-  contents-founded : contents_of (founded table i x) ≡ contents_of table
-  contents-founded = contents-entry table i entry x (founded table i x).groups here (ap (page_at table.arena) to.frame)
-
-  used-founded : used_by (founded table i x) ≡ used_by table
-  used-founded = grind (arith, nat_tests, own_pages-set, inside, own, to, length-append table.groups (x.frame ∷ []))
-
-  each-founded : (g : ℕ) → (times g (founded table i x).groups ≡ 0) ⊎ IsGroup (founded table i x) g
-  each-founded g = grind (arith, nat_tests, is.groups g, times-founded g, pages_on-founded g, lone_founder)
-
-  IsTable-founded : IsTable (founded table i x)
-  IsTable-founded =
-      table-set table (founded table i x) i (Some x) is refl refl is.pages is.zero (grind (arith, nat_tests, entry_fits table i entry is here, to, times-founded, lone_founder))
-      (λ j y ne e. grind (arith, nat_tests, times-founded y.frame, pages_on-founded y.frame, apart_alone table j i y entry e here, ne, lone_founder)) each-founded
-
-  counted-founded : (counts : CountsState) → AreCountsOf table counts → AreCountsOf (founded table i x) counts
-  counted-founded counts counted = grind (arith, nat_tests, counted-changed, used-founded, pages_on-founded)
-
 -- Two pages of the same bytes, each with its own frame, and their entries in the new group of the first page's frame.
 pub record IsPairing (table : TableState) (i j : ℕ) (one other x y : Entry) : Type 0 where
   pub is : IsTable table
@@ -254,20 +218,43 @@ pairing-from table now i j one other x y e is apart there_first there_second own
 module _ (table : TableState) (i j : ℕ) (one other x y : Entry) (pairing : IsPairing table i j one other x y) where
   open pairing use {is, apart, first, second, own_first, own_second, to_first, to_second, same}
 
-  founding : IsFounding table i one x
-  founding = record { is = is; here = first; own = own_first; to = to_first }
+  lone_first : IsAlone table one.frame
+  lone_first = is_alone table one (entry_fits table i one is first) own_first
+
+  pages_on-founded : (g : ℕ) → pages_on g (founded table i x).entries ≡ pages_on g table.entries
+  pages_on-founded g = grind (arith, pages_on-changed table.entries i one (Some x) first g, to_first.frame)
+
+  times-founded : (g : ℕ) → times g (founded table i x).groups ≡ times g table.groups + one_when (one.frame == g)
+  times-founded g = grind (arith, times-push g x.frame table.groups, to_first.frame)
+
+  contents-founded : contents_of (founded table i x) ≡ contents_of table
+  contents-founded = contents-entry table i one x (founded table i x).groups first (ap (page_at table.arena) to_first.frame)
+
+  used-founded : used_by (founded table i x) ≡ used_by table
+  used-founded = grind (arith, nat_tests, own_pages-set, inside, first, own_first, to_first, length-append table.groups (x.frame ∷ []))
+
+  each-founded : (g : ℕ) → (times g (founded table i x).groups ≡ 0) ⊎ IsGroup (founded table i x) g
+  each-founded g = grind (arith, nat_tests, is.groups g, times-founded g, pages_on-founded g, lone_first)
+
+  IsTable-founded : IsTable (founded table i x)
+  IsTable-founded =
+      table-set table (founded table i x) i (Some x) is refl refl is.pages is.zero (grind (arith, nat_tests, entry_fits table i one is first, to_first, times-founded, lone_first))
+      (λ j y ne e. grind (arith, nat_tests, times-founded y.frame, pages_on-founded y.frame, apart_alone table j i y one e first, ne, lone_first)) each-founded
+
+  counted-founded : (counts : CountsState) → AreCountsOf table counts → AreCountsOf (founded table i x) counts
+  counted-founded counts counted = grind (arith, nat_tests, counted-changed, used-founded, pages_on-founded)
 
   here-founded : entry_at (founded table i x).entries j ≡ Some other
   here-founded = grind (arith, get_or-set_other table.entries i j (Some x) None, second, apart)
 
   move : IsMove (founded table i x) j other y
-  move = grind (arith, nat_tests, IsTable-founded table i one x founding, here-founded, entry_fits table i one, times-founded table i one x founding, lone_founder table i one x founding, pairing)
+  move = grind (arith, nat_tests, IsTable-founded, here-founded, entry_fits table i one, times-founded, lone_first, pairing)
 
   pub contents-pair : contents_of (with_pair table i j x y) ≡ contents_of table
-  contents-pair = contents-moved (founded table i x) j other y move ∙ contents-founded table i one x founding
+  contents-pair = contents-moved (founded table i x) j other y move ∙ contents-founded
 
   pub used-pair : used_by (with_pair table i j x y) + 1 ≡ used_by table
-  used-pair = used-moved (founded table i x) j other y move ∙ used-founded table i one x founding
+  used-pair = used-moved (founded table i x) j other y move ∙ used-founded
 
   pub sound-pair : (old mid new : CountsState) → AreCountsOf table old
       → mid.counts ≡ slice_set old.counts one.frame (slice_index_or old.counts one.frame 0 + 1) → mid.unused ≡ old.unused
@@ -275,16 +262,16 @@ module _ (table : TableState) (i j : ℕ) (one other x y : Entry) (pairing : IsP
       → length new.unused ≡ length mid.unused + one_if_zero (slice_index_or mid.counts other.frame 0 - 1)
       → IsSound (with_pair table i j x y) new
   sound-pair old mid new counted share kept release left =
-      sound-moved (founded table i x) j other y move old mid new (counted-founded table i one x founding old counted) (rw to_second.frame share) kept release left
+      sound-moved (founded table i x) j other y move old mid new (counted-founded old counted) (rw to_second.frame share) kept release left
 
   -- another group keeps its places
   places-kept : (g : ℕ) → 1 ≤ times g table.groups → places_on 0 g (with_pair table i j x y).entries ≡ places_on 0 g table.entries
-  places-kept g some = grind (arith, nat_tests, places_on-set, here-founded, entry_fits, is_alone, founding)
+  places-kept g some = grind (arith, nat_tests, places_on-set, here-founded, entry_fits, is_alone, pairing)
 
   -- the new group's places
   places-pair : places_on 0 x.frame (with_pair table i j x y).entries ≡ joined_by i (j ∷ [])
   places-pair =
-      grind (arith, nat_tests, inside, here-founded, equal, alone, places_on-set, founding, places-one 0, joined-here, joined-two, lone_founder table i one x founding)
+      grind (arith, nat_tests, inside, here-founded, equal, alone, places_on-set, pairing, places-one 0, joined-here, joined-two, lone_first)
 
   groups-pair : groups_of (with_pair table i j x y) ≡ groups_of table ++ joined_by i (j ∷ []) ∷ []
   unfolding groups_of

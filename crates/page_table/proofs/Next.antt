@@ -19,18 +19,10 @@ pub record IsNext (pages : List (Option PageState)) (from i : ℕ) : Type 0 wher
   pub inside : i < length pages
   pub mergeable : is_mergeable (slice_index_or pages i None) ≡ true
 
-found : (n : ℕ) (ys : List (Option PageState)) (i : ℕ) → first_mergeable n ys ≡ Some i → (k : ℕ) × (i ≡ n + k) × (k < length ys) × (is_mergeable (slice_index_or ys k None) ≡ true)
+found : (n : ℕ) (ys : List (Option PageState)) (i : ℕ) → first_mergeable n ys ≡ Some i → (n ≤ i) × (i - n < length ys) × (is_mergeable (slice_index_or ys (i - n) None) ≡ true)
 unfolding first_mergeable
 found n [] i e = absurd (cc)
-found n (y ∷ ys) i e = by_head (is_mergeable y) refl (found (n + 1) ys i) e
-  where
-    one : Some n ≡ Some i → i ≡ n
-    one e = cc
-
-    by_head : (b : Bool) → is_mergeable y ≡ b → (first_mergeable (n + 1) ys ≡ Some i → (k : ℕ) × (i ≡ n + 1 + k) × (k < length ys) × (is_mergeable (slice_index_or ys k None) ≡ true))
-        → (if b then Some n else first_mergeable (n + 1) ys) ≡ Some i → (k : ℕ) × (i ≡ n + k) × (k < length (y ∷ ys)) × (is_mergeable (slice_index_or (y ∷ ys) k None) ≡ true)
-    by_head true h rest e = let same = one e in (0, omega (arith, same), omega arith, h)
-    by_head false h rest e = let later = rest e in (suc later.0, omega (arith, later.1), omega (arith, later.2), later.3)
+found n (y ∷ ys) i e = grind (arith, nat_tests, found (n + 1) ys i)
 
 pub next-is : (pages : List (Option PageState)) (from i : ℕ) → first_mergeable from (drop from pages) ≡ Some i → IsNext pages from i
 next-is pages from i e = grind (arith, nat_tests, found from (drop from pages) i e, length-drop from pages, get_or-drop from pages)

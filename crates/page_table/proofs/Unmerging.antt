@@ -90,25 +90,10 @@ module _ (table : TableState) (is : IsTable table) (i n : ℕ) where
   apart : (x : Option Entry) → entry_at table.entries (i + n) ≡ x → is_shared_page (option_map state_of x) ≡ false → (g : ℕ) → 1 ≤ times g table.groups → is_on g x ≡ false
   apart x h1 h2 g h3 = grind (arith, nat_tests, not_equal g)
 
-  abbrev off : Sharing → Bool → Sharing
-  off s shared =
-      if shared
-      then record s { pages = slice_set s.pages (i + n) (option_map broken_page (state_at s (i + n))); groups = filter filled (map (without (i + n)) s.groups) }
-      else s
-
   break-one : (s : Sharing) → AreBroken table s i n → AreBroken table (broken s (i + n)) i (suc n)
   unfolding broken gone
-  break-one s are = by_shared (is_shared_page (state_at s (i + n))) refl
-    where
-      by_shared : (b : Bool) → is_shared_page (state_at s (i + n)) ≡ b → AreBroken table (off s b) i (suc n)
-      by_shared true e = record {
-        groups = grind (arith, filter-twice filled (map (without (i + n)) s.groups), filter-map filled (without (i + n)) s.groups (filled-without (i + n)), are.groups, filter-map filled (without (i + n)) (map (λ g. places_on 0 g left) table.groups) (filled-without (i + n)), without-groups (i + n) left table.groups);
-        states = grind (arith, get_or-set_other s.pages (i + n), are.states);
-      }
-      by_shared false e = record {
-        groups = grind (arith, are.groups, are.states, groups-kept left (slice_set left (i + n) None) table.groups, places_on-set, here, apart (entry_at table.entries (i + n)) refl);
-        states = grind (arith, are.states);
-      }
+  break-one s are =
+      grind (arith, nat_tests, are, filter-twice filled (map (without (i + n)) s.groups), filter-map filled (without (i + n)) s.groups (filled-without (i + n)), filter-map filled (without (i + n)) (map (λ g. places_on 0 g left) table.groups) (filled-without (i + n)), without-groups (i + n) left table.groups, get_or-set_other s.pages (i + n), groups-kept left (slice_set left (i + n) None) table.groups, places_on-set, here, apart (entry_at table.entries (i + n)) refl)
 
   -- a page of a group has company after the breaks where another page is left on its frame
   company-after : (s : Sharing) (entry : Entry) → AreBroken table s i n → entry_at table.entries (i + n) ≡ Some entry → times entry.frame table.groups ≡ 1

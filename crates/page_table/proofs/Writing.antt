@@ -2,6 +2,7 @@
 use Rattle.page_table.proofs.Base.{◌≡◌, ◌≢◌, ◌∙◌, Bool, ℕ, zero, suc, ◌+◌, ◌*◌, ◌<◌, ◌≤◌, List, [], ◌∷◌, length, slice_index_or, slice_set, Option, Some, None, IfSome, false, option_map, refl, sym, ap, arith, concat, get_or-set_same, get_or-set_other, get_or_past, length-take-le, nat_tests, common_steps}
 use Rattle.page_table.proofs.Words.{Pass, Shape, Page, part_of, with_part, FlatMap, FlatMaps, map_at, map_place, page_place, byte_len_of, PageState, is_shared, TenantPart, length-with_part, Entry, Tenant, page_count, MemoryState, part, bytes_of_map, IsPageOf, IsOwn, map_written, part_written, IsKeptBut, AreMapsKeptBut, KeepsSettings, TableState, entry_at, state_of, maps_of, flat_of, ArePages, ArePagesOf, contents_of, groups_of, states_of, frames_of, used_by, view_of, IsMemory, take-with_part, drop-with_part_before}
 use Rattle.std.proofs.Common.{length-set}
+use Rattle.page_table.proofs.Costs.{state-at}
 use Rattle.page_table.proofs.Maps.{maps_of-changed, length-maps_of, part_of-set_same, part_of-set_other, concat-written, length-concat}
 use Rattle.page_table.proofs.Reading.{IsLocated, page_located, page_number, few_pages, content_in, bytes_in, map_at-part}
 
@@ -120,26 +121,15 @@ module _ (table new : TableState) (shapes : List (Option Shape)) (tenants : List
   unfolding view_of part
   one = grind (arith, nat_tests, one_map table new shapes shapes tenants reserved page.tenant page.map is loc.small loc.inside refl wide (λ j ne. refl) others_new arena pass pass (Some flat_new), loc, pages_new, flat_written loc.shape old_pages page.number at bytes loc.pages, number, in_bytes)
 
-  sharing_after : after.sharing ≡ before.sharing
+  seen_after : (after.sharing ≡ before.sharing) × (after.frames ≡ before.frames)
   unfolding view_of groups_of
-  sharing_after = rw (entries, groups) refl
-
-  frames_after : after.frames ≡ before.frames
-  unfolding view_of
-  frames_after = ap frames_of entries
+  seen_after = (rw (entries, groups) refl, ap frames_of entries)
 
   pub writes : Writes before after page at bytes
   unfolding view_of part
-  writes = grind (arith, nat_tests, one, sharing_after, frames_after, loc)
-
--- what holds of the state at a place holds of its entry
-pub entry_of_state : (P : PageState → Type 0) (entries : List (Option Entry)) (i : ℕ) → IfSome (slice_index_or (states_of entries) i None) P → IfSome (entry_at entries i) (λ entry. P (state_of entry))
-entry_of_state P [] i h = tt
-entry_of_state P (None ∷ xs) zero h = tt
-entry_of_state P (Some x ∷ xs) zero h = h
-entry_of_state P (x ∷ xs) (suc i) h = entry_of_state P xs i h
+  writes = grind (arith, nat_tests, one, seen_after, loc)
 
 pub own_entry : (table : TableState) (shapes : List (Option Shape)) (tenants : List Tenant) (pass : Pass) (page : Page) → IsOwn (view_of table shapes tenants pass) page
     → IfSome (entry_at table.entries (page_place page)) (λ entry. is_shared entry.status ≡ false)
 unfolding view_of
-own_entry table shapes tenants pass page own = entry_of_state (λ state. is_shared state.status ≡ false) table.entries (page_place page) own
+own_entry table shapes tenants pass page own = grind (arith, nat_tests, state-at table pass (page_place page))

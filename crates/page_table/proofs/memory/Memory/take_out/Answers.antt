@@ -1,7 +1,7 @@
 use Rattle.page_table.proofs.Base.{◌≡◌, ◌∙◌, ◌≤◌, ◌+◌, ◌&&◌, ℕ, length, sym, ap, arith, nat_tests, get_or_past, length-map}
 use Rattle.page_table.proofs.Creating.{length-contents}
 use Rattle.page_table.proofs.Words.{page_place, broken_by, state_at, is_shared_page, broken, break_cost, Sharing, MemoryState, part, IsPageOf, used_by, break_frames, sharing_of, view_of, IsPass}
-use Rattle.page_table.proofs.Merging.{parts_but, part_pinned, map_small, number_small, cost_told, cost_fits, cost_reserved, own_told, moves}
+use Rattle.page_table.proofs.Merging.{parts_but, part_pinned, map_small, number_small, cost_told, cost_reserved, own_told, moves}
 use Rattle.page_table.proofs.Fitting.{entries-long, pinned_if, sharing-taken, pins-taken}
 use Rattle.page_table.proofs.Unpinning.{pinned-others}
 use Rattle.page_table.proofs.Waiters.{pass-kept}
@@ -18,7 +18,7 @@ pin_if-requires c =
 
 pub take_out-requires : goal.take_out-requires
 take_out-requires c =
-    grind (arith, nat_tests, sees c.self.inside.table c.self.inside.shapes.items c.self.inside.tenants.items c.self.inside.pass c.self.inside.reserved c.self.invariant.0 c.args.self.now c.self.view_is c.args.page c.place_of-place.result c.place_of-place.ensures, cost_fits c.self.inside.table c.self.inside.shapes.items c.self.inside.tenants.items c.self.inside.pass c.costs_are_told.ensures c.self.inside.reserved (page_place c.args.page) c.self.invariant.0)
+    grind (arith, nat_tests, sees c.self.inside.table c.self.inside.shapes.items c.self.inside.tenants.items c.self.inside.pass c.self.inside.reserved c.self.invariant.0 c.args.self.now c.self.view_is c.args.page c.place_of-place.result c.place_of-place.ensures, cost_reserved c.self.inside.table c.self.inside.shapes.items c.self.inside.tenants.items c.self.inside.pass c.costs_are_told.ensures c.self.inside.reserved (page_place c.args.page) c.self.invariant.0)
 
 abbrev before : goal.After-pin_if → MemoryState
 before c = view_of c.self.inside.table c.self.inside.shapes.items c.self.inside.tenants.items c.self.inside.pass
