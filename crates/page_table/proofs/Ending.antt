@@ -18,10 +18,6 @@ pub record IsUnused (table : TableState) (f : ℕ) : Type 0 where
 pub unused-frame : (table : TableState) (counts : CountsState) (f : ℕ) → IsSound table counts → slice_index_or counts.counts f 1 ≡ 0 → IsUnused table f
 unused-frame table counts f sound h = grind (arith, nat_tests, get_or_past, get_or_default)
 
--- no page that is there lies on it
-unused_apart : (table : TableState) (f : ℕ) → IsUnused table f → (j : ℕ) (y : Entry) → entry_at table.entries j ≡ Some y → y.frame ≢ f
-unused_apart table f free j y e = elsewhere f y.frame (sym (ap (is_on f) e) ∙ none_on f table.entries j free.empty)
-
 -- the table where the entry at a place lies on a frame with other bytes
 abbrev pub filled : TableState → ℕ → Entry → List ℕ → TableState
 filled table i x page = record table { arena = slice_set table.arena x.frame page; entries = slice_set table.entries i (Some x) }
@@ -39,7 +35,7 @@ module _ (table : TableState) (i : ℕ) (x : Entry) (page : List ℕ) (is : IsTa
       → ((j : ℕ) (y : Entry) → j ≢ i → entry_at table.entries j ≡ Some y → IsAlone table y.frame → on_one y.frame (entry_at table.entries i) ≡ 0)
       → ((g : ℕ) → IsGroup table g → 1 ≤ pages_on g (filled table i x page).entries) → IsTable (filled table i x page)
   IsTable-filled there sized own unlocked apart still =
-      grind (arith, nat_tests, table-changed table (filled table i x page) i (Some x), length-set, pages-set, get_or-set_other, lies_alone, pages_on-set, unused_apart, none_on, free, still, apart)
+      grind (arith, nat_tests, table-changed table (filled table i x page) i (Some x), length-set, pages-set, get_or-set_other, lies_alone, pages_on-set, elsewhere, none_on, free, still, apart)
 
 -- a new page
 abbrev pub added_entry : ℕ → Bool → Entry
@@ -50,9 +46,6 @@ abbrev pub added : TableState → ℕ → ℕ → Bool → TableState
 added table i f mergeable = filled table i (added_entry f mergeable) zero_page
 
 module _ (table : TableState) (i f : ℕ) (mergeable : Bool) (is : IsTable table) (free : IsUnused table f) (there : i < length table.entries) (empty : entry_at table.entries i ≡ None) where
-  pages_on-added : (g : ℕ) → pages_on g (added table i f mergeable).entries ≡ pages_on g table.entries + one_when (f == g)
-  pages_on-added g = grind (arith, nat_tests, pages_on-set, there, empty)
-
   pub states-added : states_of (added table i f mergeable).entries ≡ slice_set (states_of table.entries) i (Some (new_page mergeable))
   states-added = map-set (option_map state_of) table.entries i (Some (added_entry f mergeable))
 
@@ -67,8 +60,8 @@ module _ (table : TableState) (i f : ℕ) (mergeable : Bool) (is : IsTable table
       → IsSound (added table i f mergeable) new
   sound-added old new counted counts fewer =
       record {
-        fits = grind (arith, nat_tests, IsTable-filled table i (added_entry f mergeable) zero_page is free, pages_on-added, length-zero_page, there, empty, free);
-        counted = grind (arith, nat_tests, counted-changed, length-set, used-added, counts-set, pages_on-added, one_if_zero-above, free);
+        fits = grind (arith, nat_tests, IsTable-filled table i (added_entry f mergeable) zero_page is free, pages_on-set, length-zero_page, there, empty, free);
+        counted = grind (arith, nat_tests, counted-changed, length-set, used-added, counts-set, pages_on-set, there, empty, one_if_zero-above, free);
       }
 
 -- the groups after a page left, where each still has pages
@@ -122,7 +115,7 @@ module _ (table : TableState) (i : ℕ) (entry next : Entry) (is : IsTable table
   sound-left old taken new protected counted took fewer counts more =
       record {
         fits = grind (arith, nat_tests, IsTable-filled table i next (page_at table.arena entry.frame) is free, still, apart_alone, entry_fits, inside, here, own, free);
-        counted = grind (arith, nat_tests, counted-changed, length-set, used-left, counts-set, pages_on-left, one_if_zero-above, entry_fits, unused_apart, here, free, company);
+        counted = grind (arith, nat_tests, counted-changed, length-set, used-left, counts-set, pages_on-left, one_if_zero-above, entry_fits, elsewhere, none_on, here, free, company);
       }
 
 -- a list of frames without one of them
@@ -153,9 +146,6 @@ module _ (table : TableState) (i : ℕ) (entry new : Entry) (is : IsTable table)
   pub one_group : times entry.frame table.groups ≡ 1
   one_group = grind (arith, nat_tests, entry_fits, some_on entry.frame table.entries i, equal)
 
-  alone_there : pages_on entry.frame table.entries ≡ 1
-  alone_there = let none = group-frame table entry.frame is one_group in omega (arith, none, last)
-
   pages_on-ended : (g : ℕ) → pages_on g (ended table i new entry.frame).entries ≡ pages_on g table.entries
   pages_on-ended g = grind (arith, pages_on-changed table.entries i entry (Some new) here g, frame)
 
@@ -166,7 +156,7 @@ module _ (table : TableState) (i : ℕ) (entry new : Entry) (is : IsTable table)
   gone : without i (places_on 0 entry.frame table.entries) ≡ []
   gone =
       without-here entry.frame table.entries i None refl
-      ∙ nil_from_length _ (grind (arith, nat_tests, length-places 0 entry.frame (slice_set table.entries i None), pages_on-changed table.entries i entry None here entry.frame, alone_there))
+      ∙ nil_from_length _ (grind (arith, nat_tests, length-places 0 entry.frame (slice_set table.entries i None), pages_on-changed table.entries i entry None here entry.frame, group-frame, one_group))
 
   groups-ended : groups_of (ended table i new entry.frame) ≡ left_by i (groups_of table)
   unfolding groups_of
@@ -186,7 +176,7 @@ module _ (table : TableState) (i : ℕ) (entry new : Entry) (is : IsTable table)
       let none : times entry.frame (but entry.frame table.groups) ≡ 0 = times-gone entry.frame table.groups in
       record {
         fits = table-set table (ended table i new entry.frame) i (Some new) is refl refl is.pages is.zero
-            (grind (arith, nat_tests, entry_fits table i entry is here, lies_alone (ended table i new entry.frame), pages_on-ended, alone_there, one_group, group_of table entry.frame, none, state, frame, unlocked))
-            (λ j y ne e. grind (arith, nat_tests, times-kept entry.frame y.frame table.groups, pages_on-ended y.frame, apart_alone table j i y entry e here, ne, alone_there)) each-ended;
+            (grind (arith, nat_tests, entry_fits table i entry is here, lies_alone (ended table i new entry.frame), pages_on-ended, group-frame, one_group, group_of table entry.frame, none, state, frame, unlocked))
+            (λ j y ne e. grind (arith, nat_tests, times-kept entry.frame y.frame table.groups, pages_on-ended y.frame, apart_alone table j i y entry e here, ne, group-frame, one_group)) each-ended;
         counted = grind (arith, nat_tests, counted-changed, used-ended, pages_on-ended);
       }

@@ -59,9 +59,6 @@ unfolding pages_on
 pages_on-le f [] = omega arith
 pages_on-le f (x ∷ xs) = grind (arith, sum_by-cons (on_one f) x xs, pages_on-le f xs)
 
-one_holder : (f : ℕ) → one_if_zero f ≤ 1
-one_holder f = grind (arith, nat_tests)
-
 -- The page at a place has its own frame, and another entry puts it on a shared frame of the same bytes.
 pub record IsMove (table : TableState) (i : ℕ) (entry x : Entry) : Type 0 where
   pub is : IsTable table
@@ -78,20 +75,15 @@ pub record IsMerged (old new : Entry) (f : ℕ) (status : Status) : Type 0 where
   pub status_is : new.status ≡ status
   pub protected : new.protected ≡ true
 
--- a page may move to a frame of the same bytes on which one of that status lies right
-move-merged : (table now : TableState) (i : ℕ) (entry x : Entry) (f : ℕ) (status : Status) → table ≡ now → IsTable table → entry_at now.entries i ≡ Some entry → IsOwnAt now i
-    → slice_index_or (contents_of now) i [] ≡ page_at table.arena f → f < length table.arena → LiesRight table f status → is_shared status ≡ true → IsMerged entry x f status → IsMove table i entry x
-move-merged table now i entry x f status e is there own same within right shared to = grind (arith, nat_tests, there, within, own_seen, content_at)
-
 -- a page of zeros may move to the zero frame
 pub move-zeroed : (table now : TableState) (i : ℕ) (entry x : Entry) → table ≡ now → IsTable table → entry_at now.entries i ≡ Some entry → IsOwnAt now i
     → slice_index_or (contents_of now) i [] ≡ zero_page → IsMerged entry x 0 Zero → IsMove table i entry x
-move-zeroed table now i entry x e is there own zeros to = grind (arith, nat_tests, move-merged table now i entry x 0 Zero)
+move-zeroed table now i entry x e is there own zeros to = grind (arith, nat_tests, own_seen, content_at)
 
 -- a page may move to the frame of a group of its bytes
 pub move-joined : (table now : TableState) (i : ℕ) (entry x : Entry) (f : ℕ) → table ≡ now → IsTable table → entry_at now.entries i ≡ Some entry → IsOwnAt now i
     → 1 ≤ times f now.groups → slice_index_or (contents_of now) i [] ≡ page_at now.arena f → IsMerged entry x f Grouped → IsMove table i entry x
-move-joined table now i entry x f h1 h2 h3 h4 h5 h6 h7 = grind (arith, nat_tests, move-merged table now i entry x f Grouped, page-on)
+move-joined table now i entry x f h1 h2 h3 h4 h5 h6 h7 = grind (arith, nat_tests, own_seen, content_at, page-on)
 
 module _ (table : TableState) (i : ℕ) (entry x : Entry) (move : IsMove table i entry x) where
   open move use {is, here, own, shared, fits, same}
@@ -115,11 +107,7 @@ module _ (table : TableState) (i : ℕ) (entry x : Entry) (move : IsMove table i
   -- fewer pages lie on the new frame than there are places
   pub few : (counts : CountsState) → AreCountsOf table counts → slice_index_or counts.counts x.frame 0 ≤ 32768
   few counts counted =
-      grind (arith, nat_tests, counted.counted x.frame fits.frame, one_holder x.frame, pages_on-moved x.frame, not_alone, lone, pages_on-le x.frame (with_entry table i x).entries, length-set table.entries i (Some x), is.few)
-
-  -- the places on the frame of a group that isn't the new one stay
-  not_own : (g : ℕ) → 1 ≤ times g table.groups → (entry.frame == g) ≡ false
-  not_own g h1 = grind (arith, nat_tests, lone)
+      grind (arith, nat_tests, counted.counted x.frame fits.frame, pages_on-moved x.frame, not_alone, lone, pages_on-le x.frame (with_entry table i x).entries, length-set table.entries i (Some x), is.few)
 
   pub sound-moved : (old mid new : CountsState) → AreCountsOf table old
       → mid.counts ≡ slice_set old.counts x.frame (slice_index_or old.counts x.frame 0 + 1) → mid.unused ≡ old.unused
@@ -131,13 +119,13 @@ module _ (table : TableState) (i : ℕ) (entry x : Entry) (move : IsMove table i
         fits = table-changed table (with_entry table i x) i (Some x) is refl refl refl is.pages is.zero
             (grind (arith, nat_tests, fits-after table (with_entry table i x) x, not_alone, fits))
             (λ j y ne e a. grind (arith, nat_tests, pages_on-moved y.frame, a, apart_alone table i j entry y here e ne a.one, not_alone y.frame a))
-            (λ g group. grind (arith, nat_tests, pages_on-moved g, group, not_own g));
+            (λ g group. grind (arith, nat_tests, pages_on-moved g, group, lone));
         counted = grind (arith, nat_tests, length-set, get_or-set_other old.counts, not_alone, one_if_zero-above, counted-changed, used-moved, counts-set, pages_on-moved, lone);
       }
 
   pub sharing-zeroed : IsMerged entry x 0 Zero → (pass : Pass) → sharing_of (with_entry table i x) (forgets i pass) ≡ zeroed (sharing_of table pass) i
   unfolding zeroed groups_of
-  sharing-zeroed to pass = grind (arith, nat_tests, states-set (with_status Zero), groups-kept table.entries (with_entry table i x).entries table.groups, places_on-set, not_own, group_of, here, waiting-forgets)
+  sharing-zeroed to pass = grind (arith, nat_tests, states-set (with_status Zero), groups-kept table.entries (with_entry table i x).entries table.groups, places_on-set, lone, group_of, here, waiting-forgets)
 
 -- no places are on a frame without pages
 places-none : (n f : ℕ) (xs : List (Option Entry)) → pages_on f xs ≡ 0 → places_on n f xs ≡ []
@@ -177,15 +165,10 @@ module _ (table : TableState) (i : ℕ) (entry x : Entry) (f : ℕ) (move : IsMo
 
   pub groups-joined : groups_of (with_entry table i x) ≡ map (joined_on table i f) table.groups
   unfolding groups_of
-  groups-joined = grind (arith, nat_tests, groups-each, not_own table i entry x move, joined-here, inside, places_on-set)
+  groups-joined = grind (arith, nat_tests, groups-each, lone, joined-here, inside, places_on-set)
 
   pub states-joined : states_of (with_entry table i x).entries ≡ slice_set (states_of table.entries) i (option_map (with_status Grouped) (slice_index_or (states_of table.entries) i None))
   states-joined = states-set (with_status Grouped) table.entries i entry x here to.state
-
--- two places in their order
-joined-two : (i j : ℕ) → i ≢ j → joined_by j (i ∷ []) ≡ joined_by i (j ∷ [])
-unfolding joined_by
-joined-two i j ne = grind (arith, nat_tests)
 
 -- the table with a new last group, of the page at a place alone
 abbrev pub founded : TableState → ℕ → Entry → TableState
@@ -224,9 +207,6 @@ module _ (table : TableState) (i j : ℕ) (one other x y : Entry) (pairing : IsP
   pages_on-founded : (g : ℕ) → pages_on g (founded table i x).entries ≡ pages_on g table.entries
   pages_on-founded g = grind (arith, pages_on-changed table.entries i one (Some x) first g, to_first.frame)
 
-  times-founded : (g : ℕ) → times g (founded table i x).groups ≡ times g table.groups + one_when (one.frame == g)
-  times-founded g = grind (arith, times-push g x.frame table.groups, to_first.frame)
-
   contents-founded : contents_of (founded table i x) ≡ contents_of table
   contents-founded = contents-entry table i one x (founded table i x).groups first (ap (page_at table.arena) to_first.frame)
 
@@ -234,12 +214,12 @@ module _ (table : TableState) (i j : ℕ) (one other x y : Entry) (pairing : IsP
   used-founded = grind (arith, nat_tests, own_pages-set, inside, first, own_first, to_first, length-append table.groups (x.frame ∷ []))
 
   each-founded : (g : ℕ) → (times g (founded table i x).groups ≡ 0) ⊎ IsGroup (founded table i x) g
-  each-founded g = grind (arith, nat_tests, is.groups g, times-founded g, pages_on-founded g, lone_first)
+  each-founded g = grind (arith, nat_tests, is.groups g, times-push, to_first.frame, pages_on-founded g, lone_first)
 
   IsTable-founded : IsTable (founded table i x)
   IsTable-founded =
-      table-set table (founded table i x) i (Some x) is refl refl is.pages is.zero (grind (arith, nat_tests, entry_fits table i one is first, to_first, times-founded, lone_first))
-      (λ j y ne e. grind (arith, nat_tests, times-founded y.frame, pages_on-founded y.frame, apart_alone table j i y one e first, ne, lone_first)) each-founded
+      table-set table (founded table i x) i (Some x) is refl refl is.pages is.zero (grind (arith, nat_tests, entry_fits table i one is first, to_first, times-push, to_first.frame, lone_first))
+      (λ j y ne e. grind (arith, nat_tests, times-push, to_first.frame, pages_on-founded y.frame, apart_alone table j i y one e first, ne, lone_first)) each-founded
 
   counted-founded : (counts : CountsState) → AreCountsOf table counts → AreCountsOf (founded table i x) counts
   counted-founded counts counted = grind (arith, nat_tests, counted-changed, used-founded, pages_on-founded)
@@ -248,7 +228,7 @@ module _ (table : TableState) (i j : ℕ) (one other x y : Entry) (pairing : IsP
   here-founded = grind (arith, get_or-set_other table.entries i j (Some x) None, second, apart)
 
   move : IsMove (founded table i x) j other y
-  move = grind (arith, nat_tests, IsTable-founded, here-founded, entry_fits table i one, times-founded, lone_first, pairing)
+  move = grind (arith, nat_tests, IsTable-founded, here-founded, entry_fits table i one, times-push, to_first.frame, lone_first, pairing)
 
   pub contents-pair : contents_of (with_pair table i j x y) ≡ contents_of table
   contents-pair = contents-moved (founded table i x) j other y move ∙ contents-founded
@@ -270,13 +250,10 @@ module _ (table : TableState) (i j : ℕ) (one other x y : Entry) (pairing : IsP
 
   -- the new group's places
   places-pair : places_on 0 x.frame (with_pair table i j x y).entries ≡ joined_by i (j ∷ [])
+  unfolding joined_by
   places-pair =
-      grind (arith, nat_tests, inside, here-founded, equal, alone, places_on-set, pairing, places-one 0, joined-here, joined-two, lone_first)
-
-  groups-pair : groups_of (with_pair table i j x y) ≡ groups_of table ++ joined_by i (j ∷ []) ∷ []
-  unfolding groups_of
-  groups-pair = grind (arith, map-append (λ g. places_on 0 g (with_pair table i j x y).entries) table.groups (x.frame ∷ []), groups-kept table.entries (with_pair table i j x y).entries table.groups places-kept, places-pair)
+      grind (arith, nat_tests, inside, here-founded, equal, alone, places_on-set, pairing, places-one 0, joined-here, lone_first)
 
   pub sharing-pair : (pass : Pass) → sharing_of (with_pair table i j x y) (forgets i (forgets j pass)) ≡ paired (sharing_of table pass) i j
-  unfolding paired
-  sharing-pair pass = grind (arith, nat_tests, told_here state_of, states-set (with_status Grouped), here-founded, groups-pair, waiting-forgets)
+  unfolding paired groups_of
+  sharing-pair pass = grind (arith, nat_tests, told_here state_of, states-set (with_status Grouped), here-founded, map-append (λ g. places_on 0 g (with_pair table i j x y).entries) table.groups (x.frame ∷ []), groups-kept table.entries (with_pair table i j x y).entries table.groups places-kept, places-pair, waiting-forgets)

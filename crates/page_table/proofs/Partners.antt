@@ -37,10 +37,6 @@ module _ (table : TableState) (shapes : List (Option Shape)) (tenants : List Ten
   partners-told fingerprint bytes c [] are = refl
   partners-told fingerprint bytes c (w ∷ ws) are = grind (arith, partner-told fingerprint bytes c w are.0, partners-told fingerprint bytes c ws are.2)
 
--- the page that becomes the one visited last stands behind those that wait
-pub waiters-behind : (entries : List (Option Entry)) (c i : ℕ) (ws : List Waiter) → c < i → AreWaiters entries (Some c) ws → AreWaiters entries (Some i) ws
-waiters-behind entries c i ws h are = grind (arith, nat_tests, waiters-kept entries entries (Some c) (Some i) ws)
-
 pub waiters-started : (entries : List (Option Entry)) (c : Option ℕ) (ws : List Waiter) → AreWaiters entries c ws → AreWaiters entries None ws
 waiters-started entries c ws are = grind (arith, nat_tests, waiters-kept entries entries c None ws)
 
@@ -49,7 +45,7 @@ pub advanced : (entries : List (Option Entry)) (pages : List (Option PageState))
     → first_mergeable (look_from c) (drop (look_from c) pages) ≡ Some i → (c ≡ None → map waiting_of ws ≡ []) → AreWaiters entries (Some i) ws × (is_listed i ws ≡ false)
 advanced entries pages None [] i are e start = (tt, refl)
 advanced entries pages None (w ∷ ws) i are e start = absurd (let h = start refl in cc)
-advanced entries pages (Some c) ws i are e start = grind (arith, next-is pages (c + 1) i e, waiters-behind entries c i ws, ahead-free entries c i ws)
+advanced entries pages (Some c) ws i are e start = grind (arith, next-is pages (c + 1) i e, nat_tests, waiters-kept, ahead-free entries c i ws)
 
 -- the cursor goes on
 pub moved-on : (table : TableState) (shapes : List (Option Shape)) (tenants : List Tenant) (pass : Pass) (i : ℕ)

@@ -20,17 +20,13 @@ module _ (table : TableState) (i : ℕ) (entry : Entry) (is : IsTable table) (he
   still : (g : ℕ) → IsGroup table g → 1 ≤ pages_on g (vacated table i).entries
   still g h1 = grind (arith, nat_tests, pages_on-vacated g, one_if_zero-above g, company, is_alone, entry_fits)
 
-  groups-shared : groups_of (vacated table i) ≡ left_by i (groups_of table)
-  unfolding groups_of
-  groups-shared = grind (arith, groups-left table.entries (vacated table i).entries i table.groups, without-here, still, group_of)
-
   groups-own : is_shared entry.status ≡ false → groups_of (vacated table i) ≡ groups_of table
   unfolding groups_of
   groups-own own = grind (arith, nat_tests, groups-kept table.entries (vacated table i).entries table.groups, places_on-set, is_alone, entry_fits, here)
 
   pub sharing-vacated : (pass : Pass) → sharing_of (vacated table i) pass ≡ record (gone (sharing_of table pass) i) { pins = pass.pins }
-  unfolding gone broken
-  sharing-vacated pass = grind (arith, nat_tests, common_steps, state-at, set-set, map-set (option_map state_of) table.entries i None, groups-shared, groups-own)
+  unfolding gone broken groups_of
+  sharing-vacated pass = grind (arith, nat_tests, common_steps, state-at, set-set, map-set (option_map state_of) table.entries i None, groups-left table.entries (vacated table i).entries i table.groups, without-here, still, group_of, groups-own)
 
   pub used-vacated : used_by (vacated table i) + (if is_shared entry.status then 0 else 1) ≡ used_by table
   used-vacated = grind (arith, own_pages-set, inside)
@@ -48,11 +44,6 @@ module _ (table : TableState) (i : ℕ) (entry : Entry) (is : IsTable table) (he
         counted = grind (arith, nat_tests, counted-changed, length-set, used-vacated, freed old counted, counts-set, pages_on-vacated, count-some table old i entry, entry_fits);
       }
 
--- once a page has its own frame, it goes as it would have gone before
-gone-broken : (s : Sharing) (i : ℕ) → is_shared_page (state_at (broken s i) i) ≡ false → gone (broken s i) i ≡ gone s i
-unfolding gone
-gone-broken s i own = grind (arith, broken-own (broken s i) i own)
-
 -- one page more goes
 pub gone_from-last : (s : Sharing) (i n : ℕ) → gone_from s i (n + 1) ≡ gone (gone_from s i n) (i + n)
 unfolding gone_from
@@ -62,7 +53,8 @@ gone_from-last s i (suc n) = grind (arith, gone_from-last (gone s i) (i + 1) n)
 -- a page whose group ended goes then
 pub gone-ended : (old ended new : TableState) (pass : Pass) (i : ℕ) → sharing_of ended pass ≡ broken (sharing_of old pass) i → IsOwnAt ended i → sharing_of new pass ≡ record (gone (sharing_of ended pass) i) { pins = pass.pins }
     → sharing_of new pass ≡ record (gone (sharing_of old pass) i) { pins = pass.pins }
-gone-ended old ended new pass i h1 h2 h3 = grind (arith, nat_tests, gone-broken (sharing_of old pass) i, state-at ended pass i)
+unfolding gone
+gone-ended old ended new pass i h1 h2 h3 = grind (arith, nat_tests, broken-own, state-at ended pass i)
 
 -- one page more goes, whatever is pinned
 pub gone-more : (old part new : TableState) (pass : Pass) (i n : ℕ) → sharing_of part pass ≡ record (gone_from (sharing_of old pass) i n) { pins = pass.pins }

@@ -6,11 +6,6 @@ use Rattle.page_table.proofs.Costs.{state-at}
 use Rattle.page_table.proofs.Maps.{maps_of-changed, length-maps_of, part_of-set_same, part_of-set_other, concat-written, length-concat}
 use Rattle.page_table.proofs.Reading.{IsLocated, page_located, page_number, few_pages, content_in, bytes_in, map_at-part}
 
-pub part-set_other : (old new : MemoryState) (t m : ℕ) (flat : Option FlatMap) → m < 8 → new.tenants ≡ old.tenants → new.maps ≡ slice_set old.maps (map_place t m) flat
-    → ((u : ℕ) → u ≢ t → part_of new.sharing.pins (u * 2048) 2048 ≡ part_of old.sharing.pins (u * 2048) 2048) → IsKeptBut t old new
-unfolding part
-part-set_other old new t m flat small tenants maps pins u ne = rw (tenants, maps, pins u ne, part_of-set_other old.maps t m u 8 flat small ne) refl
-
 pub maps-set_other : (old new : MemoryState) (t m : ℕ) (flat : Option FlatMap) → m < 8 → new.tenants ≡ old.tenants → new.maps ≡ slice_set old.maps (map_place t m) flat
     → AreMapsKeptBut m (part old t) (part new t)
 unfolding part
@@ -41,7 +36,7 @@ module _ (table new : TableState) (shapes renewed : List (Option Shape)) (tenant
       → OneMap (view_of table shapes tenants pass) (view_of new renewed tenants now) t m flat pins
   unfolding view_of part
   one_map pass now flat pins here own others =
-      grind (arith, nat_tests, maps_of-changed shapes renewed (contents_of table) (contents_of new) (map_place t m) flat, part_of-set_same, maps-set_other (view_of table shapes tenants pass) (view_of new renewed tenants now) t m flat, part-set_other (view_of table shapes tenants pass) (view_of new renewed tenants now) t m flat, get_or-set_same, length-maps_of, map_at-part)
+      grind (arith, nat_tests, maps_of-changed shapes renewed (contents_of table) (contents_of new) (map_place t m) flat, part_of-set_same, maps-set_other (view_of table shapes tenants pass) (view_of new renewed tenants now) t m flat, part_of-set_other, get_or-set_same, length-maps_of, map_at-part)
 
 -- bytes of a page were written, and nothing else has changed
 pub record Writes (old new : MemoryState) (page : Page) (at : ℕ) (bytes : List ℕ) : Type 0 where
@@ -121,13 +116,9 @@ module _ (table new : TableState) (shapes : List (Option Shape)) (tenants : List
   unfolding view_of part
   one = grind (arith, nat_tests, one_map table new shapes shapes tenants reserved page.tenant page.map is loc.small loc.inside refl wide (λ j ne. refl) others_new arena pass pass (Some flat_new), loc, pages_new, flat_written loc.shape old_pages page.number at bytes loc.pages, number, in_bytes)
 
-  seen_after : (after.sharing ≡ before.sharing) × (after.frames ≡ before.frames)
-  unfolding view_of groups_of
-  seen_after = (rw (entries, groups) refl, ap frames_of entries)
-
   pub writes : Writes before after page at bytes
-  unfolding view_of part
-  writes = grind (arith, nat_tests, one, seen_after, loc)
+  unfolding view_of part groups_of
+  writes = grind (arith, nat_tests, one, loc)
 
 pub own_entry : (table : TableState) (shapes : List (Option Shape)) (tenants : List Tenant) (pass : Pass) (page : Page) → IsOwn (view_of table shapes tenants pass) page
     → IfSome (entry_at table.entries (page_place page)) (λ entry. is_shared entry.status ≡ false)
