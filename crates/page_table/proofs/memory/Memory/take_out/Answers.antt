@@ -9,9 +9,6 @@ use Rattle.page_table.proofs.Seen.{sees}
 use Rattle.page_table.proofs.Ahead.{ahead-told, stay-broken}
 use Rattle.page_table.proofs.memory.Memory.take_out.Goals as goal
 
-pub pins-is_pinned-requires : goal.pins-is_pinned-requires
-pins-is_pinned-requires c = c.requires.there
-
 pub pin_if-requires : goal.pin_if-requires
 pin_if-requires c =
     grind (arith, sees c.self.inside.table c.self.inside.shapes.items c.self.inside.tenants.items c.self.inside.pass c.self.inside.reserved c.self.invariant.0 c.args.self.now c.self.view_is c.args.page c.place_of-place.result c.place_of-place.ensures, length-map, length-contents, get_or_past)

@@ -3,8 +3,5 @@ use Rattle.page_table.proofs.Changing.{entry_fits}
 use Rattle.page_table.proofs.Costs.{cost-counted}
 use Rattle.page_table.proofs.table.Table.break_cost.Goals as goal
 
-pub count-requires : goal.count-requires
-count-requires c = grind (arith, nat_tests, entry_fits)
-
 pub returns : goal.returns
 returns c = grind (arith, nat_tests, cost-counted _ c.self.inside.counts c.args.place c.page-entry.result c.self.invariant.0)

@@ -18,9 +18,6 @@ returns-in_default-clause-cost c = grind (arith, nat_tests, entry-behind, cost-a
 pub returns-then-not-entry-clause-cost : goal.returns-then-not-entry-clause-cost
 returns-then-not-entry-clause-cost c = grind (arith, nat_tests, cost-after-own, entry-behind)
 
-pub count-requires : goal.count-requires
-count-requires c = grind (arith, nat_tests, entry_fits, entry-behind)
-
 pub overflow_sub-left : goal.overflow_sub-left
 overflow_sub-left c = grind (arith, nat_tests, count-part, entry-behind, before)
 

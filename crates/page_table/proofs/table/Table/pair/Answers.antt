@@ -5,9 +5,6 @@ use Rattle.page_table.proofs.Moving.{IsPairing, pairing-from, contents-pair, use
 use Rattle.page_table.proofs.Trees.{tree-absent, tree-room}
 use Rattle.page_table.proofs.table.Table.pair.Goals as goal
 
-pub push-requires : goal.push-requires
-push-requires c = grind (arith, nat_tests, entry_fits)
-
 pub insert-requires-clause-new : goal.insert-requires-clause-new
 insert-requires-clause-new c =
     let first = own_seen _ c.args.self.now c.self.view_is c.args.first c.page-one.result c.page-one.ensures c.requires.own_first in

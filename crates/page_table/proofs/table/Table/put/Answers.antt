@@ -15,6 +15,3 @@ returns-clause-contents c =
     let own = own_seen _ c.args.self.now c.self.view_is c.args.place c.page-entry.result c.page-entry.ensures c.requires.own in
     let lone = own_alone _ c.args.place c.page-entry.result c.self.invariant.0.fits own in
     grind (arith, nat_tests, content_at (record { arena = c.self.inside.arena; entries = c.self.inside.entries; groups = c.self.inside.groups.listed }) c.args.place c.page-entry.result own.here, contents-put _ c.args.place c.page-entry.result (with_part (page_at c.self.inside.arena c.page-entry.result.frame) c.args.at c.args.bytes.now) c.self.invariant.0.fits own.here lone, length-with_part)
-
-pub put-requires-clause-frame : goal.put-requires-clause-frame
-put-requires-clause-frame c = grind (arith, nat_tests, entry_fits)

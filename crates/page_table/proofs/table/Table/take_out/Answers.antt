@@ -23,20 +23,8 @@ returns-then-not-entry-clause-sharing c pass = grind (arith, nat_tests, sharing-
 pub returns-then-not-entry-clause-used : goal.returns-then-not-entry-clause-used
 returns-then-not-entry-clause-used c = grind (arith, told, c.if-not-entry.true)
 
-pub count-requires : goal.count-requires
-count-requires c = grind (arith, nat_tests, entry_fits, here)
-
-pub leave-requires-clause-shared : goal.leave-requires-clause-shared
-leave-requires-clause-shared c = grind (arith, entry_fits, here, c.if-not-entry.false)
-
 pub leave-requires-clause-room : goal.leave-requires-clause-room
 leave-requires-clause-room c = grind (arith, nat_tests, told)
-
-pub end_group-requires-clause-shared : goal.end_group-requires-clause-shared
-end_group-requires-clause-shared c = grind (arith, entry_fits, here, c.if-not-entry.false)
-
-pub end_group-requires-clause-last : goal.end_group-requires-clause-last
-end_group-requires-clause-last c = grind (arith, nat_tests, count-some, here)
 
 pub returns-then-count-gt1-clause-used : goal.returns-then-count-gt1-clause-used
 returns-then-count-gt1-clause-used c = grind (arith, nat_tests, told)

@@ -5,9 +5,6 @@ use Rattle.page_table.proofs.table.Table.take_out_at.Goals as goal
 pub take_out-requires : goal.take_out-requires
 take_out-requires c = grind (arith, nat_tests, page_of_some c.args.self.now (c.facts.ensures.1).fits c.args.place c.entry.result, c.costs_are_told.ensures some_pass c.args.place, c.requires.room some_pass)
 
-pub returns-then-is_some-clause-used : goal.returns-then-is_some-clause-used
-returns-then-is_some-clause-used c pass = grind (arith, c.costs_are_told.ensures pass c.args.place, c.take_out.ensures.used)
-
 pub returns-else-is_some-clause-sharing : goal.returns-else-is_some-clause-sharing
 returns-else-is_some-clause-sharing c pass = grind (arith, nat_tests, no_page)
 

@@ -5,12 +5,6 @@ use Rattle.page_table.proofs.Entries.{inside}
 use Rattle.page_table.proofs.Vacating.{sharing-vacated, used-vacated, sound-vacated}
 use Rattle.page_table.proofs.table.Table.vacate.Goals as goal
 
-pub clear-requires : goal.clear-requires
-clear-requires c = grind (arith, nat_tests, inside)
-
-pub release-requires : goal.release-requires
-release-requires c = grind (arith, nat_tests, entry_fits)
-
 pub invariant_of-self : goal.invariant_of-self
 invariant_of-self c =
     grind (arith, sound-vacated _ c.args.place c.args.entry c.self.invariant.0.fits (rw (← c.self.view_is) at c.requires.there) (rw (← c.self.view_is) at c.requires.company) c.self.inside.counts c.release.new.self)
