@@ -2,8 +2,8 @@
 use Rattle.page_table.proofs.Base.{◌≡◌, ◌≢◌, ◌∙◌, ◌⊎◌, ⊎_elim, ℕ, ◌+◌, ◌-◌, ◌<◌, ◌≤◌, ◌==◌, not, Bool, true, false, List, [], ◌∷◌, length, map, filter, slice_index_or, slice_set, Option, Some, None, option_map, refl, sym, ap, arith, get_or-set_same, get_or-set_other, set-get_or, length-set, map-set, nil_from_length, nat_tests, get_or_default, get_or_past}
 use Rattle.page_table.proofs.Words.{Pass, New, Volatile, new_page, broken, broken_page, is_shared, left_by, without, without-length, times-gone, times-kept, some_kept, zero_page, length-zero_page, page_at, Entry, TableState, CountsState, IsTable, IsAlone, IsGroup, IsSound, AreCountsOf, times, one_if_zero, entry_at, state_of, states_of, contents_of, groups_of, sharing_of, is_on, places_on, pages_on, used_by}
 use Rattle.page_table.proofs.Changing.{entry_fits, table-set, table-changed, counted-changed, lies_alone, apart_alone, pages_on-changed, own_pages-set}
-use Rattle.page_table.proofs.Costs.{state-at, group-frame}
-use Rattle.page_table.proofs.Entries.{one_when, on_one, elsewhere, not_equal, equal, none_on, some_on, pages_on-set, inside, entry_content-kept, contents-set, pages-set, places_on-set, groups-kept, times-head, times-tail, one_if_zero-above, group_of, told_here, counts-set}
+use Rattle.page_table.proofs.Costs.{state-at}
+use Rattle.page_table.proofs.Entries.{one_when, on_one, elsewhere, not_equal, equal, none_on, some_on, pages_on-set, inside, entry_content-kept, contents-set, places_on-set, groups-kept, times-head, times-tail, one_if_zero-above, group_of, told_here, counts-set}
 use Rattle.page_table.proofs.Groups.{length-places, without-here}
 use Rattle.page_table.proofs.Moving.{contents-entry}
 use Rattle.page_table.proofs.Putting.{content_at}
@@ -35,7 +35,7 @@ module _ (table : TableState) (i : ℕ) (x : Entry) (page : List ℕ) (is : IsTa
       → ((j : ℕ) (y : Entry) → j ≢ i → entry_at table.entries j ≡ Some y → IsAlone table y.frame → on_one y.frame (entry_at table.entries i) ≡ 0)
       → ((g : ℕ) → IsGroup table g → 1 ≤ pages_on g (filled table i x page).entries) → IsTable (filled table i x page)
   IsTable-filled there sized own unlocked apart still =
-      grind (arith, nat_tests, table-changed table (filled table i x page) i (Some x), length-set, pages-set, get_or-set_other, lies_alone, pages_on-set, elsewhere, none_on, free, still, apart)
+      grind (arith, nat_tests, table-changed table (filled table i x page) i (Some x), length-set, get_or-set_same, get_or-set_other, lies_alone, pages_on-set, elsewhere, none_on, free, still, apart)
 
 -- a new page
 abbrev pub added_entry : ℕ → Bool → Entry
@@ -156,7 +156,7 @@ module _ (table : TableState) (i : ℕ) (entry new : Entry) (is : IsTable table)
   gone : without i (places_on 0 entry.frame table.entries) ≡ []
   gone =
       without-here entry.frame table.entries i None refl
-      ∙ nil_from_length _ (grind (arith, nat_tests, length-places 0 entry.frame (slice_set table.entries i None), pages_on-changed table.entries i entry None here entry.frame, group-frame, one_group))
+      ∙ nil_from_length _ (grind (arith, nat_tests, length-places 0 entry.frame (slice_set table.entries i None), pages_on-changed table.entries i entry None here entry.frame, one_if_zero-above, one_group))
 
   groups-ended : groups_of (ended table i new entry.frame) ≡ left_by i (groups_of table)
   unfolding groups_of
@@ -176,7 +176,7 @@ module _ (table : TableState) (i : ℕ) (entry new : Entry) (is : IsTable table)
       let none : times entry.frame (but entry.frame table.groups) ≡ 0 = times-gone entry.frame table.groups in
       record {
         fits = table-set table (ended table i new entry.frame) i (Some new) is refl refl is.pages is.zero
-            (grind (arith, nat_tests, entry_fits table i entry is here, lies_alone (ended table i new entry.frame), pages_on-ended, group-frame, one_group, group_of table entry.frame, none, state, frame, unlocked))
-            (λ j y ne e. grind (arith, nat_tests, times-kept entry.frame y.frame table.groups, pages_on-ended y.frame, apart_alone table j i y entry e here, ne, group-frame, one_group)) each-ended;
+            (grind (arith, nat_tests, entry_fits table i entry is here, lies_alone (ended table i new entry.frame), pages_on-ended, one_if_zero-above, one_group, group_of table entry.frame, none, state, frame, unlocked))
+            (λ j y ne e. grind (arith, nat_tests, times-kept entry.frame y.frame table.groups, pages_on-ended y.frame, apart_alone table j i y entry e here, ne, one_if_zero-above, one_group)) each-ended;
         counted = grind (arith, nat_tests, counted-changed, used-ended, pages_on-ended);
       }

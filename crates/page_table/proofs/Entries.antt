@@ -138,11 +138,6 @@ pub groups-kept : (old new : List (Option Entry)) (groups : List ℕ) → ((g : 
     → map (λ g. places_on 0 g new) groups ≡ map (λ g. places_on 0 g old) groups
 groups-kept old new groups h = groups-each (λ g. places_on 0 g new) (λ g. places_on 0 g old) groups h
 
--- each page of the arena has its bytes, where one is written
-pub pages-set : (arena : List (List ℕ)) (f : ℕ) (page : List ℕ) → ((g : ℕ) → g < length arena → length (page_at arena g) ≡ 4096) → length page ≡ 4096
-    → (g : ℕ) → g < length (slice_set arena f page) → length (page_at (slice_set arena f page) g) ≡ 4096
-pages-set arena f page pages sized g h = grind (arith, length-set arena f page, get_or-set_same arena f page [], get_or-set_other arena f g page [], pages g)
-
 -- an entry put where a page shared a frame leaves all that share none
 pub kept-shared : (xs : List (Option Entry)) (i : ℕ) (old : Entry) (x : Option Entry) → entry_at xs i ≡ Some old → is_shared old.status ≡ true
     → (j : ℕ) (entry : Entry) → entry_at xs j ≡ Some entry → is_shared entry.status ≡ false → entry_at (slice_set xs i x) j ≡ Some entry

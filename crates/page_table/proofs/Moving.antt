@@ -91,10 +91,6 @@ module _ (table : TableState) (i : ℕ) (entry x : Entry) (move : IsMove table i
   lone : IsAlone table entry.frame
   lone = is_alone table entry (entry_fits table i entry is here) own
 
-  -- the new frame is no page's own
-  not_alone : (f : ℕ) → IsAlone table f → x.frame ≢ f
-  not_alone f a e = grind (arith, nat_tests, a, e)
-
   pages_on-moved : (g : ℕ) → pages_on g (with_entry table i x).entries + one_when (entry.frame == g) ≡ pages_on g table.entries + one_when (x.frame == g)
   pages_on-moved = pages_on-changed table.entries i entry (Some x) here
 
@@ -107,7 +103,7 @@ module _ (table : TableState) (i : ℕ) (entry x : Entry) (move : IsMove table i
   -- fewer pages lie on the new frame than there are places
   pub few : (counts : CountsState) → AreCountsOf table counts → slice_index_or counts.counts x.frame 0 ≤ 32768
   few counts counted =
-      grind (arith, nat_tests, counted.counted x.frame fits.frame, pages_on-moved x.frame, not_alone, lone, pages_on-le x.frame (with_entry table i x).entries, length-set table.entries i (Some x), is.few)
+      grind (arith, nat_tests, counted.counted x.frame fits.frame, pages_on-moved x.frame, lone, pages_on-le x.frame (with_entry table i x).entries, length-set table.entries i (Some x), is.few)
 
   pub sound-moved : (old mid new : CountsState) → AreCountsOf table old
       → mid.counts ≡ slice_set old.counts x.frame (slice_index_or old.counts x.frame 0 + 1) → mid.unused ≡ old.unused
@@ -117,10 +113,10 @@ module _ (table : TableState) (i : ℕ) (entry x : Entry) (move : IsMove table i
   sound-moved old mid new counted share kept release left =
       record {
         fits = table-changed table (with_entry table i x) i (Some x) is refl refl refl is.pages is.zero
-            (grind (arith, nat_tests, fits-after table (with_entry table i x) x, not_alone, fits))
-            (λ j y ne e a. grind (arith, nat_tests, pages_on-moved y.frame, a, apart_alone table i j entry y here e ne a.one, not_alone y.frame a))
+            (grind (arith, nat_tests, fits-after table (with_entry table i x) x, fits))
+            (λ j y ne e a. grind (arith, nat_tests, pages_on-moved y.frame, a, apart_alone table i j entry y here e ne a.one))
             (λ g group. grind (arith, nat_tests, pages_on-moved g, group, lone));
-        counted = grind (arith, nat_tests, length-set, get_or-set_other old.counts, not_alone, one_if_zero-above, counted-changed, used-moved, counts-set, pages_on-moved, lone);
+        counted = grind (arith, nat_tests, length-set, get_or-set_other old.counts, one_if_zero-above, counted-changed, used-moved, counts-set, pages_on-moved, lone);
       }
 
   pub sharing-zeroed : IsMerged entry x 0 Zero → (pass : Pass) → sharing_of (with_entry table i x) (forgets i pass) ≡ zeroed (sharing_of table pass) i
@@ -201,9 +197,6 @@ pairing-from table now i j one other x y e is apart there_first there_second own
 module _ (table : TableState) (i j : ℕ) (one other x y : Entry) (pairing : IsPairing table i j one other x y) where
   open pairing use {is, apart, first, second, own_first, own_second, to_first, to_second, same}
 
-  lone_first : IsAlone table one.frame
-  lone_first = is_alone table one (entry_fits table i one is first) own_first
-
   pages_on-founded : (g : ℕ) → pages_on g (founded table i x).entries ≡ pages_on g table.entries
   pages_on-founded g = grind (arith, pages_on-changed table.entries i one (Some x) first g, to_first.frame)
 
@@ -214,12 +207,12 @@ module _ (table : TableState) (i j : ℕ) (one other x y : Entry) (pairing : IsP
   used-founded = grind (arith, nat_tests, own_pages-set, inside, first, own_first, to_first, length-append table.groups (x.frame ∷ []))
 
   each-founded : (g : ℕ) → (times g (founded table i x).groups ≡ 0) ⊎ IsGroup (founded table i x) g
-  each-founded g = grind (arith, nat_tests, is.groups g, times-push, to_first.frame, pages_on-founded g, lone_first)
+  each-founded g = grind (arith, nat_tests, is.groups g, times-push, to_first.frame, pages_on-founded g, is_alone, entry_fits)
 
   IsTable-founded : IsTable (founded table i x)
   IsTable-founded =
-      table-set table (founded table i x) i (Some x) is refl refl is.pages is.zero (grind (arith, nat_tests, entry_fits table i one is first, to_first, times-push, to_first.frame, lone_first))
-      (λ j y ne e. grind (arith, nat_tests, times-push, to_first.frame, pages_on-founded y.frame, apart_alone table j i y one e first, ne, lone_first)) each-founded
+      table-set table (founded table i x) i (Some x) is refl refl is.pages is.zero (grind (arith, nat_tests, entry_fits table i one is first, to_first, times-push, to_first.frame, is_alone, entry_fits))
+      (λ j y ne e. grind (arith, nat_tests, times-push, to_first.frame, pages_on-founded y.frame, apart_alone table j i y one e first, ne, is_alone, entry_fits)) each-founded
 
   counted-founded : (counts : CountsState) → AreCountsOf table counts → AreCountsOf (founded table i x) counts
   counted-founded counts counted = grind (arith, nat_tests, counted-changed, used-founded, pages_on-founded)
@@ -228,7 +221,7 @@ module _ (table : TableState) (i j : ℕ) (one other x y : Entry) (pairing : IsP
   here-founded = grind (arith, get_or-set_other table.entries i j (Some x) None, second, apart)
 
   move : IsMove (founded table i x) j other y
-  move = grind (arith, nat_tests, IsTable-founded, here-founded, entry_fits table i one, times-push, to_first.frame, lone_first, pairing)
+  move = grind (arith, nat_tests, IsTable-founded, here-founded, entry_fits table i one, times-push, to_first.frame, is_alone, entry_fits, pairing)
 
   pub contents-pair : contents_of (with_pair table i j x y) ≡ contents_of table
   contents-pair = contents-moved (founded table i x) j other y move ∙ contents-founded
@@ -252,7 +245,7 @@ module _ (table : TableState) (i j : ℕ) (one other x y : Entry) (pairing : IsP
   places-pair : places_on 0 x.frame (with_pair table i j x y).entries ≡ joined_by i (j ∷ [])
   unfolding joined_by
   places-pair =
-      grind (arith, nat_tests, inside, here-founded, equal, alone, places_on-set, pairing, places-one 0, joined-here, lone_first)
+      grind (arith, nat_tests, inside, here-founded, equal, alone, places_on-set, pairing, places-one 0, joined-here, is_alone, entry_fits)
 
   pub sharing-pair : (pass : Pass) → sharing_of (with_pair table i j x y) (forgets i (forgets j pass)) ≡ paired (sharing_of table pass) i j
   unfolding paired groups_of

@@ -2,7 +2,7 @@
 use Rattle.page_table.proofs.Base.{◌≡◌, ◌∙◌, ℕ, ◌+◌, ◌<◌, ◌≤◌, true, List, [], length, map, replicate, slice_index_or, slice_set, Some, None, refl, sym, ap, arith, get_or-set_same, get_or-set_other, length-set, set-get_or, get_or-map, get_or-replicate, length-replicate, sum_by-replicate, get_or_past, length-map, nat_tests}
 use Rattle.page_table.proofs.Words.{zero_page, page_at, length-zero_page, Entry, TableState, CountsState, IsPageAt, IsTable, IsAlone, IsSound, AreCountsOf, entry_at, entry_content, contents_of, is_on, pages_on, own_pages}
 use Rattle.page_table.proofs.Changing.{table-changed, counted-changed, fits-after, entry_fits}
-use Rattle.page_table.proofs.Entries.{equal, alone, entry_content-kept, contents-set, inside, pages-set}
+use Rattle.page_table.proofs.Entries.{equal, alone, entry_content-kept, contents-set, inside}
 
 -- a table with another page in a frame
 abbrev pub with_page : TableState → ℕ → List ℕ → TableState
@@ -39,7 +39,7 @@ module _ (table : TableState) (i : ℕ) (entry : Entry) (page : List ℕ) (is : 
   pub sound-put : (counts : CountsState) → AreCountsOf table counts → IsSound (with_page table entry.frame page) counts
   sound-put counts counted =
       record {
-        fits = grind (arith, nat_tests, length-set, table-changed, set-get_or, pages-set, get_or-set_other, fits-after, entry_fits);
+        fits = grind (arith, nat_tests, length-set, table-changed, set-get_or, get_or-set_same, get_or-set_other, fits-after, entry_fits);
         counted = grind (arith, counted-changed table (with_page table entry.frame page) counts counts, length-set);
       }
 

@@ -2,8 +2,8 @@
 use Rattle.page_table.proofs.Base.{◌≡◌, ◌≢◌, ◌∙◌, ℕ, zero, suc, ◌+◌, ◌-◌, ◌<◌, ◌≤◌, ◌==◌, Bool, true, false, if◌then◌else◌, List, [], length, slice_index_or, slice_set, Some, None, option_map, refl, sym, ap, arith, length-set, map-set, set-set, nat_tests, common_steps}
 use Rattle.page_table.proofs.Words.{Pass, Sharing, state_at, is_shared, is_shared_page, broken, gone, gone_from, left_by, broken-own, Entry, TableState, CountsState, IsTable, IsEntry, IsGroup, IsOwnAt, IsSound, AreCountsOf, times, one_if_zero, entry_at, entry_content, state_of, states_of, contents_of, groups_of, sharing_of, is_on, pages_on, used_by}
 use Rattle.page_table.proofs.Changing.{is_alone, entry_fits, table-changed, counted-changed, apart_alone, pages_on-changed, own_pages-set}
-use Rattle.page_table.proofs.Costs.{state-at, count-some}
-use Rattle.page_table.proofs.Entries.{one_when, not_equal, places_on-set, groups-kept, one_if_zero-above, group_of, counts-set, inside}
+use Rattle.page_table.proofs.Costs.{state-at}
+use Rattle.page_table.proofs.Entries.{one_when, not_equal, places_on-set, groups-kept, one_if_zero-above, group_of, counts-set, inside, equal, some_on}
 use Rattle.page_table.proofs.Groups.{without-here}
 use Rattle.page_table.proofs.Ending.{groups-left}
 
@@ -33,7 +33,7 @@ module _ (table : TableState) (i : ℕ) (entry : Entry) (is : IsTable table) (he
 
   -- the frame of a page that has its own is unused then
   freed : (old : CountsState) → AreCountsOf table old → one_if_zero (slice_index_or old.counts entry.frame 0 - 1) ≡ (if is_shared entry.status then 0 else 1)
-  freed old counted = grind (arith, nat_tests, count-some table old i entry, company, one_if_zero-above, is_alone, entry_fits)
+  freed old counted = grind (arith, nat_tests, some_on, equal, company, one_if_zero-above, is_alone, entry_fits)
 
   pub sound-vacated : (old new : CountsState) → AreCountsOf table old → new.counts ≡ slice_set old.counts entry.frame (slice_index_or old.counts entry.frame 0 - 1)
       → length new.unused ≡ length old.unused + one_if_zero (slice_index_or old.counts entry.frame 0 - 1)
@@ -41,7 +41,7 @@ module _ (table : TableState) (i : ℕ) (entry : Entry) (is : IsTable table) (he
   sound-vacated old new counted counts unused =
       record {
         fits = table-changed table (vacated table i) i None is refl refl refl is.pages is.zero tt (λ j y ne e a. grind (arith, nat_tests, pages_on-vacated y.frame, apart_alone table i j entry y here e ne a.one, a)) still;
-        counted = grind (arith, nat_tests, counted-changed, length-set, used-vacated, freed old counted, counts-set, pages_on-vacated, count-some table old i entry, entry_fits);
+        counted = grind (arith, nat_tests, counted-changed, length-set, used-vacated, freed old counted, counts-set, pages_on-vacated, some_on, equal, entry_fits);
       }
 
 -- one page more goes

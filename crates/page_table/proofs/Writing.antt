@@ -6,12 +6,6 @@ use Rattle.page_table.proofs.Costs.{state-at}
 use Rattle.page_table.proofs.Maps.{maps_of-changed, length-maps_of, part_of-set_same, part_of-set_other, concat-written, length-concat}
 use Rattle.page_table.proofs.Reading.{IsLocated, page_located, page_number, few_pages, content_in, bytes_in, map_at-part}
 
-pub maps-set_other : (old new : MemoryState) (t m : ℕ) (flat : Option FlatMap) → m < 8 → new.tenants ≡ old.tenants → new.maps ≡ slice_set old.maps (map_place t m) flat
-    → AreMapsKeptBut m (part old t) (part new t)
-unfolding part
-maps-set_other old new t m flat small tenants maps j ne =
-    grind (arith, part_of-set_same, get_or-set_other (part old t).maps m j flat None)
-
 -- one map of a tenant became another one, or none, and nothing else of its part has changed but its pins
 pub record OneMap (old new : MemoryState) (t m : ℕ) (flat : Option FlatMap) (pins : List Bool) : Type 0 where
   pub part_new : part new t ≡ record (part old t) { maps = slice_set (part old t).maps m flat; pins = pins }
@@ -36,7 +30,7 @@ module _ (table new : TableState) (shapes renewed : List (Option Shape)) (tenant
       → OneMap (view_of table shapes tenants pass) (view_of new renewed tenants now) t m flat pins
   unfolding view_of part
   one_map pass now flat pins here own others =
-      grind (arith, nat_tests, maps_of-changed shapes renewed (contents_of table) (contents_of new) (map_place t m) flat, part_of-set_same, maps-set_other (view_of table shapes tenants pass) (view_of new renewed tenants now) t m flat, part_of-set_other, get_or-set_same, length-maps_of, map_at-part)
+      grind (arith, nat_tests, maps_of-changed shapes renewed (contents_of table) (contents_of new) (map_place t m) flat, part_of-set_same, get_or-set_other, part_of-set_other, get_or-set_same, length-maps_of, map_at-part)
 
 -- bytes of a page were written, and nothing else has changed
 pub record Writes (old new : MemoryState) (page : Page) (at : ℕ) (bytes : List ℕ) : Type 0 where

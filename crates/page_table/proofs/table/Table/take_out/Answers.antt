@@ -2,7 +2,7 @@ use Rattle.page_table.proofs.Base.{◌≡◌, ◌&&◌, slice_index_or, Some, ar
 use Rattle.page_table.proofs.Words.{TableState, entry_at, break_frames}
 use Rattle.page_table.proofs.Changing.{entry_fits}
 use Rattle.page_table.proofs.Entries.{one_when}
-use Rattle.page_table.proofs.Costs.{cost-counted, count-some}
+use Rattle.page_table.proofs.Costs.{cost-counted}
 use Rattle.page_table.proofs.Ending.{sharing-unbroken}
 use Rattle.page_table.proofs.table.Table.take_out.Goals as goal
 use Rattle.page_table.proofs.table.Table.take_out.Goals.{After-page-entry}
