@@ -9,17 +9,9 @@ use Rattle.page_table.proofs.Entries.{told_at}
 abbrev pub StayMergeable : List (Option PageState) → List (Option PageState) → Type 0
 StayMergeable old new = (j : ℕ) → is_mergeable (slice_index_or old j None) ≡ true → is_mergeable (slice_index_or new j None) ≡ true
 
--- one page changes
-pub stay-put : (pages : List (Option PageState)) (i : ℕ) (x : Option PageState) → (is_mergeable (slice_index_or pages i None) ≡ true → is_mergeable x ≡ true) → StayMergeable pages (slice_set pages i x)
-stay-put pages i x same j may = grind (arith, get_or-set_same pages i x None, get_or-set_other pages i j x None, get_or_past pages i None, set_past pages i x)
-
--- a change that leaves whether a page may be merged
-pub flag-kept : (change : PageState → PageState) → ((state : PageState) → (change state).mergeable ≡ state.mergeable) → (x : Option PageState) → is_mergeable x ≡ true → is_mergeable (option_map change x) ≡ true
-flag-kept change h1 x h2 = grind (arith, nat_tests)
-
 pub stay-set : (pages : List (Option PageState)) (i : ℕ) (change : PageState → PageState) → ((state : PageState) → (change state).mergeable ≡ state.mergeable)
     → StayMergeable pages (slice_set pages i (option_map change (slice_index_or pages i None)))
-stay-set pages i change same = stay-put pages i (option_map change (slice_index_or pages i None)) (flag-kept change same (slice_index_or pages i None))
+stay-set pages i change same j may = grind (arith, same, get_or-set_same pages i, get_or-set_other pages i j, get_or_past pages i None, set_past pages i)
 
 pub stay-broken : (s : Sharing) (i : ℕ) → StayMergeable s.pages (broken s i).pages
 unfolding broken
@@ -30,25 +22,8 @@ unfolding broken_from
 stay-broken_from s i zero j may = may
 stay-broken_from s i (suc n) j may = stay-broken_from (broken s i) (i + 1) n j (stay-broken s i j may)
 
-pub stay-zeroed : (s : Sharing) (i : ℕ) → StayMergeable s.pages (zeroed s i).pages
-unfolding zeroed
-stay-zeroed s i = stay-set s.pages i (with_status Zero) (λ state. refl)
-
 pub stay-marked : (s : Sharing) (i : ℕ) (status : Status) (last : ℕ) → StayMergeable s.pages (with_page s i (marked status last)).pages
 stay-marked s i status last = stay-set s.pages i (marked status last) (λ state. refl)
-
-pub stay-paired : (s : Sharing) (i j : ℕ) → i ≢ j → StayMergeable s.pages (paired s i j).pages
-unfolding paired
-stay-paired s i j apart k may =
-    stay-put first j (option_map (with_status Grouped) (state_at s j)) second k (stay-set s.pages i (with_status Grouped) (λ state. refl) k may)
-  where
-    first : List (Option PageState)
-    first = slice_set s.pages i (option_map (with_status Grouped) (state_at s i))
-
-    second : is_mergeable (slice_index_or first j None) ≡ true → is_mergeable (option_map (with_status Grouped) (state_at s j)) ≡ true
-    second h =
-        let same = get_or-set_other s.pages i j (option_map (with_status Grouped) (state_at s i)) None (λ e. apart (sym e)) in
-        flag-kept (with_status Grouped) (λ state. refl) (state_at s j) (sym (ap is_mergeable same) ∙ h)
 
 -- what callers are told of a change tells it
 pub ahead-told : (old new : TableState) (pass : Pass) (s : Sharing) (c : Option ℕ) → sharing_of new pass ≡ s → StayMergeable (states_of old.entries) s.pages → IsAhead (states_of old.entries) c
@@ -82,9 +57,4 @@ ahead-found pages (Some n) is = by_next (first_mergeable (n + 1) (drop (n + 1) p
   where
     by_next : (x : Option ℕ) → first_mergeable (n + 1) (drop (n + 1) pages) ≡ x → IsSome x
     by_next (Some j) e = refl
-    by_next None e =
-        let k : ℕ = is.0 - (n + 1) in
-        let place : n + 1 + k ≡ is.0 = omega (arith, is.1) in
-        let none : is_mergeable (slice_index_or pages is.0 None) ≡ false =
-        ap (λ m. is_mergeable (slice_index_or pages m None)) (sym place) ∙ ap is_mergeable (sym (get_or-drop (n + 1) pages k None)) ∙ none-mergeable (n + 1) (drop (n + 1) pages) k e in
-        absurd (let no : true ≡ false = sym is.2 ∙ none in cc)
+    by_next None e = absurd (grind (arith, nat_tests, none-mergeable (n + 1) (drop (n + 1) pages) (is.0 - (n + 1)) e, get_or-drop (n + 1) pages (is.0 - (n + 1)) None, is.1, is.2))

@@ -1,5 +1,5 @@
 -- What makes a table sound again after the entry at one place changed, and perhaps the page of a frame or the groups.
-use Rattle.page_table.proofs.Base.{◌≡◌, ◌≢◌, ◌∙◌, ◌⊎◌, ℕ, ◌+◌, ◌<◌, ◌≤◌, false, length, slice_index_or, slice_set, Option, Some, None, IfSome, sym, ap, subst, arith, refl, List, ◌==◌, if◌then◌else◌, option_map, true, length-set, sum_by-set, nat_tests}
+use Rattle.page_table.proofs.Base.{◌≡◌, ◌≢◌, ◌∙◌, ◌⊎◌, ℕ, ◌+◌, ◌<◌, ◌≤◌, false, length, slice_index_or, slice_set, Option, Some, None, IfSome, sym, ap, subst, arith, refl, List, ◌==◌, if◌then◌else◌, option_map, true, length-set, sum_by-set, nat_tests, get_or-set_same, set_past, get_or_past, get_or-set_other}
 use Rattle.page_table.proofs.Words.{Status, is_shared, own_frame, zero_page, page_at, Entry, TableState, CountsState, IsTable, IsEntry, IsAlone, IsGroup, AreCountsOf, LiesRight, times, entry_at, is_on, pages_on, used_by, IsOwnAt, own_pages, state_of}
 use Rattle.page_table.proofs.Entries.{equal, inside, alone, at_set, one_when, on_one, pages_on-set}
 
@@ -17,11 +17,6 @@ pub pages_on-changed : (xs : List (Option Entry)) (i : ℕ) (entry : Entry) (x :
     → (g : ℕ) → pages_on g (slice_set xs i x) + one_when (entry.frame == g) ≡ pages_on g xs + on_one g x
 pages_on-changed xs i entry x here g = let was = ap (on_one g) here in omega (arith, pages_on-set g xs i x (inside xs i entry here), was)
 
--- and those with frames of their own
-pub own_pages-changed : (xs : List (Option Entry)) (i : ℕ) (entry : Entry) (x : Option Entry) → entry_at xs i ≡ Some entry
-    → own_pages (slice_set xs i x) + (if is_shared entry.status then 0 else 1) ≡ own_pages xs + own_one x
-own_pages-changed xs i entry x here = let was = ap own_one here in omega (arith, own_pages-set xs i x (inside xs i entry here), was)
-
 -- a page that isn't shared is alone on its frame
 pub is_alone : (table : TableState) (entry : Entry) → IsEntry table entry → is_shared entry.status ≡ false → IsAlone table entry.frame
 is_alone table entry is own = grind (arith, nat_tests, own)
@@ -29,10 +24,6 @@ is_alone table entry is own = grind (arith, nat_tests, own)
 -- and one that isn't shared lies right where it is alone
 pub lies_alone : (table : TableState) (f : ℕ) (status : Status) → is_shared status ≡ false → IsAlone table f → LiesRight table f status
 lies_alone table f status h1 h2 = grind (arith, nat_tests)
-
--- one that is shared lies on a group's frame or on the zero frame
-pub lies_shared : (table : TableState) (f : ℕ) (status : Status) → is_shared status ≡ true → LiesRight table f status → (times f table.groups ≡ 1) ⊎ (f ≡ 0)
-lies_shared table f status h1 h2 = grind (arith, nat_tests)
 
 -- the entry at a place fits
 pub entry_fits : (table : TableState) (i : ℕ) (entry : Entry) → IsTable table → entry_at table.entries i ≡ Some entry → IsEntry table entry
@@ -79,7 +70,7 @@ table-set old new i x is entries arena pages zero here stay groups =
       entries = λ j. subst (λ (l : List (Option Entry)). IfSome (entry_at l j) (IsEntry new)) (sym entries)
           (at_set (λ y. IfSome y (IsEntry new)) old.entries i j x tt here (λ ne. other j ne (entry_at old.entries j) refl (is.entries j)));
       groups = groups;
-      few = omega (arith, is.few, ap length entries, length-set old.entries i x);
+      few = grind (arith, is.few, entries, length-set old.entries i x);
     }
   where
     other : (j : ℕ) → j ≢ i → (y : Option Entry) → entry_at old.entries j ≡ y → IfSome y (IsEntry old) → IfSome y (IsEntry new)

@@ -9,47 +9,24 @@ use Rattle.page_table.proofs.Groups.{company-places}
 pub state-at : (table : TableState) (pass : Pass) (i : ℕ) → state_at (sharing_of table pass) i ≡ option_map state_of (entry_at table.entries i)
 state-at table pass i = told_at state_of table.entries i
 
--- what the break of the page of an entry takes
-cost-entry : (table : TableState) (i : ℕ) (entry : Entry) → entry_at table.entries i ≡ Some entry
-    → break_frames table i ≡ cost_of (nat_lt 1 (pages_on entry.frame table.entries)) entry.status
-unfolding break_frames
-cost-entry table i entry here = rw here refl
-
-cost-none : (table : TableState) (i : ℕ) → entry_at table.entries i ≡ None → break_frames table i ≡ 0
-unfolding break_frames
-cost-none table i none = rw none refl
-
--- where a group has the frame, the frame isn't the zero frame
-pub group-frame : (table : TableState) (f : ℕ) → IsTable table → times f table.groups ≡ 1 → one_if_zero f ≡ 0
-group-frame table f is one = grind (arith, nat_tests, one_if_zero-above)
-
 -- the break of a page on the frame f takes a frame where it shares its own, and others hold that too: among all pages, or those that are left
 pub shared-cost : (table : TableState) (f : ℕ) (xs : List (Option Entry)) (in_company : Bool) → IsTable table → 1 ≤ pages_on f xs → (times f table.groups ≡ 1 → in_company ≡ nat_lt 1 (pages_on f xs))
     → (status : Status) → LiesRight table f status → cost_of in_company status ≡ one_when (is_shared status && nat_lt 1 (one_if_zero f + pages_on f xs))
-shared-cost table f xs in_company h1 h2 h3 status h4 = grind (arith, nat_tests, group-frame table f)
+shared-cost table f xs in_company h1 h2 h3 status h4 = grind (arith, nat_tests, one_if_zero-above)
 
 -- the page of an entry lies on its frame
 lies-there : (table : TableState) (i : ℕ) (entry : Entry) → entry_at table.entries i ≡ Some entry → 1 ≤ pages_on entry.frame table.entries
 lies-there table i entry here = some_on entry.frame table.entries i (ap (is_on entry.frame) here ∙ equal entry.frame)
 
--- the break of a page takes a frame where it shares its own, and others hold that too
-cost-told : (table : TableState) (i : ℕ) (entry : Entry) → IsTable table → entry_at table.entries i ≡ Some entry
-    → break_frames table i ≡ one_when (is_shared entry.status && nat_lt 1 (one_if_zero entry.frame + pages_on entry.frame table.entries))
-cost-told table i entry h1 h2 =
-    grind (arith, nat_tests, cost-entry table i entry, shared-cost table entry.frame table.entries (nat_lt 1 (pages_on entry.frame table.entries)), lies-there table i entry)
-
 -- what the break of a page takes
 pub cost-is : (table : TableState) (pass : Pass) (i : ℕ) → IsTable table → break_cost (sharing_of table pass) i ≡ break_frames table i
-unfolding break_cost groups_of
+unfolding break_cost groups_of break_frames
 cost-is table pass i h1 =
-    grind (arith, nat_tests, state-at table pass i, cost-none table i, shared-cost table, lies-there table i, company-places table.entries table.groups i, cost-told table i)
+    grind (arith, nat_tests, state-at table pass i, shared-cost table, lies-there table i, company-places table.entries table.groups i, shared-cost, nat_lt, lies-there)
 
 -- the same, told by the count of the page's frame
 pub cost-counted : (table : TableState) (counts : CountsState) (i : ℕ) (entry : Entry) → IsSound table counts → entry_at table.entries i ≡ Some entry
     → break_frames table i ≡ one_when (entry.protected && nat_lt 1 (slice_index_or counts.counts entry.frame 0))
-cost-counted table counts i entry h1 h2 = grind (arith, nat_tests, entry_fits table i entry, cost-told table i entry)
+unfolding break_frames
+cost-counted table counts i entry h1 h2 = grind (arith, nat_tests, entry_fits table i entry, shared-cost, nat_lt, lies-there)
 
--- the count of a page's frame is not 0
-pub count-some : (table : TableState) (counts : CountsState) (i : ℕ) (entry : Entry) → IsSound table counts → entry_at table.entries i ≡ Some entry
-    → (slice_index_or counts.counts entry.frame 0 ≡ one_if_zero entry.frame + pages_on entry.frame table.entries) × (1 ≤ slice_index_or counts.counts entry.frame 0)
-count-some table counts i entry h1 h2 = grind (arith, nat_tests, entry_fits table i entry, some_on entry.frame table.entries i, equal entry.frame)

@@ -1,12 +1,122 @@
--- A page table stays sound where the last page leaves its group and keeps the frame.
-use Rattle.page_table.proofs.Base.{◌≡◌, ◌≢◌, ◌∙◌, inl, inr, ◌⊎◌, ⊎_elim, ℕ, ◌+◌, ◌<◌, ◌≤◌, ◌==◌, not, true, false, List, [], ◌∷◌, length, map, filter, slice_index_or, slice_set, Option, Some, None, option_map, refl, sym, ap, subst, arith, map-set, set-get_or, nil_from_length, eqb_tells, nat_tests}
-use Rattle.page_table.proofs.Words.{Pass, Volatile, PageState, is_shared, broken, broken_page, without, left_by, without-length, times-gone, times-kept, some_kept, page_at, Entry, TableState, CountsState, IsTable, IsAlone, IsGroup, IsSound, AreCountsOf, times, one_if_zero, entry_at, state_of, states_of, contents_of, groups_of, sharing_of, is_on, places_on, pages_on, used_by}
-use Rattle.page_table.proofs.Changing.{entry_fits, table-set, counted-changed, lies_alone, apart_alone, pages_on-changed, own_pages-changed, lies_shared}
-use Rattle.page_table.proofs.Costs.{state-at, group-frame}
-use Rattle.page_table.proofs.Entries.{times-head, times-tail, one_when, on_one, not_equal, equal, pages_on-set, some_on, inside, contents-set, group_of}
+-- A page table stays sound where a page is added, where one leaves a frame on which others lie, and where the last page leaves its group and keeps the frame.
+use Rattle.page_table.proofs.Base.{◌≡◌, ◌≢◌, ◌∙◌, ◌⊎◌, ⊎_elim, ℕ, ◌+◌, ◌-◌, ◌<◌, ◌≤◌, ◌==◌, not, Bool, true, false, List, [], ◌∷◌, length, map, filter, slice_index_or, slice_set, Option, Some, None, option_map, refl, sym, ap, arith, get_or-set_same, get_or-set_other, set-get_or, length-set, map-set, nil_from_length, nat_tests, get_or_default, get_or_past}
+use Rattle.page_table.proofs.Words.{Pass, New, Volatile, new_page, broken, broken_page, is_shared, left_by, without, without-length, times-gone, times-kept, some_kept, zero_page, length-zero_page, page_at, Entry, TableState, CountsState, IsTable, IsAlone, IsGroup, IsSound, AreCountsOf, times, one_if_zero, entry_at, state_of, states_of, contents_of, groups_of, sharing_of, is_on, places_on, pages_on, used_by}
+use Rattle.page_table.proofs.Changing.{entry_fits, table-set, table-changed, counted-changed, lies_alone, apart_alone, pages_on-changed, own_pages-set}
+use Rattle.page_table.proofs.Costs.{state-at}
+use Rattle.page_table.proofs.Entries.{one_when, on_one, elsewhere, not_equal, equal, none_on, some_on, pages_on-set, inside, entry_content-kept, contents-set, places_on-set, groups-kept, times-head, times-tail, one_if_zero-above, group_of, told_here, counts-set}
 use Rattle.page_table.proofs.Groups.{length-places, without-here}
+use Rattle.page_table.proofs.Moving.{contents-entry}
 use Rattle.page_table.proofs.Putting.{content_at}
-use Rattle.page_table.proofs.Leaving.{sharing-broken}
+
+-- an unused frame is one that no page lies on, and isn't the zero frame
+pub record IsUnused (table : TableState) (f : ℕ) : Type 0 where
+  pub there : f < length table.arena
+  pub above : 0 < f
+  pub empty : pages_on f table.entries ≡ 0
+  pub no_group : times f table.groups ≡ 0
+
+pub unused-frame : (table : TableState) (counts : CountsState) (f : ℕ) → IsSound table counts → slice_index_or counts.counts f 1 ≡ 0 → IsUnused table f
+unused-frame table counts f sound h = grind (arith, nat_tests, get_or_past, get_or_default)
+
+-- the table where the entry at a place lies on a frame with other bytes
+abbrev pub filled : TableState → ℕ → Entry → List ℕ → TableState
+filled table i x page = record table { arena = slice_set table.arena x.frame page; entries = slice_set table.entries i (Some x) }
+
+-- the frame was unused
+module _ (table : TableState) (i : ℕ) (x : Entry) (page : List ℕ) (is : IsTable table) (free : IsUnused table x.frame) where
+  pub contents-filled : contents_of (filled table i x page) ≡ slice_set (contents_of table) i page
+  unfolding contents_of
+  contents-filled =
+      contents-set table.arena (slice_set table.arena x.frame page) table.entries i (Some x) page (get_or-set_same table.arena x.frame page [] free.there)
+      (λ j ne. entry_content-kept table.arena x.frame page (entry_at table.entries j) (none_on x.frame table.entries j free.empty))
+
+  -- the page before lay on no frame of a page that is alone, and each group still has pages
+  IsTable-filled : i < length table.entries → length page ≡ 4096 → is_shared x.status ≡ false → x.protected ≡ false
+      → ((j : ℕ) (y : Entry) → j ≢ i → entry_at table.entries j ≡ Some y → IsAlone table y.frame → on_one y.frame (entry_at table.entries i) ≡ 0)
+      → ((g : ℕ) → IsGroup table g → 1 ≤ pages_on g (filled table i x page).entries) → IsTable (filled table i x page)
+  IsTable-filled there sized own unlocked apart still =
+      grind (arith, nat_tests, table-changed table (filled table i x page) i (Some x), length-set, get_or-set_same, get_or-set_other, lies_alone, pages_on-set, elsewhere, none_on, free, still, apart)
+
+-- a new page
+abbrev pub added_entry : ℕ → Bool → Entry
+added_entry f mergeable = record { frame = f; protected = false; mergeable = mergeable; status = New; last = None }
+
+-- the table with a page of zeros more
+abbrev pub added : TableState → ℕ → ℕ → Bool → TableState
+added table i f mergeable = filled table i (added_entry f mergeable) zero_page
+
+module _ (table : TableState) (i f : ℕ) (mergeable : Bool) (is : IsTable table) (free : IsUnused table f) (there : i < length table.entries) (empty : entry_at table.entries i ≡ None) where
+  pub states-added : states_of (added table i f mergeable).entries ≡ slice_set (states_of table.entries) i (Some (new_page mergeable))
+  states-added = map-set (option_map state_of) table.entries i (Some (added_entry f mergeable))
+
+  pub groups-added : groups_of (added table i f mergeable) ≡ groups_of table
+  unfolding groups_of
+  groups-added = grind (arith, nat_tests, groups-kept table.entries (added table i f mergeable).entries table.groups, places_on-set, free, empty)
+
+  pub used-added : used_by (added table i f mergeable) ≡ used_by table + 1
+  used-added = grind (arith, nat_tests, own_pages-set, there, empty)
+
+  pub sound-added : (old new : CountsState) → AreCountsOf table old → new.counts ≡ slice_set old.counts f 1 → length new.unused + 1 ≡ length old.unused
+      → IsSound (added table i f mergeable) new
+  sound-added old new counted counts fewer =
+      record {
+        fits = grind (arith, nat_tests, IsTable-filled table i (added_entry f mergeable) zero_page is free, pages_on-set, length-zero_page, there, empty, free);
+        counted = grind (arith, nat_tests, counted-changed, length-set, used-added, counts-set, pages_on-set, there, empty, one_if_zero-above, free);
+      }
+
+-- the groups after a page left, where each still has pages
+pub groups-left : (old new : List (Option Entry)) (i : ℕ) (groups : List ℕ)
+    → ((g : ℕ) → 1 ≤ times g groups → without i (places_on 0 g old) ≡ places_on 0 g new)
+    → ((g : ℕ) → 1 ≤ times g groups → 1 ≤ pages_on g new)
+    → map (λ g. places_on 0 g new) groups ≡ left_by i (map (λ g. places_on 0 g old) groups)
+groups-left old new i [] same some = refl
+groups-left old new i (g ∷ gs) same some =
+    grind (arith, nat_tests, same g (times-head g gs), some g (times-head g gs), length-places 0 g new, groups-left old new i gs, times-tail)
+
+-- a page that is shared is broken, where its state and the groups tell so
+sharing-broken : (old new : TableState) (i : ℕ) (entry next : Entry) → entry_at old.entries i ≡ Some entry → is_shared entry.status ≡ true
+    → new.entries ≡ slice_set old.entries i (Some next) → state_of next ≡ broken_page (state_of entry) → groups_of new ≡ left_by i (groups_of old)
+    → (pass : Pass) → sharing_of new pass ≡ broken (sharing_of old pass) i
+unfolding broken
+sharing-broken old new i entry next h1 h2 h3 h4 h5 pass = grind (arith, nat_tests, told_here state_of old.entries i entry, map-set (option_map state_of) old.entries i (Some next))
+
+-- the table where the page at a place lies on a frame of its own, with a copy
+abbrev pub left : TableState → ℕ → Entry → Entry → TableState
+left table i entry next = filled table i next (page_at table.arena entry.frame)
+
+module _ (table : TableState) (i : ℕ) (entry next : Entry) (is : IsTable table) (free : IsUnused table next.frame) (here : entry_at table.entries i ≡ Some entry)
+    (shared : is_shared entry.status ≡ true) (company : 1 < one_if_zero entry.frame + pages_on entry.frame table.entries)
+    (state : state_of next ≡ broken_page (state_of entry)) (own : is_shared next.status ≡ false) where
+  pages_on-left : (g : ℕ) → pages_on g (left table i entry next).entries + one_when (entry.frame == g) ≡ pages_on g table.entries + one_when (next.frame == g)
+  pages_on-left = pages_on-changed table.entries i entry (Some next) here
+
+  pub contents-left : contents_of (left table i entry next) ≡ contents_of table
+  contents-left = grind (arith, contents-filled table i next (page_at table.arena entry.frame) is free, content_at table i entry here, set-get_or (contents_of table) i [])
+
+  -- each group still has pages
+  still : (g : ℕ) → IsGroup table g → 1 ≤ pages_on g (left table i entry next).entries
+  still g group = grind (arith, nat_tests, pages_on-left g, company, group.some, one_if_zero-above g group.above)
+
+  groups_of-left : groups_of (left table i entry next) ≡ left_by i (groups_of table)
+  unfolding groups_of
+  groups_of-left = grind (arith, nat_tests, groups-left table.entries (left table i entry next).entries i table.groups, without-here, still, group_of, free)
+
+  pub sharing-left : (pass : Pass) → sharing_of (left table i entry next) pass ≡ broken (sharing_of table pass) i
+  sharing-left = sharing-broken table (left table i entry next) i entry next here shared refl state groups_of-left
+
+  pub used-left : used_by (left table i entry next) ≡ used_by table + 1
+  used-left = grind (arith, own_pages-set, inside, shared, own)
+
+  pub sound-left : (old taken new : CountsState) → next.protected ≡ false → AreCountsOf table old
+      → taken.counts ≡ slice_set old.counts next.frame 1 → length taken.unused + 1 ≡ length old.unused
+      → new.counts ≡ slice_set taken.counts entry.frame (slice_index_or taken.counts entry.frame 0 - 1)
+      → length new.unused ≡ length taken.unused + one_if_zero (slice_index_or taken.counts entry.frame 0 - 1)
+      → IsSound (left table i entry next) new
+  sound-left old taken new protected counted took fewer counts more =
+      record {
+        fits = grind (arith, nat_tests, IsTable-filled table i next (page_at table.arena entry.frame) is free, still, apart_alone, entry_fits, inside, here, own, free);
+        counted = grind (arith, nat_tests, counted-changed, length-set, used-left, counts-set, pages_on-left, one_if_zero-above, entry_fits, elsewhere, none_on, here, free, company);
+      }
 
 -- a list of frames without one of them
 abbrev pub but : ℕ → List ℕ → List ℕ
@@ -18,14 +128,7 @@ left-groups : (old new : List (Option Entry)) (f i : ℕ) (groups : List ℕ) �
     → left_by i (map (λ g. places_on 0 g old) groups) ≡ map (λ g. places_on 0 g new) (but f groups)
 left-groups old new f i [] gone stay = refl
 left-groups old new f i (g ∷ gs) gone stay =
-    grind (
-      arith,
-      nat_tests,
-      gone,
-      stay g (times-head g gs),
-      some_kept (places_on 0 g new) (left_by i (map (λ g. places_on 0 g old) gs)),
-      left-groups old new f i gs gone (λ h le ne. let more = times-tail h g gs in stay h (omega (arith, le, more)) ne),
-    )
+    grind (arith, nat_tests, gone, stay g (times-head g gs), some_kept (places_on 0 g new) (left_by i (map (λ g. places_on 0 g old) gs)), left-groups old new f i gs gone, times-tail)
 
 -- a page with a frame of its own stays
 pub sharing-unbroken : (table : TableState) (pass : Pass) (i : ℕ) (entry : Entry) → IsTable table → entry_at table.entries i ≡ Some entry → entry.protected ≡ false
@@ -39,96 +142,41 @@ ended table i new f = record table { entries = slice_set table.entries i (Some n
 
 module _ (table : TableState) (i : ℕ) (entry new : Entry) (is : IsTable table) (here : entry_at table.entries i ≡ Some entry) (shared : is_shared entry.status ≡ true)
     (last : one_if_zero entry.frame + pages_on entry.frame table.entries ≡ 1) (state : state_of new ≡ broken_page (state_of entry)) (frame : new.frame ≡ entry.frame) where
-  there : i < length table.entries
-  there = inside table.entries i entry here
-
   -- the page is of a group
   pub one_group : times entry.frame table.groups ≡ 1
-  one_group = ⊎_elim (λ once. once) (λ zero. absurd (omega (arith, last, lies, ap one_if_zero zero))) (lies_shared table entry.frame entry.status shared (entry_fits table i entry is here).right)
-    where
-      lies : 1 ≤ pages_on entry.frame table.entries
-      lies = some_on entry.frame table.entries i (ap (is_on entry.frame) here ∙ equal entry.frame)
-
-  alone_there : pages_on entry.frame table.entries ≡ 1
-  alone_there = let none = group-frame table entry.frame is one_group in omega (arith, none, last)
+  one_group = grind (arith, nat_tests, entry_fits, some_on entry.frame table.entries i, equal)
 
   pages_on-ended : (g : ℕ) → pages_on g (ended table i new entry.frame).entries ≡ pages_on g table.entries
   pages_on-ended g = grind (arith, pages_on-changed table.entries i entry (Some new) here g, frame)
 
   pub contents-ended : contents_of (ended table i new entry.frame) ≡ contents_of table
-  unfolding contents_of
-  contents-ended =
-      let content_here : slice_index_or (contents_of table) i [] ≡ page_at table.arena new.frame = content_at table i entry here ∙ ap (page_at table.arena) (sym frame) in
-      contents-set table.arena table.arena table.entries i (Some new) (page_at table.arena new.frame) refl (λ j ne. refl)
-      ∙ ap (slice_set (contents_of table) i) (sym content_here) ∙ set-get_or (contents_of table) i []
+  contents-ended = contents-entry table i entry new (but entry.frame table.groups) here (ap (page_at table.arena) frame)
+
+  -- no place is left on the frame, and another group keeps its places
+  gone : without i (places_on 0 entry.frame table.entries) ≡ []
+  gone =
+      without-here entry.frame table.entries i None refl
+      ∙ nil_from_length _ (grind (arith, nat_tests, length-places 0 entry.frame (slice_set table.entries i None), pages_on-changed table.entries i entry None here entry.frame, one_if_zero-above, one_group))
 
   groups-ended : groups_of (ended table i new entry.frame) ≡ left_by i (groups_of table)
   unfolding groups_of
-  groups-ended = sym (left-groups table.entries (slice_set table.entries i (Some new)) entry.frame i table.groups gone stay)
-    where
-      gone : without i (places_on 0 entry.frame table.entries) ≡ []
-      gone =
-          let count = pages_on-set entry.frame table.entries i None there in
-          let one : on_one entry.frame (entry_at table.entries i) ≡ 1 = ap (on_one entry.frame) here ∙ ap one_when (equal entry.frame) in
-          let long = length-places 0 entry.frame (slice_set table.entries i None) in
-          without-here entry.frame table.entries i None refl
-          ∙ nil_from_length (places_on 0 entry.frame (slice_set table.entries i None)) (omega (arith, long, count, one, alone_there))
-
-      stay : (g : ℕ) → 1 ≤ times g table.groups → g ≢ entry.frame
-          → (without i (places_on 0 g table.entries) ≡ places_on 0 g (slice_set table.entries i (Some new))) × (0 < length (places_on 0 g (slice_set table.entries i (Some new))))
-      stay g le ne = (
-        without-here g table.entries i (Some new) (not_equal g new.frame (λ e. ne (sym (sym frame ∙ e)))),
-        omega (arith, length-places 0 g (slice_set table.entries i (Some new)), pages_on-ended g, (group_of table g is le).some),
-      )
+  groups-ended = grind (arith, nat_tests, left-groups table.entries (slice_set table.entries i (Some new)) entry.frame i table.groups gone, without-here, length-places, pages_on-ended, group_of, frame)
 
   pub sharing-ended : (pass : Pass) → sharing_of (ended table i new entry.frame) pass ≡ broken (sharing_of table pass) i
-  sharing-ended =
-      sharing-broken table (ended table i new entry.frame) i entry here shared
-      (map-set (option_map state_of) table.entries i (Some new) ∙ ap (λ s. slice_set (states_of table.entries) i (Some s)) state) groups-ended
-
-  status-ended : new.status ≡ Volatile
-  status-ended = ap (λ (s : PageState). s.status) state
+  sharing-ended = sharing-broken table (ended table i new entry.frame) i entry new here shared refl state groups-ended
 
   pub used-ended : used_by (ended table i new entry.frame) ≡ used_by table
-  used-ended =
-      let own : is_shared new.status ≡ false = ap is_shared status-ended in
-      grind (arith, own_pages-changed table.entries i entry (Some new) here, shared, own, without-length entry.frame table.groups, one_group)
+  used-ended = grind (arith, nat_tests, own_pages-set, inside, shared, state, without-length entry.frame table.groups, one_group)
 
-  IsTable-ended : new.protected ≡ false → IsTable (ended table i new entry.frame)
-  IsTable-ended unlocked =
-      let fits = entry_fits table i entry is here in
-      let group = group_of table entry.frame is (omega (arith, one_group)) in
-      let lone : IsAlone after entry.frame = record { above = group.above; one = pages_on-ended entry.frame ∙ alone_there; no_group = times-gone entry.frame table.groups } in
-      table-set table after i (Some new) is refl refl is.pages is.zero
-      (record {
-        frame = omega (arith, frame, fits.frame);
-        protected = unlocked ∙ sym (ap is_shared status-ended);
-        right = lies_alone after new.frame new.status (ap is_shared status-ended) (subst (IsAlone after) (sym frame) lone);
-      })
-      (λ j y ne e.
-      let same = times-kept entry.frame y.frame table.groups (λ q. apart_alone table j i y entry e here (λ p. ne (sym p)) alone_there (sym q)) in (
-        λ a. record { above = a.above; one = pages_on-ended y.frame ∙ a.one; no_group = same ∙ a.no_group },
-        λ once. same ∙ once,
-      ))
-      each
-    where
-      after : TableState
-      after = ended table i new entry.frame
-
-      each : (g : ℕ) → (times g after.groups ≡ 0) ⊎ IsGroup after g
-      each g =
-          ⊎_elim
-          (λ same. inl (subst (λ (n : ℕ). times n (but entry.frame table.groups) ≡ 0) (sym same.1) (times-gone entry.frame table.groups)))
-          (λ apart. let kept = times-kept entry.frame g table.groups apart.1 in
-          ⊎_elim
-          (λ none. inl (kept ∙ none))
-          (λ group. inr (record { above = IsGroup.above group; once = kept ∙ IsGroup.once group; some = let pages = pages_on-ended g in omega (arith, pages, IsGroup.some group) }))
-          (is.groups g))
-          (eqb_tells g entry.frame)
+  each-ended : (g : ℕ) → (times g (but entry.frame table.groups) ≡ 0) ⊎ IsGroup (ended table i new entry.frame) g
+  each-ended g = grind (arith, nat_tests, is.groups g, times-gone entry.frame table.groups, times-kept entry.frame g table.groups, pages_on-ended g)
 
   pub sound-ended : (counts : CountsState) → new.protected ≡ false → AreCountsOf table counts → IsSound (ended table i new entry.frame) counts
   sound-ended counts unlocked counted =
+      let none : times entry.frame (but entry.frame table.groups) ≡ 0 = times-gone entry.frame table.groups in
       record {
-        fits = IsTable-ended unlocked;
-        counted = counted-changed table (ended table i new entry.frame) counts counts counted refl refl (let same = used-ended in omega (arith, same)) (λ g h. let pages = pages_on-ended g in omega (arith, pages));
+        fits = table-set table (ended table i new entry.frame) i (Some new) is refl refl is.pages is.zero
+            (grind (arith, nat_tests, entry_fits table i entry is here, lies_alone (ended table i new entry.frame), pages_on-ended, one_if_zero-above, one_group, group_of table entry.frame, none, state, frame, unlocked))
+            (λ j y ne e. grind (arith, nat_tests, times-kept entry.frame y.frame table.groups, pages_on-ended y.frame, apart_alone table j i y entry e here, ne, one_if_zero-above, one_group)) each-ended;
+        counted = grind (arith, nat_tests, counted-changed, used-ended, pages_on-ended);
       }

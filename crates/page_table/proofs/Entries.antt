@@ -100,18 +100,15 @@ entry_content-kept arena f page x h1 = grind (arith, nat_tests, get_or-set_other
 pub contents-same : (old new : List (List ℕ)) (xs : List (Option Entry)) → ((j : ℕ) → entry_content new (entry_at xs j) ≡ entry_content old (entry_at xs j))
     → map (entry_content new) xs ≡ map (entry_content old) xs
 contents-same old new [] h = refl
-contents-same old new (x ∷ xs) h = let first = h 0 in let rest = contents-same old new xs (λ j. h (suc j)) in cc
+contents-same old new (x ∷ xs) h = grind (arith, h 0, contents-same old new xs (λ j. h (suc j)))
 
 -- the contents where one entry is replaced and each other page stays
 pub contents-set : (old new : List (List ℕ)) (xs : List (Option Entry)) (i : ℕ) (x : Option Entry) (page : List ℕ) → entry_content new x ≡ page
     → ((j : ℕ) → j ≢ i → entry_content new (entry_at xs j) ≡ entry_content old (entry_at xs j))
     → map (entry_content new) (slice_set xs i x) ≡ slice_set (map (entry_content old) xs) i page
 contents-set old new [] i x page e h = refl
-contents-set old new (y ∷ ys) zero x page e h =
-    let rest = contents-same old new ys (λ j. h (suc j) (λ e. omega arith)) in cc
-contents-set old new (y ∷ ys) (suc i) x page e h =
-    let first = h 0 (λ e. omega arith) in
-    let rest = contents-set old new ys i x page e (λ j ne. h (suc j) (λ e. ne (omega arith))) in cc
+contents-set old new (y ∷ ys) zero x page e h = grind (arith, contents-same old new ys (λ j. h (suc j) (λ e. omega arith)))
+contents-set old new (y ∷ ys) (suc i) x page e h = grind (arith, h 0 (λ e. omega arith), contents-set old new ys i x page e (λ j ne. h (suc j) (λ e. ne (omega arith))))
 
 -- the places on a frame, where an entry is replaced by one that lies there as the old one did
 pub places_on-set : (n f : ℕ) (xs : List (Option Entry)) (i : ℕ) (x : Option Entry) → is_on f x ≡ is_on f (entry_at xs i)
@@ -134,20 +131,12 @@ times-tail g h gs = grind (arith, times-cons g h gs)
 -- two readings of each group
 pub groups-each : {X : Type 0} (f h : ℕ → X) (groups : List ℕ) → ((g : ℕ) → 1 ≤ times g groups → f g ≡ h g) → map f groups ≡ map h groups
 groups-each f h [] same = refl
-groups-each f h (g ∷ gs) same =
-    let first = same g (times-head g gs) in
-    let rest = groups-each f h gs (λ k le. let more = times-tail k g gs in same k (omega arith)) in
-    cc
+groups-each f h (g ∷ gs) same = grind (arith, same g (times-head g gs), groups-each f h gs (λ k le. same k (omega (arith, times-tail k g gs, le))))
 
 -- the groups, where each lies as before
 pub groups-kept : (old new : List (Option Entry)) (groups : List ℕ) → ((g : ℕ) → 1 ≤ times g groups → places_on 0 g new ≡ places_on 0 g old)
     → map (λ g. places_on 0 g new) groups ≡ map (λ g. places_on 0 g old) groups
 groups-kept old new groups h = groups-each (λ g. places_on 0 g new) (λ g. places_on 0 g old) groups h
-
--- each page of the arena has its bytes, where one is written
-pub pages-set : (arena : List (List ℕ)) (f : ℕ) (page : List ℕ) → ((g : ℕ) → g < length arena → length (page_at arena g) ≡ 4096) → length page ≡ 4096
-    → (g : ℕ) → g < length (slice_set arena f page) → length (page_at (slice_set arena f page) g) ≡ 4096
-pages-set arena f page pages sized g h = grind (arith, length-set arena f page, get_or-set_same arena f page [], get_or-set_other arena f g page [], pages g)
 
 -- an entry put where a page shared a frame leaves all that share none
 pub kept-shared : (xs : List (Option Entry)) (i : ℕ) (old : Entry) (x : Option Entry) → entry_at xs i ≡ Some old → is_shared old.status ≡ true

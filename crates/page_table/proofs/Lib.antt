@@ -3,7 +3,6 @@ pub mod Words
 pub mod Sides
 pub mod Entries
 pub mod Changing
-pub mod Adding
 pub mod Unused
 pub mod Unmerging
 pub mod Putting
@@ -16,18 +15,13 @@ pub mod Creating
 pub mod Shapes
 pub mod Groups
 pub mod Costs
-pub mod Leaving
 pub mod Ending
 pub mod Moving
-pub mod Pairing
-pub mod Zeroing
 pub mod Merging
 pub mod Seen
-pub mod Breaks
 pub mod Counting
 pub mod Facts
 pub mod Waiters
-pub mod Marking
 pub mod Joining
 pub mod Next
 pub mod Scanning

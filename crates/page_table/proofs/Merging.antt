@@ -2,6 +2,7 @@
 use Rattle.page_table.proofs.Base.{◌≡◌, ◌≢◌, ℕ, zero, suc, ◌+◌, ◌*◌, ◌<◌, ◌≤◌, List, [], ◌∷◌, length, slice_index_or, Option, Some, None, IfSome, false, refl, ap, arith, Bool, nat_tests}
 use Rattle.page_table.proofs.Words.{Pass, Shape, Page, part_of, map_place, page_place, PageState, is_shared, break_cost, Sharing, Entry, Tenant, MemoryState, part, free_of, have_of, IsPageOf, IsOwn, AreKept, IsKeptBut, KeepsSettings, with_pins, TableState, IsOwnAt, entry_at, state_of, states_of, contents_of, maps_of, sharing_of, used_by, break_frames, view_of, IsMemory}
 use Rattle.page_table.proofs.Reading.{page_located, page_number, few_pages}
+use Rattle.page_table.proofs.Costs.{state-at}
 use Rattle.page_table.proofs.Free.{free_is}
 
 -- The pages' bytes stay, and frames were taken and given back. The pins and what is told of sharing are those of the table and the pass, before and after.
@@ -31,28 +32,11 @@ module _ (table new : TableState) (shapes : List (Option Shape)) (tenants : List
   unfolding view_of part
   part_pinned t = rw contents refl
 
-  pub memory_kept : (reserved : ℕ) → IsMemory table shapes tenants reserved → reserved + used_by new ≤ length table.arena → IsMemory new shapes tenants reserved
-  memory_kept reserved is room = grind (arith, nat_tests)
-
-  moves_told : (taken given reserved : ℕ) → IsMemory table shapes tenants reserved → reserved + used_by new ≤ length table.arena → used_by new + given ≡ used_by table + taken
-      → Moves before after pass.pins now.pins (sharing_of table pass) (sharing_of new now) taken given
-  unfolding view_of part
-  moves_told taken given reserved is room used =
-      let old = free_is table shapes tenants pass (omega (arith, is.room)) in
-      let newer = free_is new shapes tenants now (omega (arith, room, arena)) in
-      record {
-        maps = ap (maps_of shapes) contents;
-        kept = λ pins t. rw (contents, pins) refl;
-        sharing = λ change same. same;
-        settings = record { tenants = refl; frames = arena };
-        free = omega (arith, old, newer, used, arena);
-        have = omega (arith, old, newer, used, arena, is.room, is.sum, room);
-      }
-
   -- the same of what callers saw before
   pub moves : (seen : MemoryState) → before ≡ seen → (taken given reserved : ℕ) → IsMemory table shapes tenants reserved → reserved + used_by new ≤ length table.arena
       → used_by new + given ≡ used_by table + taken → Moves seen after pass.pins now.pins (sharing_of table pass) (sharing_of new now) taken given
-  moves seen same taken given reserved is room used = grind (arith, nat_tests, moves_told taken given reserved is room used)
+  unfolding view_of part
+  moves seen same taken given reserved is room used = grind (arith, nat_tests, free_is table shapes tenants pass, free_is new shapes tenants now, contents, arena)
 
 -- how many frames the break of a page takes, as callers see it
 module _ (table : TableState) (shapes : List (Option Shape)) (tenants : List Tenant) (pass : Pass) (costs : (pass : Pass) (i : ℕ) → break_cost (sharing_of table pass) i ≡ break_frames table i) where
@@ -60,55 +44,21 @@ module _ (table : TableState) (shapes : List (Option Shape)) (tenants : List Ten
   unfolding view_of
   cost_told i = costs pass i
 
-  -- where the frames that a break takes may be had, there is room for it
-  pub cost_fits : (reserved i : ℕ) → IsMemory table shapes tenants reserved → break_cost (view_of table shapes tenants pass).sharing i ≤ have_of (view_of table shapes tenants pass)
-      → used_by table + break_frames table i ≤ length table.arena
-  unfolding view_of
-  cost_fits reserved i is enough =
-      omega (arith, costs pass i, enough, free_is table shapes tenants pass (omega (arith, is.room)), is.room, is.sum)
-
   pub cost_reserved : (reserved i : ℕ) → IsMemory table shapes tenants reserved → break_cost (view_of table shapes tenants pass).sharing i ≤ have_of (view_of table shapes tenants pass)
       → reserved + (used_by table + break_frames table i) ≤ length table.arena
   unfolding view_of
-  cost_reserved reserved i is enough =
-      omega (arith, costs pass i, enough, free_is table shapes tenants pass (omega (arith, is.room)), is.room, is.sum)
-
--- what holds of an entry holds of the state at its place
-pub state_of_entry : (P : PageState → Type 0) (entries : List (Option Entry)) (i : ℕ) → IfSome (entry_at entries i) (λ entry. P (state_of entry)) → IfSome (slice_index_or (states_of entries) i None) P
-state_of_entry P [] i h = tt
-state_of_entry P (None ∷ xs) zero h = tt
-state_of_entry P (Some x ∷ xs) zero h = h
-state_of_entry P (x ∷ xs) (suc i) h = state_of_entry P xs i h
+  cost_reserved reserved i is enough = grind (arith, costs pass i, free_is table shapes tenants pass)
 
 -- a page with a frame of its own, as callers see it
 pub own_told : (table : TableState) (shapes : List (Option Shape)) (tenants : List Tenant) (pass : Pass) (page : Page) → IsOwnAt table (page_place page)
     → IsOwn (view_of table shapes tenants pass) page
 unfolding view_of
-own_told table shapes tenants pass page own = state_of_entry (λ state. is_shared state.status ≡ false) table.entries (page_place page) own
-
--- different pages that are there have different places
-same_place : (t m n u k l : ℕ) → m < 8 → n < 256 → k < 8 → l < 256 → map_place t m * 256 + n ≡ map_place u k * 256 + l → (t ≡ u) × (m ≡ k) × (n ≡ l)
-same_place t m n u k l h i p q e = (omega arith, omega arith, omega arith)
-
-abbrev page_of : ℕ → ℕ → ℕ → Page
-page_of t m n = record { tenant = t; map = m; number = n }
-
-same_page : (t m n u k l : ℕ) → t ≡ u → m ≡ k → n ≡ l → page_of t m n ≡ page_of u k l
-same_page t m n u k l a b c = rw (a, b, c) refl
+own_told table shapes tenants pass page own = grind (arith, nat_tests, state-at table pass (page_place page))
 
 module _ (table : TableState) (shapes : List (Option Shape)) (tenants : List Tenant) (pass : Pass) (reserved : ℕ) (is : IsMemory table shapes tenants reserved) where
   pub number_small : (page : Page) → IsPageOf (view_of table shapes tenants pass) page → page.number < 256
   number_small page there =
-      let loc = page_located table shapes tenants pass reserved page is there in
-      omega (arith, page_number table shapes tenants pass reserved page is there, few_pages loc.shape loc.pages.shaped)
+      grind (arith, page_located table shapes tenants pass reserved page is there, page_number table shapes tenants pass reserved page is there, few_pages)
 
   pub map_small : (page : Page) → IsPageOf (view_of table shapes tenants pass) page → page.map < 8
   map_small page there = (page_located table shapes tenants pass reserved page is there).small
-
-  pub places_apart : (now : MemoryState) → view_of table shapes tenants pass ≡ now → (first second : Page) → IsPageOf now first → IsPageOf now second → first ≢ second
-      → page_place first ≢ page_place second
-  places_apart now seen first second there_first there_second apart same =
-      let one : IsPageOf (view_of table shapes tenants pass) first = rw (← seen) at there_first in
-      let other : IsPageOf (view_of table shapes tenants pass) second = rw (← seen) at there_second in
-      let told = same_place first.tenant first.map first.number second.tenant second.map second.number (map_small first one) (number_small first one) (map_small second other) (number_small second other) same in
-      apart (same_page first.tenant first.map first.number second.tenant second.map second.number told.0 told.1 told.2)

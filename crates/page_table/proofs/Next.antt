@@ -5,15 +5,8 @@ use Rattle.page_table.proofs.Sides.{order}
 
 over : (pages : List (Option PageState)) (n d : ℕ) → ((i : ℕ) → n ≤ i → i < n + d → is_mergeable (slice_index_or pages i None) ≡ false)
     → first_mergeable n (drop n pages) ≡ first_mergeable (n + d) (drop (n + d) pages)
-over pages n zero apart = let same : n + 0 ≡ n = omega arith in rw same refl
-over pages n (suc d) apart =
-    let place : n + suc d ≡ n + 1 + d = omega arith in
-    rw place (step (λ later. over pages (n + 1) d later) (order n (length pages)))
-  where
-    step : (((i : ℕ) → n + 1 ≤ i → i < n + 1 + d → is_mergeable (slice_index_or pages i None) ≡ false) → first_mergeable (n + 1) (drop (n + 1) pages) ≡ first_mergeable (n + 1 + d) (drop (n + 1 + d) pages))
-        → (n < length pages) ⊎ (length pages ≤ n) → first_mergeable n (drop n pages) ≡ first_mergeable (n + 1 + d) (drop (n + 1 + d) pages)
-    step rest (inl less) = next-after pages n less (apart n (omega arith) (omega arith)) ∙ rest (λ i le lt. apart i (omega (arith, le)) (omega (arith, lt)))
-    step rest (inr past) = next-none pages n past ∙ sym (next-none pages (n + 1 + d) (omega (arith, past)))
+over pages n zero apart = grind arith
+over pages n (suc d) apart = grind (arith, nat_tests, order n (length pages), next-after pages n, next-none pages, over pages (n + 1) d)
 
 -- pages that may not be merged are passed over
 pub next-over : (pages : List (Option PageState)) (n m : ℕ) → n ≤ m → ((i : ℕ) → n ≤ i → i < m → is_mergeable (slice_index_or pages i None) ≡ false)
@@ -26,18 +19,10 @@ pub record IsNext (pages : List (Option PageState)) (from i : ℕ) : Type 0 wher
   pub inside : i < length pages
   pub mergeable : is_mergeable (slice_index_or pages i None) ≡ true
 
-found : (n : ℕ) (ys : List (Option PageState)) (i : ℕ) → first_mergeable n ys ≡ Some i → (k : ℕ) × (i ≡ n + k) × (k < length ys) × (is_mergeable (slice_index_or ys k None) ≡ true)
+found : (n : ℕ) (ys : List (Option PageState)) (i : ℕ) → first_mergeable n ys ≡ Some i → (n ≤ i) × (i - n < length ys) × (is_mergeable (slice_index_or ys (i - n) None) ≡ true)
 unfolding first_mergeable
 found n [] i e = absurd (cc)
-found n (y ∷ ys) i e = by_head (is_mergeable y) refl (found (n + 1) ys i) e
-  where
-    one : Some n ≡ Some i → i ≡ n
-    one e = cc
-
-    by_head : (b : Bool) → is_mergeable y ≡ b → (first_mergeable (n + 1) ys ≡ Some i → (k : ℕ) × (i ≡ n + 1 + k) × (k < length ys) × (is_mergeable (slice_index_or ys k None) ≡ true))
-        → (if b then Some n else first_mergeable (n + 1) ys) ≡ Some i → (k : ℕ) × (i ≡ n + k) × (k < length (y ∷ ys)) × (is_mergeable (slice_index_or (y ∷ ys) k None) ≡ true)
-    by_head true h rest e = let same = one e in (0, omega (arith, same), omega arith, h)
-    by_head false h rest e = let later = rest e in (suc later.0, omega (arith, later.1), omega (arith, later.2), later.3)
+found n (y ∷ ys) i e = grind (arith, nat_tests, found (n + 1) ys i)
 
 pub next-is : (pages : List (Option PageState)) (from i : ℕ) → first_mergeable from (drop from pages) ≡ Some i → IsNext pages from i
 next-is pages from i e = grind (arith, nat_tests, found from (drop from pages) i e, length-drop from pages, get_or-drop from pages)

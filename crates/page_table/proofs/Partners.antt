@@ -11,9 +11,7 @@ use Rattle.page_table.proofs.Waiters.{waiters-few, waiters-kept, waiters-more, a
 -- the frames of waiting pages are there
 pub waiters-frames : (table : TableState) (c : Option ℕ) (ws : List Waiter) → IsTable table → AreWaiters table.entries c ws → All (λ w. w.frame < length table.arena) ws
 waiters-frames table c [] fits are = All-nil (λ (w : Waiter). w.frame < length table.arena)
-waiters-frames table c (w ∷ ws) fits are =
-    let entry = entry_fits table w.place (are.0).entry fits (are.0).here in
-    All-cons (λ (w : Waiter). w.frame < length table.arena) w ws (omega (arith, entry.frame, (are.0).frame)) (waiters-frames table c ws fits are.2)
+waiters-frames table c (w ∷ ws) fits are = All-cons (λ (w : Waiter). w.frame < length table.arena) w ws (grind (arith, entry_fits table w.place, are.0)) (waiters-frames table c ws fits are.2)
 
 -- a waiting page that was found
 pub record IsFound (entries : List (Option Entry)) (c : Option ℕ) (test : Waiter → Bool) (ws : List Waiter) (w : Waiter) : Type 0 where
@@ -23,14 +21,7 @@ pub record IsFound (entries : List (Option Entry)) (c : Option ℕ) (test : Wait
 
 pub found-waiter : (entries : List (Option Entry)) (c : Option ℕ) (test : Waiter → Bool) (ws : List Waiter) (w : Waiter) → AreWaiters entries c ws → find test ws ≡ Some w → IsFound entries c test ws w
 found-waiter entries c test [] w are e = absurd (cc)
-found-waiter entries c test (v ∷ ws) w are e = by_head (test v) refl (found-waiter entries c test ws w are.2) e
-  where
-    one : Some v ≡ Some w → v ≡ w
-    one e = cc
-
-    by_head : (b : Bool) → test v ≡ b → (find test ws ≡ Some w → IsFound entries c test ws w) → (if b then Some v else find test ws) ≡ Some w → IsFound entries c test (v ∷ ws) w
-    by_head true h rest e = subst (IsFound entries c test (v ∷ ws)) (one e) (record { waiter = are.0; passes = h; listed = grind (arith, nat_tests) })
-    by_head false h rest e = let later = rest e in record { waiter = later.waiter; passes = later.passes; listed = grind (arith, later.listed) }
+found-waiter entries c test (v ∷ ws) w are e = grind (arith, nat_tests, are, found-waiter entries c test ws w are.2)
 
 module _ (table : TableState) (shapes : List (Option Shape)) (tenants : List Tenant) (pass : Pass) (reserved : ℕ) (is : IsMemory table shapes tenants reserved) (fits : IsTable table) where
   abbrev contents : ℕ → List ℕ
@@ -46,33 +37,15 @@ module _ (table : TableState) (shapes : List (Option Shape)) (tenants : List Ten
   partners-told fingerprint bytes c [] are = refl
   partners-told fingerprint bytes c (w ∷ ws) are = grind (arith, partner-told fingerprint bytes c w are.0, partners-told fingerprint bytes c ws are.2)
 
--- there is room for one more
-pub room-left : (table : TableState) (shapes : List (Option Shape)) (tenants : List Tenant) (reserved : ℕ) (c : Option ℕ) (ws : List Waiter) (room : ℕ) → IsMemory table shapes tenants reserved → AreWaiters table.entries c ws → length table.arena ≤ room → length ws < room
-room-left table shapes tenants reserved c ws room is are fitting = omega (arith, waiters-few table.entries c ws are, fitting, is.room)
-
--- a waiting page, where the cursor went on
-waiter-at : (entries : List (Option Entry)) (c d : Option ℕ) (w : Waiter) → IsWaiter entries c w → is_behind d w.place ≡ true → IsWaiter entries d w
-waiter-at entries c d w is behind = record { entry = is.entry; here = is.here; frame = is.frame; status = is.status; mergeable = is.mergeable; behind = behind }
-
--- the page that becomes the one visited last stands behind those that wait
-pub waiters-behind : (entries : List (Option Entry)) (c i : ℕ) (ws : List Waiter) → c < i → AreWaiters entries (Some c) ws → AreWaiters entries (Some i) ws
-waiters-behind entries c i ws h are = waiters-kept entries entries (Some c) (Some i) ws (λ w waiter. waiter-at entries (Some c) (Some i) w waiter (grind (arith, nat_tests, waiter.behind))) are
-
 pub waiters-started : (entries : List (Option Entry)) (c : Option ℕ) (ws : List Waiter) → AreWaiters entries c ws → AreWaiters entries None ws
-waiters-started entries c ws are = waiters-kept entries entries c None ws (λ w waiter. waiter-at entries c None w waiter refl) are
+waiters-started entries c ws are = grind (arith, nat_tests, waiters-kept entries entries c None ws)
 
 -- a visit goes past all that wait, and a pass begins without them
 pub advanced : (entries : List (Option Entry)) (pages : List (Option PageState)) (c : Option ℕ) (ws : List Waiter) (i : ℕ) → AreWaiters entries c ws
     → first_mergeable (look_from c) (drop (look_from c) pages) ≡ Some i → (c ≡ None → map waiting_of ws ≡ []) → AreWaiters entries (Some i) ws × (is_listed i ws ≡ false)
-advanced entries pages None ws i are e start = by_list ws (start refl)
-  where
-    by_list : (ws : List Waiter) → map waiting_of ws ≡ [] → AreWaiters entries (Some i) ws × (is_listed i ws ≡ false)
-    by_list [] h = (tt, refl)
-    by_list (w ∷ ws) h = absurd (cc)
-advanced entries pages (Some c) ws i are e start =
-    let next = (next-is pages (c + 1) i e).behind in
-    let past : c < i = omega (arith, next) in
-    (waiters-behind entries c i ws past are, ahead-free entries c i ws past are)
+advanced entries pages None [] i are e start = (tt, refl)
+advanced entries pages None (w ∷ ws) i are e start = absurd (let h = start refl in cc)
+advanced entries pages (Some c) ws i are e start = grind (arith, next-is pages (c + 1) i e, nat_tests, waiters-kept, ahead-free entries c i ws)
 
 -- the cursor goes on
 pub moved-on : (table : TableState) (shapes : List (Option Shape)) (tenants : List Tenant) (pass : Pass) (i : ℕ)
@@ -102,14 +75,6 @@ pub waits-not : (table : TableState) (shapes : List (Option Shape)) (tenants : L
 unfolding view_of
 waits-not table shapes tenants pass page free = sym (listed-told (page_place page) pass.waiting.listed) ∙ free
 
--- a page that is marked as waiting, and put on the list
-pub pass-waits : (old new : TableState) (pass : Pass) (w : Waiter) (entry : Entry) → IsPass old pass → is_listed w.place pass.waiting.listed ≡ false → slice_index_or pass.pins w.place false ≡ false
-    → AreOthersKept w.place old new → length new.arena ≡ length old.arena → length new.entries ≡ length old.entries
-    → entry_at new.entries w.place ≡ Some entry → entry.frame ≡ w.frame → entry.status ≡ Waiting → entry.mergeable ≡ true → is_behind pass.cursor w.place ≡ true
-    → IsPass new (record pass { waiting = record pass.waiting { listed = pass.waiting.listed ++ w ∷ [] } })
-pass-waits old new pass w entry is free unpinned others arena long here frame status mergeable behind =
-    grind (arith, nat_tests, pass-others, waiters-more)
-
 pub is-behind : (c : Option ℕ) (i : ℕ) → IfSome c (λ n. i ≤ n) → is_behind c i ≡ true
 is-behind c i h1 = grind (arith, nat_tests)
 
@@ -117,8 +82,7 @@ is-behind c i h1 = grind (arith, nat_tests)
 pub may-entry : (table : TableState) (shapes : List (Option Shape)) (tenants : List Tenant) (pass : Pass) (page : Page) (entry : Entry) → entry_at table.entries (page_place page) ≡ Some entry
     → MayMerge (view_of table shapes tenants pass) page → entry.mergeable ≡ true
 unfolding view_of
-may-entry table shapes tenants pass page entry e may =
-    (subst (λ (x : Option PageState). IfSome x (λ state. (state.mergeable ≡ true) × (is_shared state.status ≡ false))) (state-at table pass (page_place page) ∙ ap (option_map state_of) e) may.0).0
+may-entry table shapes tenants pass page entry e may = grind (arith, nat_tests, state-at table pass (page_place page))
 
 -- a page whose entry may be merged
 pub may-told : (table : TableState) (shapes : List (Option Shape)) (tenants : List Tenant) (pass : Pass) (page : Page) (entry : Entry) → entry_at table.entries (page_place page) ≡ Some entry

@@ -2,7 +2,7 @@
 use Rattle.page_table.proofs.Base.{◌≡◌, ◌∙◌, ℕ, ◌+◌, ◌<◌, ◌≤◌, true, List, [], length, map, replicate, slice_index_or, slice_set, Some, None, refl, sym, ap, arith, get_or-set_same, get_or-set_other, length-set, set-get_or, get_or-map, get_or-replicate, length-replicate, sum_by-replicate, get_or_past, length-map, nat_tests}
 use Rattle.page_table.proofs.Words.{zero_page, page_at, length-zero_page, Entry, TableState, CountsState, IsPageAt, IsTable, IsAlone, IsSound, AreCountsOf, entry_at, entry_content, contents_of, is_on, pages_on, own_pages}
 use Rattle.page_table.proofs.Changing.{table-changed, counted-changed, fits-after, entry_fits}
-use Rattle.page_table.proofs.Entries.{equal, alone, entry_content-kept, contents-set, inside, pages-set}
+use Rattle.page_table.proofs.Entries.{equal, alone, entry_content-kept, contents-set, inside}
 
 -- a table with another page in a frame
 abbrev pub with_page : TableState → ℕ → List ℕ → TableState
@@ -31,28 +31,17 @@ pub no_entry_of_content : (table : TableState) (i : ℕ) → IsTable table → s
 no_entry_of_content table i h1 h2 = grind (arith, nat_tests, page_of_entry table i)
 
 module _ (table : TableState) (i : ℕ) (entry : Entry) (page : List ℕ) (is : IsTable table) (here : entry_at table.entries i ≡ Some entry) (lone : IsAlone table entry.frame) (sized : length page ≡ 4096) where
-  there : i < length table.entries
-  there = inside table.entries i entry here
-
-  lies : is_on entry.frame (entry_at table.entries i) ≡ true
-  lies = ap (is_on entry.frame) here ∙ equal entry.frame
-
   pub contents-put : contents_of (with_page table entry.frame page) ≡ slice_set (contents_of table) i page
   unfolding contents_of
   contents-put =
-      let fits = entry_fits table i entry is here in
-      let changed : map (entry_content (slice_set table.arena entry.frame page)) (slice_set table.entries i (entry_at table.entries i)) ≡ slice_set (map (entry_content table.arena) table.entries) i page =
-      contents-set table.arena (slice_set table.arena entry.frame page) table.entries i (entry_at table.entries i) page
-      (ap (entry_content (slice_set table.arena entry.frame page)) here ∙ get_or-set_same table.arena entry.frame page [] fits.frame)
-      (λ j ne. entry_content-kept table.arena entry.frame page (entry_at table.entries j) (alone entry.frame table.entries i j there lone.one lies ne)) in
-      ap (map (entry_content (slice_set table.arena entry.frame page))) (sym (set-get_or table.entries i None)) ∙ changed
-
-  IsTable-put : IsTable (with_page table entry.frame page)
-  IsTable-put = grind (arith, nat_tests, length-set, table-changed, set-get_or, pages-set, get_or-set_other, fits-after, entry_fits)
+      grind (arith, contents-set table.arena (slice_set table.arena entry.frame page) table.entries i (Some entry) page, entry_fits, get_or-set_same table.arena entry.frame page [], entry_content-kept table.arena entry.frame page, alone entry.frame table.entries i, inside table.entries i entry here, equal entry.frame, lone, set-get_or table.entries i None)
 
   pub sound-put : (counts : CountsState) → AreCountsOf table counts → IsSound (with_page table entry.frame page) counts
   sound-put counts counted =
-      record { fits = IsTable-put; counted = counted-changed table (with_page table entry.frame page) counts counts counted (length-set table.arena entry.frame page) refl refl (λ g h. refl) }
+      record {
+        fits = grind (arith, nat_tests, length-set, table-changed, set-get_or, get_or-set_same, get_or-set_other, fits-after, entry_fits);
+        counted = grind (arith, counted-changed table (with_page table entry.frame page) counts counts, length-set);
+      }
 
 -- a table without pages
 abbrev pub empty_table : ℕ → ℕ → TableState

@@ -1,36 +1,164 @@
--- What unmerging takes, told by the pages on the groups' frames.
-use Rattle.page_table.proofs.Base.{◌≡◌, ◌∙◌, ⊎_elim, ℕ, zero, suc, ◌+◌, ◌-◌, ◌<◌, ◌≤◌, ◌==◌, true, false, List, [], ◌∷◌, length, map, sum_by, slice_index_or, Option, Some, None, option_map, is_some, refl, sym, ap, subst, arith, sum_by-cons, length-map, nat_tests}
-use Rattle.page_table.proofs.Words.{Sharing, state_at, is_shared_page, broken, break_cost, broken_from, cost_from, unmerged, members, zeros_at, zero_pages, unmerge_need, SharesNothing, Entry, Pass, Tenant, have_of, view_of, IsMemory, Shape, TableState, CountsState, IsTable, IsSound, IsGroup, IsPageAt, times, entry_at, state_of, states_of, groups_of, sharing_of, used_by, new_pass, pages_on, places_on, shared_at}
-use Rattle.host_types.proofs.Without as without
+-- What the breaks of several pages take, each after the breaks before it, and what unmerging takes, told by the pages on the groups' frames.
+use Rattle.page_table.proofs.Base.{◌≡◌, ◌∙◌, ℕ, zero, suc, ◌+◌, ◌-◌, ◌<◌, ◌≤◌, ◌==◌, ◌&&◌, nat_lt, Bool, true, false, if◌then◌else◌, List, [], ◌∷◌, length, map, filter, sum_by, take, drop, slice_index_or, slice_set, Option, Some, None, option_map, unwrap_or, is_some, refl, sym, ap, subst, arith, list_any, get_or-set_other, length-set, length-map, get_or-drop, length-drop, sum_by_more, sum_by-cons, nat_tests, any-filter_same}
+use Rattle.page_table.proofs.Words.{Pass, Shape, part_of, Sharing, PageState, state_at, is_shared, is_shared_page, is_in_company, without, broken, broken_page, break_cost, broken_from, cost_from, cost_of, unmerged, members, zeros_at, zero_pages, unmerge_need, SharesNothing, Entry, Tenant, have_of, view_of, IsMemory, TableState, CountsState, IsTable, IsSound, IsGroup, IsPageAt, times, one_if_zero, entry_at, state_of, states_of, groups_of, sharing_of, used_by, new_pass, is_on, places_on, pages_on, shared_at}
+use Rattle.host_types.proofs.Without as law_of_times
 use Rattle.host_types.proofs.Unmerging as law
 use Rattle.page_table.proofs.Changing.{entry_fits}
-use Rattle.page_table.proofs.Free.{free_is}
-use Rattle.page_table.proofs.Breaks.{cost_from-last, broken_from-last}
+use Rattle.page_table.proofs.Costs.{state-at, shared-cost}
 use Rattle.page_table.proofs.Creating.{length-states}
-use Rattle.page_table.proofs.Costs.{state-at}
-use Rattle.page_table.proofs.Entries.{one_when, on_one, not_equal, equal, times-head, times-tail, times-cons, group_of}
-use Rattle.page_table.proofs.Groups.{length-places}
+use Rattle.page_table.proofs.Entries.{one_when, on_one, not_equal, equal, pages_on-set, some_on, places_on-set, groups-kept, groups-each, times-head, times-tail, times-cons, group_of}
+use Rattle.page_table.proofs.Free.{free_is}
+use Rattle.page_table.proofs.Groups.{has_company, company-places, length-places, without-here}
 use Rattle.page_table.proofs.Moving.{pages_on-le}
 use Rattle.page_table.proofs.Putting.{page_of_entry}
 
-times-step : (i n : ℕ) (places : List ℕ) → without.times i (n ∷ places) ≡ one_when (n == i) + without.times i places
-times-step i n places = sum_by-cons (λ (j : ℕ). without.one_when (j == i)) n places
+-- the break of one page more
+broken_from-last : (s : Sharing) (i n : ℕ) → broken_from s i (suc n) ≡ broken (broken_from s i n) (i + n)
+unfolding broken_from
+broken_from-last s i zero = grind arith
+broken_from-last s i (suc n) = grind (arith, broken_from-last (broken s i) (i + 1) n)
 
--- a place before the first one doesn't stand among those on a frame
-before-places : (n f : ℕ) (xs : List (Option Entry)) (i : ℕ) → i < n → without.times i (places_on n f xs) ≡ 0
-unfolding places_on
-before-places n f [] i h = refl
-before-places n f (x ∷ xs) i h = grind (arith, nat_tests, times-step i n (places_on (n + 1) f xs), before-places (n + 1) f xs i)
+cost_from-last : (s : Sharing) (i n : ℕ) → cost_from s i (suc n) ≡ cost_from s i n + break_cost (broken_from s i n) (i + n)
+unfolding broken_from cost_from
+cost_from-last s i zero = grind arith
+cost_from-last s i (suc n) = grind (arith, cost_from-last (broken s i) (i + 1) n)
+
+-- the entries without those at n places from i on
+gone : List (Option Entry) → ℕ → ℕ → List (Option Entry)
+gone xs i zero = xs
+gone xs i (suc n) = slice_set (gone xs i n) (i + n) None
+
+length-gone : (xs : List (Option Entry)) (i n : ℕ) → length (gone xs i n) ≡ length xs
+unfolding gone
+length-gone xs i zero = refl
+length-gone xs i (suc n) = grind (arith, length-set (gone xs i n) (i + n) None, length-gone xs i n)
+
+-- the entries behind them stay
+behind-gone : (xs : List (Option Entry)) (i n j : ℕ) → i + n ≤ j → entry_at (gone xs i n) j ≡ entry_at xs j
+unfolding gone
+behind-gone xs i zero j h = refl
+behind-gone xs i (suc n) j h = grind (arith, get_or-set_other (gone xs i n) (i + n) j None None, behind-gone xs i n j)
+
+-- the pages on a frame are those that are gone and those that are left
+pages_on-gone : (f : ℕ) (xs : List (Option Entry)) (i n : ℕ) → i + n ≤ length xs → pages_on f (gone xs i n) + pages_on f (part_of xs i n) ≡ pages_on f xs
+unfolding gone pages_on part_of
+pages_on-gone f xs i zero h = omega arith
+pages_on-gone f xs i (suc n) h =
+    let next : suc n ≡ n + 1 = omega arith in
+    grind (arith, nat_tests, next, pages_on-gone f xs i n, length-gone xs i n, length-drop i xs, pages_on-set f (gone xs i n) (i + n) None, behind-gone xs i n (i + n), sum_by_more (on_one f) (drop i xs) n None, get_or-drop i xs n None)
+
+filter-twice : {X : Type 0} (p : X → Bool) (xs : List X) → filter p (filter p xs) ≡ filter p xs
+filter-twice p [] = refl
+filter-twice p (x ∷ xs) = grind (arith, filter-twice p xs)
+
+-- what doesn't pass a test needn't be there where no change lets it pass
+filter-map : {X : Type 0} (p : X → Bool) (f : X → X) (xs : List X) → ((x : X) → p x ≡ false → p (f x) ≡ false) → filter p (map f (filter p xs)) ≡ filter p (map f xs)
+filter-map p f [] h = refl
+filter-map p f (x ∷ xs) h = grind (arith, h x, filter-map p f xs h)
+
+-- a group with pages
+abbrev filled : List ℕ → Bool
+filled group = nat_lt 0 (length group)
+
+-- a group without pages has none after a page was taken out
+filled-without : (i : ℕ) (group : List ℕ) → filled group ≡ false → filled (without i group) ≡ false
+filled-without i [] h = refl
+filled-without i (j ∷ js) h = absurd (grind (arith, nat_tests))
+
+-- a group without pages gives no page company
+company-filled : (i : ℕ) (groups : List (List ℕ)) → list_any (has_company i) (filter filled groups) ≡ list_any (has_company i) groups
+company-filled i groups = grind (arith, nat_tests, any-filter_same (has_company i) filled true, groups)
+
+-- the places without one, group by group
+without-groups : (i : ℕ) (xs : List (Option Entry)) (groups : List ℕ) → map (without i) (map (λ g. places_on 0 g xs) groups) ≡ map (λ g. places_on 0 g (slice_set xs i None)) groups
+without-groups i xs [] = refl
+without-groups i xs (g ∷ gs) = grind (arith, without-here g xs i None refl, without-groups i xs gs)
+
+-- the state of sharing after n breaks from the place i on: the groups are those of the entries that are left, and behind i + n nothing changed
+record AreBroken (table : TableState) (s : Sharing) (i n : ℕ) : Type 0 where
+  groups : filter filled s.groups ≡ filter filled (map (λ g. places_on 0 g (gone table.entries i n)) table.groups)
+  states : (j : ℕ) → i + n ≤ j → state_at s j ≡ option_map state_of (entry_at table.entries j)
+
+module _ (table : TableState) (is : IsTable table) (i n : ℕ) where
+  abbrev left : List (Option Entry)
+  left = gone table.entries i n
+
+  here : entry_at left (i + n) ≡ entry_at table.entries (i + n)
+  here = behind-gone table.entries i n (i + n) (omega arith)
+
+  -- an entry that shares no frame is in no group
+  apart : (x : Option Entry) → entry_at table.entries (i + n) ≡ x → is_shared_page (option_map state_of x) ≡ false → (g : ℕ) → 1 ≤ times g table.groups → is_on g x ≡ false
+  apart x h1 h2 g h3 = grind (arith, nat_tests, not_equal g)
+
+  break-one : (s : Sharing) → AreBroken table s i n → AreBroken table (broken s (i + n)) i (suc n)
+  unfolding broken gone
+  break-one s are =
+      grind (arith, nat_tests, are, filter-twice filled (map (without (i + n)) s.groups), filter-map filled (without (i + n)) s.groups (filled-without (i + n)), filter-map filled (without (i + n)) (map (λ g. places_on 0 g left) table.groups) (filled-without (i + n)), without-groups (i + n) left table.groups, get_or-set_other s.pages (i + n), groups-kept left (slice_set left (i + n) None) table.groups, places_on-set, here, apart (entry_at table.entries (i + n)) refl)
+
+  -- a page of a group has company after the breaks where another page is left on its frame
+  company-after : (s : Sharing) (entry : Entry) → AreBroken table s i n → entry_at table.entries (i + n) ≡ Some entry → times entry.frame table.groups ≡ 1
+      → is_in_company s (i + n) ≡ nat_lt 1 (pages_on entry.frame left)
+  company-after s entry are e once =
+      grind (arith, company-filled (i + n) s.groups, are.groups, company-filled (i + n) (map (λ g. places_on 0 g left) table.groups), company-places left table.groups (i + n) entry, here)
+
+  -- the break of a page takes a frame where it shares its own, and others hold that still
+  cost-one : (s : Sharing) (entry : Entry) → AreBroken table s i n → entry_at table.entries (i + n) ≡ Some entry
+      → break_cost s (i + n) ≡ one_when (is_shared entry.status && nat_lt 1 (one_if_zero entry.frame + pages_on entry.frame left))
+  unfolding break_cost
+  cost-one s entry h1 h2 = grind (arith, nat_tests, some_on entry.frame left, equal entry.frame, company-after s entry, shared-cost, left, here)
+
+are_broken : (table : TableState) (pass : Pass) (is : IsTable table) (i n : ℕ) → AreBroken table (broken_from (sharing_of table pass) i n) i n
+unfolding broken_from gone groups_of
+are_broken table pass is i zero = record { groups = refl; states = λ j h. state-at table pass j }
+are_broken table pass is i (suc n) =
+    rw (broken_from-last (sharing_of table pass) i n) (break-one table is i n (broken_from (sharing_of table pass) i n) (are_broken table pass is i n))
+
+-- what the break of a page takes after n breaks, told by the count of its frame and by the pages before it that lie there
+pub cost-after : (table : TableState) (counts : CountsState) (pass : Pass) (i n : ℕ) (entry : Entry) → IsSound table counts → i + n < length table.entries
+    → entry_at table.entries (i + n) ≡ Some entry → entry.protected ≡ true
+    → break_cost (broken_from (sharing_of table pass) i n) (i + n)
+    ≡ one_when (nat_lt 1 (slice_index_or counts.counts entry.frame 0 - pages_on entry.frame (part_of table.entries i n)))
+cost-after table counts pass i n entry sound h e protected =
+    grind (arith, nat_tests, entry_fits table (i + n) entry, pages_on-gone entry.frame table.entries i n, cost-one table sound.fits i n (broken_from (sharing_of table pass) i n) entry, are_broken table pass sound.fits i n)
+
+-- a page with a frame of its own takes none
+pub cost-after-own : (table : TableState) (pass : Pass) (i n : ℕ) (entry : Entry) → IsTable table → entry_at table.entries (i + n) ≡ Some entry → entry.protected ≡ false
+    → break_cost (broken_from (sharing_of table pass) i n) (i + n) ≡ 0
+cost-after-own table pass i n entry is e own =
+    grind (arith, cost-one table is i n (broken_from (sharing_of table pass) i n) entry (are_broken table pass is i n) e)
+
+-- where no page is, nothing is broken
+pub cost-after-none : (table : TableState) (pass : Pass) (i n : ℕ) → IsTable table → entry_at table.entries (i + n) ≡ None
+    → break_cost (broken_from (sharing_of table pass) i n) (i + n) ≡ 0
+cost-after-none table pass i n is e = grind (arith, law.cost-none (broken_from (sharing_of table pass) i n) (i + n), are_broken table pass is i n)
+
+-- there are at least as many on a frame as among some of the pages
+pub count-part : (table : TableState) (counts : CountsState) (i n : ℕ) (entry : Entry) → IsSound table counts → i + n < length table.entries
+    → entry_at table.entries (i + n) ≡ Some entry → pages_on entry.frame (part_of table.entries i n) ≤ slice_index_or counts.counts entry.frame 0
+count-part table counts i n entry h1 h2 h3 = grind (arith, nat_tests, entry_fits table (i + n) entry, pages_on-gone entry.frame table.entries i n)
+
+-- the page behind n others from the place i on, in a list that was split there
+pub entry-behind : (xs slice run from : List (Option Entry)) (i n : ℕ) → slice ≡ xs → run ≡ drop i slice → from ≡ drop n run → entry_at from 0 ≡ entry_at xs (i + n)
+entry-behind xs slice run from i n h1 h2 h3 = grind (arith, nat_tests, get_or-drop n (drop i xs) 0 None, get_or-drop i xs n None)
+
+-- the pages before it
+pub pages-before : (xs slice run before : List (Option Entry)) (i n f : ℕ) → slice ≡ xs → run ≡ drop i slice → before ≡ take n run → pages_on f before ≡ pages_on f (part_of xs i n)
+unfolding part_of
+pages-before xs slice run before i n f whole back front = grind (arith, whole, back, front)
+
+-- what n breaks take, and one more
+pub cost_from-none : (s : Sharing) (i : ℕ) → 0 ≡ cost_from s i 0
+unfolding cost_from
+cost_from-none s i = refl
+
+pub cost_from-more : (s : Sharing) (i n cost one : ℕ) → cost ≡ cost_from s i n → one ≡ break_cost (broken_from s i n) (i + n) → cost + one ≡ cost_from s i (n + 1)
+cost_from-more s i n cost one h1 h2 = grind (arith, nat_tests, cost_from-last s i n)
 
 -- a place stands once among those on the frame of its page
-times-places : (n f : ℕ) (xs : List (Option Entry)) (i : ℕ) → without.times (n + i) (places_on n f xs) ≡ on_one f (entry_at xs i)
+times-places : (n f : ℕ) (xs : List (Option Entry)) (i : ℕ) → law_of_times.times i (places_on n f xs) ≡ (if nat_lt i n then 0 else on_one f (entry_at xs (i - n)))
 unfolding places_on
-times-places n f [] i = refl
-times-places n f (x ∷ xs) zero = grind (arith, nat_tests, times-step n n (places_on (n + 1) f xs), before-places (n + 1) f xs n)
-times-places n f (x ∷ xs) (suc i) = grind (arith, nat_tests, times-step (n + suc i) n (places_on (n + 1) f xs), times-places (n + 1) f xs i)
-
-times-at_frame : (g : ℕ) (xs : List (Option Entry)) (i : ℕ) → without.times i (places_on 0 g xs) ≡ on_one g (entry_at xs i)
-times-at_frame g xs i = let start : i ≡ 0 + i = omega arith in ap (λ (n : ℕ). without.times n (places_on 0 g xs)) start ∙ times-places 0 g xs i
+times-places n f [] i = grind (arith, nat_tests)
+times-places n f (x ∷ xs) i = grind (arith, nat_tests, sum_by-cons (λ (j : ℕ). law_of_times.one_when (j == i)) n (places_on (n + 1) f xs), times-places (n + 1) f xs i)
 
 -- how often the frame of a page is a group's
 held : Option Entry → List ℕ → ℕ
@@ -41,56 +169,43 @@ held-none : (x : Option Entry) → held x [] ≡ 0
 unfolding held
 held-none x = grind (arith, nat_tests)
 
-held-cons : (x : Option Entry) (g : ℕ) (gs : List ℕ) → held x (g ∷ gs) ≡ on_one g x + held x gs
-unfolding held
-held-cons x g gs = grind (arith, nat_tests, times-cons)
-
 listed-frames : (xs : List (Option Entry)) (groups : List ℕ) (i : ℕ) → law.listed i (map (λ g. places_on 0 g xs) groups) ≡ held (entry_at xs i) groups
+unfolding held
 listed-frames xs [] i = sym (held-none (entry_at xs i))
 listed-frames xs (g ∷ gs) i =
-    let split = sum_by-cons (without.times i) (places_on 0 g xs) (map (λ g. places_on 0 g xs) gs) in
-    omega (arith, split, times-at_frame g xs i, listed-frames xs gs i, held-cons (entry_at xs i) g gs)
+    grind (arith, nat_tests, sum_by-cons (law_of_times.times i) (places_on 0 g xs) (map (λ g. places_on 0 g xs) gs), times-places 0 g xs i, listed-frames xs gs i, times-cons)
 
 -- what holds of each group's pages holds where one is left out
 some-groups : (xs : List (Option Entry)) (groups : List ℕ) → ((g : ℕ) → 1 ≤ times g groups → 1 ≤ pages_on g xs) → law.AreSome (map (λ g. places_on 0 g xs) groups)
 some-groups xs [] h = tt
-some-groups xs (g ∷ gs) h =
-    (grind (arith, length-places 0 g xs, h g (times-head g gs)), some-groups xs gs (λ f le. let more = times-tail f g gs in h f (omega (arith, le, more))))
+some-groups xs (g ∷ gs) h = grind (arith, length-places 0 g xs, h g (times-head g gs), some-groups xs gs, h, times-tail)
 
 members-frames : (xs : List (Option Entry)) (groups : List ℕ) → sum_by (λ (group : List ℕ). length group) (map (λ g. places_on 0 g xs) groups) ≡ sum_by (λ (g : ℕ). pages_on g xs) groups
 members-frames xs [] = refl
 members-frames xs (g ∷ gs) =
-    let split = sum_by-cons (λ (group : List ℕ). length group) (places_on 0 g xs) (map (λ g. places_on 0 g xs) gs) in
-    omega (arith, split, sum_by-cons (λ (g : ℕ). pages_on g xs) g gs, length-places 0 g xs, members-frames xs gs)
+    grind (arith, sum_by-cons (λ (group : List ℕ). length group) (places_on 0 g xs) (map (λ g. places_on 0 g xs) gs), sum_by-cons (λ (g : ℕ). pages_on g xs) g gs, length-places 0 g xs, members-frames xs gs)
 
 some-members : (xs : List (Option Entry)) (groups : List ℕ) → ((g : ℕ) → 1 ≤ times g groups → 1 ≤ pages_on g xs) → length groups ≤ sum_by (λ (g : ℕ). pages_on g xs) groups
 some-members xs [] h = omega arith
-some-members xs (g ∷ gs) h =
-    let rest = some-members xs gs (λ f le. let more = times-tail f g gs in h f (omega (arith, le, more))) in
-    omega (arith, sum_by-cons (λ (g : ℕ). pages_on g xs) g gs, h g (times-head g gs), rest)
+some-members xs (g ∷ gs) h = grind (arith, sum_by-cons (λ (g : ℕ). pages_on g xs) g gs, h g (times-head g gs), h, times-tail, some-members xs gs)
 
 -- the pages on the groups' frames, counted group by group and page by page
 held-frames : (xs : List (Option Entry)) (groups : List ℕ) → sum_by (λ (g : ℕ). pages_on g xs) groups ≡ sum_by (λ (x : Option Entry). held x groups) xs
-unfolding pages_on
-held-frames [] groups = none groups
-  where
-    none : (gs : List ℕ) → sum_by (λ (g : ℕ). 0) gs ≡ 0
-    none [] = refl
-    none (g ∷ gs) = grind (arith, sum_by-cons (λ (g : ℕ). 0) g gs, none gs)
+unfolding pages_on held
+held-frames [] [] = refl
+held-frames [] (g ∷ gs) = grind (arith, sum_by-cons (λ (g : ℕ). 0) g gs, held-frames [] gs)
 held-frames (x ∷ xs) groups = grind (arith, sum_by-cons (λ (y : Option Entry). held y groups) x xs, held-frames xs groups, one_more groups)
   where
     one_more : (gs : List ℕ) → sum_by (λ (g : ℕ). sum_by (on_one g) (x ∷ xs)) gs ≡ held x gs + sum_by (λ (g : ℕ). sum_by (on_one g) xs) gs
     one_more [] = let none = held-none x in omega (arith, none)
     one_more (g ∷ gs) =
-        let whole = sum_by-cons (λ (g : ℕ). sum_by (on_one g) (x ∷ xs)) g gs in
-        omega (arith, whole, sum_by-cons (λ (g : ℕ). sum_by (on_one g) xs) g gs, sum_by-cons (on_one g) x xs, one_more gs, held-cons x g gs)
+        grind (arith, sum_by-cons (λ (g : ℕ). sum_by (on_one g) (x ∷ xs)) g gs, sum_by-cons (λ (g : ℕ). sum_by (on_one g) xs) g gs, sum_by-cons (on_one g) x xs, one_more gs, nat_tests, times-cons)
 
 zeros-frames : (xs : List (Option Entry)) → ((i : ℕ) → zeros_at (option_map state_of (entry_at xs i)) ≡ on_one 0 (entry_at xs i)) → sum_by zeros_at (states_of xs) ≡ pages_on 0 xs
 unfolding pages_on
 zeros-frames [] h = refl
 zeros-frames (x ∷ xs) h =
-    let split = sum_by-cons zeros_at (option_map state_of x) (states_of xs) in
-    omega (arith, split, sum_by-cons (on_one 0) x xs, h 0, zeros-frames xs (λ i. h (suc i)))
+    grind (arith, sum_by-cons zeros_at (option_map state_of x) (states_of xs), sum_by-cons (on_one 0) x xs, h 0, zeros-frames xs (λ i. h (suc i)))
 
 -- the pages that share a frame are those of the groups and those of zeros
 shared-frames : (xs : List (Option Entry)) (groups : List ℕ)
@@ -98,30 +213,18 @@ shared-frames : (xs : List (Option Entry)) (groups : List ℕ)
     → sum_by shared_at (states_of xs) ≡ sum_by (λ (x : Option Entry). held x groups) xs + sum_by zeros_at (states_of xs)
 shared-frames [] groups h = refl
 shared-frames (x ∷ xs) groups h =
-    let shared = sum_by-cons shared_at (option_map state_of x) (states_of xs) in
-    let zeros = sum_by-cons zeros_at (option_map state_of x) (states_of xs) in
-    omega (arith, shared, sum_by-cons (λ (y : Option Entry). held y groups) x xs, zeros, h 0, shared-frames xs groups (λ i. h (suc i)))
-
-length-map_groups : (xs : List (Option Entry)) (groups : List ℕ) → length (map (λ g. places_on 0 g xs) groups) ≡ length groups
-length-map_groups xs groups = length-map groups (λ g. places_on 0 g xs)
+    grind (arith, sum_by-cons shared_at (option_map state_of x) (states_of xs), sum_by-cons zeros_at (option_map state_of x) (states_of xs), sum_by-cons (λ (y : Option Entry). held y groups) x xs, h 0, shared-frames xs groups (λ i. h (suc i)))
 
 module _ (table : TableState) (is : IsTable table) where
-  no_zero_group : (f : ℕ) → f ≡ 0 → times f table.groups ≡ 0
-  no_zero_group f e = ⊎_elim (λ none. none) (λ group. absurd (let above = IsGroup.above group in omega (arith, above, e))) (is.groups f)
-
   -- a page stands in as many groups as its status says
   grouped : (i : ℕ) → held (entry_at table.entries i) table.groups ≡ law.grouped_at (option_map state_of (entry_at table.entries i))
   unfolding held
-  grouped i = grind (arith, nat_tests, no_zero_group, entry_fits)
+  grouped i = grind (arith, nat_tests, is.groups, entry_fits)
 
   -- the groups are those of the pages that are told to be grouped
-  pub are_listed : (pass : Pass) → law.AreListed (sharing_of table pass)
+  are_listed : (pass : Pass) → law.AreListed (sharing_of table pass)
   unfolding groups_of
-  are_listed pass =
-      record {
-        some = some-groups table.entries table.groups (λ g some. IsGroup.some (group_of table g is some));
-        once = λ i. listed-frames table.entries table.groups i ∙ grouped i ∙ sym (ap law.grouped_at (state-at table pass i));
-      }
+  are_listed pass = grind (arith, some-groups table.entries table.groups, group_of, listed-frames, grouped, state-at table pass)
 
   zeros : (i : ℕ) → zeros_at (option_map state_of (entry_at table.entries i)) ≡ on_one 0 (entry_at table.entries i)
   zeros i = grind (arith, nat_tests, not_equal 0, equal 0, entry_fits)
@@ -134,37 +237,28 @@ module _ (table : TableState) (is : IsTable table) where
       → (length table.groups ≤ sum_by shared_at (states_of table.entries)) × (sum_by shared_at (states_of table.entries) - length table.groups ≡ unmerge_need (sharing_of table pass))
   unfolding unmerge_need members zero_pages groups_of
   need-told pass =
-      let pages = members-frames table.entries table.groups in
-      let some = some-members table.entries table.groups (λ g some. IsGroup.some (group_of table g is some)) in
-      let few = length-map_groups table.entries table.groups in
-      let all = held-frames table.entries table.groups in
-      let both = shared-frames table.entries table.groups shared in
-      (omega (arith, all, both, some), omega (arith, pages, few, all, both, some))
+      grind (arith, members-frames table.entries table.groups, some-members table.entries table.groups, group_of, length-map table.groups (λ g. places_on 0 g table.entries), held-frames table.entries table.groups, shared-frames table.entries table.groups shared)
 
   -- the pages on the zero frame, as callers see them
   pub zeros-told : (pass : Pass) → pages_on 0 table.entries ≡ zero_pages (sharing_of table pass)
   unfolding zero_pages
-  zeros-told pass = let zero = zeros-frames table.entries zeros in omega (arith, zero)
+  zeros-told pass = sym (zeros-frames table.entries zeros)
 
   pub page_of_some : (i : ℕ) (x : Option Entry) → x ≡ entry_at table.entries i → is_some x ≡ true → IsPageAt table i
   page_of_some i x h1 h2 = grind (arith, nat_tests, page_of_entry)
 
-module _ (table : TableState) (counts : CountsState) (is : IsSound table counts) where
-  -- the zero frame has one holder more than its pages
-  pub zero-counted : (slice_index_or counts.counts 0 0 ≡ 1 + pages_on 0 table.entries) × (pages_on 0 table.entries ≤ 32768)
-  zero-counted = grind (arith, nat_tests, pages_on-le 0)
+-- the zero frame has one holder more than its pages
+pub zero-counted : (table : TableState) (counts : CountsState) (is : IsSound table counts) → (slice_index_or counts.counts 0 0 ≡ 1 + pages_on 0 table.entries) × (pages_on 0 table.entries ≤ 32768)
+zero-counted table counts is = grind (arith, nat_tests, pages_on-le 0)
 
 -- a pass, where a law holds for any
 pub some_pass : Pass
 some_pass = new_pass 0 0 (record { pages_to_scan = 0; run = 0; use_zero_pages = 0; max_page_sharing = 0 })
 
 -- a place without a page stays as it is
-broken-none : (s : Sharing) (i : ℕ) → state_at s i ≡ None → (broken s i ≡ s) × (break_cost s i ≡ 0)
-broken-none s i none = (law.broken-own s i (ap is_shared_page none), law.cost-none s i none)
-
 pub no_page : (table : TableState) (i : ℕ) (x : Option Entry) (pass : Pass) → x ≡ entry_at table.entries i → is_some x ≡ false
     → (broken (sharing_of table pass) i ≡ sharing_of table pass) × (break_cost (sharing_of table pass) i ≡ 0)
-no_page table i x pass h1 h2 = grind (arith, nat_tests, broken-none (sharing_of table pass) i, state-at table pass i)
+no_page table i x pass h1 h2 = grind (arith, nat_tests, law.broken-own (sharing_of table pass) i, law.cost-none (sharing_of table pass) i, state-at table pass i)
 
 -- the breaks of the first places, and of one more
 pub broken_next : (s : Sharing) (n : ℕ) → broken_from s 0 (n + 1) ≡ broken (broken_from s 0 n) n
@@ -175,52 +269,37 @@ cost_next s n = grind (arith, nat_tests, cost_from-last s 0 n)
 
 -- fewer breaks take less
 cost_from-less : (s : Sharing) (n m : ℕ) → cost_from s 0 n ≤ cost_from s 0 (n + m)
-cost_from-less s n zero = let same : n + 0 ≡ n = omega arith in rw same (omega arith)
-cost_from-less s n (suc m) =
-    let next : n + suc m ≡ n + m + 1 = omega arith in
-    let more = cost_from-less s n m in
-    let last = cost_next s (n + m) in
-    rw next (omega (arith, more, last))
+cost_from-less s n zero = grind arith
+cost_from-less s n (suc m) = grind (arith, cost_from-less s n m, cost_from-last s 0 (n + m))
 
 module _ (table : TableState) (is : IsTable table) (pass : Pass) where
   -- what the breaks of all pages take
   pub all_cost : (n : ℕ) → n ≡ length table.entries → cost_from (sharing_of table pass) 0 n ≡ unmerge_need (sharing_of table pass)
-  all_cost n e =
-      let long : n ≡ length (states_of table.entries) = e ∙ sym (length-states table.entries) in
-      ap (cost_from (sharing_of table pass) 0) long ∙ law.unmerging_costs (sharing_of table pass) (are_listed table is pass)
+  all_cost n e = grind (arith, length-states table.entries, law.unmerging_costs (sharing_of table pass) (are_listed table is pass))
 
   pub nothing_shared : SharesNothing (broken_from (sharing_of table pass) 0 (length table.entries))
-  nothing_shared =
-      subst (λ (n : ℕ). SharesNothing (broken_from (sharing_of table pass) 0 n)) (length-states table.entries) (law.broken_share_nothing (sharing_of table pass) (are_listed table is pass))
+  nothing_shared = grind (arith, length-states table.entries, law.broken_share_nothing (sharing_of table pass) (are_listed table is pass))
 
   -- there is room for the next break where there is room for all
   pub next_fits : (now : Sharing) (n used used_now frames : ℕ) → n < length table.entries → now ≡ broken_from (sharing_of table pass) 0 n
       → used_now ≡ used + cost_from (sharing_of table pass) 0 n → used + unmerge_need (sharing_of table pass) ≤ frames → used_now + break_cost now n ≤ frames
   next_fits now n used used_now frames there broken taken room =
-      let last = cost_next (sharing_of table pass) n in
-      let here = ap (λ (s : Sharing). break_cost s n) broken in
       let m : ℕ = length table.entries - (n + 1) in
-      omega (arith, last, here, cost_from-less (sharing_of table pass) (n + 1) m, all_cost (n + 1 + m) (omega (arith, there)), taken, room)
-
--- the need hangs on the table alone
-need_of_table : (table : TableState) (pass now : Pass) → unmerge_need (sharing_of table now) ≡ unmerge_need (sharing_of table pass)
-unfolding unmerge_need members zero_pages
-need_of_table table pass now = refl
+      grind (arith, cost_next (sharing_of table pass) n, cost_from-less (sharing_of table pass) (n + 1) m, all_cost (n + 1 + m))
 
 -- where the frames that unmerging takes may be had, there is room for it
 module _ (table : TableState) (shapes : List (Option Shape)) (tenants : List Tenant) (pass : Pass) (reserved : ℕ) (is : IsMemory table shapes tenants reserved)
     (enough : unmerge_need (view_of table shapes tenants pass).sharing ≤ have_of (view_of table shapes tenants pass)) where
   pub need_reserved : reserved + (used_by table + unmerge_need (view_of table shapes tenants pass).sharing) ≤ length table.arena
   unfolding view_of
-  need_reserved = omega (arith, enough, free_is table shapes tenants pass (omega (arith, is.room)), is.room, is.sum)
+  need_reserved = grind (arith, free_is table shapes tenants pass)
 
   pub need_fits : (now : Pass) → used_by table + unmerge_need (sharing_of table now) ≤ length table.arena
-  unfolding view_of
-  need_fits now = omega (arith, need_of_table table pass now, need_reserved)
+  unfolding view_of unmerge_need members zero_pages
+  need_fits now = grind (arith, need_reserved)
 
 -- the state of sharing after all pages were taken out and the scanner was stopped
-module _ (old new : TableState) (pass now : Pass) (stopped : now ≡ record pass { options = record pass.options { run = 2 } })
-    (broken : (p : Pass) → sharing_of new p ≡ broken_from (sharing_of old p) 0 (length old.entries)) where
-  pub unmerged_is : sharing_of new now ≡ unmerged (sharing_of old pass)
-  unfolding unmerged
-  unmerged_is = grind (arith, nat_tests, length-states)
+pub unmerged_is : (old new : TableState) (pass now : Pass) → now ≡ record pass { options = record pass.options { run = 2 } }
+    → ((p : Pass) → sharing_of new p ≡ broken_from (sharing_of old p) 0 (length old.entries)) → sharing_of new now ≡ unmerged (sharing_of old pass)
+unfolding unmerged
+unmerged_is old new pass now stopped broken = grind (arith, nat_tests, length-states)

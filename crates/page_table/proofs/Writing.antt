@@ -2,25 +2,9 @@
 use Rattle.page_table.proofs.Base.{◌≡◌, ◌≢◌, ◌∙◌, Bool, ℕ, zero, suc, ◌+◌, ◌*◌, ◌<◌, ◌≤◌, List, [], ◌∷◌, length, slice_index_or, slice_set, Option, Some, None, IfSome, false, option_map, refl, sym, ap, arith, concat, get_or-set_same, get_or-set_other, get_or_past, length-take-le, nat_tests, common_steps}
 use Rattle.page_table.proofs.Words.{Pass, Shape, Page, part_of, with_part, FlatMap, FlatMaps, map_at, map_place, page_place, byte_len_of, PageState, is_shared, TenantPart, length-with_part, Entry, Tenant, page_count, MemoryState, part, bytes_of_map, IsPageOf, IsOwn, map_written, part_written, IsKeptBut, AreMapsKeptBut, KeepsSettings, TableState, entry_at, state_of, maps_of, flat_of, ArePages, ArePagesOf, contents_of, groups_of, states_of, frames_of, used_by, view_of, IsMemory, take-with_part, drop-with_part_before}
 use Rattle.std.proofs.Common.{length-set}
+use Rattle.page_table.proofs.Costs.{state-at}
 use Rattle.page_table.proofs.Maps.{maps_of-changed, length-maps_of, part_of-set_same, part_of-set_other, concat-written, length-concat}
 use Rattle.page_table.proofs.Reading.{IsLocated, page_located, page_number, few_pages, content_in, bytes_in, map_at-part}
-
--- a memory with one map of a tenant replaced
-pub part-set_same : (old new : MemoryState) (t m : ℕ) (flat : Option FlatMap) (pins : List Bool) → m < 8 → new.tenants ≡ old.tenants → new.maps ≡ slice_set old.maps (map_place t m) flat
-    → part_of new.sharing.pins (t * 2048) 2048 ≡ pins → part new t ≡ record (part old t) { maps = slice_set (part old t).maps m flat; pins = pins }
-unfolding part
-part-set_same old new t m flat pins small tenants maps pinned = rw (tenants, maps, pinned, part_of-set_same old.maps (t * 8) m 8 flat small) refl
-
-pub part-set_other : (old new : MemoryState) (t m : ℕ) (flat : Option FlatMap) → m < 8 → new.tenants ≡ old.tenants → new.maps ≡ slice_set old.maps (map_place t m) flat
-    → ((u : ℕ) → u ≢ t → part_of new.sharing.pins (u * 2048) 2048 ≡ part_of old.sharing.pins (u * 2048) 2048) → IsKeptBut t old new
-unfolding part
-part-set_other old new t m flat small tenants maps pins u ne = rw (tenants, maps, pins u ne, part_of-set_other old.maps t m u 8 flat small ne) refl
-
-pub maps-set_other : (old new : MemoryState) (t m : ℕ) (flat : Option FlatMap) → m < 8 → new.tenants ≡ old.tenants → new.maps ≡ slice_set old.maps (map_place t m) flat
-    → AreMapsKeptBut m (part old t) (part new t)
-maps-set_other old new t m flat small tenants maps j ne =
-    ap (λ (owned : TenantPart). map_at owned.maps j) (part-set_same old new t m flat (part_of new.sharing.pins (t * 2048) 2048) small tenants maps refl)
-    ∙ get_or-set_other (part old t).maps m j flat None ne
 
 -- one map of a tenant became another one, or none, and nothing else of its part has changed but its pins
 pub record OneMap (old new : MemoryState) (t m : ℕ) (flat : Option FlatMap) (pins : List Bool) : Type 0 where
@@ -46,17 +30,7 @@ module _ (table new : TableState) (shapes renewed : List (Option Shape)) (tenant
       → OneMap (view_of table shapes tenants pass) (view_of new renewed tenants now) t m flat pins
   unfolding view_of part
   one_map pass now flat pins here own others =
-      let before : MemoryState = view_of table shapes tenants pass in
-      let after : MemoryState = view_of new renewed tenants now in
-      let maps = maps_of-changed shapes renewed (contents_of table) (contents_of new) (map_place t m) flat long inside other_shapes other_pages here in
-      record {
-        part_new = part-set_same before after t m flat pins small refl maps own;
-        there = map_at-part (maps_of renewed (contents_of new)) t m small ∙ ap (λ (maps : FlatMaps). map_at maps (map_place t m)) maps
-            ∙ get_or-set_same (maps_of shapes (contents_of table)) (map_place t m) flat None (omega (arith, length-maps_of shapes (contents_of table), inside));
-        other_maps = maps-set_other before after t m flat small refl maps;
-        others = part-set_other before after t m flat small refl maps others;
-        settings = record { tenants = refl; frames = arena };
-      }
+      grind (arith, nat_tests, maps_of-changed shapes renewed (contents_of table) (contents_of new) (map_place t m) flat, part_of-set_same, get_or-set_other, part_of-set_other, get_or-set_same, length-maps_of, map_at-part)
 
 -- bytes of a page were written, and nothing else has changed
 pub record Writes (old new : MemoryState) (page : Page) (at : ℕ) (bytes : List ℕ) : Type 0 where
@@ -132,49 +106,15 @@ module _ (table new : TableState) (shapes : List (Option Shape)) (tenants : List
   abbrev after : MemoryState
   after = view_of new shapes tenants pass
 
-  flat_before : map_at (part before page.tenant).maps page.map ≡ Some (flat_of old_pages loc.shape)
-  unfolding view_of part
-  flat_before = loc.flat
-
   one : OneMap before after page.tenant page.map (Some flat_new) (part before page.tenant).pins
   unfolding view_of part
-  one =
-      one_map table new shapes shapes tenants reserved page.tenant page.map is loc.small loc.inside refl wide (λ j ne. refl) others_new arena pass pass (Some flat_new) (part before page.tenant).pins
-      (ap (option_map (flat_of (part_of (contents_of new) (k * 256) 256))) loc.here
-      ∙ ap (λ p. Some (flat_of p loc.shape)) pages_new
-      ∙ ap (λ f. Some f) (flat_written loc.shape old_pages page.number at bytes loc.pages number in_page in_bytes))
-      refl (λ u ne. refl)
-
-  sharing_after : after.sharing ≡ before.sharing
-  unfolding view_of groups_of
-  sharing_after = rw (entries, groups) refl
-
-  frames_after : after.frames ≡ before.frames
-  unfolding view_of
-  frames_after = ap frames_of entries
+  one = grind (arith, nat_tests, one_map table new shapes shapes tenants reserved page.tenant page.map is loc.small loc.inside refl wide (λ j ne. refl) others_new arena pass pass (Some flat_new), loc, pages_new, flat_written loc.shape old_pages page.number at bytes loc.pages, number, in_bytes)
 
   pub writes : Writes before after page at bytes
-  writes =
-      record {
-        written = one.part_new
-            ∙ ap (λ (flat : Option FlatMap). record (part before page.tenant) { maps = slice_set (part before page.tenant).maps page.map flat })
-            (sym (ap (option_map (map_written (page.number * 4096 + at) bytes)) flat_before));
-        bytes_new = ap bytes_in one.there ∙ ap (λ flat. with_part (bytes_in flat) (page.number * 4096 + at) bytes) (sym flat_before);
-        other_maps = one.other_maps;
-        others = one.others;
-        sharing = sharing_after;
-        frames = frames_after;
-        settings = one.settings;
-      }
-
--- what holds of the state at a place holds of its entry
-pub entry_of_state : (P : PageState → Type 0) (entries : List (Option Entry)) (i : ℕ) → IfSome (slice_index_or (states_of entries) i None) P → IfSome (entry_at entries i) (λ entry. P (state_of entry))
-entry_of_state P [] i h = tt
-entry_of_state P (None ∷ xs) zero h = tt
-entry_of_state P (Some x ∷ xs) zero h = h
-entry_of_state P (x ∷ xs) (suc i) h = entry_of_state P xs i h
+  unfolding view_of part groups_of
+  writes = grind (arith, nat_tests, one, loc)
 
 pub own_entry : (table : TableState) (shapes : List (Option Shape)) (tenants : List Tenant) (pass : Pass) (page : Page) → IsOwn (view_of table shapes tenants pass) page
     → IfSome (entry_at table.entries (page_place page)) (λ entry. is_shared entry.status ≡ false)
 unfolding view_of
-own_entry table shapes tenants pass page own = entry_of_state (λ state. is_shared state.status ≡ false) table.entries (page_place page) own
+own_entry table shapes tenants pass page own = grind (arith, nat_tests, state-at table pass (page_place page))

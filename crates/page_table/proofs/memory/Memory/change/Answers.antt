@@ -1,5 +1,5 @@
-use Rattle.page_table.proofs.Base.{length, ap, arith, refl}
-use Rattle.page_table.proofs.Words.{page_place, Sharing, changed, sharing_of}
+use Rattle.page_table.proofs.Base.{length, ap, arith, refl, nat_tests}
+use Rattle.page_table.proofs.Words.{page_place, Sharing, changed, sharing_of, view_of}
 use Rattle.page_table.proofs.Seen.{sees}
 use Rattle.page_table.proofs.Merging.{moves}
 use Rattle.page_table.proofs.Waiters.{pass-others}
@@ -16,15 +16,6 @@ invariant_of-self c =
     grind (arith, sees c.self.inside.table c.self.inside.shapes.items c.self.inside.tenants.items c.self.inside.pass c.self.inside.reserved c.self.invariant.0 c.args.self.now c.self.view_is c.args.page c.place_of.result c.place_of.ensures, pass-others c.self.inside.table c.mark.new.self c.self.inside.pass c.place_of.result c.self.invariant.1, entries-long c.self.inside.table c.mark.new.self c.mark.ensures.contents, ahead-told c.self.inside.table c.mark.new.self c.self.inside.pass, stay-marked (sharing_of c.self.inside.table c.self.inside.pass) c.place_of.result)
 
 pub returns : goal.returns
-unfolding changed
+unfolding view_of changed
 returns c =
-    let told = moves c.self.inside.table c.mark.new.self c.self.inside.shapes.items c.self.inside.tenants.items c.self.inside.pass
-    c.self.inside.pass c.mark.ensures.contents (ap length c.mark.ensures.arena) c.args.self.now c.self.view_is
-    0 0 c.self.inside.reserved c.self.invariant.0 (omega (arith, c.mark.ensures.used, c.self.invariant.0.room)) (omega (arith, c.mark.ensures.used)) in
-    record {
-      maps = told.maps;
-      kept = told.kept refl;
-      sharing = told.sharing (λ (s : Sharing). changed s (page_place c.args.page) c.args.fingerprint) (rw c.place_of.ensures at c.mark.ensures.sharing c.self.inside.pass);
-      have = omega (arith, told.have);
-      settings = told.settings;
-    }
+    grind (arith, nat_tests, moves c.self.inside.table c.mark.new.self c.self.inside.shapes.items c.self.inside.tenants.items c.self.inside.pass c.self.inside.pass c.mark.ensures.contents (ap length c.mark.ensures.arena) c.args.self.now c.self.view_is 0 0 c.self.inside.reserved c.self.invariant.0, c.mark.ensures.sharing c.self.inside.pass)

@@ -10,28 +10,14 @@ use Rattle.page_table.proofs.Seen.{sees}
 use Rattle.page_table.proofs.memory.Memory.join_group.Goals as goal
 use Rattle.page_table.proofs.memory.Memory.join_group.Goals.{After-place_of}
 
-there : (c : After-place_of) → IsPageOf (view_of c.self.inside.table c.self.inside.shapes.items c.self.inside.tenants.items c.self.inside.pass) c.args.page
-there c = rw (← c.self.view_is) at c.requires.there
-
 -- the group is the first one that is open
 found : (c : After-place_of) → find (is_open_frame c.self.inside.table (contents_now (view_of c.self.inside.table c.self.inside.shapes.items c.self.inside.tenants.items c.self.inside.pass) (page_place c.args.page)) c.self.inside.pass.options.max_page_sharing) c.self.inside.table.groups ≡ Some c.args.group
 found c = grind (arith, nat_tests, open-frame)
 
-in_groups : (c : After-place_of) → (1 ≤ times c.args.group c.self.inside.table.groups) × (is_open_frame c.self.inside.table (contents_now (view_of c.self.inside.table c.self.inside.shapes.items c.self.inside.tenants.items c.self.inside.pass) (page_place c.args.page)) c.self.inside.pass.options.max_page_sharing c.args.group ≡ true)
-in_groups c = find-in (is_open_frame c.self.inside.table (contents_now (view_of c.self.inside.table c.self.inside.shapes.items c.self.inside.tenants.items c.self.inside.pass) (page_place c.args.page)) c.self.inside.pass.options.max_page_sharing) c.self.inside.table.groups c.args.group (found c)
-
 pub join-requires : goal.join-requires
 join-requires c =
-    let seen = sees c.self.inside.table c.self.inside.shapes.items c.self.inside.tenants.items c.self.inside.pass c.self.inside.reserved c.self.invariant.0 c.args.self.now c.self.view_is c.args.page c.place_of.result c.place_of.ensures in
-    record {
-      there = seen.there c.requires.there;
-      own = seen.lone c.requires.may;
-      group = (in_groups c).0;
-      same = rw c.place_of.ensures
-          (content_is c.self.inside.table c.self.inside.shapes.items c.self.inside.tenants.items c.self.inside.pass c.self.inside.reserved c.args.page c.self.invariant.0 (there c)
-          ∙ sym (bytes_here c.self.inside.table c.self.inside.shapes.items c.self.inside.tenants.items c.self.inside.pass c.self.inside.reserved c.self.invariant.0 c.args.page (there c))
-          ∙ sym (open-bytes c.self.inside.table (contents_now (view_of c.self.inside.table c.self.inside.shapes.items c.self.inside.tenants.items c.self.inside.pass) (page_place c.args.page)) c.self.inside.pass.options.max_page_sharing c.args.group (in_groups c).1));
-    }
+    let open_there = find-in (is_open_frame c.self.inside.table (contents_now (view_of c.self.inside.table c.self.inside.shapes.items c.self.inside.tenants.items c.self.inside.pass) (page_place c.args.page)) c.self.inside.pass.options.max_page_sharing) c.self.inside.table.groups c.args.group (found c) in
+    grind (arith, nat_tests, sees c.self.inside.table c.self.inside.shapes.items c.self.inside.tenants.items c.self.inside.pass c.self.inside.reserved c.self.invariant.0 c.args.self.now c.self.view_is c.args.page c.place_of.result c.place_of.ensures, open_there, content_is c.self.inside.table c.self.inside.shapes.items c.self.inside.tenants.items c.self.inside.pass c.self.inside.reserved c.args.page c.self.invariant.0, bytes_here c.self.inside.table c.self.inside.shapes.items c.self.inside.tenants.items c.self.inside.pass c.self.inside.reserved c.self.invariant.0 c.args.page, open-bytes)
 
 pub invariant_of-self : goal.invariant_of-self
 invariant_of-self c =

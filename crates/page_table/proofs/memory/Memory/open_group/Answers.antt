@@ -7,12 +7,9 @@ pub open_group-requires : goal.open_group-requires
 unfolding view_of
 open_group-requires c = rw (← c.self.view_is) at c.entry-frame.ensures.there
 
-content_of : (c : goal.After-open_group) → page_at c.self.inside.table.arena c.entry-frame.result.frame ≡ page_bytes (bytes_of_map (view_of c.self.inside.table c.self.inside.shapes.items c.self.inside.tenants.items c.self.inside.pass) c.args.page) c.args.page.number
-unfolding view_of
-content_of c = rw (← c.self.view_is) at c.entry-frame.ensures.content
-
 found : (c : goal.After-open_group) → c.open_group.result ≡ find (is_open_frame c.self.inside.table (contents_now (view_of c.self.inside.table c.self.inside.shapes.items c.self.inside.tenants.items c.self.inside.pass) (page_place c.args.page)) c.self.inside.pass.options.max_page_sharing) c.self.inside.table.groups
-found c = grind (arith, nat_tests, content_of, bytes_here)
+unfolding view_of
+found c = grind (arith, nat_tests, bytes_here)
 
 pub returns : goal.returns
 returns c = grind (arith, nat_tests, found, open-frame, has-open)

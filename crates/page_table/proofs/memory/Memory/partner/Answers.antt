@@ -16,67 +16,34 @@ find-requires-clause-frame c = rw (c.arena.ensures) (rw (← c.self.view_is) at 
 pub find-requires-clause-listed : goal.find-requires-clause-listed
 find-requires-clause-listed c = grind (arith, nat_tests, waiters-frames)
 
-there : (c : After-find) → IsPageOf (view_of c.self.inside.table c.self.inside.shapes.items c.self.inside.tenants.items c.self.inside.pass) c.args.page
-there c = rw (← c.self.view_is) at c.requires.there
-
-content : (c : After-find) → page_at c.self.inside.table.arena c.entry-frame.result.frame ≡ page_bytes (bytes_of_map (view_of c.self.inside.table c.self.inside.shapes.items c.self.inside.tenants.items c.self.inside.pass) c.args.page) c.args.page.number
-unfolding view_of
-content c = rw (← c.self.view_is) at c.entry-frame.ensures.content
-
 abbrev bytes : After-find → List ℕ
 bytes c = contents_now (view_of c.self.inside.table c.self.inside.shapes.items c.self.inside.tenants.items c.self.inside.pass) (page_place c.args.page)
 
 told : (c : After-find) → c.find.result ≡ find (is_match c.self.inside.table.arena c.args.fingerprint (bytes c)) c.self.inside.pass.waiting.listed
-told c = grind (arith, nat_tests, content, bytes_here, there)
+unfolding view_of
+told c = grind (arith, nat_tests, bytes_here)
 
 found : (c : In-Some) → IsFound c.self.inside.table.entries c.self.inside.pass.cursor (is_match c.self.inside.table.arena c.args.fingerprint (bytes c.before)) c.self.inside.pass.waiting.listed c.in-Some.waiter
 found c =
     grind (arith, found-waiter c.self.inside.table.entries c.self.inside.pass.cursor (is_match c.self.inside.table.arena c.args.fingerprint (bytes c.before)) c.self.inside.pass.waiting.listed c.in-Some.waiter c.self.invariant.1.waiters, told c.before)
 
 pub page_at-requires : goal.page_at-requires
-page_at-requires c =
-    let waiter = (found (goal.at.page_at-requires c).In-Some).waiter in
-    omega (arith, inside c.self.inside.table.entries c.in-Some.waiter.place waiter.entry waiter.here, (c.facts.ensures.1).fits.few)
+page_at-requires c = grind (arith, (found (goal.at.page_at-requires c).In-Some).waiter, inside, (c.facts.ensures.1).fits.few)
 
 partners : (c : After-find) → partner_place (view_of c.self.inside.table c.self.inside.shapes.items c.self.inside.tenants.items c.self.inside.pass) (page_place c.args.page) c.args.fingerprint ≡ option_map (λ (w : Waiter). w.place) c.find.result
 unfolding view_of
 partners c =
-    partners-told c.self.inside.table c.self.inside.shapes.items c.self.inside.tenants.items c.self.inside.pass c.self.inside.reserved c.self.invariant.0 (c.facts.ensures.1).fits c.args.fingerprint (bytes c) c.self.inside.pass.cursor c.self.inside.pass.waiting.listed c.self.invariant.1.waiters
-    ∙ ap (option_map (λ (w : Waiter). w.place)) (sym (told c))
+    grind (arith, nat_tests, partners-told c.self.inside.table c.self.inside.shapes.items c.self.inside.tenants.items c.self.inside.pass c.self.inside.reserved c.self.invariant.0 (c.facts.ensures.1).fits c.args.fingerprint (bytes c) c.self.inside.pass.cursor c.self.inside.pass.waiting.listed c.self.invariant.1.waiters, told c)
 
 page_is_there : (c : In-Some) → (page : Page) → page_place page ≡ c.in-Some.waiter.place → page.map < 8 → page.number < 256 → IsPageOf (view_of c.self.inside.table c.self.inside.shapes.items c.self.inside.tenants.items c.self.inside.pass) page
 page_is_there c page place small few =
-    let waiter = (found c).waiter in
-    page_there c.self.inside.table c.self.inside.shapes.items c.self.inside.tenants.items c.self.inside.pass c.self.inside.reserved c.self.invariant.0 page small few
-    (subst (IsPageAt c.self.inside.table) (sym place) (page_of_entry c.self.inside.table c.in-Some.waiter.place waiter.entry (c.facts.ensures.1).fits waiter.here))
+    grind (arith, nat_tests, found c, page_there c.self.inside.table c.self.inside.shapes.items c.self.inside.tenants.items c.self.inside.pass c.self.inside.reserved c.self.invariant.0 page small few, page_of_entry, c.facts.ensures.1)
 
 pub returns-in-Some : goal.returns-in-Some
-returns-in-Some c = record {
-  found = let d = (goal.at.returns-in-Some c).In-Some in
-      rw (← c.self.view_is)
-      (ap Some c.page_at.ensures.place ∙ sym (partners d.before ∙ ap (option_map (λ (w : Waiter). w.place)) c.in-Some.is));
-  there = rw (← c.self.view_is)
-      (page_is_there (goal.at.returns-in-Some c).In-Some c.page_at.result c.page_at.ensures.place c.page_at.ensures.map c.page_at.ensures.number);
-  may = let waiter = (found (goal.at.returns-in-Some c).In-Some).waiter in
-      rw (← c.self.view_is)
-      (may-told c.self.inside.table c.self.inside.shapes.items c.self.inside.tenants.items c.self.inside.pass c.page_at.result waiter.entry (rw c.page_at.ensures.place waiter.here) waiter.mergeable
-      (waiter_own c.self.inside.table.entries c.self.inside.pass.cursor c.in-Some.waiter waiter)
-      (rw c.page_at.ensures.place (waiting-free c.self.inside.table c.self.inside.pass c.in-Some.waiter.place waiter.entry c.self.invariant.1.pins waiter.here waiter.status)));
-  apart = λ e. let listed = (found (goal.at.returns-in-Some c).In-Some).listed in
-      let free : IsNotWaiting (view_of c.self.inside.table c.self.inside.shapes.items c.self.inside.tenants.items c.self.inside.pass) c.args.page = rw (← c.self.view_is) at c.requires.free in
-      let same : c.in-Some.waiter.place ≡ page_place c.args.page = sym c.page_at.ensures.place ∙ ap page_place e in
-      let both : true ≡ false = sym listed ∙ ap (λ i. is_listed i c.self.inside.pass.waiting.listed) same ∙ not-waiting c.self.inside.table c.self.inside.shapes.items c.self.inside.tenants.items c.self.inside.pass c.args.page free in
-      cc;
-  same = let d = (goal.at.returns-in-Some c).In-Some in
-      let waiter = (found d).waiter in
-      rw (← c.self.view_is)
-      (sym (bytes_here c.self.inside.table c.self.inside.shapes.items c.self.inside.tenants.items c.self.inside.pass c.self.inside.reserved c.self.invariant.0 c.page_at.result (page_is_there d c.page_at.result c.page_at.ensures.place c.page_at.ensures.map c.page_at.ensures.number))
-      ∙ ap (contents_now (view_of c.self.inside.table c.self.inside.shapes.items c.self.inside.tenants.items c.self.inside.pass)) c.page_at.ensures.place
-      ∙ frame_told c.self.inside.table c.self.inside.shapes.items c.self.inside.tenants.items c.self.inside.pass c.self.inside.reserved c.self.invariant.0 c.in-Some.waiter.place waiter.entry (c.facts.ensures.1).fits waiter.here
-      ∙ ap (page_at c.self.inside.table.arena) waiter.frame
-      ∙ match-bytes c.self.inside.table.arena c.args.fingerprint (bytes d.before) c.in-Some.waiter (found d).passes
-      ∙ bytes_here c.self.inside.table c.self.inside.shapes.items c.self.inside.tenants.items c.self.inside.pass c.self.inside.reserved c.self.invariant.0 c.args.page (there d.before));
-}
+returns-in-Some c =
+    let d = (goal.at.returns-in-Some c).In-Some in
+    let there = page_is_there d c.page_at.result c.page_at.ensures.place c.page_at.ensures.map c.page_at.ensures.number in
+    grind (arith, nat_tests, partners d.before, found d, there, may-told c.self.inside.table c.self.inside.shapes.items c.self.inside.tenants.items c.self.inside.pass c.page_at.result, waiter_own, waiting-free, not-waiting, bytes_here c.self.inside.table c.self.inside.shapes.items c.self.inside.tenants.items c.self.inside.pass c.self.inside.reserved c.self.invariant.0 c.page_at.result there, bytes_here c.self.inside.table c.self.inside.shapes.items c.self.inside.tenants.items c.self.inside.pass c.self.inside.reserved c.self.invariant.0 c.args.page, frame_told c.self.inside.table c.self.inside.shapes.items c.self.inside.tenants.items c.self.inside.pass c.self.inside.reserved c.self.invariant.0 c.in-Some.waiter.place, match-bytes c.self.inside.table.arena c.args.fingerprint (bytes d.before) c.in-Some.waiter (found d).passes)
 
 pub returns-in-None-clause-found : goal.returns-in-None-clause-found
 returns-in-None-clause-found c = grind (arith, nat_tests, partners)

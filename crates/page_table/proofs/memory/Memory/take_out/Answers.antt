@@ -1,7 +1,7 @@
 use Rattle.page_table.proofs.Base.{◌≡◌, ◌∙◌, ◌≤◌, ◌+◌, ◌&&◌, ℕ, length, sym, ap, arith, nat_tests, get_or_past, length-map}
 use Rattle.page_table.proofs.Creating.{length-contents}
 use Rattle.page_table.proofs.Words.{page_place, broken_by, state_at, is_shared_page, broken, break_cost, Sharing, MemoryState, part, IsPageOf, used_by, break_frames, sharing_of, view_of, IsPass}
-use Rattle.page_table.proofs.Merging.{parts_but, part_pinned, map_small, number_small, cost_told, cost_fits, cost_reserved, own_told, moves}
+use Rattle.page_table.proofs.Merging.{parts_but, part_pinned, map_small, number_small, cost_told, cost_reserved, own_told, moves}
 use Rattle.page_table.proofs.Fitting.{entries-long, pinned_if, sharing-taken, pins-taken}
 use Rattle.page_table.proofs.Unpinning.{pinned-others}
 use Rattle.page_table.proofs.Waiters.{pass-kept}
@@ -9,53 +9,33 @@ use Rattle.page_table.proofs.Seen.{sees}
 use Rattle.page_table.proofs.Ahead.{ahead-told, stay-broken}
 use Rattle.page_table.proofs.memory.Memory.take_out.Goals as goal
 
-pub pins-is_pinned-requires : goal.pins-is_pinned-requires
-pins-is_pinned-requires c = c.requires.there
-
 pub pin_if-requires : goal.pin_if-requires
 pin_if-requires c =
     grind (arith, sees c.self.inside.table c.self.inside.shapes.items c.self.inside.tenants.items c.self.inside.pass c.self.inside.reserved c.self.invariant.0 c.args.self.now c.self.view_is c.args.page c.place_of-place.result c.place_of-place.ensures, length-map, length-contents, get_or_past)
 
 pub take_out-requires : goal.take_out-requires
 take_out-requires c =
-    let seen = sees c.self.inside.table c.self.inside.shapes.items c.self.inside.tenants.items c.self.inside.pass c.self.inside.reserved c.self.invariant.0 c.args.self.now c.self.view_is c.args.page c.place_of-place.result c.place_of-place.ensures in
-    record {
-      there = seen.there c.requires.there;
-      room = rw c.place_of-place.ensures (cost_fits c.self.inside.table c.self.inside.shapes.items c.self.inside.tenants.items c.self.inside.pass c.costs_are_told.ensures c.self.inside.reserved (page_place c.args.page) c.self.invariant.0 (rw (← c.self.view_is) at c.requires.room));
-    }
+    grind (arith, nat_tests, sees c.self.inside.table c.self.inside.shapes.items c.self.inside.tenants.items c.self.inside.pass c.self.inside.reserved c.self.invariant.0 c.args.self.now c.self.view_is c.args.page c.place_of-place.result c.place_of-place.ensures, cost_reserved c.self.inside.table c.self.inside.shapes.items c.self.inside.tenants.items c.self.inside.pass c.costs_are_told.ensures c.self.inside.reserved (page_place c.args.page) c.self.invariant.0)
 
 abbrev before : goal.After-pin_if → MemoryState
 before c = view_of c.self.inside.table c.self.inside.shapes.items c.self.inside.tenants.items c.self.inside.pass
 
-told : (c : goal.After-pin_if) → break_cost c.args.self.now.sharing (page_place c.args.page) ≡ break_frames c.self.inside.table (page_place c.args.page)
-told c = rw (← c.self.view_is) (cost_told c.self.inside.table c.self.inside.shapes.items c.self.inside.tenants.items c.self.inside.pass c.costs_are_told.ensures (page_place c.args.page))
-
-used : (c : goal.After-pin_if) → used_by c.take_out.new.self ≡ used_by c.self.inside.table + break_cost c.args.self.now.sharing (page_place c.args.page)
-used c = rw (told c) (rw c.place_of-place.ensures at c.take_out.ensures.used)
-
 room : (c : goal.After-pin_if) → c.self.inside.reserved + used_by c.take_out.new.self ≤ length c.self.inside.table.arena
-room c = grind (arith, nat_tests, cost_reserved, used, told)
+room c = grind (arith, nat_tests, cost_reserved, cost_told)
 
 pinned : (c : goal.After-pin_if) → c.pin_if.new.self ≡ pinned_if c.pins-is_pinned.result (page_place c.args.page) c.self.inside.pass.pins
-pinned c = c.pin_if.ensures ∙ ap (λ (i : ℕ). pinned_if c.pins-is_pinned.result i c.self.inside.pass.pins) c.place_of-place.ensures
+pinned c = grind arith
 
 pins : (c : goal.After-pin_if) → c.pins-is_pinned.result ≡ ((part (before c) c.args.page.tenant).running && is_shared_page (state_at (sharing_of c.self.inside.table c.self.inside.pass) (page_place c.args.page)))
 unfolding view_of
 pins c = rw (← c.self.view_is) at c.pins-is_pinned.ensures
 
 taken : (c : goal.After-pin_if) → sharing_of c.take_out.new.self c.self.inside.pass ≡ broken (sharing_of c.self.inside.table c.self.inside.pass) (page_place c.args.page)
-taken c = rw c.place_of-place.ensures at c.take_out.ensures.sharing c.self.inside.pass
+taken c = grind (arith, c.take_out.ensures.sharing c.self.inside.pass, c.place_of-place.ensures)
 
 pass : (c : goal.After-pin_if) → IsPass c.take_out.new.self (record c.self.inside.pass { pins = c.pin_if.new.self })
 pass c =
-    let kept = pass-kept c.self.inside.table c.take_out.new.self c.self.inside.pass c.self.invariant.1 c.take_out.ensures.kept c.take_out.ensures.arena (entries-long c.self.inside.table c.take_out.new.self c.take_out.ensures.contents) in
-    rw (pinned c)
-    record {
-      waiters = kept.waiters;
-      room = kept.room;
-      cursor = kept.cursor;
-      pins = pins-taken c.self.inside.table c.take_out.new.self c.self.inside.pass (page_place c.args.page) (part (before c) c.args.page.tenant).running c.pins-is_pinned.result (pins c) (taken c) c.self.invariant.1.pins;
-    }
+    grind (arith, nat_tests, pinned c, pass-kept c.self.inside.table c.take_out.new.self c.self.inside.pass c.self.invariant.1, entries-long c.self.inside.table c.take_out.new.self c.take_out.ensures.contents, pins-taken c.self.inside.table c.take_out.new.self c.self.inside.pass (page_place c.args.page) (part (before c) c.args.page.tenant).running c.pins-is_pinned.result (pins c) (taken c) c.self.invariant.1.pins)
 
 pub invariant_of-self : goal.invariant_of-self
 invariant_of-self c =
@@ -64,13 +44,13 @@ invariant_of-self c =
 frames : (c : goal.After-pin_if) → break_cost c.args.self.now.sharing (page_place c.args.page) ≡ 0
     → (view_of c.take_out.new.self c.self.inside.shapes.items c.self.inside.tenants.items (record c.self.inside.pass { pins = c.pin_if.new.self })).frames ≡ c.args.self.now.frames
 unfolding view_of
-frames c none = rw (← c.self.view_is) ((rw c.place_of-place.ensures at c.take_out.ensures.frames) (sym (told c) ∙ none))
+frames c none = grind (arith, nat_tests, cost_told)
 
 pub returns : goal.returns
 returns c =
     let moved = moves c.self.inside.table c.take_out.new.self c.self.inside.shapes.items c.self.inside.tenants.items c.self.inside.pass
     (record c.self.inside.pass { pins = c.pin_if.new.self }) c.take_out.ensures.contents c.take_out.ensures.arena c.args.self.now c.self.view_is
-    (break_cost c.args.self.now.sharing (page_place c.args.page)) 0 c.self.inside.reserved c.self.invariant.0 (room c) (omega (arith, used c)) in
+    (break_cost c.args.self.now.sharing (page_place c.args.page)) 0 c.self.inside.reserved c.self.invariant.0 (room c) (grind (arith, nat_tests, cost_told)) in
     record {
       frames = frames c;
       maps = moved.maps;

@@ -1,6 +1,6 @@
 use Rattle.page_table.proofs.Base.{◌≡◌, ◌≤◌, ◌+◌, length, ap, arith, nat_tests}
 use Rattle.page_table.proofs.Words.{unmerge_need, unmerged, SharesNothing, Pass, MemoryState, used_by, sharing_of, view_of}
-use Rattle.page_table.proofs.Merging.{memory_kept, moves}
+use Rattle.page_table.proofs.Merging.{moves}
 use Rattle.page_table.proofs.Unmerging.{need_reserved, need_fits, unmerged_is}
 use Rattle.page_table.proofs.Fitting.{entries-long}
 use Rattle.page_table.proofs.Waiters.{pass-kept}
@@ -13,32 +13,13 @@ take_out_all-requires c = grind (arith, nat_tests, need_fits)
 room : (c : goal.After-set) → c.self.inside.reserved + used_by c.take_out_all.new.self ≤ length c.self.inside.table.arena
 unfolding view_of
 room c =
-    let room = need_reserved c.self.inside.table c.self.inside.shapes.items c.self.inside.tenants.items c.self.inside.pass c.self.inside.reserved c.self.invariant.0 (rw (← c.self.view_is) at c.requires) in
-    omega (arith, c.take_out_all.ensures.used c.self.inside.pass, room)
+    grind (arith, need_reserved c.self.inside.table c.self.inside.shapes.items c.self.inside.tenants.items c.self.inside.pass c.self.inside.reserved c.self.invariant.0, c.take_out_all.ensures.used c.self.inside.pass)
 
 pub invariant_of-self : goal.invariant_of-self
 invariant_of-self c =
-    grind (arith, nat_tests, memory_kept c.self.inside.table c.take_out_all.new.self c.self.inside.shapes.items c.self.inside.tenants.items c.self.inside.pass c.self.inside.pass c.take_out_all.ensures.contents c.take_out_all.ensures.arena c.self.inside.reserved c.self.invariant.0 (room c), room c, pass-kept c.self.inside.table c.take_out_all.new.self c.self.inside.pass c.self.invariant.1 c.take_out_all.ensures.kept c.take_out_all.ensures.arena (entries-long c.self.inside.table c.take_out_all.new.self c.take_out_all.ensures.contents), entries-long c.self.inside.table c.take_out_all.new.self c.take_out_all.ensures.contents, ahead-told c.self.inside.table c.take_out_all.new.self c.self.inside.pass, stay-broken_from (sharing_of c.self.inside.table c.self.inside.pass) 0)
-
-need : (c : goal.After-set) → unmerge_need (sharing_of c.self.inside.table c.self.inside.pass) ≡ unmerge_need c.args.self.now.sharing
-unfolding view_of
-need c = ap (λ (memory : MemoryState). unmerge_need memory.sharing) c.self.view_is
-
-none : (c : goal.After-set) → SharesNothing (view_of c.take_out_all.new.self c.self.inside.shapes.items c.self.inside.tenants.items c.set.new.self).sharing
-unfolding view_of
-none c = grind (arith, nat_tests)
+    grind (arith, nat_tests, room c, pass-kept c.self.inside.table c.take_out_all.new.self c.self.inside.pass c.self.invariant.1 c.take_out_all.ensures.kept c.take_out_all.ensures.arena (entries-long c.self.inside.table c.take_out_all.new.self c.take_out_all.ensures.contents), entries-long c.self.inside.table c.take_out_all.new.self c.take_out_all.ensures.contents, ahead-told c.self.inside.table c.take_out_all.new.self c.self.inside.pass, stay-broken_from (sharing_of c.self.inside.table c.self.inside.pass) 0)
 
 pub returns : goal.returns
+unfolding view_of
 returns c =
-    let told = moves c.self.inside.table c.take_out_all.new.self c.self.inside.shapes.items c.self.inside.tenants.items c.self.inside.pass
-    c.set.new.self c.take_out_all.ensures.contents c.take_out_all.ensures.arena c.args.self.now c.self.view_is
-    (unmerge_need (sharing_of c.self.inside.table c.self.inside.pass)) 0 c.self.inside.reserved c.self.invariant.0 (room c) (let used = c.take_out_all.ensures.used c.self.inside.pass in omega (arith, used)) in
-    record {
-      maps = told.maps;
-      kept = told.kept (ap (λ (pass : Pass). pass.pins) c.set.ensures);
-      sharing = told.sharing unmerged (unmerged_is c.self.inside.table c.take_out_all.new.self c.self.inside.pass c.set.new.self c.set.ensures c.take_out_all.ensures.sharing);
-      none = none c;
-      free = omega (arith, told.free, need c);
-      have = omega (arith, told.have, need c);
-      settings = told.settings;
-    }
+    grind (arith, nat_tests, moves c.self.inside.table c.take_out_all.new.self c.self.inside.shapes.items c.self.inside.tenants.items c.self.inside.pass c.set.new.self c.take_out_all.ensures.contents c.take_out_all.ensures.arena c.args.self.now c.self.view_is (unmerge_need (sharing_of c.self.inside.table c.self.inside.pass)) 0 c.self.inside.reserved c.self.invariant.0 (room c), c.take_out_all.ensures.used c.self.inside.pass, unmerged_is c.self.inside.table c.take_out_all.new.self c.self.inside.pass c.set.new.self c.set.ensures c.take_out_all.ensures.sharing)

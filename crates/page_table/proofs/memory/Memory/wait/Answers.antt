@@ -1,15 +1,17 @@
+use Rattle.page_table.proofs.Waiters.{waiters-few, pass-others, waiters-more}
 use Rattle.page_table.proofs.Base.{◌≡◌, ◌≤◌, IfSome, refl, length, ap, arith, nat_tests, map-append}
 use Rattle.page_table.proofs.Words.{Waiting, page_place, waits, MayMerge, HadFingerprint, sharing_of, view_of, Sharing}
-use Rattle.page_table.proofs.Merging.{memory_kept, moves}
-use Rattle.page_table.proofs.Marking.{marked_entry}
-use Rattle.page_table.proofs.Partners.{room-left, pass-waits, is-behind, may-entry}
+use Rattle.page_table.proofs.Merging.{moves}
+use Rattle.page_table.proofs.Moving.{marked_entry}
+use Rattle.page_table.proofs.Partners.{is-behind, may-entry}
 use Rattle.page_table.proofs.Ahead.{ahead-told, stay-marked}
 use Rattle.page_table.proofs.Fitting.{entries-long}
 use Rattle.page_table.proofs.Seen.{sees}
 use Rattle.page_table.proofs.memory.Memory.wait.Goals as goal
 
 pub page-frame-requires : goal.page-frame-requires
-page-frame-requires c = (sees c.self.inside.table c.self.inside.shapes.items c.self.inside.tenants.items c.self.inside.pass c.self.inside.reserved c.self.invariant.0 c.args.self.now c.self.view_is c.args.page _ c.place_of-place.ensures).there c.requires.there
+page-frame-requires c =
+    grind (arith, sees c.self.inside.table c.self.inside.shapes.items c.self.inside.tenants.items c.self.inside.pass c.self.inside.reserved c.self.invariant.0 c.args.self.now c.self.view_is c.args.page c.place_of-place.result c.place_of-place.ensures)
 
 pub mark-requires : goal.mark-requires
 mark-requires c =
@@ -17,45 +19,14 @@ mark-requires c =
 
 pub insert-requires : goal.insert-requires
 insert-requires c =
-    grind (arith, room-left c.self.inside.table c.self.inside.shapes.items c.self.inside.tenants.items c.self.inside.reserved c.self.inside.pass.cursor c.self.inside.pass.waiting.listed c.self.inside.pass.waiting.room c.self.invariant.0 c.self.invariant.1.waiters c.self.invariant.1.room)
+    grind (arith, waiters-few)
 
 pub invariant_of-self : goal.invariant_of-self
 unfolding view_of
 invariant_of-self c =
-    let arena = ap length c.mark.ensures.arena in
-    let may : MayMerge (view_of c.self.inside.table c.self.inside.shapes.items c.self.inside.tenants.items c.self.inside.pass) c.args.page = rw (← c.self.view_is) at c.requires.may in
-    let behind : IfSome c.self.inside.pass.cursor (λ n. page_place c.args.page ≤ n) = rw (← c.self.view_is) at c.requires.behind in
-    let seen = sees c.self.inside.table c.self.inside.shapes.items c.self.inside.tenants.items c.self.inside.pass c.self.inside.reserved c.self.invariant.0 c.args.self.now c.self.view_is c.args.page c.place_of-place.result c.place_of-place.ensures in (
-      memory_kept c.self.inside.table c.mark.new.self c.self.inside.shapes.items c.self.inside.tenants.items c.self.inside.pass c.self.inside.pass c.mark.ensures.contents arena
-          c.self.inside.reserved c.self.invariant.0 (omega (arith, c.mark.ensures.used, c.self.invariant.0.room)),
-      rw c.insert.ensures
-          (pass-waits c.self.inside.table c.mark.new.self c.self.inside.pass (record { place = c.place_of-place.result; frame = c.page-frame.result.frame; fingerprint = c.args.fingerprint })
-          (marked_entry c.page-frame.result Waiting c.args.fingerprint) c.self.invariant.1 (seen.unlisted c.requires.free) (seen.unpinned c.requires.may) c.mark.ensures.others arena
-          (entries-long c.self.inside.table c.mark.new.self c.mark.ensures.contents) (c.mark.ensures.here c.page-frame.result c.page-frame.ensures) refl refl
-          (may-entry c.self.inside.table c.self.inside.shapes.items c.self.inside.tenants.items c.self.inside.pass c.args.page c.page-frame.result (rw c.place_of-place.ensures at c.page-frame.ensures) may)
-          (rw c.place_of-place.ensures (is-behind c.self.inside.pass.cursor (page_place c.args.page) behind))),
-      ahead-told c.self.inside.table c.mark.new.self c.self.inside.pass _ c.self.inside.pass.cursor (c.mark.ensures.sharing c.self.inside.pass)
-          (stay-marked (sharing_of c.self.inside.table c.self.inside.pass) c.place_of-place.result _ _) c.self.invariant.2,
-    )
-
-had : (c : goal.After-insert) → HadFingerprint (view_of c.self.inside.table c.self.inside.shapes.items c.self.inside.tenants.items c.self.inside.pass) c.args.page c.args.fingerprint
-had c = rw (← c.self.view_is) at c.requires.last
-
--- the page waits, as the table and the pass tell it
-waiting_told : (c : goal.After-insert)
-    → sharing_of c.mark.new.self (record c.self.inside.pass { waiting = c.insert.new.self }) ≡ waits (sharing_of c.self.inside.table c.self.inside.pass) (page_place c.args.page) c.args.fingerprint
-unfolding view_of waits
-waiting_told c = grind (arith, nat_tests, had c, map-append)
+    grind (arith, nat_tests, sees c.self.inside.table c.self.inside.shapes.items c.self.inside.tenants.items c.self.inside.pass c.self.inside.reserved c.self.invariant.0 c.args.self.now c.self.view_is c.args.page c.place_of-place.result c.place_of-place.ensures, pass-others, waiters-more, entries-long c.self.inside.table c.mark.new.self c.mark.ensures.contents, may-entry c.self.inside.table c.self.inside.shapes.items c.self.inside.tenants.items c.self.inside.pass c.args.page c.page-frame.result, is-behind, ahead-told c.self.inside.table c.mark.new.self c.self.inside.pass, stay-marked (sharing_of c.self.inside.table c.self.inside.pass) c.place_of-place.result)
 
 pub returns : goal.returns
+unfolding view_of waits
 returns c =
-    let told = moves c.self.inside.table c.mark.new.self c.self.inside.shapes.items c.self.inside.tenants.items c.self.inside.pass
-    (record c.self.inside.pass { waiting = c.insert.new.self }) c.mark.ensures.contents (ap length c.mark.ensures.arena) c.args.self.now c.self.view_is
-    0 0 c.self.inside.reserved c.self.invariant.0 (omega (arith, c.mark.ensures.used, c.self.invariant.0.room)) (omega (arith, c.mark.ensures.used)) in
-    record {
-      maps = told.maps;
-      kept = told.kept refl;
-      sharing = told.sharing (λ (s : Sharing). waits s (page_place c.args.page) c.args.fingerprint) (waiting_told c);
-      have = omega (arith, told.have);
-      settings = told.settings;
-    }
+    grind (arith, nat_tests, moves c.self.inside.table c.mark.new.self c.self.inside.shapes.items c.self.inside.tenants.items c.self.inside.pass (record c.self.inside.pass { waiting = c.insert.new.self }) c.mark.ensures.contents (ap length c.mark.ensures.arena) c.args.self.now c.self.view_is 0 0 c.self.inside.reserved c.self.invariant.0, map-append)

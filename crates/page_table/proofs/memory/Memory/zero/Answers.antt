@@ -1,9 +1,9 @@
-use Rattle.page_table.proofs.Base.{◌∙◌, ap, arith, refl}
-use Rattle.page_table.proofs.Words.{page_place, Sharing, zeroed, WaitingList, sharing_of}
+use Rattle.page_table.proofs.Ahead.{stay-set}
+use Rattle.page_table.proofs.Base.{◌∙◌, ap, arith, refl, nat_tests}
+use Rattle.page_table.proofs.Words.{page_place, Sharing, zeroed, WaitingList, sharing_of, view_of}
 use Rattle.page_table.proofs.Seen.{sees}
 use Rattle.page_table.proofs.Merging.{moves}
 use Rattle.page_table.proofs.Waiters.{pass-left}
-use Rattle.page_table.proofs.Ahead.{stay-zeroed}
 use Rattle.page_table.proofs.Fitting.{entries-long}
 use Rattle.page_table.proofs.memory.Memory.zero.Goals as goal
 
@@ -12,22 +12,11 @@ zero-requires c =
     grind (arith, sees c.self.inside.table c.self.inside.shapes.items c.self.inside.tenants.items c.self.inside.pass c.self.inside.reserved c.self.invariant.0 c.args.self.now c.self.view_is c.args.page c.place_of-place.result c.place_of-place.ensures)
 
 pub invariant_of-self : goal.invariant_of-self
+unfolding zeroed
 invariant_of-self c =
-    grind (arith, sees c.self.inside.table c.self.inside.shapes.items c.self.inside.tenants.items c.self.inside.pass c.self.inside.reserved c.self.invariant.0 c.args.self.now c.self.view_is c.args.page c.place_of-place.result c.place_of-place.ensures, pass-left c.self.inside.table c.zero.new.self c.self.inside.pass c.place_of-place.result c.self.invariant.1, entries-long c.self.inside.table c.zero.new.self c.zero.ensures.contents, stay-zeroed (sharing_of c.self.inside.table c.self.inside.pass) c.place_of-place.result)
+    grind (arith, sees c.self.inside.table c.self.inside.shapes.items c.self.inside.tenants.items c.self.inside.pass c.self.inside.reserved c.self.invariant.0 c.args.self.now c.self.view_is c.args.page c.place_of-place.result c.place_of-place.ensures, pass-left c.self.inside.table c.zero.new.self c.self.inside.pass c.place_of-place.result c.self.invariant.1, entries-long c.self.inside.table c.zero.new.self c.zero.ensures.contents, stay-set)
 
 pub returns : goal.returns
+unfolding view_of
 returns c =
-    let told = moves c.self.inside.table c.zero.new.self c.self.inside.shapes.items c.self.inside.tenants.items c.self.inside.pass
-    (record c.self.inside.pass { waiting = c.forget.new.self }) c.zero.ensures.contents c.zero.ensures.arena c.args.self.now c.self.view_is
-    0 1 c.self.inside.reserved c.self.invariant.0 (omega (arith, c.zero.ensures.used, c.self.invariant.0.room)) (omega (arith, c.zero.ensures.used)) in
-    record {
-      maps = told.maps;
-      kept = told.kept refl;
-      sharing = told.sharing (λ (s : Sharing). zeroed s (page_place c.args.page))
-          (ap (λ (waiting : WaitingList). sharing_of c.zero.new.self (record c.self.inside.pass { waiting = waiting })) c.forget.ensures
-          ∙ c.zero.ensures.sharing c.self.inside.pass
-          ∙ ap (zeroed (sharing_of c.self.inside.table c.self.inside.pass)) c.place_of-place.ensures);
-      free = omega (arith, told.free);
-      have = omega (arith, told.have);
-      settings = told.settings;
-    }
+    grind (arith, nat_tests, moves c.self.inside.table c.zero.new.self c.self.inside.shapes.items c.self.inside.tenants.items c.self.inside.pass (record c.self.inside.pass { waiting = c.forget.new.self }) c.zero.ensures.contents c.zero.ensures.arena c.args.self.now c.self.view_is 0 1 c.self.inside.reserved c.self.invariant.0, c.zero.ensures.sharing c.self.inside.pass)

@@ -1,5 +1,5 @@
 use Rattle.page_table.proofs.Base.{arith, nat_tests}
-use Rattle.page_table.proofs.Breaks.{cost_from-none, cost_from-more}
+use Rattle.page_table.proofs.Unmerging.{cost_from-none, cost_from-more}
 use Rattle.page_table.proofs.table.Table.break_costs.Goals as goal
 
 pub loop-number-init : goal.loop-number-init

@@ -2,36 +2,24 @@ use Rattle.page_table.proofs.Base.{◌≡◌, ◌+◌, ◌<◌, Bool, if◌then�
 use Rattle.page_table.proofs.Words.{part_of, TableState, entry_at, pages_on}
 use mir.Val.{bool_byte}
 use Rattle.page_table.proofs.Changing.{entry_fits}
-use Rattle.page_table.proofs.Breaks.{cost-after, cost-after-own, cost-after-none, count-part, entry-behind, pages-before}
+use Rattle.page_table.proofs.Unmerging.{cost-after, cost-after-own, cost-after-none, count-part, entry-behind, pages-before}
 use Rattle.page_table.proofs.table.Table.cost_after.Goals as goal
 use Rattle.page_table.proofs.table.Table.cost_after.Goals.{In-Some}
 
 as-number : (b : Bool) → bool_byte b ≡ (if b then 1 else 0)
 as-number b = grind (arith, nat_tests)
 
-pub returns-in_default-clause-cost : goal.returns-in_default-clause-cost
-returns-in_default-clause-cost c = grind (arith, nat_tests, entry-behind, cost-after-none)
-
-abbrev table : In-Some → TableState
-table c = record { arena = c.self.inside.arena; entries = c.self.inside.entries; groups = c.self.inside.groups.listed }
-
-inside : (c : In-Some) → c.args.first + c.args.number < length c.self.inside.entries
-inside c = rw (← c.self.view_is) at c.requires
-
-here : (c : In-Some) → entry_at c.self.inside.entries (c.args.first + c.args.number) ≡ Some c.in-Some.entry
-here c = grind (arith, nat_tests, entry-behind)
-
 before : (c : In-Some) → pages_on c.in-Some.entry.frame c.split_at-2.result.0.now ≡ pages_on c.in-Some.entry.frame (part_of c.self.inside.entries c.args.first c.args.number)
 before c = grind (arith, nat_tests, pages-before)
 
-pub returns-then-not-entry-clause-cost : goal.returns-then-not-entry-clause-cost
-returns-then-not-entry-clause-cost c = grind (arith, nat_tests, cost-after-own, here)
+pub returns-in_default-clause-cost : goal.returns-in_default-clause-cost
+returns-in_default-clause-cost c = grind (arith, nat_tests, entry-behind, cost-after-none)
 
-pub count-requires : goal.count-requires
-count-requires c = grind (arith, nat_tests, entry_fits, here)
+pub returns-then-not-entry-clause-cost : goal.returns-then-not-entry-clause-cost
+returns-then-not-entry-clause-cost c = grind (arith, nat_tests, cost-after-own, entry-behind)
 
 pub overflow_sub-left : goal.overflow_sub-left
-overflow_sub-left c = grind (arith, nat_tests, count-part, inside, here, before)
+overflow_sub-left c = grind (arith, nat_tests, count-part, entry-behind, before)
 
 pub returns-clause-cost : goal.returns-clause-cost
-returns-clause-cost c = grind (arith, nat_tests, before, as-number, cost-after, inside, here)
+returns-clause-cost c = grind (arith, nat_tests, before, as-number, cost-after, entry-behind)

@@ -1,36 +1,19 @@
-use Rattle.page_table.proofs.Base.{rules, arith}
+use Rattle.page_table.proofs.Base.{get_or-set_other, arith, nat_tests}
 use Rattle.page_table.proofs.Words.{TableState, Grouped}
-use Rattle.page_table.proofs.Moving.{IsMove, few, contents-moved, used-moved, sound-moved, IsMerged}
-use Rattle.page_table.proofs.Joining.{move-joined, groups-joined, states-joined}
+use Rattle.page_table.proofs.Moving.{IsMove, few, contents-moved, used-moved, sound-moved, IsMerged, move-joined, groups-joined, states-joined}
 use Rattle.page_table.proofs.table.Table.join.Goals as goal
 
 pub share-requires-clause-few : goal.share-requires-clause-few
 share-requires-clause-few c =
-    let table : TableState = record { arena = c.self.inside.arena; entries = c.self.inside.entries; groups = c.self.inside.groups.listed } in
-    let to : IsMerged c.page-entry.result c.merged.result c.args.frame Grouped = record { state = c.merged.ensures.state; frame = c.merged.ensures.frame; status_is = c.merged.ensures.status; protected = c.merged.ensures.protected } in
-    let move = move-joined table c.args.self.now c.args.place c.page-entry.result c.merged.result c.args.frame c.self.view_is c.self.invariant.0.fits c.page-entry.ensures c.requires.own c.requires.group c.requires.same to in
-    rw c.merged.ensures.frame at (few table c.args.place c.page-entry.result c.merged.result move c.self.inside.counts c.self.invariant.0.counted)
-
-abbrev table : goal.After-release → TableState
-table c = record { arena = c.self.inside.arena; entries = c.self.inside.entries; groups = c.self.inside.groups.listed }
-
-to : (c : goal.After-release) → IsMerged c.page-entry.result c.merged.result c.args.frame Grouped
-to c = record { state = c.merged.ensures.state; frame = c.merged.ensures.frame; status_is = c.merged.ensures.status; protected = c.merged.ensures.protected }
-
-move : (c : goal.After-release) → IsMove (table c) c.args.place c.page-entry.result c.merged.result
-move c =
-    move-joined (table c) c.args.self.now c.args.place c.page-entry.result c.merged.result c.args.frame c.self.view_is c.self.invariant.0.fits c.page-entry.ensures c.requires.own c.requires.group c.requires.same (to c)
+    let move = move-joined _ c.args.self.now c.args.place c.page-entry.result c.merged.result c.args.frame c.self.view_is c.self.invariant.0.fits c.page-entry.ensures c.requires.own c.requires.group c.requires.same (grind arith) in
+    rw c.merged.ensures.frame at (few _ c.args.place c.page-entry.result c.merged.result move c.self.inside.counts c.self.invariant.0.counted)
 
 pub invariant_of-self : goal.invariant_of-self
 invariant_of-self c =
-    grind (arith, sound-moved (table c) c.args.place c.page-entry.result c.merged.result (move c) c.self.inside.counts c.share.new.self c.release.new.self c.self.invariant.0.counted)
+    let move = move-joined _ c.args.self.now c.args.place c.page-entry.result c.merged.result c.args.frame c.self.view_is c.self.invariant.0.fits c.page-entry.ensures c.requires.own c.requires.group c.requires.same (grind arith) in
+    grind (arith, sound-moved _ c.args.place c.page-entry.result c.merged.result move c.self.inside.counts c.share.new.self c.release.new.self)
 
 pub returns : goal.returns
-returns c = record {
-  contents = rw (c.set.ensures, ← c.self.view_is) (contents-moved (table c) c.args.place c.page-entry.result c.merged.result (move c));
-  states = rw (c.set.ensures, ← c.self.view_is) (states-joined (table c) c.args.place c.page-entry.result c.merged.result c.args.frame (move c) (to c));
-  groups = rw (c.set.ensures, ← c.self.view_is) (groups-joined (table c) c.args.place c.page-entry.result c.merged.result c.args.frame (move c) (to c));
-  used = rw (c.set.ensures, ← c.self.view_is) (used-moved (table c) c.args.place c.page-entry.result c.merged.result (move c));
-  arena = search rules;
-  others = search rules;
-}
+returns c =
+    let move = move-joined _ c.args.self.now c.args.place c.page-entry.result c.merged.result c.args.frame c.self.view_is c.self.invariant.0.fits c.page-entry.ensures c.requires.own c.requires.group c.requires.same (grind arith) in
+    grind (arith, nat_tests, contents-moved _ c.args.place c.page-entry.result c.merged.result move, states-joined _ c.args.place c.page-entry.result c.merged.result c.args.frame move, groups-joined _ c.args.place c.page-entry.result c.merged.result c.args.frame move, used-moved _ c.args.place c.page-entry.result c.merged.result move, get_or-set_other)

@@ -1,19 +1,17 @@
 use Rattle.page_table.proofs.Base.{common_steps, arith, nat_tests}
 use Rattle.page_table.proofs.Changing.{own_seen}
 use Rattle.page_table.proofs.Words.{TableState}
-use Rattle.page_table.proofs.Marking.{IsMarking, contents-marked, sharing-marked, used-marked, sound-marked, there}
+use Rattle.page_table.proofs.Moving.{IsMarking, contents-entry, sharing-marked, used-marked, sound-marked}
 use Rattle.page_table.proofs.table.Table.mark.Goals as goal
-
-abbrev table : goal.After-set → TableState
-table c = record { arena = c.self.inside.arena; entries = c.self.inside.entries; groups = c.self.inside.groups.listed }
-
-marking : (c : goal.After-set) → IsMarking (table c) c.args.place c.page-entry.result c.args.status
-marking c = grind (arith, nat_tests, there, own_seen)
 
 pub invariant_of-self : goal.invariant_of-self
 invariant_of-self c =
-    grind (arith, sound-marked (table c) c.args.place c.page-entry.result c.args.status c.args.last (marking c) c.self.inside.counts c.self.invariant.0.counted)
+    let seen = own_seen _ c.args.self.now c.self.view_is c.args.place c.page-entry.result c.page-entry.ensures c.requires.own in
+    let marking : IsMarking _ c.args.place c.page-entry.result c.args.status = record { is = c.self.invariant.0.fits; here = seen.here; own = seen.own; own_new = c.requires.status } in
+    grind (arith, sound-marked _ c.args.place c.page-entry.result c.args.status c.args.last marking)
 
 pub returns : goal.returns
 returns c =
-    grind (arith, contents-marked (table c) c.args.place c.page-entry.result c.args.status c.args.last (marking c), sharing-marked (table c) c.args.place c.page-entry.result c.args.status c.args.last (marking c), used-marked (table c) c.args.place c.page-entry.result c.args.status c.args.last (marking c), common_steps)
+    let seen = own_seen _ c.args.self.now c.self.view_is c.args.place c.page-entry.result c.page-entry.ensures c.requires.own in
+    let marking : IsMarking _ c.args.place c.page-entry.result c.args.status = record { is = c.self.invariant.0.fits; here = seen.here; own = seen.own; own_new = c.requires.status } in
+    grind (arith, contents-entry (record { arena = c.self.inside.arena; entries = c.self.inside.entries; groups = c.self.inside.groups.listed }) c.args.place c.page-entry.result, sharing-marked _ c.args.place c.page-entry.result c.args.status c.args.last marking, used-marked _ c.args.place c.page-entry.result c.args.status c.args.last marking, common_steps)

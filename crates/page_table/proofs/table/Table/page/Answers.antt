@@ -7,6 +7,3 @@ get-requires c = page_inside _ c.args.place (rw (← c.self.view_is) at c.requir
 
 pub unreachable-requires : goal.unreachable-requires
 unreachable-requires c = page_there _ c.args.place (rw (← c.self.view_is) at c.requires) (sym c.get.ensures ∙ c.in_default.is)
-
-pub returns : goal.returns
-returns c = rw (← c.self.view_is) (sym c.get.ensures ∙ c.in-Some.is)

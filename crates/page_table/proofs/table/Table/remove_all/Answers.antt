@@ -13,14 +13,10 @@ remove-requires c = grind (arith, nat_tests, length-contents, filled_at)
 
 pub loop-number-preserved : goal.loop-number-preserved
 loop-number-preserved c =
-    let long = length-contents c.args.self.now in
     record {
-      contents = c.remove.ensures.contents
-          ∙ ap (λ (l : List (List ℕ)). slice_set l (c.args.first + c.loop-number.number) []) c.loop-number.invariant.contents
-          ∙ filled_more (contents_of c.args.self.now) c.args.first c.loop-number.number [] (omega (arith, long, c.requires.inside, c.loop-number-test.true));
-      sharing = λ pass. gone-more c.args.self.now c.loop-number.self c.remove.new.self pass c.args.first c.loop-number.number (c.loop-number.invariant.sharing pass) (c.remove.ensures.sharing pass);
-      used = omega (arith, c.remove.ensures.used, c.loop-number.invariant.used);
-      arena = c.remove.ensures.arena ∙ c.loop-number.invariant.arena;
-      kept = λ i entry out here own. c.remove.ensures.kept i entry (⊎_elim (λ less. inl (omega (arith, less))) (λ more. inr (omega (arith, more))) out)
-          (c.loop-number.invariant.kept i entry (⊎_elim (λ less. inl less) (λ more. inr (omega (arith, more))) out) here own) own;
+      contents = grind (arith, length-contents, filled_more (contents_of c.args.self.now) c.args.first c.loop-number.number []);
+      sharing = grind (arith, gone-more c.args.self.now c.loop-number.self c.remove.new.self);
+      used = grind arith;
+      arena = grind arith;
+      kept = grind (arith, c.remove.ensures.kept, c.loop-number.invariant.kept);
     }

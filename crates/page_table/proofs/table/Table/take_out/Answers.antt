@@ -1,8 +1,8 @@
 use Rattle.page_table.proofs.Base.{◌≡◌, ◌&&◌, slice_index_or, Some, arith, nat_lt, nat_tests}
-use Rattle.page_table.proofs.Words.{TableState, IsEntry, entry_at, break_frames}
+use Rattle.page_table.proofs.Words.{TableState, entry_at, break_frames}
 use Rattle.page_table.proofs.Changing.{entry_fits}
 use Rattle.page_table.proofs.Entries.{one_when}
-use Rattle.page_table.proofs.Costs.{cost-counted, count-some}
+use Rattle.page_table.proofs.Costs.{cost-counted}
 use Rattle.page_table.proofs.Ending.{sharing-unbroken}
 use Rattle.page_table.proofs.table.Table.take_out.Goals as goal
 use Rattle.page_table.proofs.table.Table.take_out.Goals.{After-page-entry}
@@ -13,9 +13,6 @@ table c = record { arena = c.self.inside.arena; entries = c.self.inside.entries;
 here : (c : After-page-entry) → entry_at (table c).entries c.args.place ≡ Some c.page-entry.result
 here c = rw (← c.self.view_is) at c.page-entry.ensures
 
-fits : (c : After-page-entry) → IsEntry (table c) c.page-entry.result
-fits c = entry_fits (table c) c.args.place c.page-entry.result c.self.invariant.0.fits (here c)
-
 -- what the break takes, told by the count of the page's frame
 told : (c : After-page-entry) → break_frames c.args.self.now c.args.place ≡ one_when (c.page-entry.result.protected && nat_lt 1 (slice_index_or c.self.inside.counts.counts c.page-entry.result.frame 0))
 told c = rw (← c.self.view_is) (cost-counted (table c) c.self.inside.counts c.args.place c.page-entry.result c.self.invariant.0 (here c))
@@ -24,22 +21,10 @@ pub returns-then-not-entry-clause-sharing : goal.returns-then-not-entry-clause-s
 returns-then-not-entry-clause-sharing c pass = grind (arith, nat_tests, sharing-unbroken, here)
 
 pub returns-then-not-entry-clause-used : goal.returns-then-not-entry-clause-used
-returns-then-not-entry-clause-used c = grind (arith, told (goal.at.returns-then-not-entry-clause-used c).After-page-entry, c.if-not-entry.true)
-
-pub count-requires : goal.count-requires
-count-requires c = grind (arith, nat_tests, fits)
-
-pub leave-requires-clause-shared : goal.leave-requires-clause-shared
-leave-requires-clause-shared c = grind (arith, (fits (goal.at.leave-requires-clause-shared c).After-page-entry).protected, c.if-not-entry.false)
+returns-then-not-entry-clause-used c = grind (arith, told, c.if-not-entry.true)
 
 pub leave-requires-clause-room : goal.leave-requires-clause-room
 leave-requires-clause-room c = grind (arith, nat_tests, told)
-
-pub end_group-requires-clause-shared : goal.end_group-requires-clause-shared
-end_group-requires-clause-shared c = grind (arith, (fits (goal.at.end_group-requires-clause-shared c).After-page-entry).protected, c.if-not-entry.false)
-
-pub end_group-requires-clause-last : goal.end_group-requires-clause-last
-end_group-requires-clause-last c = grind (arith, nat_tests, count-some, here)
 
 pub returns-then-count-gt1-clause-used : goal.returns-then-count-gt1-clause-used
 returns-then-count-gt1-clause-used c = grind (arith, nat_tests, told)

@@ -1,23 +1,17 @@
 use Rattle.page_table.proofs.Base.{length, refl, ap, arith, nat_tests}
-use Rattle.page_table.proofs.Words.{broken_from, cost_from, sharing_of}
+use Rattle.page_table.proofs.Words.{broken_from, cost_from, sharing_of, used_by}
 use Rattle.page_table.proofs.Creating.{length-contents}
 use Rattle.page_table.proofs.Unmerging.{broken_next, cost_next, next_fits, all_cost, nothing_shared}
 use Rattle.page_table.proofs.table.Table.take_out_all.Goals as goal
 
 pub loop-place-init : goal.loop-place-init
 unfolding broken_from cost_from
-loop-place-init c = record { contents = refl; sharing = λ pass. refl; kept = λ i entry e own. e; used = λ pass. omega arith; arena = refl }
+loop-place-init c = grind arith
 
 pub take_out_at-requires : goal.take_out_at-requires
 take_out_at-requires c = record {
-  there = let old = length-contents c.args.self.now in
-      let now = length-contents c.loop-place.self in
-      omega (arith, old, now, ap length c.loop-place.invariant.contents, c.places-place-end.ensures, c.loop-place-test.true);
-  room = λ pass. let room = c.requires pass in
-      let fits =
-      next_fits c.args.self.now c.facts.ensures.1.fits pass (sharing_of c.loop-place.self pass) c.loop-place.place _ _ (length c.args.self.now.arena)
-      (omega (arith, c.places-place-end.ensures, c.loop-place-test.true)) (c.loop-place.invariant.sharing pass) (c.loop-place.invariant.used pass) room in
-      omega (arith, fits, c.loop-place.invariant.arena);
+  there = grind (arith, length-contents, c.loop-place.invariant.contents);
+  room = λ pass. grind (arith, next_fits c.args.self.now c.facts.ensures.1.fits pass (sharing_of c.loop-place.self pass) c.loop-place.place (used_by c.args.self.now) (used_by c.loop-place.self) (length c.args.self.now.arena), c.loop-place.invariant.sharing pass, c.loop-place.invariant.used pass, c.loop-place.invariant.arena, c.requires pass);
 }
 
 pub loop-place-preserved : goal.loop-place-preserved

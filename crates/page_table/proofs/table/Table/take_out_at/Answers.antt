@@ -1,18 +1,12 @@
-use Rattle.page_table.proofs.Base.{◌∙◌, sym, arith}
+use Rattle.page_table.proofs.Base.{◌∙◌, sym, arith, nat_tests}
 use Rattle.page_table.proofs.Unmerging.{page_of_some, no_page, some_pass}
 use Rattle.page_table.proofs.table.Table.take_out_at.Goals as goal
 
 pub take_out-requires : goal.take_out-requires
-take_out-requires c = record {
-  there = page_of_some c.args.self.now c.facts.ensures.1.fits c.args.place c.entry.result c.entry.ensures.entry (sym c.is_some.ensures ∙ c.if-is_some.true);
-  room = let cost = c.costs_are_told.ensures some_pass c.args.place in let room = c.requires.room some_pass in omega (arith, cost, room);
-}
-
-pub returns-then-is_some-clause-used : goal.returns-then-is_some-clause-used
-returns-then-is_some-clause-used c pass = let cost = c.costs_are_told.ensures pass c.args.place in omega (arith, cost, c.take_out.ensures.used)
+take_out-requires c = grind (arith, nat_tests, page_of_some c.args.self.now (c.facts.ensures.1).fits c.args.place c.entry.result, c.costs_are_told.ensures some_pass c.args.place, c.requires.room some_pass)
 
 pub returns-else-is_some-clause-sharing : goal.returns-else-is_some-clause-sharing
-returns-else-is_some-clause-sharing c pass = sym (no_page c.args.self.now c.args.place c.entry.result pass c.entry.ensures.entry (sym c.is_some.ensures ∙ c.if-is_some.false)).0
+returns-else-is_some-clause-sharing c pass = grind (arith, nat_tests, no_page)
 
 pub returns-else-is_some-clause-used : goal.returns-else-is_some-clause-used
-returns-else-is_some-clause-used c pass = let none = (no_page c.args.self.now c.args.place c.entry.result pass c.entry.ensures.entry (sym c.is_some.ensures ∙ c.if-is_some.false)).1 in omega (arith, none)
+returns-else-is_some-clause-used c pass = grind (arith, nat_tests, no_page c.args.self.now c.args.place c.entry.result pass)
