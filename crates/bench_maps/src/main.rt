@@ -9,9 +9,9 @@ mod rounds;
 use anyhow::{Result, anyhow};
 use host_types::Refused;
 use programs::{WORKS, Work, program_of};
-use rounds::{Pages, least};
+use rounds::least;
 use std::rt::Clock;
-use tests_inputs::rounds_of;
+use tests_inputs::{Pages, rounds_of};
 use verifier::Verified;
 
 /// Prints the nanoseconds of each step of a program's runs, the least of so many rounds.

@@ -3,13 +3,14 @@
 use crate::programs::SHAPE;
 use admission::release;
 use anyhow::{Result, anyhow};
-use host_types::{Fault, Options};
+use host_types::Fault;
 use page_table::Memory;
 use scanner::visit;
 use std::alloc::Global;
 use std::rt::Clock;
 use std::time::Instant;
 use tenant_runs::{RunReply, run};
+use tests_inputs::Pages;
 use verifier::Verified;
 
 /// How many frames there are.
@@ -23,28 +24,6 @@ const RUNNING: u32 = 0;
 
 /// How many visits merge the pages, after any store.
 const VISITS: u32 = 8;
-
-/// Where the page lies when a run begins.
-#[derive(Clone, Copy)]
-pub(crate) enum Pages {
-    /// On a frame of its own.
-    Own,
-    /// On one frame with the other tenant's.
-    Merged,
-    /// On the zero frame, with the other tenant's.
-    Zero,
-}
-
-/// The options by which pages of zeros may go where they are to lie.
-fn options_of(pages: Pages) -> Options {
-    Options {
-        use_zero_pages: match pages {
-            Pages::Zero => 1,
-            Pages::Own | Pages::Merged => 0,
-        },
-        ..Options::standard()
-    }
-}
 
 /// Makes a map for each tenant.
 fn make_maps(memory: &mut Memory) -> Result<(), Fault> {
@@ -121,7 +100,7 @@ pub(crate) fn least(
     pages: Pages,
     rounds: u32,
 ) -> Result<f64> {
-    match Memory::new(rt.alloc(), FRAMES, TENANTS, options_of(pages)) {
+    match Memory::new(rt.alloc(), FRAMES, TENANTS, pages.options()) {
         Ok(mut memory) => least_on(rt, &mut memory, program, pages, rounds),
         Err(fault) => Err(anyhow!("{fault}")),
     }

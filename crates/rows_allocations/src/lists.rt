@@ -96,6 +96,12 @@ impl List {
         })
     }
 
+    /// A value of each tenant's map 0 is read.
+    fn lookups(&mut self, key: u32) -> Result<(), AllocError> {
+        self.lookup(0, key)?;
+        self.lookup(1, key)
+    }
+
     /// A value of 24 bytes is written to element 0 of a tenant's map 0.
     fn update(&mut self, tenant: u32) -> Result<(), AllocError> {
         let mut value = [0; 24];
@@ -136,8 +142,7 @@ impl List {
         self.visits(2)?;
         self.run(0, 0, 11)?;
         self.run(1, 0, 11)?;
-        self.lookup(0, 0)?;
-        self.lookup(1, 0)
+        self.lookups(0)
     }
 
     /// Two tenants share a page. One of them gives its program and its map back, and makes them anew.
@@ -163,8 +168,7 @@ impl List {
         self.update(1)?;
         self.visits(8)?;
         self.update_by_run(0, 170, 0)?;
-        self.lookup(0, 170)?;
-        self.lookup(1, 170)?;
+        self.lookups(170)?;
         self.update_by_run(1, 170, 1)?;
         self.update_by_run(2, 170, 3)?;
         self.update_by_run(3, 200, 0)?;

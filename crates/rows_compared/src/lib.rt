@@ -17,6 +17,7 @@ mod shapes;
 use changes::all_agree;
 pub use judges::judge_alike;
 use row::Row;
+pub use row::text_of;
 pub use rows::{Finding, Rows, compare_rows};
 use runs::{Outcome, on_the_host, on_the_plain_machine};
 pub use shapes::shapes_of;

@@ -1,4 +1,5 @@
 use std::alloc::Global;
+use std::str::Split;
 
 /// A result that the kernel computed: what a program returns, and, where it has no jump, in how many
 /// steps.
@@ -12,9 +13,7 @@ pub(crate) struct Row {
 impl Row {
     /// The row that a line says. `None` if the line is no row, or where memory ran out.
     pub(crate) fn parse(alloc: Global, line: &str) -> Option<Row> {
-        let mut texts = line.split('\t');
-        let _name = texts.next()?;
-        let text = hex::decode(alloc, texts.next()?).ok()?;
+        let (text, mut texts) = text_of(alloc, line)?;
         let number = texts.next()?.parse().ok()?;
         let steps = match texts.next()? {
             "-" => None,
@@ -26,4 +25,13 @@ impl Row {
             steps,
         })
     }
+}
+
+/// The program in hex that stands between tabs behind a line's name, and the texts behind it. `None` if there is none,
+/// or where memory ran out.
+pub fn text_of<'a>(alloc: Global, line: &'a str) -> Option<(Vec<u8>, Split<'a, char>)> {
+    let mut texts = line.split('\t');
+    let _name = texts.next()?;
+    let text = hex::decode(alloc, texts.next()?).ok()?;
+    Some((text, texts))
 }

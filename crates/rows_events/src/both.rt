@@ -3,6 +3,7 @@
 use crate::tally::{Tally, merged_pages};
 use host_core::{Event, Host, Reply};
 use host_types::Options;
+use host_types::limits::MAX_MAPS;
 use plain_host::PlainHost;
 use std::alloc::{AllocError, Global};
 
@@ -11,9 +12,6 @@ const KEYS: u32 = 1024;
 
 /// The most pages of a map.
 const PAGES: u32 = 2;
-
-/// How many maps a tenant may have.
-const MAPS: u32 = 8;
 
 /// A host and the plain host beside it, how many pages are merged, and whether the last event was refused.
 #[derive(Drop)]
@@ -117,7 +115,7 @@ impl Both {
     /// Whether both tell the same values of all maps.
     pub(crate) fn values_agree(&mut self, tenants: u32) -> bool {
         for tenant in 0..tenants {
-            for map in 0..MAPS {
+            for map in 0..MAX_MAPS as u32 {
                 if !self.map_agrees(tenant, map) {
                     return false;
                 }

@@ -24,15 +24,22 @@ use rows_compared::{Finding, Rows, compare_rows};
 use runs::{Outcome, agrees};
 use std::alloc::{AllocError, Global};
 use std::io;
+use std::io::Input;
 use tests_inputs::rounds_of;
 
-/// How many changed texts are refused or go alike.
-#[derive(Drop)]
-struct Changed {
-    texts: usize,
+/// Texts that a row's program becomes by changes.
+trait OtherTexts {
+    /// Compares such texts of a row that agrees.
+    fn compare_changed(&mut self, alloc: Global, row: &Row) -> Result<Finding, AllocError>;
 }
 
-impl Rows for Changed {
+/// Compares the programs of rows, and then texts that they become.
+#[derive(Drop)]
+struct Comparing<C: Drop> {
+    changes: C,
+}
+
+impl<C: OtherTexts + Drop> Rows for Comparing<C> {
     /// Compares the programs of a row.
     fn compare(
         &mut self,
@@ -41,15 +48,21 @@ impl Rows for Changed {
         _number: usize,
     ) -> Result<Finding, AllocError> {
         match Row::parse(alloc, line) {
-            Some(row) if agrees(alloc, &row) => self.changed(alloc, &row),
+            Some(row) if agrees(alloc, &row) => self.changes.compare_changed(alloc, &row),
             _ => Ok(Finding::Differs),
         }
     }
 }
 
-impl Changed {
+/// How many changed texts are refused or go alike.
+#[derive(Drop)]
+struct Changed {
+    texts: usize,
+}
+
+impl OtherTexts for Changed {
     /// Compares the texts that a row's program becomes, and counts those that go alike.
-    fn changed(&mut self, alloc: Global, row: &Row) -> Result<Finding, AllocError> {
+    fn compare_changed(&mut self, alloc: Global, row: &Row) -> Result<Finding, AllocError> {
         if !is_small(&row.setting) {
             return Ok(Finding::Agrees);
         }
@@ -70,24 +83,9 @@ struct Drawing {
     drawn: Drawn,
 }
 
-impl Rows for Drawing {
-    /// Draws texts of an accepted program of a row.
-    fn compare(
-        &mut self,
-        alloc: Global,
-        line: &str,
-        _number: usize,
-    ) -> Result<Finding, AllocError> {
-        match Row::parse(alloc, line) {
-            Some(row) if agrees(alloc, &row) => self.draw(alloc, &row),
-            _ => Ok(Finding::Differs),
-        }
-    }
-}
-
-impl Drawing {
+impl OtherTexts for Drawing {
     /// Draws texts of a row's program, where it is accepted on small maps.
-    fn draw(&mut self, alloc: Global, row: &Row) -> Result<Finding, AllocError> {
+    fn compare_changed(&mut self, alloc: Global, row: &Row) -> Result<Finding, AllocError> {
         if !is_small(&row.setting) || matches!(row.wanted, Outcome::Refused(_)) {
             return Ok(Finding::Agrees);
         }
@@ -100,17 +98,25 @@ impl Drawing {
     }
 }
 
+/// Compares all rows, and texts that their programs become.
+fn compared<C: OtherTexts + Drop>(
+    rt: &(impl AllocGlobal + Input + Print),
+    changes: C,
+) -> io::Result<C> {
+    let mut comparing = Comparing { changes };
+    compare_rows(rt, &mut comparing)?;
+    Ok(comparing.changes)
+}
+
 fn main(rt: HostRuntime) -> io::Result<()> {
     if let Some(texts) = rounds_of(&rt)? {
-        let mut drawing = Drawing {
+        let drawing = Drawing {
             texts,
             drawn: Drawn::new(),
         };
-        compare_rows(&rt, &mut drawing)?;
-        return drawing.drawn.print(&rt);
+        return compared(&rt, drawing)?.drawn.print(&rt);
     }
-    let mut changed = Changed { texts: 0 };
-    compare_rows(&rt, &mut changed)?;
+    let changed = compared(&rt, Changed { texts: 0 })?;
     println!(rt; "{} changed texts are refused or agree", changed.texts)?;
     let offsets = agreeing_offsets(rt.alloc());
     println!(rt; "{offsets} of 52 offsets in a first value agree")

@@ -1,12 +1,13 @@
 //! The memory of two tenants with the same maps, whose pages lie on frames of their own or share them.
 
 use crate::setting::{Setting, Value};
-use host_types::{MapNo, Options, Shape};
+use host_types::{MapNo, Shape};
 use map_helpers::{update, update_needs};
 use page_table::Memory;
 use plain_machine::ArrayMap;
 use scanner::visit;
 use std::alloc::Global;
+use tests_inputs::Pages;
 use write_break::load;
 
 /// How many tenants there are.
@@ -20,17 +21,6 @@ const PASSES: usize = 3;
 
 /// The flag of an update by which the element may be there or not.
 const ANY: u64 = 0;
-
-/// Where the pages lie when a run begins.
-#[derive(Clone, Copy)]
-pub(crate) enum Pages {
-    /// Each on a frame of its own.
-    Own,
-    /// With the pages that are alike, those of the other tenant among them.
-    Merged,
-    /// The pages of zeros on the zero frame, the others merged.
-    Zero,
-}
 
 /// How many pages some maps have.
 fn page_count(maps: &[Option<ArrayMap>]) -> usize {
@@ -51,14 +41,9 @@ pub(crate) fn memory_of(
     maps: &[Option<ArrayMap>],
     pages: Pages,
 ) -> Option<Memory> {
-    let mut options = Options::standard();
-    options.use_zero_pages = match pages {
-        Pages::Zero => 1,
-        Pages::Own | Pages::Merged => 0,
-    };
     let count = page_count(maps).saturating_mul(TENANTS as usize);
     let frames = u32::try_from(count.saturating_add(ROOM).saturating_add(1)).ok()?;
-    let mut memory = Memory::new(alloc, frames, TENANTS, options).ok()?;
+    let mut memory = Memory::new(alloc, frames, TENANTS, pages.options()).ok()?;
     if fill(&mut memory, setting) && place(&mut memory, count, pages) {
         Some(memory)
     } else {

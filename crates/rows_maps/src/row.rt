@@ -3,7 +3,7 @@
 use crate::runs::Outcome;
 use crate::setting::{Setting, Value};
 use host_types::Refused;
-use rows_compared::shapes_of;
+use rows_compared::{shapes_of, text_of};
 use std::alloc::Global;
 
 /// A program, what it finds, its answer, and the values that it leaves other than it found them.
@@ -20,9 +20,7 @@ impl Row {
     /// of its maps, values in them, the answer, and values afterwards; what comes then says why. `None`
     /// if the line is no row, or where memory ran out.
     pub(crate) fn parse(alloc: Global, line: &str) -> Option<Row> {
-        let mut texts = line.split('\t');
-        let _name = texts.next()?;
-        let text = hex::decode(alloc, texts.next()?).ok()?;
+        let (text, mut texts) = text_of(alloc, line)?;
         let context = hex::decode(alloc, texts.next()?).ok()?;
         let shapes = texts.next()?;
         let values = values_of(alloc, texts.next()?)?;

@@ -2,7 +2,7 @@
 
 ghost use Rattle.verifier.specs.Subject.{IsContextSize};
 
-use crate::pages::{Pages, has_maps, memory_of};
+use crate::pages::{has_maps, memory_of};
 use crate::row::Row;
 use crate::setting::{Maps, Setting, put_all};
 use admission::release;
@@ -14,6 +14,7 @@ use plain_machine::{ArrayMap, Ending, Machine};
 use rows_compared::judge_alike;
 use std::alloc::Global;
 use tenant_runs::{RunReply, run};
+use tests_inputs::Pages;
 use verifier::{Verified, is_context_size, verify};
 
 /// As many steps as a program has instructions at most.

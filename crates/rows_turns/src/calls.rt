@@ -1,19 +1,12 @@
 //! Calls that may answer 41. A body that always does meets its contract, as memory may run out.
 
-ghost use Rattle.std.specs.Prelude.{◌≡◌};
-ghost use Rattle.turn.specs.Seats.{IsIdle, own_part};
-ghost use Rattle.tenant_workers.specs.Runs.{IsResting};
-
-use crate::runs::counted;
-use crate::tenants::{Two, two_tenants};
+use crate::tenants::{Tenant, two_tenants};
 use host_types::{Fault, MapNo};
 use ksm_counters::Counters;
-use std::alloc::Global;
 use std::sync::Wait;
 use tenant_runs::RunReply;
-use tenant_workers::{Open, Shared};
+use tenant_workers::Open;
 use tests_inputs::texts::COUNTER;
-use turn::Seat;
 
 /// Where the counter's slot 3 names its map.
 const MAP_NUMBER: usize = 28;
@@ -31,98 +24,57 @@ pub(crate) struct Made {
     values: [Result<(usize, usize), Fault>; 3],
 }
 
-/// The slots, the instructions and the reserve of a program that a seat loads.
+/// The slots, the instructions and the reserve of a program that a tenant loads.
 fn loaded(
     rt: &impl Wait,
-    alloc: Global,
-    shared: &Shared,
-    seat: &mut Seat,
+    tenant: &mut Tenant<'_>,
     text: &[u8],
-    ctx_size: u32,
-) -> Result<[u32; 3], Fault>
-    requires idle { IsIdle shared.now seat.old }
-    requires resting { IsResting (own_part seat.old) }
-    ensures idle { IsIdle shared.now seat.new }
-    ensures resting { IsResting (own_part seat.new) }
-{
-    let program = shared.load_program(rt, alloc, seat, text, ctx_size)?;
+    size: u32,
+) -> Result<[u32; 3], Fault> {
+    let program = tenant.load(rt, text, size)?;
     Ok([program.slots(), program.instructions(), program.reserve(0)])
 }
 
 /// What loads of the counter are answered: as it is, on its tenant's last map, on a map that isn't there, on a context
 /// of another size, and of no text.
-fn counters_loaded(
-    rt: &impl Wait,
-    alloc: Global,
-    shared: &Shared,
-    seat: &mut Seat,
-) -> [Result<[u32; 3], Fault>; 5]
-    requires idle { IsIdle shared.now seat.old }
-    requires resting { IsResting (own_part seat.old) }
-    ensures idle { IsIdle shared.now seat.new }
-    ensures resting { IsResting (own_part seat.new) }
-{
+fn counters_loaded(rt: &impl Wait, tenant: &mut Tenant<'_>) -> [Result<[u32; 3], Fault>; 5] {
     let mut last_map = COUNTER;
     last_map[MAP_NUMBER] = 2;
     let mut no_map = COUNTER;
     no_map[MAP_NUMBER] = 3;
     [
-        loaded(rt, alloc, shared, seat, &COUNTER, 0),
-        loaded(rt, alloc, shared, seat, &last_map, 8),
-        loaded(rt, alloc, shared, seat, &no_map, 8),
-        loaded(rt, alloc, shared, seat, &COUNTER, 12),
-        loaded(rt, alloc, shared, seat, &[], 256),
+        loaded(rt, tenant, &COUNTER, 0),
+        loaded(rt, tenant, &last_map, 8),
+        loaded(rt, tenant, &no_map, 8),
+        loaded(rt, tenant, &COUNTER, 12),
+        loaded(rt, tenant, &[], 256),
     ]
-}
-
-/// How many bytes an element of a map has, and how many of them are zeros.
-pub(crate) fn read(
-    rt: &impl Wait,
-    alloc: Global,
-    shared: &Shared,
-    seat: &mut Seat,
-    map: MapNo,
-    key: u32,
-) -> Result<(usize, usize), Fault>
-    requires { IsIdle shared.now seat.old }
-    ensures idle { IsIdle shared.now seat.new }
-    ensures kept { own_part seat.new ≡ own_part seat.old }
-{
-    let value = shared.read(rt, alloc, seat, map, key)?;
-    let zeros = value.iter().filter(|byte| **byte == 0).count();
-    Ok((value.len(), zeros))
 }
 
 /// What the first of two tenants is answered.
 pub(crate) fn answers(rt: &(impl Wait + AllocGlobal)) -> Result<Made, Fault> {
     let alloc = rt.alloc();
-    let Two {
-        shared,
-        mut first,
-        second: _second,
-        scanner: _scanner,
-        host: _host,
-    } = two_tenants(alloc, 7)?;
-    let seat = &mut first;
-    let run = counted(rt, alloc, &shared, seat, &Open);
+    let (shared, first, _second, _scanner, _host) = two_tenants(alloc, 7)?;
+    let mut tenant = Tenant::new(&shared, alloc, first);
+    let run = tenant.count(rt, &Open);
     let maps = [
-        shared.create_map(rt, seat, 0, 1, true),
-        shared.create_map(rt, seat, 4097, 1, true),
-        shared.create_map(rt, seat, 24, 200, true),
-        shared.create_map(rt, seat, 8, 1, true),
-        shared.create_map(rt, seat, 8, 513, true),
+        tenant.create_map(rt, (0, 1), true),
+        tenant.create_map(rt, (4097, 1), true),
+        tenant.create_map(rt, (24, 200), true),
+        tenant.create_map(rt, (8, 1), true),
+        tenant.create_map(rt, (8, 513), true),
     ];
-    let programs = counters_loaded(rt, alloc, &shared, seat);
+    let programs = counters_loaded(rt, &mut tenant);
     let updates = [
-        shared.update(rt, seat, 0, 0, &[5, 0, 0, 0, 0, 0, 0, 9]),
-        shared.update(rt, seat, 3, 0, &[5; 8]),
-        shared.update(rt, seat, 0, 1, &[5; 8]),
-        shared.update(rt, seat, 0, 0, &[5; 7]),
+        tenant.update(rt, 0, 0, &[5, 0, 0, 0, 0, 0, 0, 9]),
+        tenant.update(rt, 3, 0, &[5; 8]),
+        tenant.update(rt, 0, 1, &[5; 8]),
+        tenant.update(rt, 0, 0, &[5; 7]),
     ];
     let values = [
-        read(rt, alloc, &shared, seat, 0, 0),
-        read(rt, alloc, &shared, seat, 1, 199),
-        read(rt, alloc, &shared, seat, 1, 200),
+        tenant.zeros(rt, 0, 0),
+        tenant.zeros(rt, 1, 199),
+        tenant.zeros(rt, 1, 200),
     ];
     Ok(Made {
         run,
@@ -134,14 +86,9 @@ pub(crate) fn answers(rt: &(impl Wait + AllocGlobal)) -> Result<Made, Fault> {
 }
 
 /// Makes maps, each third of which may be merged, until there is a refusal: how many, and the refusal.
-fn made_until_refused(rt: &impl Wait, shared: &Shared, seat: &mut Seat) -> (u32, Option<Fault>)
-    requires idle { IsIdle shared.now seat.old }
-    requires resting { IsResting (own_part seat.old) }
-    ensures idle { IsIdle shared.now seat.new }
-    ensures resting { IsResting (own_part seat.new) }
-{
+fn made_until_refused(rt: &impl Wait, mut tenant: Tenant<'_>) -> (u32, Option<Fault>) {
     for made in 0..20 {
-        if let Err(fault) = shared.create_map(rt, seat, 8, 1, made % 3 == 0) {
+        if let Err(fault) = tenant.create_map(rt, (8, 1), made % 3 == 0) {
             return (made, Some(fault));
         }
     }
@@ -154,16 +101,11 @@ fn made_until_refused(rt: &impl Wait, shared: &Shared, seat: &mut Seat) -> (u32,
 pub(crate) fn filled(
     rt: &(impl Wait + AllocGlobal),
 ) -> Result<([(u32, Option<Fault>); 2], Counters), Fault> {
-    let Two {
-        shared,
-        mut first,
-        mut second,
-        mut scanner,
-        mut host,
-    } = two_tenants(rt.alloc(), 17)?;
+    let alloc = rt.alloc();
+    let (shared, first, second, mut scanner, mut host) = two_tenants(alloc, 17)?;
     let maps = [
-        made_until_refused(rt, &shared, &mut first),
-        made_until_refused(rt, &shared, &mut second),
+        made_until_refused(rt, Tenant::new(&shared, alloc, first)),
+        made_until_refused(rt, Tenant::new(&shared, alloc, second)),
     ];
     shared.scan_batch(rt, &mut scanner, 40);
     Ok((maps, shared.counters(rt, &mut host)))

@@ -4,14 +4,14 @@
 ghost use Rattle.std.specs.Prelude.{◌≡◌};
 ghost use Rattle.turn.specs.Seats.{IsIdle};
 
-use crate::runs::counted;
-use crate::tenants::{Two, two_tenants};
+use crate::gates::{Guest, Visited};
+use crate::tenants::{Tenant, two_tenants};
 use host_types::{Fault, Opt};
 use ksm_counters::Counters;
 use std::io;
-use std::sync::{Mutex, Wait};
+use std::sync::Wait;
 use tenant_runs::RunReply;
-use tenant_workers::{Gate, Shared};
+use tenant_workers::Shared;
 use turn::HostSeat;
 
 /// The slot of the counter's store, and the one after it.
@@ -55,25 +55,15 @@ impl<'a> Watching<'a> {
         let shared = self.shared;
         shared.counters(rt, &mut self.seat)
     }
+}
 
-    fn look_at(&mut self, rt: &impl Wait, slot: u32) {
+impl<'a> Guest for Watching<'a> {
+    fn act<R: Wait>(&mut self, rt: &R, slot: u32) {
         match slot {
             STORE => self.before = Some(self.look(rt)),
             AFTER_STORE => self.after = Some(self.look(rt)),
             _ => {}
         }
-    }
-}
-
-/// A gate at which the host reads the counters.
-#[derive(Drop)]
-struct Watched<'a> {
-    watching: Mutex<Watching<'a>>,
-}
-
-impl<'a> Gate for Watched<'a> {
-    fn at<R: Wait>(&self, rt: &R, _tenant: u32, slot: u32) {
-        self.watching.lock(rt).look_at(rt, slot);
     }
 }
 
@@ -93,30 +83,21 @@ struct Row {
 
 fn watched_row(rt: &(impl Wait + AllocGlobal)) -> Result<Row, Fault> {
     let alloc = rt.alloc();
-    let Two {
-        shared,
-        mut first,
-        mut second,
-        mut scanner,
-        host,
-    } = two_tenants(alloc, 4)?;
+    let (shared, first, second, mut scanner, host) = two_tenants(alloc, 4)?;
+    let mut first = Tenant::new(&shared, alloc, first);
+    let mut second = Tenant::new(&shared, alloc, second);
     shared.scan_batch(rt, &mut scanner, 4);
     let mut watching = Watching::new(&shared, host);
     let merged = watching.look(rt);
     let shared_pages = watching.set(rt, Opt::MaxPageSharing, 3);
-    let gate = Watched {
-        watching: Mutex::new(watching),
-    };
-    let reply = counted(rt, alloc, &shared, &mut first, &gate);
-    let mut watching = gate.watching.into_inner();
+    let gate = Visited::by(watching);
+    let reply = first.count(rt, &gate);
+    let mut watching = gate.into_guest();
     let watched = [watching.before, watching.after];
     let unmerged = (watching.unmerge(rt), watching.look(rt));
-    let five = shared.update(rt, &mut second, 0, 0, &[5, 0, 0, 0, 0, 0, 0, 0]);
+    let five = second.update(rt, 0, 0, &[5, 0, 0, 0, 0, 0, 0, 0]);
     let updated = (five, watching.look(rt));
-    let values = [
-        shared.read(rt, alloc, &mut first, 0, 0),
-        shared.read(rt, alloc, &mut second, 0, 0),
-    ];
+    let values = [first.read(rt, 0, 0), second.read(rt, 0, 0)];
     shared.scan_batch(rt, &mut scanner, 4);
     let stopped = watching.look(rt);
     let two = watching.set(rt, Opt::Run, 2);

@@ -1,20 +1,12 @@
 //! A map that goes and comes again while a program of its tenant names it, beside another tenant's map.
 
-ghost use Rattle.std.specs.Prelude.{◌≡◌};
-ghost use Rattle.turn.specs.Seats.{IsIdle, own_part};
-ghost use Rattle.tenant_workers.specs.Runs.{IsResting};
-
-use crate::calls::read;
-use crate::runs::counted;
-use crate::tenants::{Two, two_tenants};
+use crate::tenants::{Tenant, two_tenants};
 use host_types::{Fault, MapNo};
 use ksm_counters::Counters;
-use std::alloc::Global;
 use std::sync::Wait;
 use tenant_runs::RunReply;
-use tenant_workers::{Open, Shared};
+use tenant_workers::Open;
 use tests_inputs::texts::COUNTER;
-use turn::Seat;
 use verifier::Verified;
 
 /// What is answered to a seat that drops its tenant's map 0.
@@ -53,44 +45,26 @@ pub(crate) struct Dropped {
 }
 
 /// Drops a map twice.
-fn drop_map(
-    rt: &impl Wait,
-    alloc: Global,
-    shared: &Shared,
-    seat: &mut Seat,
-    program: &Verified,
-) -> Gone
-    requires idle { IsIdle shared.now seat.old }
-    requires resting { IsResting (own_part seat.old) }
-    ensures idle { IsIdle shared.now seat.new }
-    ensures resting { IsResting (own_part seat.new) }
-{
-    let first = shared.drop_map(rt, seat, 0);
-    let second = shared.drop_map(rt, seat, 0);
+fn drop_map(rt: &impl Wait, tenant: &mut Tenant<'_>, program: &Verified) -> Gone {
+    let first = tenant.drop_map(rt);
+    let second = tenant.drop_map(rt);
     Gone {
         drops: [first, second],
-        value: read(rt, alloc, shared, seat, 0, 0),
-        run: shared.run_program(rt, alloc, seat, program, &[], &Open),
+        value: tenant.zeros(rt, 0, 0),
+        run: tenant.run(rt, program, &Open),
     }
 }
 
 /// Makes a map of one element.
 fn create_map(
     rt: &impl Wait,
-    alloc: Global,
-    shared: &Shared,
-    seat: &mut Seat,
+    tenant: &mut Tenant<'_>,
     program: &Verified,
     value_size: u32,
-) -> Back
-    requires idle { IsIdle shared.now seat.old }
-    requires resting { IsResting (own_part seat.old) }
-    ensures idle { IsIdle shared.now seat.new }
-    ensures resting { IsResting (own_part seat.new) }
-{
+) -> Back {
     Back {
-        map: shared.create_map(rt, seat, value_size, 1, true),
-        run: shared.run_program(rt, alloc, seat, program, &[], &Open),
+        map: tenant.create_map(rt, (value_size, 1), true),
+        run: tenant.run(rt, program, &Open),
     }
 }
 
@@ -98,28 +72,20 @@ fn create_map(
 /// tenant's store then writes there in place.
 pub(crate) fn answers(rt: &(impl Wait + AllocGlobal)) -> Result<Dropped, Fault> {
     let alloc = rt.alloc();
-    let Two {
-        shared,
-        mut first,
-        mut second,
-        mut scanner,
-        mut host,
-    } = two_tenants(alloc, 4)?;
-    let seat = &mut first;
-    let program = shared.load_program(rt, alloc, seat, &COUNTER, 0)?;
+    let (shared, first, second, mut scanner, mut host) = two_tenants(alloc, 4)?;
+    let mut first = Tenant::new(&shared, alloc, first);
+    let mut second = Tenant::new(&shared, alloc, second);
+    let program = first.load(rt, &COUNTER, 0)?;
     shared.scan_batch(rt, &mut scanner, 4);
     Ok(Dropped {
         merged: shared.counters(rt, &mut host),
-        gone: drop_map(rt, alloc, &shared, seat, &program),
+        gone: drop_map(rt, &mut first, &program),
         left: shared.counters(rt, &mut host),
-        wider: create_map(rt, alloc, &shared, seat, &program, 16),
-        wider_gone: drop_map(rt, alloc, &shared, seat, &program),
-        same: create_map(rt, alloc, &shared, seat, &program, 8),
-        values: [
-            read(rt, alloc, &shared, seat, 0, 0),
-            read(rt, alloc, &shared, &mut second, 0, 0),
-        ],
-        run: counted(rt, alloc, &shared, &mut second, &Open),
+        wider: create_map(rt, &mut first, &program, 16),
+        wider_gone: drop_map(rt, &mut first, &program),
+        same: create_map(rt, &mut first, &program, 8),
+        values: [first.zeros(rt, 0, 0), second.zeros(rt, 0, 0)],
+        run: second.count(rt, &Open),
         last: shared.counters(rt, &mut host),
     })
 }

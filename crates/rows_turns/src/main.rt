@@ -10,7 +10,6 @@ mod ends;
 mod gates;
 mod numbers;
 mod refused;
-mod runs;
 mod serving;
 mod tenants;
 mod turns;

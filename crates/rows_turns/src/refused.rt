@@ -5,8 +5,7 @@ ghost use Rattle.turn.specs.Seats.{IsIdle, own_part};
 ghost use Rattle.tenant_workers.specs.Runs.{IsResting};
 
 use crate::numbers::with_numbers;
-use crate::runs::{counted, ran};
-use crate::tenants::{Two, two_tenants};
+use crate::tenants::{Tenant, two_tenants};
 use host_types::{Fault, MapNo, Options};
 use std::alloc::Global;
 use std::sync::Wait;
@@ -27,21 +26,16 @@ pub(crate) struct Crowded {
 /// What the first of two tenants is answered, and the host at last, whose frame a new map has.
 pub(crate) fn answers(rt: &(impl Wait + AllocGlobal)) -> Result<Crowded, Fault> {
     let alloc = rt.alloc();
-    let Two {
-        shared,
-        mut first,
-        second: _second,
-        mut scanner,
-        mut host,
-    } = two_tenants(alloc, 3)?;
-    let update = shared.update(rt, &mut first, 0, 0, &[5; 8]);
-    let run = counted(rt, alloc, &shared, &mut first, &Open);
-    let map = shared.create_map(rt, &mut first, 8, 513, true);
+    let (shared, first, _second, mut scanner, mut host) = two_tenants(alloc, 3)?;
+    let mut tenant = Tenant::new(&shared, alloc, first);
+    let update = tenant.update(rt, 0, 0, &[5; 8]);
+    let run = tenant.count(rt, &Open);
+    let map = tenant.create_map(rt, (8, 513), true);
     shared.scan_batch(rt, &mut scanner, 4);
     Ok(Crowded {
         update,
         run,
-        maps: [map, shared.create_map(rt, &mut first, 8, 1, true)],
+        maps: [map, tenant.create_map(rt, (8, 1), true)],
         unmerged: shared.unmerge(rt, &mut host),
     })
 }
@@ -70,11 +64,14 @@ pub(crate) fn three_answers(
     rt: &(impl Wait + AllocGlobal),
 ) -> Result<[Result<RunReply, Fault>; 4], Fault> {
     let alloc = rt.alloc();
-    let (shared, mut first, mut second, mut third) = lend_to_three(alloc)?;
+    let (shared, first, second, third) = lend_to_three(alloc)?;
+    let mut first = Tenant::new(&shared, alloc, first);
+    let mut second = Tenant::new(&shared, alloc, second);
+    let mut third = Tenant::new(&shared, alloc, third);
     Ok([
-        counted(rt, alloc, &shared, &mut first, &Open),
-        counted(rt, alloc, &shared, &mut second, &Open),
-        counted(rt, alloc, &shared, &mut third, &Open),
-        ran(rt, alloc, &shared, &mut first, &RETURN, &Open),
+        first.count(rt, &Open),
+        second.count(rt, &Open),
+        third.count(rt, &Open),
+        first.run_text(rt, &RETURN, &Open),
     ])
 }

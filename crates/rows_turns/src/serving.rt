@@ -6,7 +6,7 @@ ghost use Rattle.turn.specs.Seats.{IsIdle, own_part};
 ghost use Rattle.tenant_workers.specs.Plans.{IsFor};
 ghost use Rattle.tenant_workers.specs.Runs.{IsResting};
 
-use crate::tenants::{Two, two_tenants};
+use crate::tenants::two_tenants;
 use host_types::Fault;
 use std::alloc::Global;
 use std::hint::spin_loop;
@@ -154,16 +154,9 @@ fn have_counted(rt: &impl Wait, alloc: Global, plan: &mut Plan) -> bool {
 fn served<R: Threads + Wait + Sync, G: Gate + Sync>(
     rt: &R,
     alloc: Global,
-    two: Two,
     gate: &G,
 ) -> Result<bool, Fault> {
-    let Two {
-        shared,
-        first,
-        second,
-        scanner,
-        host: _host,
-    } = two;
+    let (shared, first, second, scanner, _host) = two_tenants(alloc, 8)?;
     let scan = ScanPlan {
         shared: &shared,
         seat: scanner,
@@ -177,7 +170,7 @@ fn served<R: Threads + Wait + Sync, G: Gate + Sync>(
 /// Whether two tenants that wait for each other within their runs meet, and count once each.
 fn meet_once<R: Threads + Wait + Sync>(rt: &R, alloc: Global) -> Result<bool, Fault> {
     let gate = Meeting::new();
-    let counted = served(rt, alloc, two_tenants(alloc, 8)?, &gate)?;
+    let counted = served(rt, alloc, &gate)?;
     Ok(counted && gate.alone.load(Ordering::SeqCst) == 0)
 }
 

@@ -1,12 +1,14 @@
 //! What several test programs and benches are given: numbers of a fixed generator, texts of programs, flips of a
-//! bit, and the number that the one argument is.
+//! bit, places of pages, and the number that the one argument is.
 #![tactic(auto)]
 
 mod arguments;
 mod bits;
 mod draws;
+mod pages;
 pub mod texts;
 
 pub use arguments::rounds_of;
 pub use bits::{BITS, flip};
 pub use draws::Draws;
+pub use pages::Pages;

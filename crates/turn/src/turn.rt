@@ -1,10 +1,10 @@
-ghost use Rattle.std.specs.Prelude.{◌≡◌, ◌+◌, ◌<◌, ◌≤◌, ℕ, true, false, [], ◌∷◌, length, Some, None, slice_get, IfOk, OnOk, IfErr, IfSome, IfNone};
+ghost use Rattle.std.specs.Prelude.{◌≡◌, ◌+◌, ◌<◌, ◌≤◌, ℕ, true, false, [], ◌∷◌, length, Some, None, slice_get, IfOk, OnOk, IfErr, IfSome, IfNone, MatchOption};
 ghost use Rattle.atomic_table.specs.Seated.{TableId};
 ghost use Rattle.page_table.specs.State.{MemoryState, part};
 ghost use Rattle.host_types.specs.Tenant.{AreFlatMaps};
 ghost use Rattle.turn.specs.Views.{RemembersParts, AreThere, HasMaps, Spares, new_view, holding, resting};
 ghost use Rattle.turn.specs.Seats.{SeatState, took, gave, IsNewSeat, RefusesTurn};
-ghost use Rattle.turn.specs.Held.{memory_of, IsBy};
+ghost use Rattle.turn.specs.Held.{memory_of, IsBy, IsTaken};
 
 use crate::bell::Bell;
 use crate::boxed::Boxed;
@@ -161,7 +161,8 @@ impl Turn {
         }
     }
 
-    /// Takes the memory, and sleeps until it is home.
+    /// Takes the memory, and sleeps until it is home. Whoever slept asks for a ring before it gives, since others
+    /// may sleep.
     pub fn take<K: Kind>(&self, rt: &impl Wait, seat: &mut Place<K>) -> Held
         requires turn { seat.old.turn ≡ self.now }
         requires free { seat.old.view.holds ≡ false }
@@ -176,38 +177,6 @@ impl Turn {
         if let Some(held) = self.take_soon(seat) {
             return held;
         }
-        self.take_later(rt, seat)
-    }
-
-    /// Tries a few times, and looks at the word between tries.
-    fn take_soon<K: Kind>(&self, seat: &mut Place<K>) -> Option<Held>
-        requires turn { seat.old.turn ≡ self.now }
-        requires free { seat.old.view.holds ≡ false }
-        ensures none { IfNone result (seat.new ≡ seat.old) }
-        ensures seat { IfSome result (λ held. seat.new ≡ took seat.old (memory_of held)) }
-        ensures by { IfSome result (λ held. IsBy held seat.old) }
-        ensures known { IfSome result (λ held. RemembersParts seat.old.view (memory_of held)) }
-        ensures maps { IfSome result (λ held. HasMaps seat.old.view (memory_of held)) }
-    {
-        for _try in 0..TRIES {
-            self.look();
-            if let Some(held) = self.try_take(seat) {
-                return Some(held);
-            }
-        }
-        None
-    }
-
-    /// Sleeps between tries until one wins. Whoever slept asks for a ring before it gives, since others
-    /// may sleep.
-    fn take_later<K: Kind>(&self, rt: &impl Wait, seat: &mut Place<K>) -> Held
-        requires turn { seat.old.turn ≡ self.now }
-        requires free { seat.old.view.holds ≡ false }
-        ensures seat { seat.new ≡ took seat.old (memory_of result) }
-        ensures by { IsBy result seat.old }
-        ensures known { RemembersParts seat.old.view (memory_of result) }
-        ensures maps { HasMaps seat.old.view (memory_of result) }
-    {
         for _ in rt.forever() {
             self.bell.ask();
             if let Some(held) = self.try_take(seat) {
@@ -220,6 +189,21 @@ impl Turn {
             }
         }
         unreachable!()
+    }
+
+    /// Tries a few times, and looks at the word between tries.
+    fn take_soon<K: Kind>(&self, seat: &mut Place<K>) -> Option<Held>
+        requires turn { seat.old.turn ≡ self.now }
+        requires free { seat.old.view.holds ≡ false }
+        ensures { MatchOption result (seat.new ≡ seat.old) (IsTaken seat.old seat.new) }
+    {
+        for _try in 0..TRIES {
+            self.look();
+            if let Some(held) = self.try_take(seat) {
+                return Some(held);
+            }
+        }
+        None
     }
 
     /// Looks at the word until the memory is home, but not for long.
