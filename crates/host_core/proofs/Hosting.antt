@@ -1,6 +1,7 @@
 -- What events do to a host and to a system that it stands for.
-use Rattle.std.proofs.Common.{◌≡◌, ℕ, ◌<◌, ◌≤◌, List, [], ◌∷◌, ◌++◌, length, inl, inr, set, Option, Some, None, IfSome, Result, sym, ap, refl, ◌∙◌, subst}
+use Rattle.std.proofs.Common.{◌≡◌, ℕ, ◌<◌, ◌≤◌, List, [], ◌∷◌, ◌++◌, length, get_or, inl, inr, set, Option, Some, None, IfSome, Result, sym, ap, refl, ◌∙◌, subst}
 use Rattle.std.specs.List.{slice_get}
+use Rattle.std.proofs.lemmas.Option.{slice_get_read}
 use Rattle.host_types.specs.declared.fault.Fault.{Fault}
 use Rattle.host_types.specs.declared.fault.Fault.TheVariants as fault
 use Rattle.host_types.specs.declared.options.Opt.{Opt}
@@ -135,6 +136,10 @@ hosts-served views before after t old new event reply there served x stands =
     let (tenant, found, stood) = AllZip-found StandsForTenant views x.world t old stands.tenants there in
     let (next, sharing, stands', memory', happens, promised) = served x tenant found stood stands.memory in
     (changed_system x t next sharing, record { memory = memory'; tenants = AllZip-set StandsForTenant views x.world t new next stands.tenants stands' }, happens, promised)
+
+-- the tenant at a number for which there is one
+pub tenant_there : (views : List TenantView) (t : ℕ) (old : TenantView) → t < length views → old ≡ get_or views t old → slice_get views t ≡ Some old
+tenant_there views t old within is = slice_get_read views (length views) t old refl within is
 
 -- the tenant and the memory of a host stand for a system
 pub kept_in : (views : List TenantView) (memory : MemoryState) (t : ℕ) (old : TenantView) → (x : System) × StandsForSystem (record { tenants = views; memory = memory }) x → slice_get views t ≡ Some old → IsKept t old memory

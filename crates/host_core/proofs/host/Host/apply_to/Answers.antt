@@ -1,9 +1,9 @@
-use Rattle.std.proofs.Common.{◌≤◌, ◌<◌, length, set, refl, subst, arith}
-use Rattle.std.proofs.lemmas.Option.{slice_get_past, slice_get_read}
+use Rattle.std.proofs.Common.{◌≤◌, length, set, subst, arith}
+use Rattle.std.proofs.lemmas.Option.{slice_get_past}
 use Rattle.host_types.specs.declared.fault.Fault.TheVariants.{BadTenant}
 use Rattle.host_core.specs.declared.event.Reply.TheVariants.{Refused}
 use Rattle.host_core.specs.HostView.{HostView}
-use Rattle.host_core.proofs.Hosting.{Hosts, hosts-served, hosts-no_tenant, kept_in}
+use Rattle.host_core.proofs.Hosting.{Hosts, hosts-served, hosts-no_tenant, tenant_there, kept_in}
 use Rattle.host_core.proofs.host.Host.apply_to.Goals as goal
 
 pub returns-then-place-len : goal.returns-then-place-len
@@ -14,25 +14,19 @@ returns-then-place-len c =
 
 pub apply-requires-clause-kept : goal.apply-requires-clause-kept
 apply-requires-clause-kept c =
-    let items = c.self.inside.tenants.items in
-    let within : c.args.number < length items = omega (arith, c.self.inside.tenants.ok.0) in
-    let found = slice_get_read items (length items) c.args.number c.index_mut.result.now refl within c.index_mut.ensures.value in
-    kept_in items c.self.inside.memory c.args.number c.index_mut.result.now c.self.invariant found
+    kept_in c.self.inside.tenants.items c.self.inside.memory c.args.number c.index_mut.result.now c.self.invariant
+    (tenant_there c.self.inside.tenants.items c.args.number c.index_mut.result.now (omega (arith, c.self.inside.tenants.ok.0)) c.index_mut.ensures.value)
+
+abbrev new : goal.After-apply → HostView
+new c = record { tenants = set c.self.inside.tenants.items c.args.number c.apply.new.self; memory = c.apply.new.memory }
+
+serves : (c : goal.After-apply) → Hosts (record { tenants = c.self.inside.tenants.items; memory = c.self.inside.memory }) c.args.event.now c.apply.result (new c)
+serves c =
+    hosts-served c.self.inside.tenants.items c.self.inside.memory c.apply.new.memory c.args.number c.index_mut.result.now c.apply.new.self c.args.event.now c.apply.result
+    (tenant_there c.self.inside.tenants.items c.args.number c.index_mut.result.now (omega (arith, c.self.inside.tenants.ok.0)) c.index_mut.ensures.value) c.apply.ensures
 
 pub invariant_of-self : goal.invariant_of-self
-invariant_of-self c =
-    let items = c.self.inside.tenants.items in
-    let within : c.args.number < length items = omega (arith, c.self.inside.tenants.ok.0) in
-    let found = slice_get_read items (length items) c.args.number c.index_mut.result.now refl within c.index_mut.ensures.value in
-    let serves = hosts-served items c.self.inside.memory c.apply.new.memory c.args.number c.index_mut.result.now c.apply.new.self c.args.event.now c.apply.result found c.apply.ensures in
-    let after = serves c.self.invariant.0 c.self.invariant.1 in
-    (after.0, after.1)
+invariant_of-self c = let after = serves c c.self.invariant.0 c.self.invariant.1 in (after.0, after.1)
 
 pub returns : goal.returns
-returns c =
-    let items = c.self.inside.tenants.items in
-    let within : c.args.number < length items = omega (arith, c.self.inside.tenants.ok.0) in
-    let found = slice_get_read items (length items) c.args.number c.index_mut.result.now refl within c.index_mut.ensures.value in
-    let serves = hosts-served items c.self.inside.memory c.apply.new.memory c.args.number c.index_mut.result.now c.apply.new.self c.args.event.now c.apply.result found c.apply.ensures in
-    let new : HostView = record { tenants = set items c.args.number c.apply.new.self; memory = c.apply.new.memory } in
-    subst (λ old. Hosts old c.args.event.now c.apply.result new) c.self.view_is serves
+returns c = subst (λ old. Hosts old c.args.event.now c.apply.result (new c)) c.self.view_is (serves c)

@@ -1,9 +1,9 @@
-use Rattle.std.proofs.Common.{◌≤◌, ◌<◌, length, set, refl, subst, arith, Some}
-use Rattle.std.proofs.lemmas.Option.{slice_get_past, slice_get_read}
+use Rattle.std.proofs.Common.{◌≤◌, length, set, subst, arith, Some}
+use Rattle.std.proofs.lemmas.Option.{slice_get_past}
 use Rattle.host_types.specs.declared.fault.Fault.TheVariants.{BadTenant}
 use Rattle.host_core.specs.declared.event.Reply.TheVariants.{Refused}
 use Rattle.host_core.specs.HostView.{HostView}
-use Rattle.host_core.proofs.Hosting.{HostMakesSteps, host-made, host-no_tenant, kept_in}
+use Rattle.host_core.proofs.Hosting.{HostMakesSteps, host-made, host-no_tenant, tenant_there, kept_in}
 use Rattle.host_core.proofs.host.Host.make_steps.Goals as goal
 
 pub returns-then-place-len : goal.returns-then-place-len
@@ -17,25 +17,19 @@ returns-then-place-len c =
 
 pub make_steps-requires-clause-kept : goal.make_steps-requires-clause-kept
 make_steps-requires-clause-kept c =
-    let items = c.self.inside.tenants.items in
-    let within : c.args.tenant < length items = omega (arith, c.self.inside.tenants.ok.0) in
-    let found = slice_get_read items (length items) c.args.tenant c.index_mut.result.now refl within c.index_mut.ensures.value in
-    kept_in items c.self.inside.memory c.args.tenant c.index_mut.result.now c.self.invariant found
+    kept_in c.self.inside.tenants.items c.self.inside.memory c.args.tenant c.index_mut.result.now c.self.invariant
+    (tenant_there c.self.inside.tenants.items c.args.tenant c.index_mut.result.now (omega (arith, c.self.inside.tenants.ok.0)) c.index_mut.ensures.value)
+
+abbrev new : goal.After-make_steps → HostView
+new c = record { tenants = set c.self.inside.tenants.items c.args.tenant c.make_steps.new.self; memory = c.make_steps.new.memory }
+
+makes : (c : goal.After-make_steps) → HostMakesSteps (record { tenants = c.self.inside.tenants.items; memory = c.self.inside.memory }) c.args.tenant c.args.limit c.make_steps.result (new c)
+makes c =
+    host-made c.self.inside.tenants.items c.self.inside.memory c.make_steps.new.memory c.args.tenant c.args.limit c.index_mut.result.now c.make_steps.new.self c.make_steps.result
+    (tenant_there c.self.inside.tenants.items c.args.tenant c.index_mut.result.now (omega (arith, c.self.inside.tenants.ok.0)) c.index_mut.ensures.value) c.make_steps.ensures.steps
 
 pub invariant_of-self : goal.invariant_of-self
-invariant_of-self c =
-    let items = c.self.inside.tenants.items in
-    let within : c.args.tenant < length items = omega (arith, c.self.inside.tenants.ok.0) in
-    let found = slice_get_read items (length items) c.args.tenant c.index_mut.result.now refl within c.index_mut.ensures.value in
-    let made = host-made items c.self.inside.memory c.make_steps.new.memory c.args.tenant c.args.limit c.index_mut.result.now c.make_steps.new.self c.make_steps.result found c.make_steps.ensures.steps in
-    let after = made c.self.invariant.0 c.self.invariant.1 in
-    (after.0, after.1)
+invariant_of-self c = let after = makes c c.self.invariant.0 c.self.invariant.1 in (after.0, after.1)
 
 pub returns-clause-steps : goal.returns-clause-steps
-returns-clause-steps c =
-    let items = c.self.inside.tenants.items in
-    let within : c.args.tenant < length items = omega (arith, c.self.inside.tenants.ok.0) in
-    let found = slice_get_read items (length items) c.args.tenant c.index_mut.result.now refl within c.index_mut.ensures.value in
-    let made = host-made items c.self.inside.memory c.make_steps.new.memory c.args.tenant c.args.limit c.index_mut.result.now c.make_steps.new.self c.make_steps.result found c.make_steps.ensures.steps in
-    let new : HostView = record { tenants = set items c.args.tenant c.make_steps.new.self; memory = c.make_steps.new.memory } in
-    subst (λ old. HostMakesSteps old c.args.tenant c.args.limit c.make_steps.result new) c.self.view_is made
+returns-clause-steps c = subst (λ old. HostMakesSteps old c.args.tenant c.args.limit c.make_steps.result (new c)) c.self.view_is (makes c)
