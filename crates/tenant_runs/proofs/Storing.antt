@@ -1,13 +1,11 @@
 -- A store of a run in its loop: to a page that may share its frame, and to one that has its own.
-use Rattle.std.proofs.Common.{◌≡◌, ◌≤◌, ◌+◌, ◌*◌, ◌%◌, ◌<◌, ◌&&◌, inl, inr, ℕ, Bool, true, false, if◌then◌else◌, List, [], length, take, drop, Option, Some, None, refl, sym, ap, ◌∙◌, arith}
+use Rattle.std.proofs.Common.{◌≡◌, ◌≤◌, ◌+◌, ◌*◌, ◌%◌, ◌<◌, inl, inr, ℕ, Bool, true, false, List, [], length, take, drop, Option, Some, None, refl, sym, ap, ◌∙◌, arith}
 use Rattle.std.proofs.lemmas.Bool.{cases_lt}
 use Rattle.std.proofs.lemmas.List.{get_or_past, length-drop, length-take}
-use Rattle.host_types.specs.declared.status.Status.{Status}
-use Rattle.host_types.specs.declared.status.Status.TheVariants.{New, Volatile, Waiting, Grouped, Zero}
 use Rattle.host_types.specs.Bytes.{part_of}
 use Rattle.host_types.specs.Memory.{FlatMap, map_at}
-use Rattle.host_types.specs.Sharing.{Sharing, PageState, state_at, is_shared, is_shared_page, is_in_company, cost_of, break_cost, broken}
-use Rattle.host_types.specs.Pins.{pinned, broken_by}
+use Rattle.host_types.specs.Sharing.{Sharing, state_at, is_shared_page}
+use Rattle.host_types.specs.Pins.{broken_by}
 use Rattle.host_types.specs.Tenant.{TenantPart, AreFlatMaps}
 use Rattle.host_types.proofs.Unmerging.{broken-own}
 use Rattle.host_types.proofs.Pins.{by-own}
