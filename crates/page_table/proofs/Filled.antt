@@ -1,5 +1,5 @@
 -- How many pages are pinned, where one is pinned more, and where those of a map aren't any more.
-use Rattle.page_table.proofs.Base.{◌≡◌, ◌≢◌, ◌∙◌, ℕ, ◌+◌, ◌-◌, ◌*◌, ◌/◌, ◌%◌, ◌<◌, ◌≤◌, Bool, true, false, if◌then◌else◌, List, [], ◌∷◌, ◌++◌, length, take, drop, replicate, slice_index_or, slice_set, refl, sym, ap, subst, arith, get_or-set_same, get_or-set_other, length-set, length-replicate, take-replicate, drop-replicate, get_or-replicate, get_or-take, get_or-drop, ext_get_or, take-append_seam, sum_by-cons, sum_by-set, sum_by-replicate, nat_tests}
+use Rattle.page_table.proofs.Base.{◌≡◌, ◌≢◌, ◌∙◌, ℕ, ◌+◌, ◌-◌, ◌*◌, ◌/◌, ◌%◌, ◌<◌, ◌≤◌, Bool, true, false, if◌then◌else◌, List, [], ◌∷◌, ◌++◌, length, take, drop, replicate, slice_index_or, slice_set, refl, sym, ap, arith, get_or-set_same, get_or-set_other, length-set, length-replicate, take-replicate, drop-replicate, get_or-replicate, ext_get_or, take-append_seam, sum_by-cons, sum_by-set, sum_by-replicate, nat_tests}
 use Rattle.page_table.proofs.Words.{part_of, with_part, length-part_of, length-with_part, part-with_part_same, with_part-same, pinned_among, ArePinsOf}
 use Rattle.page_table.proofs.Creating.{others-filled, filled_at}
 use Rattle.page_table.proofs.Maps.{part_of-set_other, part_of-set_same, part-at}

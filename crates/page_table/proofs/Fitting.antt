@@ -1,5 +1,5 @@
 -- The pins fit the pages after each change of the table.
-use Rattle.page_table.proofs.Base.{◌≡◌, ◌≢◌, ◌∙◌, ℕ, zero, suc, ◌&&◌, Bool, true, false, if◌then◌else◌, List, [], ◌∷◌, length, slice_index_or, slice_set, Some, option_map, sym, ap, subst, arith, get_or_default, length-map, nat_tests, get_or_past}
+use Rattle.page_table.proofs.Base.{◌≡◌, ◌≢◌, ◌∙◌, ℕ, ◌&&◌, Bool, true, false, if◌then◌else◌, List, length, slice_index_or, slice_set, Some, option_map, sym, ap, subst, arith, get_or_default, length-map, nat_tests, get_or_past}
 use Rattle.page_table.proofs.Words.{Volatile, Waiting, is_pinned, pinned, broken_by, PinsFit, Sharing, state_at, is_shared_page, broken, fit-by, Entry, Pass, TableState, entry_at, entry_content, contents_of, state_of, states_of, sharing_of}
 use Rattle.page_table.proofs.Costs.{state-at}
 use Rattle.page_table.proofs.Entries.{inside}

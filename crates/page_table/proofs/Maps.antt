@@ -1,8 +1,7 @@
 -- Maps as flat bytes, out of the contents of their pages.
-use Rattle.page_table.proofs.Base.{◌≡◌, ◌≢◌, ◌∙◌, ⊎_elim, ℕ, zero, suc, ◌+◌, ◌-◌, ◌*◌, ◌<◌, ◌≤◌, List, [], ◌∷◌, ◌++◌, length, take, drop, replicate, slice_index_or, slice_set, Option, None, option_map, refl, sym, ap, arith, append_assoc, concat, get_or-set_same, get_or-set_other, length-set, ext_get_or, length-take-le, drop_at, take_at, append-nil, drop-append-le, take-append-le, drop-drop, take-append-drop, take-replicate, drop-set-lt, drop-set-add, take-set-le, take-set-lt, take-append-add, if◌then◌else◌, nat_lt, nat_le, ◌&&◌, nat_tests, get_or-take, get_or-drop, get_or_past, length-take, get_or_append_left, min, get_or-replicate, length-replicate}
+use Rattle.page_table.proofs.Base.{◌≡◌, ◌≢◌, ◌∙◌, ℕ, zero, suc, ◌+◌, ◌-◌, ◌*◌, ◌<◌, ◌≤◌, List, [], ◌∷◌, ◌++◌, length, take, drop, replicate, slice_index_or, slice_set, Option, None, option_map, refl, sym, ap, arith, append_assoc, concat, get_or-set_same, get_or-set_other, length-set, ext_get_or, length-take-le, drop_at, drop-drop, take-append-add, if◌then◌else◌, nat_lt, nat_le, ◌&&◌, nat_tests, get_or-take, get_or-drop, get_or_past, length-take, get_or_append_left, min, get_or-replicate, length-replicate}
 use Rattle.page_table.proofs.Words.{Shape, part_of, with_part, FlatMap, page_bytes, byte_len_of, part_of-drop, part_of-first, with_part-append, page_count, maps_of, flat_of, ArePagesOf}
 use Rattle.std.proofs.Common.{length-append, length-drop}
-use Rattle.page_table.proofs.Sides.{apart_order}
 use Rattle.std.proofs.lemmas.List.{get_or-append_right}
 
 -- parts of lists
@@ -97,35 +96,22 @@ concat-at [] n i there less = grind (arith, there 0)
 concat-at (page ∷ pages) zero i there less = grind (arith, there 0, get_or_append_left page (concat pages) 0 i)
 concat-at (page ∷ pages) (suc n) i there less = grind (arith, there 0, get_or-append_right page (concat pages) 4096 (suc n * 4096 + i) 0, concat-at pages n i (λ m le. there (suc m) (omega arith)))
 
+-- what is read of a page's bytes, of which there are as many as a page has
+content-at : (bytes : List ℕ) (n i : ℕ) → i < 4096 → slice_index_or (page_bytes bytes n) i 0 ≡ slice_index_or bytes (n * 4096 + i) 0
+unfolding page_bytes
+content-at bytes n i less =
+    let rest : List ℕ = drop (n * 4096) bytes in
+    grind (arith, nat_tests, get_or-take 4096 (rest ++ replicate 4096 0) i 0, get_or_append_left rest (replicate 4096 0) 0 i, get_or-append_right rest (replicate 4096 0) (length rest) i 0, get_or-drop (n * 4096) bytes i 0, get_or-replicate {A = ℕ} 4096 (i - length rest) 0 0, get_or_past bytes (n * 4096 + i) 0, length-drop (n * 4096) bytes)
+
+length-content : (bytes : List ℕ) (n : ℕ) → length (page_bytes bytes n) ≡ 4096
+unfolding page_bytes
+length-content bytes n = omega (arith, length-take 4096 (drop (n * 4096) bytes ++ replicate 4096 0), length-append (drop (n * 4096) bytes) (replicate 4096 0), length-replicate {A = ℕ} 4096 0)
+
 -- the content of a map's page is that of the page
 pub page_bytes-page : (shape : Shape) (pages : List (List ℕ)) (n : ℕ) → ArePagesOf shape pages → n < page_count shape
     → page_bytes (take (byte_len_of shape) (concat pages)) n ≡ slice_index_or pages n []
-unfolding page_bytes
 page_bytes-page shape pages n are small =
-    let whole = length-concat pages (page_count shape) are.there are.none in
-    let front = length-take-le (byte_len_of shape) (concat pages) (omega (arith, whole)) in
-    let rest = length-drop (n * 4096) (take (byte_len_of shape) (concat pages)) in
-    let long = length-take 4096 (drop (n * 4096) (take (byte_len_of shape) (concat pages)) ++ replicate 4096 0) in
-    let joined = length-append (drop (n * 4096) (take (byte_len_of shape) (concat pages))) (replicate 4096 0) in
-    let zeros = length-replicate {A = ℕ} 4096 0 in
-    ext_get_or 0 _ _ (omega (arith, long, joined, zeros, are.there n small))
-    (λ i less. grind (
-      arith,
-      nat_tests,
-      front,
-      rest,
-      long,
-      joined,
-      zeros,
-      are.there n,
-      get_or-take 4096 (drop (n * 4096) (take (byte_len_of shape) (concat pages)) ++ replicate 4096 0) i 0,
-      get_or_append_left (drop (n * 4096) (take (byte_len_of shape) (concat pages))) (replicate 4096 0) 0 i,
-      get_or-append_right (drop (n * 4096) (take (byte_len_of shape) (concat pages))) (replicate 4096 0) (byte_len_of shape - n * 4096) i 0,
-      get_or-drop (n * 4096) (take (byte_len_of shape) (concat pages)) i 0,
-      get_or-take (byte_len_of shape) (concat pages) (n * 4096 + i) 0,
-      concat-at pages n i (λ m le. are.there m (omega (arith, le, small))),
-      get_or-replicate {A = ℕ} 4096 (i - (byte_len_of shape - n * 4096)) 0 0,
-      get_or-drop (byte_len_of shape) (concat pages) (n * 4096 + i - byte_len_of shape) 0,
-      are.padded,
-      get_or-replicate {A = ℕ} (page_count shape * 4096 - byte_len_of shape) (n * 4096 + i - byte_len_of shape) 0 0,
-    ))
+    let size : ℕ = byte_len_of shape in
+    let first : List ℕ = take size (concat pages) in
+    ext_get_or 0 _ _ (omega (arith, length-content first n, are.there n small))
+    (λ i less. grind (arith, nat_tests, length-content first n, content-at first n i, get_or-take size (concat pages) (n * 4096 + i) 0, get_or_past first (n * 4096 + i) 0, length-take size (concat pages), concat-at pages n i (λ m le. are.there m (omega (arith, le, small))), get_or-drop size (concat pages) (n * 4096 + i - size) 0, are.padded, get_or-replicate {A = ℕ} (page_count shape * 4096 - size) (n * 4096 + i - size) 0 0, get_or_past (concat pages) (n * 4096 + i) 0))

@@ -1,11 +1,10 @@
 -- Frames reserved for open runs, and what the maps of a memory meet.
-use Rattle.page_table.proofs.Sides.{order}
-use Rattle.page_table.proofs.Base.{◌≡◌, ◌∙◌, ℕ, ◌+◌, ◌-◌, ◌*◌, ◌<◌, ◌≤◌, List, length, sum_by, slice_index_or, slice_set, Option, refl, sym, ap, arith, All, get_or-set_same, get_or-set_other, sum_by-set, nat_tests, get_or_past}
-use Rattle.page_table.proofs.Words.{Shape, AreFlatMaps, IsPage, Pass, Tenant, MemoryState, part, unreserved_tenant, free_of, have_of, IsKeptBut, TableState, contents_of, maps_of, used_by, view_of, IsMemory}
+use Rattle.page_table.proofs.Base.{◌≡◌, ◌∙◌, ℕ, ◌+◌, ◌-◌, ◌*◌, ◌<◌, ◌≤◌, List, length, sum_by, slice_index_or, slice_set, Option, arith, get_or-set_same, get_or-set_other, sum_by-set, nat_tests}
+use Rattle.page_table.proofs.Words.{Shape, Pass, Tenant, MemoryState, part, unreserved_tenant, free_of, have_of, IsKeptBut, TableState, contents_of, maps_of, used_by, view_of, IsMemory}
 use Rattle.std.proofs.Common.{length-set}
 use Rattle.page_table.proofs.Maps.{length-maps_of}
 use Rattle.page_table.proofs.Free.{free_is}
-use Rattle.page_table.proofs.Shapes.{length-part, map_is, map_told}
+use Rattle.page_table.proofs.Shapes.{length-part}
 
 -- what is reserved for a tenant's open run
 abbrev pub reserve_in : Tenant → ℕ

@@ -1,9 +1,9 @@
 -- What a memory tells of a tenant's maps by their numbers.
-use Rattle.page_table.proofs.Base.{◌≡◌, ◌∙◌, ℕ, zero, suc, ◌*◌, ◌<◌, ◌≤◌, List, [], ◌∷◌, length, map, drop, slice_index_or, Option, Some, None, IfSome, option_map, is_none, position, refl, ap, arith, All, min, ◌-◌, position_or_len, get_or_past, get_or-take, get_or-drop, length-take, length-drop, concat, length-take-le, All-nil, All-cons, All-head, All-tail, All-append, All-take, All-drop, nat_tests}
-use Rattle.page_table.proofs.Words.{Pass, Shape, part_of, FlatMap, FlatMaps, map_at, map_place, byte_len_of, IsFlatMap, IsPage, page_at, page_count, Entry, Tenant, MemoryState, part, free_number, TableState, maps_of, flat_of, entry_content, contents_of, ArePages, ArePagesOf, AreMaps, view_of}
+use Rattle.page_table.proofs.Base.{◌≡◌, ◌∙◌, ℕ, zero, suc, ◌*◌, ◌<◌, List, [], ◌∷◌, length, map, drop, slice_index_or, Option, Some, None, IfSome, option_map, is_none, position, refl, arith, All, position_or_len, get_or_past, get_or-take, get_or-drop, concat, length-take-le, All-nil, All-cons, All-head, All-tail, All-append, All-take, All-drop, nat_tests}
+use Rattle.page_table.proofs.Words.{Pass, Shape, part_of, FlatMap, FlatMaps, map_at, map_place, IsFlatMap, IsPage, page_at, Entry, Tenant, part, free_number, TableState, maps_of, flat_of, entry_content, contents_of, ArePages, ArePagesOf, AreMaps, view_of}
 pub use Rattle.page_table.proofs.Maps.{length-part}
 use Rattle.page_table.proofs.Maps.{map_at-maps_of, length-maps_of, length-concat}
-use Rattle.page_table.proofs.Reading.{map_at-part, map_at-past}
+use Rattle.page_table.proofs.Reading.{map_at-part}
 
 -- two lists that are free at the same places have the same first free place
 same_prefix : (maps : FlatMaps) (shapes : List (Option Shape)) → length maps ≡ length shapes → ((i : ℕ) → is_none (slice_index_or maps i None) ≡ is_none (slice_index_or shapes i None))

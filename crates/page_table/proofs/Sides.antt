@@ -4,8 +4,5 @@ use Rattle.page_table.proofs.Base.{◌≡◌, ◌≢◌, ◌⊎◌, ℕ, ◌<◌
 pub order : (a b : ℕ) → (a < b) ⊎ (b ≤ a)
 order a b = grind arith
 
-pub apart_order : (a b : ℕ) → a ≢ b → (a < b) ⊎ (b < a)
-apart_order a b ne = grind arith
-
 pub is_same : (a b : ℕ) → (a ≡ b) ⊎ (a ≢ b)
 is_same a b = grind arith

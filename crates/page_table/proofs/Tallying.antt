@@ -1,7 +1,7 @@
 -- What is counted of pages, and the contents of the groups.
-use Rattle.page_table.proofs.Base.{◌≡◌, ℕ, zero, suc, ◌+◌, ◌-◌, ◌<◌, ◌≤◌, replicate, List, [], ◌∷◌, length, map, sum_by, slice_set, Option, None, option_map, refl, ap, arith, length-map, map-set, sum_by-cons, sum_by-set, get_or-le-sum_by, nat_tests}
-use Rattle.page_table.proofs.Words.{group_contents, unshared_at, volatile_at, PageState, Shape, group_bytes, page_at, Entry, Pass, Tenant, contents_now, TableState, IsTable, entry_at, states_of, state_of, groups_of, places_on, times, IsTally, shared_at, view_of, IsMemory}
-use Rattle.page_table.proofs.Entries.{times-head, times-tail, told_at}
+use Rattle.page_table.proofs.Base.{◌≡◌, ℕ, zero, suc, ◌≤◌, replicate, List, [], ◌∷◌, length, map, sum_by, Option, None, refl, arith, length-map, sum_by-cons}
+use Rattle.page_table.proofs.Words.{group_contents, unshared_at, volatile_at, PageState, Shape, group_bytes, page_at, Pass, Tenant, contents_now, TableState, IsTable, states_of, groups_of, places_on, times, IsTally, shared_at, view_of, IsMemory}
+use Rattle.page_table.proofs.Entries.{times-head, times-tail}
 use Rattle.page_table.proofs.Scanning.{bytes-of_group}
 
 pub unshared-one : (x : Option PageState) → unshared_at x ≤ 1

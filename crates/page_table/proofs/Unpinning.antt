@@ -1,6 +1,6 @@
 -- What a memory tells where the pins of one tenant changed.
-use Rattle.page_table.proofs.Base.{◌≡◌, ◌≢◌, ◌∙◌, ◌⊎◌, ℕ, zero, suc, ◌+◌, ◌*◌, ◌<◌, ◌≤◌, Bool, true, false, List, [], ◌∷◌, ◌++◌, length, take, drop, replicate, slice_index_or, Option, refl, sym, ap, arith, length-drop, length-replicate, length-map, nat_tests, ext_get_or}
-use Rattle.page_table.proofs.Words.{Shape, part_of, with_part, map_place, PinsFit, released, PageState, length-part_of, length-with_part, take-with_part, with_part-whole, Pass, Tenant, IsKeptBut, with_pins, part, TableState, states_of, view_of, IsMemory}
+use Rattle.page_table.proofs.Base.{◌≡◌, ◌≢◌, ◌∙◌, ◌⊎◌, ℕ, ◌+◌, ◌*◌, ◌<◌, ◌≤◌, Bool, true, false, List, length, replicate, slice_index_or, Option, refl, sym, ap, arith, length-replicate, length-map, nat_tests, ext_get_or}
+use Rattle.page_table.proofs.Words.{Shape, part_of, with_part, map_place, PinsFit, PageState, length-part_of, length-with_part, with_part-whole, Pass, Tenant, IsKeptBut, with_pins, part, TableState, states_of, view_of, IsMemory}
 use Rattle.page_table.proofs.Sides.{order}
 use Rattle.page_table.proofs.Creating.{length-contents, filled_at, others-filled}
 use Rattle.page_table.proofs.Fitting.{pinned_if}

@@ -1,6 +1,6 @@
 -- Counts of frames, and the list of the unused ones.
-use Rattle.page_table.proofs.Base.{◌≡◌, ℕ, zero, suc, ◌+◌, ◌<◌, ◌≤◌, ◌==◌, ◌&&◌, nat_lt, Bool, List, [], ◌∷◌, ◌++◌, length, slice_index_or, refl, arith, sum_by_push, nat_tests, get_or_past}
-use Rattle.page_table.proofs.Words.{AreCounts, times, one_if_zero}
+use Rattle.page_table.proofs.Base.{◌≡◌, ℕ, ◌+◌, ◌<◌, ◌==◌, ◌&&◌, nat_lt, Bool, List, [], ◌∷◌, ◌++◌, length, slice_index_or, arith, sum_by_push, nat_tests, get_or_past}
+use Rattle.page_table.proofs.Words.{AreCounts, times}
 use Rattle.page_table.proofs.Entries.{one_when, equal}
 
 -- a number occurs once more after it is pushed

@@ -1,7 +1,7 @@
 -- The pages that wait: what keeps them, and how many there are.
-use Rattle.page_table.proofs.Base.{◌≡◌, ◌≢◌, ◌∙◌, ℕ, ◌<◌, ◌≤◌, ◌==◌, ◌||◌, nat_le, not, Bool, true, false, if◌then◌else◌, List, [], ◌∷◌, ◌++◌, length, map, filter, slice_index_or, slice_set, Option, Some, None, refl, ap, arith, list_any, get_or-set_other, nat_tests}
+use Rattle.page_table.proofs.Base.{◌≡◌, ◌≢◌, ◌∙◌, ℕ, ◌<◌, ◌≤◌, ◌==◌, ◌||◌, not, false, List, [], ◌∷◌, ◌++◌, length, map, filter, slice_index_or, slice_set, Option, Some, None, refl, ap, arith, list_any, get_or-set_other, nat_tests}
 use Rattle.page_table.proofs.Words.{is_shared, waiting_without, Waiter, Entry, Pass, TableState, AreOwnKept, AreOthersKept, entry_at, own_pages, waiting_of, forgets, is_listed, IsWaiter, AreWaiters, IsPass}
-use Rattle.page_table.proofs.Changing.{own_one, own_pages-set}
+use Rattle.page_table.proofs.Changing.{own_pages-set}
 use Rattle.page_table.proofs.Entries.{inside}
 use Rattle.page_table.proofs.Fitting.{pins-kept, apart-pinned}
 

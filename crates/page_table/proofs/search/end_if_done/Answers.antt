@@ -1,5 +1,5 @@
-use Rattle.page_table.proofs.Base.{◌≡◌, ◌∙◌, ◌+◌, ℕ, Bool, true, false, drop, Option, None, Some, is_some, refl, sym, ap, nat_tests, arith}
-use Rattle.page_table.proofs.Words.{first_mergeable, ended_at, moved_on, one_more, Pass, TableState, states_of, sharing_of}
+use Rattle.page_table.proofs.Base.{◌+◌, ℕ, drop, Option, nat_tests, arith}
+use Rattle.page_table.proofs.Words.{first_mergeable, moved_on, TableState, states_of}
 use Rattle.page_table.proofs.Ahead.{ahead-next}
 use Rattle.page_table.proofs.Partners.{pass-ended}
 use Rattle.page_table.proofs.search.end_if_done.Goals as goal

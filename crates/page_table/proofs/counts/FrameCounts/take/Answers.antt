@@ -1,4 +1,4 @@
-use Rattle.page_table.proofs.Base.{◌<◌, length, arith, nat_tests}
+use Rattle.page_table.proofs.Base.{arith, nat_tests}
 use Rattle.page_table.proofs.Unused.{popped}
 use Rattle.page_table.proofs.counts.FrameCounts.take.Goals as goal
 

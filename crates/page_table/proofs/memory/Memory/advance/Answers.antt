@@ -1,5 +1,5 @@
-use Rattle.page_table.proofs.Base.{◌≡◌, ◌∙◌, ◌+◌, ◌<◌, [], false, drop, map, is_some, None, Some, sym, ap, arith, option_map, length-map, nat_tests}
-use Rattle.page_table.proofs.Words.{page_place, first_mergeable, look_from, states_of, state_of, waiting_of, view_of, AreWaiters, is_listed}
+use Rattle.page_table.proofs.Base.{◌≡◌, ◌∙◌, ◌+◌, ◌<◌, false, drop, is_some, Some, sym, ap, arith, length-map, nat_tests}
+use Rattle.page_table.proofs.Words.{page_place, first_mergeable, look_from, states_of, view_of, AreWaiters, is_listed}
 use Rattle.page_table.proofs.Creating.{length-contents}
 use Rattle.page_table.proofs.Next.{next-is}
 use Rattle.page_table.proofs.Partners.{advanced, moved-on, moved-ended, pass-on, pass-ended, waits-not}

@@ -1,5 +1,5 @@
-use Rattle.page_table.proofs.Base.{◌≡◌, ◌∙◌, ◌<◌, drop, Some, sym, ap, subst, option_map, arith, length-map, nat_tests}
-use Rattle.page_table.proofs.Words.{state_at, first_mergeable, is_mergeable, look_from, IsPageAt, state_of, states_of, sharing_of, view_of}
+use Rattle.page_table.proofs.Base.{◌≡◌, ◌∙◌, drop, Some, sym, arith, length-map, nat_tests}
+use Rattle.page_table.proofs.Words.{first_mergeable, look_from, IsPageAt, states_of, view_of}
 use Rattle.page_table.proofs.Putting.{page_of_entry}
 use Rattle.page_table.proofs.Next.{IsNext, next-is}
 use Rattle.page_table.proofs.Partners.{entry-may}

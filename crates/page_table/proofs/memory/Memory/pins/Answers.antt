@@ -1,5 +1,5 @@
-use Rattle.page_table.proofs.Base.{◌≡◌, ◌∙◌, true, sym, nat_tests, arith}
-use Rattle.page_table.proofs.Words.{page_place, is_shared_page, state_at, part, sharing_of, view_of}
+use Rattle.page_table.proofs.Base.{nat_tests, arith}
+use Rattle.page_table.proofs.Words.{view_of}
 use Rattle.page_table.proofs.Reading.{is_page_at}
 use Rattle.page_table.proofs.memory.Memory.pins.Goals as goal
 

@@ -1,9 +1,7 @@
 -- A memory without maps.
-use Rattle.page_table.proofs.Base.{◌≡◌, ◌*◌, replicate, None, arith, rules, nat_tests, length-map, length-replicate, ◌∙◌, ℕ, zero, suc, ◌+◌, List, [], ◌∷◌, take, drop, slice_index_or, sum_by, Option, option_map, refl, ap, ⊎_elim, length-take, get_or-take, get_or-drop, get_or_past, sum_by-replicate}
+use Rattle.page_table.proofs.Base.{◌≡◌, ◌*◌, replicate, None, arith, rules, nat_tests, length-map, length-replicate, ℕ, zero, suc, List, ◌∷◌, drop, Option, option_map, refl, ap, sum_by-replicate}
 use Rattle.page_table.proofs.Putting.{all_same, empty_table}
-use Rattle.page_table.proofs.Words.{unreserved_tenant, new_pass, Options, part_of, zero_page, map-replicate, Entry, Tenant, AreLimits, new_memory, TableState, entry_content, contents_of, groups_of, own_pages, state_of, maps_of, used_by, view_of, IsMemory}
-use Rattle.page_table.proofs.Changing.{own_one}
-use Rattle.page_table.proofs.Sides.{order}
+use Rattle.page_table.proofs.Words.{unreserved_tenant, new_pass, Options, map-replicate, Entry, AreLimits, new_memory, TableState, contents_of, groups_of, own_pages, state_of, maps_of, view_of}
 use Rattle.page_table.proofs.Maps.{part-at}
 use Rattle.page_table.proofs.memory.Memory.without_maps.Goals as goal
 

@@ -1,5 +1,4 @@
-use Rattle.page_table.proofs.Base.{◌≡◌, ◌<◌, ◌++◌, ◌∷◌, [], length, take, drop, arith, nat_tests, filter-append, take_at, take_at}
-use Rattle.page_table.proofs.Words.{groups_in, times}
+use Rattle.page_table.proofs.Base.{arith, nat_tests, filter-append, take_at, take_at}
 use Rattle.std.proofs.Common.{length-set}
 use Rattle.page_table.proofs.Slots.{placed-pushed, full}
 use Rattle.page_table.proofs.order.GroupOrder.push.Goals as goal

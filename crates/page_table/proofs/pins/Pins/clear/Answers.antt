@@ -1,5 +1,5 @@
-use Rattle.page_table.proofs.Base.{◌≡◌, ◌∙◌, ◌*◌, ◌<◌, List, Bool, false, length, replicate, sym, ap, arith, nat_tests}
-use Rattle.page_table.proofs.Words.{with_part, length-with_part}
+use Rattle.page_table.proofs.Base.{arith, nat_tests}
+use Rattle.page_table.proofs.Words.{length-with_part}
 use Rattle.page_table.proofs.Filled.{pins-cleared, written-back}
 use Rattle.page_table.proofs.pins.Pins.clear.Goals as goal
 

@@ -1,4 +1,4 @@
-use Rattle.page_table.proofs.Base.{◌≡◌, ◌*◌, ℕ, false, replicate, rules, arith, nat_tests}
+use Rattle.page_table.proofs.Base.{arith, nat_tests}
 use Rattle.page_table.proofs.Filled.{pins-new}
 use Rattle.page_table.proofs.pins.Pins.new.Goals as goal
 

@@ -1,4 +1,4 @@
-use Rattle.page_table.proofs.Base.{◌≡◌, ◌∙◌, ◌*◌, ◌<◌, length, slice_index_or, sym, arith, get_or_default, nat_tests}
+use Rattle.page_table.proofs.Base.{arith, get_or_default, nat_tests}
 use Rattle.page_table.proofs.Filled.{pins-none}
 use Rattle.page_table.proofs.pins.Pins.release.Goals as goal
 
