@@ -1,6 +1,5 @@
-use Rattle.page_table.proofs.Base.{common_steps, arith, nat_tests}
+use Rattle.page_table.proofs.Base.{common_steps, arith}
 use Rattle.page_table.proofs.Changing.{own_seen}
-use Rattle.page_table.proofs.Words.{TableState}
 use Rattle.page_table.proofs.Moving.{IsMarking, contents-entry, sharing-marked, used-marked, sound-marked}
 use Rattle.page_table.proofs.table.Table.mark.Goals as goal
 

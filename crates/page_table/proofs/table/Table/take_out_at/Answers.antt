@@ -1,4 +1,4 @@
-use Rattle.page_table.proofs.Base.{◌∙◌, sym, arith, nat_tests}
+use Rattle.page_table.proofs.Base.{arith, nat_tests}
 use Rattle.page_table.proofs.Unmerging.{page_of_some, no_page, some_pass}
 use Rattle.page_table.proofs.table.Table.take_out_at.Goals as goal
 
