@@ -24,15 +24,8 @@ abbrev pub marked_entry : Entry → Status → ℕ → Entry
 marked_entry entry status last = record entry { status = status; last = Some last }
 
 -- the page at a place has its own frame, and so has one of the new status
-pub record IsMarking (table : TableState) (i : ℕ) (entry : Entry) (status : Status) : Type 0 where
-  pub is : IsTable table
-  pub here : entry_at table.entries i ≡ Some entry
-  pub own : is_shared entry.status ≡ false
-  pub own_new : is_shared status ≡ false
-
-module _ (table : TableState) (i : ℕ) (entry : Entry) (status : Status) (last : ℕ) (marking : IsMarking table i entry status) where
-  open marking use {is, here, own, own_new}
-
+module _ (table : TableState) (i : ℕ) (entry : Entry) (status : Status) (last : ℕ)
+    (is : IsTable table) (here : entry_at table.entries i ≡ Some entry) (own : is_shared entry.status ≡ false) (own_new : is_shared status ≡ false) where
   abbrev marks : Entry
   marks = marked_entry entry status last
 

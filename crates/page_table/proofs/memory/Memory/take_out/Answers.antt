@@ -54,15 +54,8 @@ returns c =
     record {
       frames = frames c;
       maps = moved.maps;
-      part = rw (← c.self.view_is)
-          (part_pinned c.self.inside.table c.take_out.new.self c.self.inside.shapes.items c.self.inside.tenants.items c.self.inside.pass (record c.self.inside.pass { pins = c.pin_if.new.self }) c.take_out.ensures.contents c.take_out.ensures.arena c.args.page.tenant);
-      others =
-          let there : IsPageOf (before c) c.args.page = rw (← c.self.view_is) at c.requires.there in
-          rw (← c.self.view_is)
-          (parts_but c.self.inside.table c.take_out.new.self c.self.inside.shapes.items c.self.inside.tenants.items c.self.inside.pass (record c.self.inside.pass { pins = c.pin_if.new.self }) c.take_out.ensures.contents c.take_out.ensures.arena c.args.page.tenant
-          (λ u ne. rw (pinned c)
-          (pinned-others c.self.inside.pass.pins c.pins-is_pinned.result c.args.page.tenant c.args.page.map c.args.page.number u
-          (map_small c.self.inside.table c.self.inside.shapes.items c.self.inside.tenants.items c.self.inside.pass c.self.inside.reserved c.self.invariant.0 c.args.page there) (number_small c.self.inside.table c.self.inside.shapes.items c.self.inside.tenants.items c.self.inside.pass c.self.inside.reserved c.self.invariant.0 c.args.page there) ne)));
+      part = grind (arith, part_pinned c.self.inside.table c.take_out.new.self c.self.inside.shapes.items c.self.inside.tenants.items c.self.inside.pass (record c.self.inside.pass { pins = c.pin_if.new.self }) c.take_out.ensures.contents c.take_out.ensures.arena c.args.page.tenant);
+      others = grind (arith, nat_tests, pinned c, parts_but c.self.inside.table c.take_out.new.self c.self.inside.shapes.items c.self.inside.tenants.items c.self.inside.pass (record c.self.inside.pass { pins = c.pin_if.new.self }) c.take_out.ensures.contents c.take_out.ensures.arena c.args.page.tenant, pinned-others, map_small, number_small);
       sharing = moved.sharing (λ (s : Sharing). broken_by (part c.args.self.now c.args.page.tenant).running s (page_place c.args.page))
           (rw (← c.self.view_is, pinned c)
           (sharing-taken c.self.inside.table c.take_out.new.self c.self.inside.pass (page_place c.args.page) (part (before c) c.args.page.tenant).running c.pins-is_pinned.result (pins c) (taken c)));
