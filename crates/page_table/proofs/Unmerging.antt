@@ -147,10 +147,6 @@ unfolding part_of
 pages-before xs slice run before i n f whole back front = grind (arith, whole, back, front)
 
 -- what n breaks take, and one more
-pub cost_from-none : (s : Sharing) (i : ℕ) → 0 ≡ cost_from s i 0
-unfolding cost_from
-cost_from-none s i = refl
-
 pub cost_from-more : (s : Sharing) (i n cost one : ℕ) → cost ≡ cost_from s i n → one ≡ break_cost (broken_from s i n) (i + n) → cost + one ≡ cost_from s i (n + 1)
 cost_from-more s i n cost one h1 h2 = grind (arith, nat_tests, cost_from-last s i n)
 
@@ -243,9 +239,6 @@ module _ (table : TableState) (is : IsTable table) where
   pub zeros-told : (pass : Pass) → pages_on 0 table.entries ≡ zero_pages (sharing_of table pass)
   unfolding zero_pages
   zeros-told pass = sym (zeros-frames table.entries zeros)
-
-  pub page_of_some : (i : ℕ) (x : Option Entry) → x ≡ entry_at table.entries i → is_some x ≡ true → IsPageAt table i
-  page_of_some i x h1 h2 = grind (arith, nat_tests, page_of_entry)
 
 -- the zero frame has one holder more than its pages
 pub zero-counted : (table : TableState) (counts : CountsState) (is : IsSound table counts) → (slice_index_or counts.counts 0 0 ≡ 1 + pages_on 0 table.entries) × (pages_on 0 table.entries ≤ 32768)
