@@ -1,5 +1,5 @@
 -- What makes a table sound again after the entry at one place changed, and perhaps the page of a frame or the groups.
-use Rattle.page_table.proofs.Base.{◌≡◌, ◌≢◌, ◌∙◌, ◌⊎◌, ℕ, ◌+◌, ◌<◌, ◌≤◌, false, length, slice_index_or, slice_set, Option, Some, None, IfSome, sym, ap, subst, arith, refl, List, ◌==◌, if◌then◌else◌, option_map, true, length-set, sum_by-set, nat_tests, get_or-set_same, set_past, get_or_past, get_or-set_other}
+use Rattle.page_table.proofs.Base.{◌≡◌, ◌≢◌, ◌∙◌, ◌⊎◌, ℕ, ◌+◌, ◌<◌, ◌≤◌, false, length, slice_index_or, slice_set, Option, Some, None, IfSome, sym, ap, subst, arith, refl, List, ◌==◌, option_map, length-set, sum_by-set, nat_tests}
 use Rattle.page_table.proofs.Words.{Status, is_shared, own_frame, zero_page, page_at, Entry, TableState, CountsState, IsTable, IsEntry, IsAlone, IsGroup, AreCountsOf, LiesRight, times, entry_at, is_on, pages_on, used_by, IsOwnAt, own_pages, state_of}
 use Rattle.page_table.proofs.Entries.{equal, inside, alone, at_set, one_when, on_one, pages_on-set}
 

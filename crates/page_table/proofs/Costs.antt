@@ -1,5 +1,5 @@
 -- What the break of a page costs, told by its group and by its frame.
-use Rattle.page_table.proofs.Base.{◌≡◌, ◌∙◌, ℕ, ◌+◌, ◌≤◌, nat_lt, Bool, slice_index_or, Option, Some, None, option_map, refl, ap, arith, ◌&&◌, List, nat_tests}
+use Rattle.page_table.proofs.Base.{◌≡◌, ◌∙◌, ℕ, ◌+◌, ◌≤◌, nat_lt, Bool, slice_index_or, Option, Some, option_map, ap, arith, ◌&&◌, List, nat_tests}
 use Rattle.page_table.proofs.Words.{Pass, Status, state_at, cost_of, break_cost, is_shared, Entry, TableState, CountsState, IsTable, IsSound, LiesRight, times, one_if_zero, entry_at, is_on, state_of, groups_of, sharing_of, pages_on, break_frames}
 use Rattle.page_table.proofs.Changing.{entry_fits}
 use Rattle.page_table.proofs.Entries.{one_when, equal, some_on, one_if_zero-above, told_at}
@@ -29,4 +29,3 @@ pub cost-counted : (table : TableState) (counts : CountsState) (i : ℕ) (entry 
     → break_frames table i ≡ one_when (entry.protected && nat_lt 1 (slice_index_or counts.counts entry.frame 0))
 unfolding break_frames
 cost-counted table counts i entry h1 h2 = grind (arith, nat_tests, entry_fits table i entry, shared-cost, nat_lt, lies-there)
-

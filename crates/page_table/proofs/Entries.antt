@@ -1,6 +1,6 @@
 -- Entries by place: what a change of one of them changes.
-use Rattle.page_table.proofs.Base.{◌≡◌, ◌≢◌, ◌∙◌, ⊎_elim, ℕ, zero, suc, ◌+◌, ◌<◌, ◌≤◌, ◌==◌, Bool, true, false, if◌then◌else◌, List, [], ◌∷◌, length, map, option_map, slice_set, Option, Some, None, refl, ap, arith, slice_index_or, get_or-set_same, get_or-set_other, length-set, map-set, sum_by-set, sum_by-cons, nat_tests, get_or_past, get_or-map}
-use Rattle.page_table.proofs.Words.{is_shared, PageState, page_at, Entry, times, entry_at, entry_content, is_on, places_on, pages_on, one_if_zero, TableState, IsTable, IsGroup, state_of, states_of}
+use Rattle.page_table.proofs.Base.{◌≡◌, ◌≢◌, ◌∙◌, ⊎_elim, ℕ, zero, suc, ◌+◌, ◌<◌, ◌≤◌, ◌==◌, Bool, true, false, if◌then◌else◌, List, [], ◌∷◌, length, map, option_map, slice_set, Option, Some, None, refl, ap, arith, slice_index_or, get_or-set_same, get_or-set_other, map-set, sum_by-set, sum_by-cons, nat_tests, get_or_past, get_or-map}
+use Rattle.page_table.proofs.Words.{is_shared, PageState, Entry, times, entry_at, entry_content, is_on, places_on, pages_on, one_if_zero, TableState, IsTable, IsGroup, state_of, states_of}
 
 abbrev pub one_when : Bool → ℕ
 one_when b = if b then 1 else 0

@@ -1,8 +1,8 @@
 -- A page keeps its frame or moves to a shared frame of the same bytes: pages are marked, move, and join groups; and two pages become a new last group.
-use Rattle.page_table.proofs.Base.{◌≡◌, ◌≢◌, ◌∙◌, ◌⊎◌, ℕ, zero, suc, ◌+◌, ◌-◌, ◌<◌, ◌≤◌, ◌==◌, true, false, List, [], ◌∷◌, ◌++◌, length, map, slice_index_or, slice_set, Option, Some, None, option_map, refl, sym, ap, subst, arith, get_or-set_other, length-set, set-get_or, sum_by-cons, length-append, map-append, nat_tests, eqb_tells}
-use Rattle.page_table.proofs.Words.{Pass, Status, Grouped, Zero, is_shared, with_status, with_page, joined_by, paired, zeroed, zero_page, page_at, Entry, TableState, CountsState, IsOwnAt, IsTable, IsEntry, IsAlone, IsGroup, IsSound, AreCountsOf, LiesRight, times, one_if_zero, entry_at, contents_of, groups_of, state_of, states_of, sharing_of, forgets, is_on, places_on, pages_on, used_by, joined_on, marked}
+use Rattle.page_table.proofs.Base.{◌≡◌, ◌≢◌, ◌∙◌, ◌⊎◌, ℕ, zero, suc, ◌+◌, ◌-◌, ◌<◌, ◌≤◌, ◌==◌, true, false, List, [], ◌∷◌, ◌++◌, length, map, slice_index_or, slice_set, Option, Some, None, option_map, refl, ap, arith, get_or-set_other, length-set, set-get_or, sum_by-cons, length-append, map-append, nat_tests}
+use Rattle.page_table.proofs.Words.{Pass, Status, Grouped, Zero, is_shared, with_status, with_page, joined_by, paired, zeroed, zero_page, page_at, Entry, TableState, CountsState, IsOwnAt, IsTable, IsEntry, IsAlone, IsGroup, IsSound, AreCountsOf, times, one_if_zero, entry_at, contents_of, groups_of, state_of, states_of, sharing_of, forgets, is_on, places_on, pages_on, used_by, joined_on, marked}
 use Rattle.page_table.proofs.Changing.{is_alone, entry_fits, table-set, table-changed, counted-changed, apart_alone, fits-after, own_seen, pages_on-changed, lies_alone, own_pages-set}
-use Rattle.page_table.proofs.Entries.{one_when, on_one, not_equal, equal, inside, alone, group_of, contents-set, places_on-set, groups-kept, groups-each, pages_on-cons, none_on, states-set, told_here, one_if_zero-above, counts-set}
+use Rattle.page_table.proofs.Entries.{one_when, on_one, equal, inside, alone, group_of, contents-set, places_on-set, groups-kept, groups-each, pages_on-cons, none_on, states-set, told_here, one_if_zero-above, counts-set}
 use Rattle.page_table.proofs.Putting.{content_at}
 use Rattle.page_table.proofs.Unused.{times-push}
 use Rattle.page_table.proofs.Waiters.{waiting-forgets}
@@ -24,15 +24,8 @@ abbrev pub marked_entry : Entry → Status → ℕ → Entry
 marked_entry entry status last = record entry { status = status; last = Some last }
 
 -- the page at a place has its own frame, and so has one of the new status
-pub record IsMarking (table : TableState) (i : ℕ) (entry : Entry) (status : Status) : Type 0 where
-  pub is : IsTable table
-  pub here : entry_at table.entries i ≡ Some entry
-  pub own : is_shared entry.status ≡ false
-  pub own_new : is_shared status ≡ false
-
-module _ (table : TableState) (i : ℕ) (entry : Entry) (status : Status) (last : ℕ) (marking : IsMarking table i entry status) where
-  open marking use {is, here, own, own_new}
-
+module _ (table : TableState) (i : ℕ) (entry : Entry) (status : Status) (last : ℕ)
+    (is : IsTable table) (here : entry_at table.entries i ≡ Some entry) (own : is_shared entry.status ≡ false) (own_new : is_shared status ≡ false) where
   abbrev marks : Entry
   marks = marked_entry entry status last
 

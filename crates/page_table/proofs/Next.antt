@@ -1,5 +1,5 @@
 -- The next page that may be merged: pages are passed over, and one is found.
-use Rattle.page_table.proofs.Base.{◌≡◌, ◌∙◌, inl, inr, ◌⊎◌, ℕ, zero, suc, ◌+◌, ◌-◌, ◌<◌, ◌≤◌, Bool, true, false, if◌then◌else◌, List, [], ◌∷◌, drop, length, slice_index_or, Option, Some, None, refl, sym, arith, get_or-drop, length-drop, nat_tests}
+use Rattle.page_table.proofs.Base.{◌≡◌, ℕ, zero, suc, ◌+◌, ◌-◌, ◌<◌, ◌≤◌, true, false, List, [], ◌∷◌, drop, length, slice_index_or, Option, Some, None, arith, get_or-drop, length-drop, nat_tests}
 use Rattle.page_table.proofs.Words.{PageState, is_mergeable, first_mergeable, next-after, next-none}
 use Rattle.page_table.proofs.Sides.{order}
 

@@ -1,12 +1,12 @@
 -- Waiting pages as callers see them.
-use Rattle.page_table.proofs.Base.{◌≡◌, ◌∙◌, ℕ, ◌+◌, ◌<◌, ◌≤◌, Bool, true, false, if◌then◌else◌, All, is_some, drop, slice_index_or, List, [], ◌∷◌, ◌++◌, length, map, find, Option, Some, None, IfSome, option_map, refl, sym, ap, subst, arith, All-nil, All-cons, bytes_eq-Decides, nat_tests}
-use Rattle.page_table.proofs.Words.{Page, Shape, Waiting, page_place, is_pinned, PageState, state_at, is_shared, contents_in, is_partner, is_mergeable, first_mergeable, look_from, moved_on, one_more, page_at, Waiter, is_match, Entry, Pass, Tenant, IsNotWaiting, MayMerge, TableState, IsTable, AreOthersKept, entry_at, waiting_of, states_of, state_of, sharing_of, view_of, IsMemory, IsPass, IsWaiter, AreWaiters, is_listed, is_behind}
+use Rattle.page_table.proofs.Base.{◌≡◌, ◌∙◌, ℕ, ◌+◌, ◌<◌, ◌≤◌, Bool, true, false, All, is_some, drop, slice_index_or, List, [], ◌∷◌, length, map, find, Option, Some, None, IfSome, option_map, refl, sym, arith, All-nil, All-cons, bytes_eq-Decides, nat_tests}
+use Rattle.page_table.proofs.Words.{Page, Shape, page_place, is_pinned, PageState, state_at, is_shared, contents_in, is_partner, is_mergeable, first_mergeable, look_from, moved_on, one_more, page_at, Waiter, is_match, Entry, Pass, Tenant, IsNotWaiting, MayMerge, TableState, IsTable, entry_at, waiting_of, states_of, sharing_of, view_of, IsMemory, IsPass, IsWaiter, AreWaiters, is_listed, is_behind}
 use Rattle.page_table.proofs.Changing.{entry_fits}
 use Rattle.page_table.proofs.Fitting.{not-pinned}
 use Rattle.page_table.proofs.Scanning.{frame_told}
 use Rattle.page_table.proofs.Costs.{state-at}
 use Rattle.page_table.proofs.Next.{next-is}
-use Rattle.page_table.proofs.Waiters.{waiters-few, waiters-kept, waiters-more, ahead-free, listed-told, pass-others}
+use Rattle.page_table.proofs.Waiters.{waiters-kept, ahead-free, listed-told}
 
 -- the frames of waiting pages are there
 pub waiters-frames : (table : TableState) (c : Option ℕ) (ws : List Waiter) → IsTable table → AreWaiters table.entries c ws → All (λ w. w.frame < length table.arena) ws

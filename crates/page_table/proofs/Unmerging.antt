@@ -1,12 +1,12 @@
 -- What the breaks of several pages take, each after the breaks before it, and what unmerging takes, told by the pages on the groups' frames.
-use Rattle.page_table.proofs.Base.{◌≡◌, ◌∙◌, ℕ, zero, suc, ◌+◌, ◌-◌, ◌<◌, ◌≤◌, ◌==◌, ◌&&◌, nat_lt, Bool, true, false, if◌then◌else◌, List, [], ◌∷◌, length, map, filter, sum_by, take, drop, slice_index_or, slice_set, Option, Some, None, option_map, unwrap_or, is_some, refl, sym, ap, subst, arith, list_any, get_or-set_other, length-set, length-map, get_or-drop, length-drop, sum_by_more, sum_by-cons, nat_tests, any-filter_same}
-use Rattle.page_table.proofs.Words.{Pass, Shape, part_of, Sharing, PageState, state_at, is_shared, is_shared_page, is_in_company, without, broken, broken_page, break_cost, broken_from, cost_from, cost_of, unmerged, members, zeros_at, zero_pages, unmerge_need, SharesNothing, Entry, Tenant, have_of, view_of, IsMemory, TableState, CountsState, IsTable, IsSound, IsGroup, IsPageAt, times, one_if_zero, entry_at, state_of, states_of, groups_of, sharing_of, used_by, new_pass, is_on, places_on, pages_on, shared_at}
+use Rattle.page_table.proofs.Base.{◌≡◌, ℕ, zero, suc, ◌+◌, ◌-◌, ◌<◌, ◌≤◌, ◌==◌, ◌&&◌, nat_lt, Bool, true, false, if◌then◌else◌, List, [], ◌∷◌, length, map, filter, sum_by, take, drop, slice_index_or, slice_set, Option, Some, None, option_map, is_some, refl, sym, arith, list_any, get_or-set_other, length-set, length-map, get_or-drop, length-drop, sum_by_more, sum_by-cons, nat_tests, any-filter_same}
+use Rattle.page_table.proofs.Words.{Pass, Shape, part_of, Sharing, state_at, is_shared, is_shared_page, is_in_company, without, broken, break_cost, broken_from, cost_from, unmerged, members, zeros_at, zero_pages, unmerge_need, SharesNothing, Entry, Tenant, have_of, view_of, IsMemory, TableState, CountsState, IsTable, IsSound, IsPageAt, times, one_if_zero, entry_at, state_of, states_of, groups_of, sharing_of, used_by, new_pass, is_on, places_on, pages_on, shared_at}
 use Rattle.host_types.proofs.Without as law_of_times
 use Rattle.host_types.proofs.Unmerging as law
 use Rattle.page_table.proofs.Changing.{entry_fits}
 use Rattle.page_table.proofs.Costs.{state-at, shared-cost}
 use Rattle.page_table.proofs.Creating.{length-states}
-use Rattle.page_table.proofs.Entries.{one_when, on_one, not_equal, equal, pages_on-set, some_on, places_on-set, groups-kept, groups-each, times-head, times-tail, times-cons, group_of}
+use Rattle.page_table.proofs.Entries.{one_when, on_one, not_equal, equal, pages_on-set, some_on, places_on-set, groups-kept, times-head, times-tail, times-cons, group_of}
 use Rattle.page_table.proofs.Free.{free_is}
 use Rattle.page_table.proofs.Groups.{has_company, company-places, length-places, without-here}
 use Rattle.page_table.proofs.Moving.{pages_on-le}
@@ -147,10 +147,6 @@ unfolding part_of
 pages-before xs slice run before i n f whole back front = grind (arith, whole, back, front)
 
 -- what n breaks take, and one more
-pub cost_from-none : (s : Sharing) (i : ℕ) → 0 ≡ cost_from s i 0
-unfolding cost_from
-cost_from-none s i = refl
-
 pub cost_from-more : (s : Sharing) (i n cost one : ℕ) → cost ≡ cost_from s i n → one ≡ break_cost (broken_from s i n) (i + n) → cost + one ≡ cost_from s i (n + 1)
 cost_from-more s i n cost one h1 h2 = grind (arith, nat_tests, cost_from-last s i n)
 
@@ -243,9 +239,6 @@ module _ (table : TableState) (is : IsTable table) where
   pub zeros-told : (pass : Pass) → pages_on 0 table.entries ≡ zero_pages (sharing_of table pass)
   unfolding zero_pages
   zeros-told pass = sym (zeros-frames table.entries zeros)
-
-  pub page_of_some : (i : ℕ) (x : Option Entry) → x ≡ entry_at table.entries i → is_some x ≡ true → IsPageAt table i
-  page_of_some i x h1 h2 = grind (arith, nat_tests, page_of_entry)
 
 -- the zero frame has one holder more than its pages
 pub zero-counted : (table : TableState) (counts : CountsState) (is : IsSound table counts) → (slice_index_or counts.counts 0 0 ≡ 1 + pages_on 0 table.entries) × (pages_on 0 table.entries ≤ 32768)

@@ -1,5 +1,5 @@
-use Rattle.page_table.proofs.Base.{length, ap, arith, refl, nat_tests}
-use Rattle.page_table.proofs.Words.{page_place, Sharing, changed, sharing_of, view_of}
+use Rattle.page_table.proofs.Base.{length, ap, arith, nat_tests}
+use Rattle.page_table.proofs.Words.{changed, sharing_of, view_of}
 use Rattle.page_table.proofs.Seen.{sees}
 use Rattle.page_table.proofs.Merging.{moves}
 use Rattle.page_table.proofs.Waiters.{pass-others}

@@ -1,5 +1,5 @@
-use Rattle.page_table.proofs.Base.{◌≡◌, ◌∙◌, ◌<◌, List, ℕ, true, false, find, Some, option_map, sym, ap, subst, arith, nat_tests}
-use Rattle.page_table.proofs.Words.{Page, page_place, page_bytes, page_at, Waiter, is_match, bytes_of_map, IsPageOf, IsNotWaiting, contents_now, partner_place, IsPageAt, view_of, is_listed}
+use Rattle.page_table.proofs.Base.{◌≡◌, ◌<◌, List, ℕ, find, option_map, arith, nat_tests}
+use Rattle.page_table.proofs.Words.{Page, page_place, Waiter, is_match, IsPageOf, contents_now, partner_place, view_of}
 use Rattle.page_table.proofs.Putting.{page_of_entry}
 use Rattle.page_table.proofs.Entries.{inside}
 use Rattle.page_table.proofs.Scanning.{bytes_here, frame_told, page_there}

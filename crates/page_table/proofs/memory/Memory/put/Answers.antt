@@ -1,6 +1,6 @@
-use Rattle.page_table.proofs.Base.{◌+◌, ◌*◌, ◌≤◌, length, arith, nat_tests}
-use Rattle.page_table.proofs.Words.{length-with_part, MemoryState, bytes_of_map, IsPageOf, view_of}
-use Rattle.page_table.proofs.Writing.{Writes, memory_written, writes}
+use Rattle.page_table.proofs.Base.{arith, nat_tests}
+use Rattle.page_table.proofs.Words.{length-with_part}
+use Rattle.page_table.proofs.Writing.{memory_written, writes}
 use Rattle.page_table.proofs.Seen.{sees}
 use Rattle.page_table.proofs.memory.Memory.put.Goals as goal
 

@@ -1,6 +1,6 @@
-use Rattle.page_table.proofs.Base.{◌≡◌, ◌∙◌, ◌≤◌, ◌+◌, ◌&&◌, ℕ, length, sym, ap, arith, nat_tests, get_or_past, length-map}
+use Rattle.page_table.proofs.Base.{◌≡◌, ◌≤◌, ◌+◌, ◌&&◌, length, arith, nat_tests, get_or_past, length-map}
 use Rattle.page_table.proofs.Creating.{length-contents}
-use Rattle.page_table.proofs.Words.{page_place, broken_by, state_at, is_shared_page, broken, break_cost, Sharing, MemoryState, part, IsPageOf, used_by, break_frames, sharing_of, view_of, IsPass}
+use Rattle.page_table.proofs.Words.{page_place, broken_by, state_at, is_shared_page, broken, break_cost, Sharing, MemoryState, part, IsPageOf, used_by, sharing_of, view_of, IsPass}
 use Rattle.page_table.proofs.Merging.{parts_but, part_pinned, map_small, number_small, cost_told, cost_reserved, own_told, moves}
 use Rattle.page_table.proofs.Fitting.{entries-long, pinned_if, sharing-taken, pins-taken}
 use Rattle.page_table.proofs.Unpinning.{pinned-others}
@@ -30,12 +30,9 @@ pins : (c : goal.After-pin_if) → c.pins-is_pinned.result ≡ ((part (before c)
 unfolding view_of
 pins c = rw (← c.self.view_is) at c.pins-is_pinned.ensures
 
-taken : (c : goal.After-pin_if) → sharing_of c.take_out.new.self c.self.inside.pass ≡ broken (sharing_of c.self.inside.table c.self.inside.pass) (page_place c.args.page)
-taken c = grind (arith, c.take_out.ensures.sharing c.self.inside.pass, c.place_of-place.ensures)
-
 pass : (c : goal.After-pin_if) → IsPass c.take_out.new.self (record c.self.inside.pass { pins = c.pin_if.new.self })
 pass c =
-    grind (arith, nat_tests, pinned c, pass-kept c.self.inside.table c.take_out.new.self c.self.inside.pass c.self.invariant.1, entries-long c.self.inside.table c.take_out.new.self c.take_out.ensures.contents, pins-taken c.self.inside.table c.take_out.new.self c.self.inside.pass (page_place c.args.page) (part (before c) c.args.page.tenant).running c.pins-is_pinned.result (pins c) (taken c) c.self.invariant.1.pins)
+    grind (arith, nat_tests, pinned c, pass-kept c.self.inside.table c.take_out.new.self c.self.inside.pass c.self.invariant.1, entries-long c.self.inside.table c.take_out.new.self c.take_out.ensures.contents, pins-taken c.self.inside.table c.take_out.new.self c.self.inside.pass (page_place c.args.page) (part (before c) c.args.page.tenant).running c.pins-is_pinned.result (pins c) (rw c.place_of-place.ensures at c.take_out.ensures.sharing c.self.inside.pass) c.self.invariant.1.pins)
 
 pub invariant_of-self : goal.invariant_of-self
 invariant_of-self c =
@@ -54,18 +51,11 @@ returns c =
     record {
       frames = frames c;
       maps = moved.maps;
-      part = rw (← c.self.view_is)
-          (part_pinned c.self.inside.table c.take_out.new.self c.self.inside.shapes.items c.self.inside.tenants.items c.self.inside.pass (record c.self.inside.pass { pins = c.pin_if.new.self }) c.take_out.ensures.contents c.take_out.ensures.arena c.args.page.tenant);
-      others =
-          let there : IsPageOf (before c) c.args.page = rw (← c.self.view_is) at c.requires.there in
-          rw (← c.self.view_is)
-          (parts_but c.self.inside.table c.take_out.new.self c.self.inside.shapes.items c.self.inside.tenants.items c.self.inside.pass (record c.self.inside.pass { pins = c.pin_if.new.self }) c.take_out.ensures.contents c.take_out.ensures.arena c.args.page.tenant
-          (λ u ne. rw (pinned c)
-          (pinned-others c.self.inside.pass.pins c.pins-is_pinned.result c.args.page.tenant c.args.page.map c.args.page.number u
-          (map_small c.self.inside.table c.self.inside.shapes.items c.self.inside.tenants.items c.self.inside.pass c.self.inside.reserved c.self.invariant.0 c.args.page there) (number_small c.self.inside.table c.self.inside.shapes.items c.self.inside.tenants.items c.self.inside.pass c.self.inside.reserved c.self.invariant.0 c.args.page there) ne)));
+      part = grind (arith, part_pinned c.self.inside.table c.take_out.new.self c.self.inside.shapes.items c.self.inside.tenants.items c.self.inside.pass (record c.self.inside.pass { pins = c.pin_if.new.self }) c.take_out.ensures.contents c.take_out.ensures.arena c.args.page.tenant);
+      others = grind (arith, nat_tests, pinned c, parts_but c.self.inside.table c.take_out.new.self c.self.inside.shapes.items c.self.inside.tenants.items c.self.inside.pass (record c.self.inside.pass { pins = c.pin_if.new.self }) c.take_out.ensures.contents c.take_out.ensures.arena c.args.page.tenant, pinned-others, map_small, number_small);
       sharing = moved.sharing (λ (s : Sharing). broken_by (part c.args.self.now c.args.page.tenant).running s (page_place c.args.page))
           (rw (← c.self.view_is, pinned c)
-          (sharing-taken c.self.inside.table c.take_out.new.self c.self.inside.pass (page_place c.args.page) (part (before c) c.args.page.tenant).running c.pins-is_pinned.result (pins c) (taken c)));
+          (sharing-taken c.self.inside.table c.take_out.new.self c.self.inside.pass (page_place c.args.page) (part (before c) c.args.page.tenant).running c.pins-is_pinned.result (pins c) (rw c.place_of-place.ensures at c.take_out.ensures.sharing c.self.inside.pass)));
       own = own_told c.take_out.new.self c.self.inside.shapes.items c.self.inside.tenants.items (record c.self.inside.pass { pins = c.pin_if.new.self }) c.args.page (rw c.place_of-place.ensures at c.take_out.ensures.own);
       free = omega (arith, moved.free);
       have = omega (arith, moved.have);

@@ -1,8 +1,7 @@
 use Rattle.page_table.proofs.Waiters.{waiters-few, pass-others, waiters-more}
-use Rattle.page_table.proofs.Base.{◌≡◌, ◌≤◌, IfSome, refl, length, ap, arith, nat_tests, map-append}
-use Rattle.page_table.proofs.Words.{Waiting, page_place, waits, MayMerge, HadFingerprint, sharing_of, view_of, Sharing}
+use Rattle.page_table.proofs.Base.{length, ap, arith, nat_tests, map-append}
+use Rattle.page_table.proofs.Words.{waits, sharing_of, view_of}
 use Rattle.page_table.proofs.Merging.{moves}
-use Rattle.page_table.proofs.Moving.{marked_entry}
 use Rattle.page_table.proofs.Partners.{is-behind, may-entry}
 use Rattle.page_table.proofs.Ahead.{ahead-told, stay-marked}
 use Rattle.page_table.proofs.Fitting.{entries-long}

@@ -1,6 +1,6 @@
 use Rattle.page_table.proofs.Ahead.{stay-set}
-use Rattle.page_table.proofs.Base.{◌∙◌, ap, arith, refl, nat_tests}
-use Rattle.page_table.proofs.Words.{page_place, Sharing, zeroed, WaitingList, sharing_of, view_of}
+use Rattle.page_table.proofs.Base.{arith, nat_tests}
+use Rattle.page_table.proofs.Words.{zeroed, view_of}
 use Rattle.page_table.proofs.Seen.{sees}
 use Rattle.page_table.proofs.Merging.{moves}
 use Rattle.page_table.proofs.Waiters.{pass-left}

@@ -1,7 +1,7 @@
-use Rattle.page_table.proofs.Base.{◌≡◌, ◌<◌, length, None, nat_tests, arith, common_steps, get_or-set_other}
-use Rattle.page_table.proofs.Words.{zero_page, TableState, entry_at}
+use Rattle.page_table.proofs.Base.{nat_tests, arith, common_steps, get_or-set_other}
+use Rattle.page_table.proofs.Words.{zero_page}
 use Rattle.std.proofs.Common.{length-set}
-use Rattle.page_table.proofs.Ending.{IsUnused, unused-frame, sound-added, states-added, groups-added, used-added, contents-filled, added_entry}
+use Rattle.page_table.proofs.Ending.{unused-frame, sound-added, states-added, groups-added, used-added, contents-filled, added_entry}
 use Rattle.page_table.proofs.Putting.{no_entry_of_content}
 use Rattle.page_table.proofs.Trees.{tree-set}
 use Rattle.page_table.proofs.table.Table.add.Goals as goal

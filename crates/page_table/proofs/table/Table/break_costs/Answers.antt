@@ -1,9 +1,11 @@
 use Rattle.page_table.proofs.Base.{arith, nat_tests}
-use Rattle.page_table.proofs.Unmerging.{cost_from-none, cost_from-more}
+use Rattle.page_table.proofs.Words.{cost_from}
+use Rattle.page_table.proofs.Unmerging.{cost_from-more}
 use Rattle.page_table.proofs.table.Table.break_costs.Goals as goal
 
 pub loop-number-init : goal.loop-number-init
-loop-number-init c = grind (arith, nat_tests, cost_from-none)
+unfolding cost_from
+loop-number-init c = grind arith
 
 pub loop-number-preserved : goal.loop-number-preserved
 loop-number-preserved c = grind (arith, nat_tests, cost_from-more)

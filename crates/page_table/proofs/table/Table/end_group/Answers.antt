@@ -1,6 +1,5 @@
-use Rattle.page_table.proofs.Base.{◌≡◌, ◌+◌, Some, ap, arith, common_steps, nat_tests, map-set_same}
-use Rattle.page_table.proofs.Words.{TableState, GroupsState, entry_at, pages_on, one_if_zero}
-use Rattle.page_table.proofs.Ending.{but, one_group, contents-ended, sharing-ended, used-ended, sound-ended}
+use Rattle.page_table.proofs.Base.{arith, common_steps, nat_tests, map-set_same}
+use Rattle.page_table.proofs.Ending.{one_group, contents-ended, sharing-ended, used-ended, sound-ended}
 use Rattle.page_table.proofs.Entries.{kept-shared}
 use Rattle.page_table.proofs.Trees.{filter-filter}
 use Rattle.page_table.proofs.table.Table.end_group.Goals as goal

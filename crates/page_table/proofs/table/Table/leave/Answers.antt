@@ -1,7 +1,7 @@
-use Rattle.page_table.proofs.Base.{◌≡◌, ◌<◌, ◌+◌, Some, arith, common_steps, nat_tests}
-use Rattle.page_table.proofs.Words.{page_at, TableState, entry_at, one_if_zero, pages_on}
+use Rattle.page_table.proofs.Base.{arith, common_steps, nat_tests}
+use Rattle.page_table.proofs.Words.{page_at}
 use Rattle.std.proofs.Common.{length-set}
-use Rattle.page_table.proofs.Ending.{IsUnused, unused-frame, contents-left, sharing-left, used-left, sound-left}
+use Rattle.page_table.proofs.Ending.{unused-frame, contents-left, sharing-left, used-left, sound-left}
 use Rattle.page_table.proofs.Entries.{kept-shared}
 use Rattle.page_table.proofs.Trees.{tree-set}
 use Rattle.page_table.proofs.table.Table.leave.Goals as goal

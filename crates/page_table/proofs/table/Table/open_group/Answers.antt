@@ -1,5 +1,5 @@
-use Rattle.page_table.proofs.Base.{◌∙◌, ℕ, nat_lt, List, [], find, slice_index_or, ap, arith, nat_tests}
-use Rattle.page_table.proofs.Words.{page_at, groups_at, CountedPages, TableState}
+use Rattle.page_table.proofs.Base.{[], arith, nat_tests}
+use Rattle.page_table.proofs.Words.{page_at, groups_at}
 use Rattle.page_table.proofs.Trees.{found-open}
 use Rattle.page_table.proofs.table.Table.open_group.Goals as goal
 

@@ -1,7 +1,6 @@
-use Rattle.page_table.proofs.Base.{◌≡◌, ◌∷◌, ◌++◌, [], arith, get_or-set_other, nat_tests, filter-append}
-use Rattle.page_table.proofs.Words.{TableState, IsAlone}
-use Rattle.page_table.proofs.Changing.{entry_fits, own_seen, own_alone}
-use Rattle.page_table.proofs.Moving.{IsPairing, pairing-from, contents-pair, used-pair, sound-pair, sharing-pair}
+use Rattle.page_table.proofs.Base.{arith, get_or-set_other, filter-append}
+use Rattle.page_table.proofs.Changing.{own_seen, own_alone}
+use Rattle.page_table.proofs.Moving.{pairing-from, contents-pair, used-pair, sound-pair, sharing-pair}
 use Rattle.page_table.proofs.Trees.{tree-absent, tree-room}
 use Rattle.page_table.proofs.table.Table.pair.Goals as goal
 

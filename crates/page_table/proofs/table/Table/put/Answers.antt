@@ -1,6 +1,6 @@
-use Rattle.page_table.proofs.Base.{◌≡◌, List, length, Some, ℕ, arith, nat_tests}
-use Rattle.page_table.proofs.Words.{with_part, page_at, length-with_part, TableState, IsAlone, entry_at}
-use Rattle.page_table.proofs.Changing.{entry_fits, own_seen, own_alone}
+use Rattle.page_table.proofs.Base.{arith, nat_tests}
+use Rattle.page_table.proofs.Words.{with_part, page_at, length-with_part}
+use Rattle.page_table.proofs.Changing.{own_seen, own_alone}
 use Rattle.page_table.proofs.Putting.{contents-put, sound-put, content_at}
 use Rattle.page_table.proofs.Trees.{tree-set}
 use Rattle.page_table.proofs.table.Table.put.Goals as goal

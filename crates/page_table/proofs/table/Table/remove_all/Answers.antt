@@ -1,4 +1,4 @@
-use Rattle.page_table.proofs.Base.{◌∙◌, inl, inr, ⊎_elim, List, [], ℕ, ◌+◌, slice_set, ap, arith, nat_tests}
+use Rattle.page_table.proofs.Base.{[], arith, nat_tests}
 use Rattle.page_table.proofs.Words.{gone_from, contents_of}
 use Rattle.page_table.proofs.Creating.{filled_more, with_part-none, length-contents, filled_at}
 use Rattle.page_table.proofs.Vacating.{gone-more}

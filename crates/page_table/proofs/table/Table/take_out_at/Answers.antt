@@ -1,9 +1,10 @@
-use Rattle.page_table.proofs.Base.{◌∙◌, sym, arith, nat_tests}
-use Rattle.page_table.proofs.Unmerging.{page_of_some, no_page, some_pass}
+use Rattle.page_table.proofs.Base.{arith, nat_tests}
+use Rattle.page_table.proofs.Putting.{page_of_entry}
+use Rattle.page_table.proofs.Unmerging.{no_page, some_pass}
 use Rattle.page_table.proofs.table.Table.take_out_at.Goals as goal
 
 pub take_out-requires : goal.take_out-requires
-take_out-requires c = grind (arith, nat_tests, page_of_some c.args.self.now (c.facts.ensures.1).fits c.args.place c.entry.result, c.costs_are_told.ensures some_pass c.args.place, c.requires.room some_pass)
+take_out-requires c = grind (arith, nat_tests, page_of_entry c.args.self.now c.args.place, c.costs_are_told.ensures some_pass c.args.place, c.requires.room some_pass)
 
 pub returns-else-is_some-clause-sharing : goal.returns-else-is_some-clause-sharing
 returns-else-is_some-clause-sharing c pass = grind (arith, nat_tests, no_page)

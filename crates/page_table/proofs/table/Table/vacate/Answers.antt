@@ -1,7 +1,5 @@
-use Rattle.page_table.proofs.Base.{◌≡◌, ◌+◌, ◌<◌, Some, true, arith, get_or-set_other, nat_tests, map-set}
-use Rattle.page_table.proofs.Words.{is_shared, TableState, entry_at, one_if_zero, pages_on, contents_of}
-use Rattle.page_table.proofs.Changing.{entry_fits}
-use Rattle.page_table.proofs.Entries.{inside}
+use Rattle.page_table.proofs.Base.{arith, get_or-set_other, nat_tests, map-set}
+use Rattle.page_table.proofs.Words.{contents_of}
 use Rattle.page_table.proofs.Vacating.{sharing-vacated, used-vacated, sound-vacated}
 use Rattle.page_table.proofs.table.Table.vacate.Goals as goal
 

@@ -1,6 +1,5 @@
-use Rattle.page_table.proofs.Base.{get_or-set_other, arith, nat_tests}
-use Rattle.page_table.proofs.Words.{TableState}
-use Rattle.page_table.proofs.Moving.{IsMove, few, contents-moved, used-moved, sound-moved, move-zeroed, sharing-zeroed}
+use Rattle.page_table.proofs.Base.{get_or-set_other, arith}
+use Rattle.page_table.proofs.Moving.{few, contents-moved, used-moved, sound-moved, move-zeroed, sharing-zeroed}
 use Rattle.page_table.proofs.table.Table.zero.Goals as goal
 
 pub share-requires-clause-few : goal.share-requires-clause-few

@@ -1,4 +1,4 @@
-use Rattle.page_table.proofs.Base.{arith, nat_tests}
+use Rattle.page_table.proofs.Base.{arith}
 use Rattle.page_table.proofs.Unmerging.{zero-counted}
 use Rattle.page_table.proofs.table.Table.zero_pages.Goals as goal
 
