@@ -240,10 +240,6 @@ module _ (table : TableState) (is : IsTable table) where
   unfolding zero_pages
   zeros-told pass = sym (zeros-frames table.entries zeros)
 
--- the zero frame has one holder more than its pages
-pub zero-counted : (table : TableState) (counts : CountsState) (is : IsSound table counts) → (slice_index_or counts.counts 0 0 ≡ 1 + pages_on 0 table.entries) × (pages_on 0 table.entries ≤ 32768)
-zero-counted table counts is = grind (arith, nat_tests, pages_on-le 0)
-
 -- a pass, where a law holds for any
 pub some_pass : Pass
 some_pass = new_pass 0 0 (record { pages_to_scan = 0; run = 0; use_zero_pages = 0; max_page_sharing = 0 })
