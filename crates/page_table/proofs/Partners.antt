@@ -1,6 +1,6 @@
 -- Waiting pages as callers see them.
-use Rattle.page_table.proofs.Base.{◌≡◌, ◌∙◌, ℕ, ◌+◌, ◌<◌, ◌≤◌, Bool, true, false, All, is_some, drop, slice_index_or, List, [], ◌∷◌, length, map, find, Option, Some, None, IfSome, option_map, refl, sym, arith, All-nil, All-cons, bytes_eq-Decides, nat_tests}
-use Rattle.page_table.proofs.Words.{Page, Shape, page_place, is_pinned, PageState, state_at, is_shared, contents_in, is_partner, is_mergeable, first_mergeable, look_from, moved_on, one_more, page_at, Waiter, is_match, Entry, Pass, Tenant, IsNotWaiting, MayMerge, TableState, IsTable, entry_at, waiting_of, states_of, sharing_of, view_of, IsMemory, IsPass, IsWaiter, AreWaiters, is_listed, is_behind}
+use Rattle.page_table.proofs.Base.{◌≡◌, ◌∙◌, ℕ, ◌+◌, ◌<◌, Bool, true, false, All, is_some, drop, slice_index_or, List, [], ◌∷◌, length, map, find, Option, Some, None, option_map, refl, sym, arith, All-nil, All-cons, nat_tests}
+use Rattle.page_table.proofs.Words.{Page, Shape, page_place, is_pinned, PageState, state_at, is_shared, contents_in, is_partner, is_mergeable, first_mergeable, look_from, moved_on, one_more, Waiter, is_match, Entry, Pass, Tenant, IsNotWaiting, MayMerge, TableState, IsTable, entry_at, waiting_of, states_of, sharing_of, view_of, IsMemory, IsPass, IsWaiter, AreWaiters, is_listed}
 use Rattle.page_table.proofs.Changing.{entry_fits}
 use Rattle.page_table.proofs.Fitting.{not-pinned}
 use Rattle.page_table.proofs.Scanning.{frame_told}
