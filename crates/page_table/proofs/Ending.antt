@@ -30,7 +30,7 @@ module _ (table : TableState) (i : ℕ) (x : Entry) (page : List ℕ) (is : IsTa
       contents-set table.arena (slice_set table.arena x.frame page) table.entries i (Some x) page (get_or-set_same table.arena x.frame page [] free.there)
       (λ j ne. entry_content-kept table.arena x.frame page (entry_at table.entries j) (none_on x.frame table.entries j free.empty))
 
-  -- the page before lay on no frame of a page that is alone, and each group still has pages
+  -- the table stays sound where the entry before lay on no other page's own frame, and each group still has pages
   IsTable-filled : i < length table.entries → length page ≡ 4096 → is_shared x.status ≡ false → x.protected ≡ false
       → ((j : ℕ) (y : Entry) → j ≢ i → entry_at table.entries j ≡ Some y → IsAlone table y.frame → on_one y.frame (entry_at table.entries i) ≡ 0)
       → ((g : ℕ) → IsGroup table g → 1 ≤ pages_on g (filled table i x page).entries) → IsTable (filled table i x page)

@@ -32,7 +32,7 @@ module _ (table new : TableState) (shapes : List (Option Shape)) (tenants : List
   unfolding view_of part
   part_pinned t = rw contents refl
 
-  -- the same of what callers saw before
+  -- what the change tells of a memory that callers saw before
   pub moves : (seen : MemoryState) → before ≡ seen → (taken given reserved : ℕ) → IsMemory table shapes tenants reserved → reserved + used_by new ≤ length table.arena
       → used_by new + given ≡ used_by table + taken → Moves seen after pass.pins now.pins (sharing_of table pass) (sharing_of new now) taken given
   unfolding view_of part
@@ -44,6 +44,7 @@ module _ (table : TableState) (shapes : List (Option Shape)) (tenants : List Ten
   unfolding view_of
   cost_told i = costs pass i
 
+  -- where the frames that a break takes may be had, there is room for it beside those reserved
   pub cost_reserved : (reserved i : ℕ) → IsMemory table shapes tenants reserved → break_cost (view_of table shapes tenants pass).sharing i ≤ have_of (view_of table shapes tenants pass)
       → reserved + (used_by table + break_frames table i) ≤ length table.arena
   unfolding view_of

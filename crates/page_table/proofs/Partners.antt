@@ -1,6 +1,6 @@
 -- Waiting pages as callers see them.
-use Rattle.page_table.proofs.Base.{◌≡◌, ◌∙◌, ℕ, ◌+◌, ◌<◌, ◌≤◌, Bool, true, false, All, is_some, drop, slice_index_or, List, [], ◌∷◌, length, map, find, Option, Some, None, IfSome, option_map, refl, sym, arith, All-nil, All-cons, bytes_eq-Decides, nat_tests}
-use Rattle.page_table.proofs.Words.{Page, Shape, page_place, is_pinned, PageState, state_at, is_shared, contents_in, is_partner, is_mergeable, first_mergeable, look_from, moved_on, one_more, page_at, Waiter, is_match, Entry, Pass, Tenant, IsNotWaiting, MayMerge, TableState, IsTable, entry_at, waiting_of, states_of, sharing_of, view_of, IsMemory, IsPass, IsWaiter, AreWaiters, is_listed, is_behind}
+use Rattle.page_table.proofs.Base.{◌≡◌, ◌∙◌, ℕ, ◌+◌, ◌<◌, Bool, true, false, All, is_some, drop, slice_index_or, List, [], ◌∷◌, length, map, find, Option, Some, None, option_map, refl, sym, arith, All-nil, All-cons, nat_tests}
+use Rattle.page_table.proofs.Words.{Page, Shape, page_place, is_pinned, PageState, state_at, is_shared, contents_in, is_partner, is_mergeable, first_mergeable, look_from, moved_on, one_more, Waiter, is_match, Entry, Pass, Tenant, IsNotWaiting, MayMerge, TableState, IsTable, entry_at, waiting_of, states_of, sharing_of, view_of, IsMemory, IsPass, IsWaiter, AreWaiters, is_listed}
 use Rattle.page_table.proofs.Changing.{entry_fits}
 use Rattle.page_table.proofs.Fitting.{not-pinned}
 use Rattle.page_table.proofs.Scanning.{frame_told}
@@ -37,9 +37,6 @@ module _ (table : TableState) (shapes : List (Option Shape)) (tenants : List Ten
   partners-told fingerprint bytes c [] are = refl
   partners-told fingerprint bytes c (w ∷ ws) are = grind (arith, partner-told fingerprint bytes c w are.0, partners-told fingerprint bytes c ws are.2)
 
-pub waiters-started : (entries : List (Option Entry)) (c : Option ℕ) (ws : List Waiter) → AreWaiters entries c ws → AreWaiters entries None ws
-waiters-started entries c ws are = grind (arith, nat_tests, waiters-kept entries entries c None ws)
-
 -- a visit goes past all that wait, and a pass begins without them
 pub advanced : (entries : List (Option Entry)) (pages : List (Option PageState)) (c : Option ℕ) (ws : List Waiter) (i : ℕ) → AreWaiters entries c ws
     → first_mergeable (look_from c) (drop (look_from c) pages) ≡ Some i → (c ≡ None → map waiting_of ws ≡ []) → AreWaiters entries (Some i) ws × (is_listed i ws ≡ false)
@@ -64,7 +61,7 @@ pub pass-on : (table : TableState) (pass : Pass) (i : ℕ) → IsPass table pass
 pass-on table pass i is are small = record { waiters = are; room = is.room; cursor = small; pins = is.pins }
 
 pub pass-ended : (table : TableState) (pass : Pass) (n : ℕ) → IsPass table pass → IsPass table (record pass { cursor = None; full_scans = n })
-pass-ended table pass n is = record { waiters = waiters-started table.entries pass.cursor pass.waiting.listed is.waiters; room = is.room; cursor = tt; pins = is.pins }
+pass-ended table pass n is = record { waiters = grind (arith, nat_tests, waiters-kept table.entries table.entries pass.cursor None pass.waiting.listed); room = is.room; cursor = tt; pins = is.pins }
 
 -- a page that doesn't wait, as callers see it
 pub not-waiting : (table : TableState) (shapes : List (Option Shape)) (tenants : List Tenant) (pass : Pass) (page : Page) → IsNotWaiting (view_of table shapes tenants pass) page → is_listed (page_place page) pass.waiting.listed ≡ false
@@ -74,9 +71,6 @@ not-waiting table shapes tenants pass page free = listed-told (page_place page) 
 pub waits-not : (table : TableState) (shapes : List (Option Shape)) (tenants : List Tenant) (pass : Pass) (page : Page) → is_listed (page_place page) pass.waiting.listed ≡ false → IsNotWaiting (view_of table shapes tenants pass) page
 unfolding view_of
 waits-not table shapes tenants pass page free = sym (listed-told (page_place page) pass.waiting.listed) ∙ free
-
-pub is-behind : (c : Option ℕ) (i : ℕ) → IfSome c (λ n. i ≤ n) → is_behind c i ≡ true
-is-behind c i h1 = grind (arith, nat_tests)
 
 -- a page with an entry that may be merged
 pub may-entry : (table : TableState) (shapes : List (Option Shape)) (tenants : List Tenant) (pass : Pass) (page : Page) (entry : Entry) → entry_at table.entries (page_place page) ≡ Some entry
@@ -94,10 +88,6 @@ may-told table shapes tenants pass page entry h1 h2 h3 h4 = grind (arith, nat_te
 pub may-free : (table : TableState) (shapes : List (Option Shape)) (tenants : List Tenant) (pass : Pass) (page : Page) → MayMerge (view_of table shapes tenants pass) page → slice_index_or pass.pins (page_place page) false ≡ false
 unfolding view_of
 may-free table shapes tenants pass page may = not-pinned pass.pins (page_place page) may.1
-
--- a match has the bytes
-pub match-bytes : (arena : List (List ℕ)) (fingerprint : ℕ) (bytes : List ℕ) (w : Waiter) → is_match arena fingerprint bytes w ≡ true → page_at arena w.frame ≡ bytes
-match-bytes arena fingerprint bytes w h = grind (arith, (bytes_eq-Decides (page_at arena w.frame) bytes).0)
 
 -- an entry of a page that may be merged
 pub entry-may : (table : TableState) (pass : Pass) (i : ℕ) → is_mergeable (state_at (sharing_of table pass) i) ≡ true → (entry : Entry) × (entry_at table.entries i ≡ Some entry)

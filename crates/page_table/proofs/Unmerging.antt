@@ -1,6 +1,6 @@
 -- What the breaks of several pages take, each after the breaks before it, and what unmerging takes, told by the pages on the groups' frames.
 use Rattle.page_table.proofs.Base.{◌≡◌, ℕ, zero, suc, ◌+◌, ◌-◌, ◌<◌, ◌≤◌, ◌==◌, ◌&&◌, nat_lt, Bool, true, false, if◌then◌else◌, List, [], ◌∷◌, length, map, filter, sum_by, take, drop, slice_index_or, slice_set, Option, Some, None, option_map, is_some, refl, sym, arith, list_any, get_or-set_other, length-set, length-map, get_or-drop, length-drop, sum_by_more, sum_by-cons, nat_tests, any-filter_same}
-use Rattle.page_table.proofs.Words.{Pass, Shape, part_of, Sharing, state_at, is_shared, is_shared_page, is_in_company, without, broken, break_cost, broken_from, cost_from, unmerged, members, zeros_at, zero_pages, unmerge_need, SharesNothing, Entry, Tenant, have_of, view_of, IsMemory, TableState, CountsState, IsTable, IsSound, IsPageAt, times, one_if_zero, entry_at, state_of, states_of, groups_of, sharing_of, used_by, new_pass, is_on, places_on, pages_on, shared_at}
+use Rattle.page_table.proofs.Words.{Pass, Shape, part_of, Sharing, state_at, is_shared, is_shared_page, is_in_company, without, broken, break_cost, broken_from, cost_from, unmerged, members, zeros_at, zero_pages, unmerge_need, SharesNothing, Entry, Tenant, have_of, view_of, IsMemory, TableState, CountsState, IsTable, IsSound, times, one_if_zero, entry_at, state_of, states_of, groups_of, sharing_of, used_by, new_pass, is_on, places_on, pages_on, shared_at}
 use Rattle.host_types.proofs.Without as law_of_times
 use Rattle.host_types.proofs.Unmerging as law
 use Rattle.page_table.proofs.Changing.{entry_fits}
@@ -9,8 +9,6 @@ use Rattle.page_table.proofs.Creating.{length-states}
 use Rattle.page_table.proofs.Entries.{one_when, on_one, not_equal, equal, pages_on-set, some_on, places_on-set, groups-kept, times-head, times-tail, times-cons, group_of}
 use Rattle.page_table.proofs.Free.{free_is}
 use Rattle.page_table.proofs.Groups.{has_company, company-places, length-places, without-here}
-use Rattle.page_table.proofs.Moving.{pages_on-le}
-use Rattle.page_table.proofs.Putting.{page_of_entry}
 
 -- the break of one page more
 broken_from-last : (s : Sharing) (i n : ℕ) → broken_from s i (suc n) ≡ broken (broken_from s i n) (i + n)
@@ -239,10 +237,6 @@ module _ (table : TableState) (is : IsTable table) where
   pub zeros-told : (pass : Pass) → pages_on 0 table.entries ≡ zero_pages (sharing_of table pass)
   unfolding zero_pages
   zeros-told pass = sym (zeros-frames table.entries zeros)
-
--- the zero frame has one holder more than its pages
-pub zero-counted : (table : TableState) (counts : CountsState) (is : IsSound table counts) → (slice_index_or counts.counts 0 0 ≡ 1 + pages_on 0 table.entries) × (pages_on 0 table.entries ≤ 32768)
-zero-counted table counts is = grind (arith, nat_tests, pages_on-le 0)
 
 -- a pass, where a law holds for any
 pub some_pass : Pass

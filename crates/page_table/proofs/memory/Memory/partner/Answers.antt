@@ -1,9 +1,9 @@
-use Rattle.page_table.proofs.Base.{◌≡◌, ◌<◌, List, ℕ, find, option_map, arith, nat_tests}
-use Rattle.page_table.proofs.Words.{Page, page_place, Waiter, is_match, IsPageOf, contents_now, partner_place, view_of}
+use Rattle.page_table.proofs.Base.{bytes_eq-Decides, ◌≡◌, ◌<◌, List, ℕ, find, option_map, arith, nat_tests}
+use Rattle.page_table.proofs.Words.{Page, page_place, Waiter, is_match, IsPageOf, contents_now, partner_place, view_of, page_at}
 use Rattle.page_table.proofs.Putting.{page_of_entry}
 use Rattle.page_table.proofs.Entries.{inside}
 use Rattle.page_table.proofs.Scanning.{bytes_here, frame_told, page_there}
-use Rattle.page_table.proofs.Partners.{IsFound, found-waiter, partners-told, waiters-frames, not-waiting, may-told, match-bytes}
+use Rattle.page_table.proofs.Partners.{IsFound, found-waiter, partners-told, waiters-frames, not-waiting, may-told}
 use Rattle.page_table.proofs.Waiters.{waiter_own}
 use Rattle.page_table.proofs.Fitting.{waiting-free}
 use Rattle.page_table.proofs.memory.Memory.partner.Goals as goal
@@ -43,7 +43,7 @@ pub returns-in-Some : goal.returns-in-Some
 returns-in-Some c =
     let d = (goal.at.returns-in-Some c).In-Some in
     let there = page_is_there d c.page_at.result c.page_at.ensures.place c.page_at.ensures.map c.page_at.ensures.number in
-    grind (arith, nat_tests, partners d.before, found d, there, may-told c.self.inside.table c.self.inside.shapes.items c.self.inside.tenants.items c.self.inside.pass c.page_at.result, waiter_own, waiting-free, not-waiting, bytes_here c.self.inside.table c.self.inside.shapes.items c.self.inside.tenants.items c.self.inside.pass c.self.inside.reserved c.self.invariant.0 c.page_at.result there, bytes_here c.self.inside.table c.self.inside.shapes.items c.self.inside.tenants.items c.self.inside.pass c.self.inside.reserved c.self.invariant.0 c.args.page, frame_told c.self.inside.table c.self.inside.shapes.items c.self.inside.tenants.items c.self.inside.pass c.self.inside.reserved c.self.invariant.0 c.in-Some.waiter.place, match-bytes c.self.inside.table.arena c.args.fingerprint (bytes d.before) c.in-Some.waiter (found d).passes)
+    grind (arith, nat_tests, partners d.before, found d, there, may-told c.self.inside.table c.self.inside.shapes.items c.self.inside.tenants.items c.self.inside.pass c.page_at.result, waiter_own, waiting-free, not-waiting, bytes_here c.self.inside.table c.self.inside.shapes.items c.self.inside.tenants.items c.self.inside.pass c.self.inside.reserved c.self.invariant.0 c.page_at.result there, bytes_here c.self.inside.table c.self.inside.shapes.items c.self.inside.tenants.items c.self.inside.pass c.self.inside.reserved c.self.invariant.0 c.args.page, frame_told c.self.inside.table c.self.inside.shapes.items c.self.inside.tenants.items c.self.inside.pass c.self.inside.reserved c.self.invariant.0 c.in-Some.waiter.place, (bytes_eq-Decides (page_at c.self.inside.table.arena c.in-Some.waiter.frame) (bytes d.before)).0)
 
 pub returns-in-None-clause-found : goal.returns-in-None-clause-found
 returns-in-None-clause-found c = grind (arith, nat_tests, partners)

@@ -2,7 +2,7 @@ use Rattle.page_table.proofs.Waiters.{waiters-few, pass-others, waiters-more}
 use Rattle.page_table.proofs.Base.{length, ap, arith, nat_tests, map-append}
 use Rattle.page_table.proofs.Words.{waits, sharing_of, view_of}
 use Rattle.page_table.proofs.Merging.{moves}
-use Rattle.page_table.proofs.Partners.{is-behind, may-entry}
+use Rattle.page_table.proofs.Partners.{may-entry}
 use Rattle.page_table.proofs.Ahead.{ahead-told, stay-marked}
 use Rattle.page_table.proofs.Fitting.{entries-long}
 use Rattle.page_table.proofs.Seen.{sees}
@@ -23,7 +23,7 @@ insert-requires c =
 pub invariant_of-self : goal.invariant_of-self
 unfolding view_of
 invariant_of-self c =
-    grind (arith, nat_tests, sees c.self.inside.table c.self.inside.shapes.items c.self.inside.tenants.items c.self.inside.pass c.self.inside.reserved c.self.invariant.0 c.args.self.now c.self.view_is c.args.page c.place_of-place.result c.place_of-place.ensures, pass-others, waiters-more, entries-long c.self.inside.table c.mark.new.self c.mark.ensures.contents, may-entry c.self.inside.table c.self.inside.shapes.items c.self.inside.tenants.items c.self.inside.pass c.args.page c.page-frame.result, is-behind, ahead-told c.self.inside.table c.mark.new.self c.self.inside.pass, stay-marked (sharing_of c.self.inside.table c.self.inside.pass) c.place_of-place.result)
+    grind (arith, nat_tests, sees c.self.inside.table c.self.inside.shapes.items c.self.inside.tenants.items c.self.inside.pass c.self.inside.reserved c.self.invariant.0 c.args.self.now c.self.view_is c.args.page c.place_of-place.result c.place_of-place.ensures, pass-others, waiters-more, entries-long c.self.inside.table c.mark.new.self c.mark.ensures.contents, may-entry c.self.inside.table c.self.inside.shapes.items c.self.inside.tenants.items c.self.inside.pass c.args.page c.page-frame.result, ahead-told c.self.inside.table c.mark.new.self c.self.inside.pass, stay-marked (sharing_of c.self.inside.table c.self.inside.pass) c.place_of-place.result)
 
 pub returns : goal.returns
 unfolding view_of waits
