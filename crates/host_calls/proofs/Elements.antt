@@ -8,7 +8,7 @@ use Rattle.host_types.specs.Helpers.{element_at}
 use Rattle.host_types.specs.Memory.{FlatMap}
 use Rattle.host_types.specs.Tenant.{IsFlatMap}
 use Rattle.page_table.specs.State.{MemoryState, part}
-use Rattle.page_table.proofs.Shapes.{length-part}
+use Rattle.page_table.proofs.Recording.{length-part}
 
 -- a tenant is there just where the memory has it
 module _ (memory : MemoryState) (t : ℕ) (all : length memory.maps ≡ length memory.tenants * 8) where

@@ -1,8 +1,7 @@
 -- Unless a pass begins, a page behind the cursor may be merged: what keeps that.
 use Rattle.page_table.proofs.Base.{◌≡◌, ℕ, zero, suc, ◌+◌, ◌-◌, true, false, List, [], ◌∷◌, drop, slice_index_or, slice_set, Option, Some, None, IsSome, IfSome, is_some, option_map, refl, arith, get_or-drop, get_or-set_other, get_or-set_same, set_past, get_or_past, nat_tests}
 use Rattle.page_table.proofs.Words.{Status, Sharing, PageState, broken_page, broken, broken_from, is_mergeable, first_mergeable, with_page, Entry, Pass, TableState, entry_at, state_of, states_of, sharing_of, marked, IsAhead}
-use Rattle.page_table.proofs.Next.{next-is}
-use Rattle.page_table.proofs.Partners.{entry-may}
+use Rattle.page_table.proofs.Partners.{entry-may, next-is}
 use Rattle.page_table.proofs.Entries.{told_at}
 
 -- what may be merged stays so

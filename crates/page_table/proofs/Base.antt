@@ -1,4 +1,6 @@
 -- The standard library's words and lemmas that the proofs of this crate use.
+
+
 pub use Rattle.std.proofs.Common.{◌≡◌, ◌≢◌, ◌∙◌, ⊎_elim, ℕ, zero, suc, ◌+◌, ◌<◌, ◌≤◌, ◌==◌, Bool, false, if◌then◌else◌, List, [], ◌∷◌, length, slice_index_or, slice_set, Some, None, option_map, refl, sym, ap, subst, arith, ◌-◌, true, drop, Option, IsSome, IfSome, is_some, ◌&&◌, nat_lt, map, filter, take, unwrap_or, ◌⊎◌, inl, inr, not, sum_by, ◌*◌, ◌++◌, replicate, append_assoc, nat_le, IsSomeAnd, ◌↔◌, ◌/◌, ◌%◌, All, AllPairs, bytes_eq, find, is_none, position, min, ◌||◌, vec_capacity, rules, MatchOption}
 pub use Rattle.std.proofs.Math.ListN.{get_or-map}
 pub use Rattle.std.proofs.Math.Seq.{map-set_same, take-append_seam, take-set-lt, take-append-add}
@@ -16,3 +18,11 @@ pub use Rattle.std.proofs.lemmas.Slice.Eq.{bytes_eq-Decides}
 pub use Rattle.std.specs.List.{list_any, range_with_len, concat, position_or_len}
 pub use Rattle.std.specs.Ordering.{is_eq}
 pub use Rattle.std.specs.declared.cmp.Ordering.TheVariants.{Less}
+
+-- ---- Which of two numbers is the greater one
+
+pub order : (a b : ℕ) → (a < b) ⊎ (b ≤ a)
+order a b = grind arith
+
+pub is_same : (a b : ℕ) → (a ≡ b) ⊎ (a ≢ b)
+is_same a b = grind arith

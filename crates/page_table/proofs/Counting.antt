@@ -1,7 +1,8 @@
 -- A list that has each frame of count 0 once is as long as there are such frames.
-use Rattle.page_table.proofs.Base.{◌≡◌, ◌∙◌, ℕ, zero, suc, ◌+◌, ◌-◌, ◌<◌, ◌≤◌, Bool, not, List, [], ◌∷◌, length, sum_by, filter, slice_index_or, Option, Some, None, refl, sym, arith, list_any, range_with_len, sum_by-cons, nat_tests, get_or_past}
-use Rattle.page_table.proofs.Words.{Entry, AreCounts, times, one_if_zero, frames_of, pages_on, is_frame}
-use Rattle.page_table.proofs.Entries.{one_when, times-head, times-tail, one_if_zero-above, times-cons, pages_on-cons}
+use Rattle.page_table.proofs.Base.{◌≡◌, ◌∙◌, ℕ, zero, suc, ◌+◌, ◌-◌, ◌<◌, ◌≤◌, Bool, not, List, [], ◌∷◌, length, sum_by, filter, slice_index_or, Option, Some, None, refl, sym, arith, list_any, range_with_len, sum_by-cons, nat_tests, get_or_past, ◌==◌, ◌&&◌, nat_lt, ◌++◌, sum_by_push, replicate, map, length-map}
+use Rattle.page_table.proofs.Words.{Entry, AreCounts, times, one_if_zero, frames_of, pages_on, is_frame, group_contents, unshared_at, volatile_at, PageState, Shape, group_bytes, page_at, Pass, Tenant, contents_now, TableState, IsTable, states_of, groups_of, places_on, IsTally, shared_at, view_of, IsMemory}
+use Rattle.page_table.proofs.Entries.{one_when, times-head, times-tail, one_if_zero-above, times-cons, pages_on-cons, equal}
+use Rattle.page_table.proofs.Scanning.{bytes-of_group}
 
 -- a number isn't among those above it
 range-below : (f a n : ℕ) → f < a → times f (range_with_len a n) ≡ 0
@@ -57,3 +58,53 @@ unfolding pages_on
 empty-frame f [] = refl
 empty-frame f (None ∷ xs) = grind (arith, pages_on-cons f None xs, empty-frame f xs)
 empty-frame f (Some entry ∷ xs) = grind (arith, pages_on-cons f (Some entry) xs, empty-frame f xs, one_if_zero-above (pages_on f (Some entry ∷ xs)))
+
+-- ---- Counts of frames, and the list of the unused ones
+
+-- a number occurs once more after it is pushed
+pub times-push : (g f : ℕ) (xs : List ℕ) → times g (xs ++ f ∷ []) ≡ times g xs + one_when (f == g)
+times-push g f xs = sum_by_push (λ (x : ℕ). one_when (x == g)) xs f
+
+-- the frame at the end of the unused ones is there, and nobody holds it
+pub popped : (counts unused rest : List ℕ) (f : ℕ) → AreCounts (record { counts = counts; unused = unused }) → unused ≡ rest ++ f ∷ []
+    → (f < length counts) × (slice_index_or counts f 1 ≡ 0)
+popped counts unused rest f h1 h2 = grind (arith, nat_tests, times-push f f rest, equal f, get_or_past)
+
+-- a number of a range that begins with 1
+abbrev pub is_between : ℕ → ℕ → Bool
+is_between end f = nat_lt 0 f && nat_lt f end
+
+-- ---- What is counted of pages, and the contents of the groups
+
+pub unshared-one : (x : Option PageState) → unshared_at x ≤ 1
+unshared-one x = grind arith
+
+pub volatile-one : (x : Option PageState) → volatile_at x ≤ 1
+volatile-one x = grind arith
+
+pub shared-one : (x : Option PageState) → shared_at x ≤ 1
+shared-one x = grind arith
+
+-- without pages nothing is counted
+pub counted-none : (places : ℕ) → IsTally (record { unshared = 0; volatile = 0; shared = 0 }) (states_of (replicate places None))
+counted-none places = record { waiting = none unshared_at refl places; changed = none volatile_at refl places; shared = none shared_at refl places }
+  where
+    none : (f : Option PageState → ℕ) → f None ≡ 0 → (n : ℕ) → 0 ≡ sum_by f (states_of (replicate n None))
+    none f e zero = refl
+    none f e (suc n) = grind (arith, sum_by-cons f None (states_of (replicate n None)), none f e n)
+
+-- as many groups as frames of groups
+pub groups_told : (table : TableState) → length (groups_of table) ≡ length table.groups
+unfolding groups_of
+groups_told table = length-map table.groups (λ f. places_on 0 f table.entries)
+
+-- the bytes of the groups' pages are those of their frames
+pub contents-told : (table : TableState) (shapes : List (Option Shape)) (tenants : List Tenant) (pass : Pass) (reserved : ℕ) (is : IsMemory table shapes tenants reserved) (fits : IsTable table)
+    → group_contents (contents_now (view_of table shapes tenants pass)) (view_of table shapes tenants pass).sharing ≡ map (page_at table.arena) table.groups
+unfolding view_of group_contents groups_of
+contents-told table shapes tenants pass reserved is fits = by_groups table.groups (bytes-of_group table shapes tenants pass reserved is fits)
+  where
+    by_groups : (gs : List ℕ) → ((g : ℕ) → 1 ≤ times g gs → group_bytes (contents_now (view_of table shapes tenants pass)) (places_on 0 g table.entries) ≡ page_at table.arena g)
+        → map (group_bytes (contents_now (view_of table shapes tenants pass))) (map (λ f. places_on 0 f table.entries) gs) ≡ map (page_at table.arena) gs
+    by_groups [] h = refl
+    by_groups (g ∷ gs) h = grind (arith, h g (times-head g gs), by_groups gs, times-tail)

@@ -4,8 +4,8 @@ use Rattle.page_table.proofs.Words.{Pass, Shape, part_of, with_part, map_at, map
 use Rattle.std.proofs.Common.{length-set}
 use Rattle.page_table.proofs.Maps.{map_at-maps_of, part-at, written-at, part-kept, lies-apart}
 use Rattle.page_table.proofs.Reading.{content_in, few_pages, map_at-part}
+use Rattle.page_table.proofs.Entries.{free_is}
 use Rattle.page_table.proofs.Writing.{OneMap, memory_changed, one_map}
-use Rattle.page_table.proofs.Free.{free_is}
 
 pub with_part-none : {X : Type 0} (xs : List X) (at : ℕ) → xs ≡ with_part xs at []
 unfolding with_part

@@ -1,17 +1,14 @@
 -- What a memory tells of a map that was taken away.
-use Rattle.page_table.proofs.Base.{◌≡◌, ◌∙◌, ℕ, zero, suc, ◌+◌, ◌-◌, ◌*◌, ◌<◌, ◌≤◌, ◌&&◌, nat_le, nat_lt, not, Bool, false, List, [], ◌∷◌, length, map, filter, replicate, slice_index_or, slice_set, Option, Some, None, option_map, refl, ap, arith, length-map, length-replicate, ext_get_or, nat_tests}
+use Rattle.page_table.proofs.Base.{◌≡◌, ◌∙◌, ℕ, zero, suc, ◌+◌, ◌-◌, ◌*◌, ◌<◌, ◌≤◌, ◌&&◌, nat_le, nat_lt, not, Bool, false, List, [], ◌∷◌, length, map, filter, replicate, slice_index_or, slice_set, Option, Some, None, option_map, refl, ap, arith, length-map, length-replicate, ext_get_or, nat_tests, order}
 use Rattle.page_table.proofs.Words.{Pass, Shape, part_of, with_part, FlatMap, map_at, map_place, PinsFit, Sharing, is_shared, broken, gone, gone_from, part_dropped, waiting_outside, ended_at, dropped, moved_on, length-with_part, Waiter, Tenant, page_count, MemoryState, part, free_of, have_of, IsKeptBut, AreMapsKeptBut, KeepsSettings, TableState, IsTable, AreOwnKeptOutside, ArePagesOf, IsPageAt, state_of, states_of, contents_of, sharing_of, waiting_of, used_by, view_of, is_listed, AreWaiters, IsMemory, IsPass}
-use Rattle.page_table.proofs.Sides.{order}
 use Rattle.page_table.proofs.Creating.{filled_more, with_part-none, length-contents, filled_at, read_refilled, wide_refilled, memory_refilled, one_refilled}
-use Rattle.page_table.proofs.Costs.{state-at}
-use Rattle.page_table.proofs.Fitting.{pins-kept}
-use Rattle.page_table.proofs.Free.{free_is}
 use Rattle.page_table.proofs.Reading.{content_in, few_pages, map_at-part, map_at-past}
-use Rattle.page_table.proofs.Waiters.{waiter-kept}
+use Rattle.page_table.proofs.Waiters.{waiter-kept, pins-kept}
 use Rattle.page_table.proofs.Writing.{OneMap}
 use Rattle.page_table.proofs.Unpinning.{fit-fewer, outside-pinned, others-unpinned, tenant-unpinned, pins-inside}
 use Rattle.page_table.proofs.Vacating.{gone_from-last}
 use Rattle.page_table.proofs.Putting.{page_of_entry}
+use Rattle.page_table.proofs.Entries.{free_is, state-at}
 use Rattle.page_table.proofs.Maps.{map_at-maps_of}
 
 -- the waiting pages outside some places

@@ -1,6 +1,6 @@
 -- Entries by place: what a change of one of them changes.
-use Rattle.page_table.proofs.Base.{◌≡◌, ◌≢◌, ◌∙◌, ⊎_elim, ℕ, zero, suc, ◌+◌, ◌<◌, ◌≤◌, ◌==◌, Bool, true, false, if◌then◌else◌, List, [], ◌∷◌, length, map, option_map, slice_set, Option, Some, None, refl, ap, arith, slice_index_or, get_or-set_same, get_or-set_other, map-set, sum_by-set, sum_by-cons, nat_tests, get_or_past, get_or-map}
-use Rattle.page_table.proofs.Words.{is_shared, PageState, Entry, times, entry_at, entry_content, is_on, places_on, pages_on, one_if_zero, TableState, IsTable, IsGroup, state_of, states_of}
+use Rattle.page_table.proofs.Base.{◌≡◌, ◌≢◌, ◌∙◌, ⊎_elim, ℕ, zero, suc, ◌+◌, ◌<◌, ◌≤◌, ◌==◌, Bool, true, false, if◌then◌else◌, List, [], ◌∷◌, length, map, option_map, slice_set, Option, Some, None, refl, ap, arith, slice_index_or, get_or-set_same, get_or-set_other, map-set, sum_by-set, sum_by-cons, nat_tests, get_or_past, get_or-map, ◌⊎◌, IfSome, sym, subst, length-set, ◌&&◌, nat_lt, list_any, sum_by, length-map}
+use Rattle.page_table.proofs.Words.{is_shared, PageState, Entry, times, entry_at, entry_content, is_on, places_on, pages_on, one_if_zero, TableState, IsTable, IsGroup, state_of, states_of, Status, own_frame, zero_page, page_at, CountsState, IsEntry, IsAlone, AreCountsOf, LiesRight, used_by, IsOwnAt, own_pages, is_among, without, Pass, Shape, frames_free, Tenant, free_of, groups_of, view_of, state_at, cost_of, break_cost, IsSound, sharing_of, break_frames}
 
 abbrev pub one_when : Bool → ℕ
 one_when b = if b then 1 else 0
@@ -142,3 +142,202 @@ groups-kept old new groups h = groups-each (λ g. places_on 0 g new) (λ g. plac
 pub kept-shared : (xs : List (Option Entry)) (i : ℕ) (old : Entry) (x : Option Entry) → entry_at xs i ≡ Some old → is_shared old.status ≡ true
     → (j : ℕ) (entry : Entry) → entry_at xs j ≡ Some entry → is_shared entry.status ≡ false → entry_at (slice_set xs i x) j ≡ Some entry
 kept-shared xs i old x here shared j entry e own = grind (arith, get_or-set_other xs i j x None)
+
+-- ---- A page on a frame
+
+pub page-on : (f : ℕ) (xs : List (Option Entry)) → 1 ≤ pages_on f xs → (i : ℕ) × (is_on f (entry_at xs i) ≡ true)
+unfolding pages_on
+page-on f [] h = absurd (omega arith)
+page-on f (x ∷ xs) h = by_head (is_on f x) refl (page-on f xs)
+  where
+    by_head : (b : Bool) → is_on f x ≡ b → (1 ≤ pages_on f xs → (i : ℕ) × (is_on f (entry_at xs i) ≡ true)) → (i : ℕ) × (is_on f (entry_at (x ∷ xs) i) ≡ true)
+    by_head true e rest = (0, e)
+    by_head false e rest = let found = rest (grind (arith, sum_by-cons (on_one f) x xs)) in (suc found.0, found.1)
+
+-- ---- What makes a table sound again after the entry at one place changed, and perhaps the page of a frame or the groups
+
+-- one where the page has a frame of its own
+abbrev pub own_one : Option Entry → ℕ
+own_one x = own_frame (option_map state_of x)
+
+pub own_pages-set : (xs : List (Option Entry)) (i : ℕ) (x : Option Entry) → i < length xs
+    → own_pages (slice_set xs i x) + own_one (entry_at xs i) ≡ own_pages xs + own_one x
+unfolding own_pages
+own_pages-set xs i x h = sum_by-set own_one xs i x None h
+
+-- the pages on a frame, where the entry at one place changed
+pub pages_on-changed : (xs : List (Option Entry)) (i : ℕ) (entry : Entry) (x : Option Entry) → entry_at xs i ≡ Some entry
+    → (g : ℕ) → pages_on g (slice_set xs i x) + one_when (entry.frame == g) ≡ pages_on g xs + on_one g x
+pages_on-changed xs i entry x here g = let was = ap (on_one g) here in omega (arith, pages_on-set g xs i x (inside xs i entry here), was)
+
+-- a page that isn't shared is alone on its frame
+pub is_alone : (table : TableState) (entry : Entry) → IsEntry table entry → is_shared entry.status ≡ false → IsAlone table entry.frame
+is_alone table entry is own = grind (arith, nat_tests, own)
+
+-- and one that isn't shared lies right where it is alone
+pub lies_alone : (table : TableState) (f : ℕ) (status : Status) → is_shared status ≡ false → IsAlone table f → LiesRight table f status
+lies_alone table f status h1 h2 = grind (arith, nat_tests)
+
+-- the entry at a place fits
+pub entry_fits : (table : TableState) (i : ℕ) (entry : Entry) → IsTable table → entry_at table.entries i ≡ Some entry → IsEntry table entry
+entry_fits table i entry is e = subst (λ (x : Option Entry). IfSome x (IsEntry table)) e (is.entries i)
+
+-- a page with a frame of its own
+pub record IsOwnEntry (table : TableState) (i : ℕ) (entry : Entry) : Type 0 where
+  pub here : entry_at table.entries i ≡ Some entry
+  pub own : is_shared entry.status ≡ false
+
+-- told of the table as callers see it
+pub own_seen : (table now : TableState) → table ≡ now → (i : ℕ) (entry : Entry) → entry_at now.entries i ≡ Some entry → IsOwnAt now i → IsOwnEntry table i entry
+own_seen table now same i entry there own = grind (arith, nat_tests)
+
+-- it is alone there
+pub own_alone : (table : TableState) (i : ℕ) (entry : Entry) → IsTable table → IsOwnEntry table i entry → IsAlone table entry.frame
+own_alone table i entry is own = is_alone table entry (entry_fits table i entry is own.here) own.own
+
+-- an entry fits another table too, where a page that is alone stays alone
+pub fits-after : (old new : TableState) (entry : Entry) → length new.arena ≡ length old.arena
+    → (IsAlone old entry.frame → IsAlone new entry.frame)
+    → (times entry.frame old.groups ≡ 1 → times entry.frame new.groups ≡ 1)
+    → IsEntry old entry → IsEntry new entry
+fits-after old new entry long lone grouped is = grind (arith, nat_tests)
+
+-- a page that is alone lies on no other page's frame
+pub apart_alone : (table : TableState) (i j : ℕ) (x y : Entry) → entry_at table.entries i ≡ Some x → entry_at table.entries j ≡ Some y → j ≢ i → pages_on y.frame table.entries ≡ 1
+    → y.frame ≢ x.frame
+apart_alone table i j x y here there ne one same =
+    let off = alone y.frame table.entries j i (inside table.entries j y there) one (ap (is_on y.frame) there ∙ equal y.frame) (λ e. ne (sym e)) in
+    grind (arith, nat_tests, off, ap (is_on y.frame) here)
+
+-- The new entry fits, each other one still does, and each frame has a group or none.
+pub table-set : (old new : TableState) (i : ℕ) (x : Option Entry) → IsTable old → new.entries ≡ slice_set old.entries i x → length new.arena ≡ length old.arena
+    → ((f : ℕ) → f < length new.arena → length (page_at new.arena f) ≡ 4096) → page_at new.arena 0 ≡ zero_page → IfSome x (IsEntry new)
+    → ((j : ℕ) (y : Entry) → j ≢ i → entry_at old.entries j ≡ Some y → (IsAlone old y.frame → IsAlone new y.frame) × (times y.frame old.groups ≡ 1 → times y.frame new.groups ≡ 1))
+    → ((g : ℕ) → (times g new.groups ≡ 0) ⊎ IsGroup new g) → IsTable new
+table-set old new i x is entries arena pages zeros here stay groups =
+    record {
+      some = omega (arith, arena, is.some);
+      small = omega (arith, arena, is.small);
+      pages = pages;
+      zero = zeros;
+      entries = λ j. subst (λ (l : List (Option Entry)). IfSome (entry_at l j) (IsEntry new)) (sym entries)
+          (at_set (λ y. IfSome y (IsEntry new)) old.entries i j x tt here (λ ne. other j ne (entry_at old.entries j) refl (is.entries j)));
+      groups = groups;
+      few = grind (arith, is.few, entries, length-set old.entries i x);
+    }
+  where
+    other : (j : ℕ) → j ≢ i → (y : Option Entry) → entry_at old.entries j ≡ y → IfSome y (IsEntry old) → IfSome y (IsEntry new)
+    other j ne None e h = tt
+    other j ne (Some y) e h = fits-after old new y arena (stay j y ne e).0 (stay j y ne e).1 h
+
+-- The groups stay: each other page that is alone stays alone, and each group still has pages.
+pub table-changed : (old new : TableState) (i : ℕ) (x : Option Entry) → IsTable old → new.entries ≡ slice_set old.entries i x → new.groups ≡ old.groups → length new.arena ≡ length old.arena
+    → ((f : ℕ) → f < length new.arena → length (page_at new.arena f) ≡ 4096) → page_at new.arena 0 ≡ zero_page → IfSome x (IsEntry new)
+    → ((j : ℕ) (y : Entry) → j ≢ i → entry_at old.entries j ≡ Some y → IsAlone old y.frame → pages_on y.frame new.entries ≡ 1)
+    → ((g : ℕ) → IsGroup old g → 1 ≤ pages_on g new.entries) → IsTable new
+table-changed old new i x h1 h2 h3 h4 h5 h6 h7 h8 h9 = grind (arith, nat_tests, table-set)
+
+-- the counts change as the pages on each frame do, and the unused frames as the used ones
+pub counted-changed : (old new : TableState) (before after : CountsState) → AreCountsOf old before → length new.arena ≡ length old.arena → length after.counts ≡ length before.counts
+    → length after.unused + used_by new ≡ length before.unused + used_by old
+    → ((g : ℕ) → g < length old.arena → slice_index_or after.counts g 0 + pages_on g old.entries ≡ slice_index_or before.counts g 0 + pages_on g new.entries)
+    → AreCountsOf new after
+counted-changed old new before after counted arena sized used each = grind (arith, nat_tests, inside)
+
+-- ---- Groups as lists of places: who is among those on a frame, and who has company there
+
+-- a place before the first one isn't among them
+before-places : (n f : ℕ) (xs : List (Option Entry)) (i : ℕ) → i < n → is_among i (places_on n f xs) ≡ false
+unfolding places_on
+before-places n f [] i h = refl
+before-places n f (x ∷ xs) i h = grind (arith, nat_tests, before-places (n + 1) f xs i)
+
+-- whether a place is among those on a frame
+pub among-places : (n f : ℕ) (xs : List (Option Entry)) (i : ℕ) → is_among (n + i) (places_on n f xs) ≡ is_on f (entry_at xs i)
+unfolding places_on
+among-places n f [] i = refl
+among-places n f (x ∷ xs) zero = grind (arith, nat_tests, before-places (n + 1) f xs n)
+among-places n f (x ∷ xs) (suc i) = grind (arith, nat_tests, among-places (n + 1) f xs i)
+
+-- as many places as pages
+pub length-places : (n f : ℕ) (xs : List (Option Entry)) → length (places_on n f xs) ≡ pages_on f xs
+unfolding places_on pages_on
+length-places n f [] = refl
+length-places n f (x ∷ xs) = grind (arith, sum_by-cons (on_one f) x xs, length-places (n + 1) f xs)
+
+-- a place that isn't among them needn't be taken out
+pub without-none : (i : ℕ) (places : List ℕ) → is_among i places ≡ false → without i places ≡ places
+without-none i [] h = refl
+without-none i (j ∷ places) h = grind (arith, nat_tests, without-none i places)
+
+-- the places on a frame without one
+pub without-places : (n f : ℕ) (xs : List (Option Entry)) (i : ℕ) (x : Option Entry) → is_on f x ≡ false → without (n + i) (places_on n f xs) ≡ places_on n f (slice_set xs i x)
+unfolding places_on
+without-places n f [] i x h = refl
+without-places n f (y ∷ ys) zero x h = grind (arith, nat_tests, without-none n (places_on (n + 1) f ys), before-places (n + 1) f ys n)
+without-places n f (y ∷ ys) (suc i) x h = grind (arith, nat_tests, without-places (n + 1) f ys i x)
+
+-- the places from the first one on
+pub without-here : (f : ℕ) (xs : List (Option Entry)) (i : ℕ) (x : Option Entry) → is_on f x ≡ false → without i (places_on 0 f xs) ≡ places_on 0 f (slice_set xs i x)
+without-here f xs i x off = let start : i ≡ 0 + i = omega arith in ap (λ (n : ℕ). without n (places_on 0 f xs)) start ∙ without-places 0 f xs i x off
+
+-- a group has the page, and another one
+abbrev pub has_company : ℕ → List ℕ → Bool
+has_company i group = is_among i group && nat_lt 1 (length group)
+
+company-at : (xs : List (Option Entry)) (i : ℕ) (entry : Entry) (g : ℕ) → entry_at xs i ≡ Some entry
+    → has_company i (places_on 0 g xs) ≡ ((entry.frame == g) && nat_lt 1 (pages_on g xs))
+company-at xs i entry g h1 = grind (arith, nat_tests, among-places 0 g xs i, length-places 0 g xs)
+
+-- a page in no group has no company
+company-none : (xs : List (Option Entry)) (groups : List ℕ) (i : ℕ) (entry : Entry) → entry_at xs i ≡ Some entry → times entry.frame groups ≡ 0
+    → list_any (has_company i) (map (λ g. places_on 0 g xs) groups) ≡ false
+company-none xs [] i entry here none = refl
+company-none xs (g ∷ gs) i entry here none =
+    grind (arith, nat_tests, times-cons entry.frame g gs, company-at xs i entry g here, company-none xs gs i entry here)
+
+-- a page of a group has company where another page lies on its frame
+pub company-places : (xs : List (Option Entry)) (groups : List ℕ) (i : ℕ) (entry : Entry) → entry_at xs i ≡ Some entry → times entry.frame groups ≡ 1
+    → list_any (λ group. is_among i group && nat_lt 1 (length group)) (map (λ g. places_on 0 g xs) groups) ≡ nat_lt 1 (pages_on entry.frame xs)
+company-places xs [] i entry here one = absurd (omega arith)
+company-places xs (g ∷ gs) i entry here one =
+    grind (arith, nat_tests, times-cons entry.frame g gs, company-at xs i entry g here, company-none xs gs i entry here, company-places xs gs i entry here)
+
+-- ---- The frames that are free, by the formula of the counters
+
+own_of_states : (entries : List (Option Entry)) → sum_by own_frame (states_of entries) ≡ sum_by own_one entries
+own_of_states [] = refl
+own_of_states (x ∷ xs) =
+    omega (arith, sum_by-cons own_frame (option_map state_of x) (states_of xs), sum_by-cons own_one x xs, own_of_states xs)
+
+pub free_is : (table : TableState) (shapes : List (Option Shape)) (tenants : List Tenant) (pass : Pass) → used_by table ≤ length table.arena
+    → free_of (view_of table shapes tenants pass) + used_by table ≡ length table.arena
+unfolding view_of frames_free groups_of own_pages
+free_is table shapes tenants pass fits = grind (arith, nat_tests, length-map, own_of_states)
+
+-- ---- What the break of a page costs, told by its group and by its frame
+
+-- the state of a page is that of its entry
+pub state-at : (table : TableState) (pass : Pass) (i : ℕ) → state_at (sharing_of table pass) i ≡ option_map state_of (entry_at table.entries i)
+state-at table pass i = told_at state_of table.entries i
+
+-- the break of a page on the frame f takes a frame where it shares its own, and others hold that too: among all pages, or those that are left
+pub shared-cost : (table : TableState) (f : ℕ) (xs : List (Option Entry)) (in_company : Bool) → IsTable table → 1 ≤ pages_on f xs → (times f table.groups ≡ 1 → in_company ≡ nat_lt 1 (pages_on f xs))
+    → (status : Status) → LiesRight table f status → cost_of in_company status ≡ one_when (is_shared status && nat_lt 1 (one_if_zero f + pages_on f xs))
+shared-cost table f xs in_company h1 h2 h3 status h4 = grind (arith, nat_tests, one_if_zero-above)
+
+-- the page of an entry lies on its frame
+lies-there : (table : TableState) (i : ℕ) (entry : Entry) → entry_at table.entries i ≡ Some entry → 1 ≤ pages_on entry.frame table.entries
+lies-there table i entry here = some_on entry.frame table.entries i (ap (is_on entry.frame) here ∙ equal entry.frame)
+
+-- what the break of a page takes
+pub cost-is : (table : TableState) (pass : Pass) (i : ℕ) → IsTable table → break_cost (sharing_of table pass) i ≡ break_frames table i
+unfolding break_cost groups_of break_frames
+cost-is table pass i h1 =
+    grind (arith, nat_tests, state-at table pass i, shared-cost table, lies-there table i, company-places table.entries table.groups i, shared-cost, lies-there)
+
+-- the same, told by the count of the page's frame
+pub cost-counted : (table : TableState) (counts : CountsState) (i : ℕ) (entry : Entry) → IsSound table counts → entry_at table.entries i ≡ Some entry
+    → break_frames table i ≡ one_when (entry.protected && nat_lt 1 (slice_index_or counts.counts entry.frame 0))
+unfolding break_frames
+cost-counted table counts i entry h1 h2 = grind (arith, nat_tests, entry_fits table i entry, shared-cost, lies-there)

@@ -2,8 +2,7 @@
 use Rattle.page_table.proofs.Base.{◌≡◌, ◌≢◌, ℕ, ◌+◌, ◌*◌, ◌<◌, ◌≤◌, List, length, Option, refl, arith, Bool, nat_tests}
 use Rattle.page_table.proofs.Words.{Pass, Shape, Page, part_of, page_place, break_cost, Sharing, Tenant, MemoryState, part, free_of, have_of, IsPageOf, IsOwn, AreKept, IsKeptBut, KeepsSettings, with_pins, TableState, IsOwnAt, contents_of, sharing_of, used_by, break_frames, view_of, IsMemory}
 use Rattle.page_table.proofs.Reading.{page_located, page_number, few_pages}
-use Rattle.page_table.proofs.Costs.{state-at}
-use Rattle.page_table.proofs.Free.{free_is}
+use Rattle.page_table.proofs.Entries.{free_is, state-at}
 
 -- The pages' bytes stay, and frames were taken and given back. The pins and what is told of sharing are those of the table and the pass, before and after.
 pub record Moves (old new : MemoryState) (pins pins_now : List Bool) (told told_now : Sharing) (taken given : ℕ) : Type 0 where

@@ -1,12 +1,36 @@
 -- Waiting pages as callers see them.
-use Rattle.page_table.proofs.Base.{◌≡◌, ◌∙◌, ℕ, ◌+◌, ◌<◌, Bool, true, false, All, is_some, drop, slice_index_or, List, [], ◌∷◌, length, map, find, Option, Some, None, option_map, refl, sym, arith, All-nil, All-cons, nat_tests}
-use Rattle.page_table.proofs.Words.{Page, Shape, page_place, is_pinned, PageState, state_at, is_shared, contents_in, is_partner, is_mergeable, first_mergeable, look_from, moved_on, one_more, Waiter, is_match, Entry, Pass, Tenant, IsNotWaiting, MayMerge, TableState, IsTable, entry_at, waiting_of, states_of, sharing_of, view_of, IsMemory, IsPass, IsWaiter, AreWaiters, is_listed}
-use Rattle.page_table.proofs.Changing.{entry_fits}
-use Rattle.page_table.proofs.Fitting.{not-pinned}
-use Rattle.page_table.proofs.Scanning.{frame_told}
-use Rattle.page_table.proofs.Costs.{state-at}
-use Rattle.page_table.proofs.Next.{next-is}
-use Rattle.page_table.proofs.Waiters.{waiters-kept, ahead-free, listed-told}
+use Rattle.page_table.proofs.Base.{◌≡◌, ◌∙◌, ℕ, ◌+◌, ◌<◌, Bool, true, false, All, is_some, drop, slice_index_or, List, [], ◌∷◌, length, map, find, Option, Some, None, option_map, refl, sym, arith, All-nil, All-cons, nat_tests, zero, suc, ◌-◌, ◌≤◌, get_or-drop, length-drop, order}
+use Rattle.page_table.proofs.Words.{Page, Shape, page_place, is_pinned, PageState, state_at, is_shared, contents_in, is_partner, is_mergeable, first_mergeable, look_from, moved_on, one_more, Waiter, is_match, Entry, Pass, Tenant, IsNotWaiting, MayMerge, TableState, IsTable, entry_at, waiting_of, states_of, sharing_of, view_of, IsMemory, IsPass, IsWaiter, AreWaiters, is_listed, next-after, next-none, page_at, page_bytes, MemoryState, bytes_of_map, frame_at, IsPageOf, IsOwn, contents_now, IsPageAt, IsOwnAt, contents_of, IsEntry, state_of}
+use Rattle.page_table.proofs.Scanning.{frame_told, bytes_here}
+use Rattle.page_table.proofs.Entries.{entry_fits, state-at}
+use Rattle.page_table.proofs.Waiters.{waiters-kept, ahead-free, listed-told, not-pinned}
+use Rattle.page_table.proofs.Putting.{content_at}
+use Rattle.page_table.proofs.Reading.{is_page_at, content_is, state_is, frame_is}
+use Rattle.page_table.proofs.Writing.{own_entry}
+
+over : (pages : List (Option PageState)) (n d : ℕ) → ((i : ℕ) → n ≤ i → i < n + d → is_mergeable (slice_index_or pages i None) ≡ false)
+    → first_mergeable n (drop n pages) ≡ first_mergeable (n + d) (drop (n + d) pages)
+over pages n zero apart = grind arith
+over pages n (suc d) apart = grind (arith, nat_tests, order n (length pages), next-after pages n, next-none pages, over pages (n + 1) d)
+
+-- pages that may not be merged are passed over
+pub next-over : (pages : List (Option PageState)) (n m : ℕ) → n ≤ m → ((i : ℕ) → n ≤ i → i < m → is_mergeable (slice_index_or pages i None) ≡ false)
+    → first_mergeable n (drop n pages) ≡ first_mergeable m (drop m pages)
+next-over pages n m h1 h2 = grind (arith, nat_tests, over pages n (m - n))
+
+-- a page that was found
+pub record IsNext (pages : List (Option PageState)) (from i : ℕ) : Type 0 where
+  pub behind : from ≤ i
+  pub inside : i < length pages
+  pub mergeable : is_mergeable (slice_index_or pages i None) ≡ true
+
+found : (n : ℕ) (ys : List (Option PageState)) (i : ℕ) → first_mergeable n ys ≡ Some i → (n ≤ i) × (i - n < length ys) × (is_mergeable (slice_index_or ys (i - n) None) ≡ true)
+unfolding first_mergeable
+found n [] i e = absurd (cc)
+found n (y ∷ ys) i e = grind (arith, nat_tests, found (n + 1) ys i)
+
+pub next-is : (pages : List (Option PageState)) (from i : ℕ) → first_mergeable from (drop from pages) ≡ Some i → IsNext pages from i
+next-is pages from i e = grind (arith, nat_tests, found from (drop from pages) i e, length-drop from pages, get_or-drop from pages)
 
 -- the frames of waiting pages are there
 pub waiters-frames : (table : TableState) (c : Option ℕ) (ws : List Waiter) → IsTable table → AreWaiters table.entries c ws → All (λ w. w.frame < length table.arena) ws
@@ -92,3 +116,34 @@ may-free table shapes tenants pass page may = not-pinned pass.pins (page_place p
 -- an entry of a page that may be merged
 pub entry-may : (table : TableState) (pass : Pass) (i : ℕ) → is_mergeable (state_at (sharing_of table pass) i) ≡ true → (entry : Entry) × (entry_at table.entries i ≡ Some entry)
 entry-may table pass i h1 = grind (arith, nat_tests, state-at table pass i)
+
+-- ---- What callers say of a page, told of the page's place in the table: the bridge from a memory's view to its parts
+
+-- what is known of the place i of a page, as a function computed it
+pub record Sees (table : TableState) (pass : Pass) (now : MemoryState) (page : Page) (i : ℕ) : Type 0 where
+  pub there : IsPageOf now page → IsPageAt table i
+  pub content : IsPageOf now page → slice_index_or (contents_of table) i [] ≡ page_bytes (bytes_of_map now page) page.number
+  pub own : IsOwn now page → IsOwnAt table i
+  pub lone : MayMerge now page → IsOwnAt table i
+  pub unpinned : MayMerge now page → slice_index_or pass.pins i false ≡ false
+  pub unlisted : IsNotWaiting now page → is_listed i pass.waiting.listed ≡ false
+
+pub sees : (table : TableState) (shapes : List (Option Shape)) (tenants : List Tenant) (pass : Pass) (reserved : ℕ) → IsMemory table shapes tenants reserved
+    → (now : MemoryState) → view_of table shapes tenants pass ≡ now → (page : Page) (i : ℕ) → i ≡ page_place page → Sees table pass now page i
+sees table shapes tenants pass reserved is now same page i place =
+    grind (arith, is_page_at table shapes tenants pass reserved page is, content_is table shapes tenants pass reserved page is, own_entry table shapes tenants pass page, may-free table shapes tenants pass page, not-waiting table shapes tenants pass page)
+
+-- what is known of the entry of a page
+pub record SeesEntry (now : MemoryState) (page : Page) (entry : Entry) : Type 0 where
+  pub state : state_at now.sharing (page_place page) ≡ Some (state_of entry)
+  pub frame : frame_at now (page_place page) ≡ Some entry.frame
+  pub inside : entry.frame < length now.arena
+  pub content : page_at now.arena entry.frame ≡ page_bytes (bytes_of_map now page) page.number
+  pub bytes : page_at now.arena entry.frame ≡ contents_now now (page_place page)
+
+pub sees_entry : (table : TableState) (shapes : List (Option Shape)) (tenants : List Tenant) (pass : Pass) (reserved : ℕ) → IsMemory table shapes tenants reserved
+    → (now : MemoryState) → view_of table shapes tenants pass ≡ now → (page : Page) (entry : Entry) → IsPageOf now page → entry_at table.entries (page_place page) ≡ Some entry → IsEntry table entry
+    → SeesEntry now page entry
+unfolding view_of
+sees_entry table shapes tenants pass reserved is now same page entry there here fits =
+    grind (arith, content_at table (page_place page) entry here, content_is table shapes tenants pass reserved page is, state_is table shapes tenants pass reserved page is, frame_is table shapes tenants pass reserved page is, bytes_here table shapes tenants pass reserved is page)

@@ -1,8 +1,7 @@
 -- A page table stays sound where bytes of a page are written, and a new one is sound.
 use Rattle.page_table.proofs.Base.{◌≡◌, ◌∙◌, ℕ, ◌+◌, ◌<◌, ◌≤◌, List, [], length, map, replicate, slice_index_or, slice_set, Some, None, ap, arith, get_or-set_same, get_or-set_other, length-set, set-get_or, get_or-map, get_or-replicate, length-replicate, sum_by-replicate, get_or_past, length-map, nat_tests}
 use Rattle.page_table.proofs.Words.{zero_page, page_at, length-zero_page, Entry, TableState, CountsState, IsPageAt, IsTable, IsAlone, IsSound, AreCountsOf, entry_at, entry_content, contents_of, pages_on, own_pages}
-use Rattle.page_table.proofs.Changing.{table-changed, counted-changed, fits-after, entry_fits}
-use Rattle.page_table.proofs.Entries.{equal, alone, entry_content-kept, contents-set, inside}
+use Rattle.page_table.proofs.Entries.{equal, alone, entry_content-kept, contents-set, inside, table-changed, counted-changed, fits-after, entry_fits}
 
 -- a table with another page in a frame
 abbrev pub with_page : TableState → ℕ → List ℕ → TableState

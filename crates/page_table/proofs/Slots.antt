@@ -1,10 +1,9 @@
 -- The slots of the groups in order of creation.
-use Rattle.page_table.proofs.Base.{◌≡◌, ◌≢◌, ◌⊎◌, ⊎_elim, ℕ, zero, suc, ◌<◌, ◌≤◌, ◌==◌, not, true, false, List, [], ◌∷◌, ◌++◌, length, slice_index_or, slice_set, All, AllPairs, refl, arith, get_or-set_same, get_or-set_other, length-set, get_or_append_left, get_or-append-add, get_or_default, All-filter, filter_passes, AllPairs-filter, nat_tests}
+use Rattle.page_table.proofs.Base.{◌≡◌, ◌≢◌, ◌⊎◌, ⊎_elim, ℕ, zero, suc, ◌<◌, ◌≤◌, ◌==◌, not, true, false, List, [], ◌∷◌, ◌++◌, length, slice_index_or, slice_set, All, AllPairs, refl, arith, get_or-set_same, get_or-set_other, length-set, get_or_append_left, get_or-append-add, get_or_default, All-filter, filter_passes, AllPairs-filter, nat_tests, is_same}
 use Rattle.page_table.proofs.Words.{filter-absent, ArePlaced, groups_in, times}
 use Rattle.std.proofs.Common.{length-append}
 use Rattle.page_table.proofs.Ending.{but}
 use Rattle.page_table.proofs.Entries.{times-head, times-tail, times-cons}
-use Rattle.page_table.proofs.Sides.{is_same}
 
 pub full : (x : ℕ) → 0 < x → (x == 0) ≡ false
 full x h = grind (arith, nat_tests)

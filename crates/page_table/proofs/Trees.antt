@@ -2,8 +2,7 @@
 use Rattle.page_table.proofs.Base.{◌≡◌, ◌≢◌, ◌∙◌, ℕ, zero, suc, ◌<◌, ◌≤◌, ◌==◌, nat_lt, Bool, true, List, [], ◌∷◌, length, filter, find, slice_index_or, slice_set, All, refl, arith, concat, get_or-set_other, length-set, sum_by-append, nat_tests}
 use Rattle.page_table.proofs.Words.{page_at, Groups, IsChain, has, content, has-itself, TableState, CountsState, IsSound, IsTreeOf, times, pages_on, is_open_frame, without-length, times-gone, times-kept}
 use Rattle.page_table.proofs.Ending.{but}
-use Rattle.page_table.proofs.Entries.{one_when, times-head, times-tail, one_if_zero-above, group_of, times-cons}
-use Rattle.page_table.proofs.Joining.{page-on}
+use Rattle.page_table.proofs.Entries.{one_when, times-head, times-tail, one_if_zero-above, group_of, times-cons, page-on}
 
 -- a number that stands nowhere
 pub nowhere : (f : ℕ) (xs : List ℕ) → times f xs ≡ 0 → All (λ g. g ≢ f) xs

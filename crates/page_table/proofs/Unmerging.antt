@@ -3,12 +3,8 @@ use Rattle.page_table.proofs.Base.{◌≡◌, ℕ, zero, suc, ◌+◌, ◌-◌, 
 use Rattle.page_table.proofs.Words.{Pass, Shape, part_of, Sharing, state_at, is_shared, is_shared_page, is_in_company, without, broken, break_cost, broken_from, cost_from, unmerged, members, zeros_at, zero_pages, unmerge_need, SharesNothing, Entry, Tenant, have_of, view_of, IsMemory, TableState, CountsState, IsTable, IsSound, times, one_if_zero, entry_at, state_of, states_of, groups_of, sharing_of, used_by, new_pass, is_on, places_on, pages_on, shared_at}
 use Rattle.host_types.proofs.Without as law_of_times
 use Rattle.host_types.proofs.Unmerging as law
-use Rattle.page_table.proofs.Changing.{entry_fits}
-use Rattle.page_table.proofs.Costs.{state-at, shared-cost}
 use Rattle.page_table.proofs.Creating.{length-states}
-use Rattle.page_table.proofs.Entries.{one_when, on_one, not_equal, equal, pages_on-set, some_on, places_on-set, groups-kept, times-head, times-tail, times-cons, group_of}
-use Rattle.page_table.proofs.Free.{free_is}
-use Rattle.page_table.proofs.Groups.{has_company, company-places, length-places, without-here}
+use Rattle.page_table.proofs.Entries.{one_when, on_one, not_equal, equal, pages_on-set, some_on, places_on-set, groups-kept, times-head, times-tail, times-cons, group_of, entry_fits, has_company, company-places, length-places, without-here, free_is, state-at, shared-cost}
 
 -- the break of one page more
 broken_from-last : (s : Sharing) (i n : ℕ) → broken_from s i (suc n) ≡ broken (broken_from s i n) (i + n)

@@ -1,10 +1,9 @@
 -- What a memory tells where the pins of one tenant changed.
-use Rattle.page_table.proofs.Base.{◌≡◌, ◌≢◌, ◌∙◌, ◌⊎◌, ℕ, ◌+◌, ◌*◌, ◌<◌, ◌≤◌, Bool, true, false, List, length, replicate, slice_index_or, Option, refl, sym, ap, arith, length-replicate, length-map, nat_tests, ext_get_or}
-use Rattle.page_table.proofs.Words.{Shape, part_of, with_part, map_place, PinsFit, PageState, length-part_of, length-with_part, with_part-whole, Pass, Tenant, IsKeptBut, with_pins, part, TableState, states_of, view_of, IsMemory}
-use Rattle.page_table.proofs.Sides.{order}
+use Rattle.page_table.proofs.Base.{◌≡◌, ◌≢◌, ◌∙◌, ◌⊎◌, ℕ, ◌+◌, ◌*◌, ◌<◌, ◌≤◌, Bool, true, false, List, length, replicate, slice_index_or, Option, refl, sym, ap, arith, length-replicate, length-map, nat_tests, ext_get_or, order, ◌-◌, ◌/◌, ◌%◌, if◌then◌else◌, [], ◌∷◌, ◌++◌, take, drop, slice_set, get_or-set_same, get_or-set_other, length-set, take-replicate, drop-replicate, get_or-replicate, take-append_seam, sum_by-cons, sum_by-set, sum_by-replicate}
+use Rattle.page_table.proofs.Words.{Shape, part_of, with_part, map_place, PinsFit, PageState, length-part_of, length-with_part, with_part-whole, Pass, Tenant, IsKeptBut, with_pins, part, TableState, states_of, view_of, IsMemory, part-with_part_same, with_part-same, pinned_among, ArePinsOf}
 use Rattle.page_table.proofs.Creating.{length-contents, filled_at, others-filled}
-use Rattle.page_table.proofs.Fitting.{pinned_if}
-use Rattle.page_table.proofs.Maps.{part_of-set_other, part-at, length-part}
+use Rattle.page_table.proofs.Waiters.{pinned_if}
+use Rattle.page_table.proofs.Maps.{part_of-set_other, part-at, length-part, part_of-set_same}
 
 -- a page that is pinned is one of its tenant
 pub pinned-others : (pins : List Bool) (is_pinned : Bool) (t m n u : ℕ) → m < 8 → n < 256 → u ≢ t
@@ -54,3 +53,88 @@ module _ (table : TableState) (shapes : List (Option Shape)) (tenants : List Ten
 -- fewer pins fit, too
 pub fit-fewer : (pages : List (Option PageState)) (pins : List Bool) (at n : ℕ) → at + n ≤ length pins → PinsFit pages pins → PinsFit pages (with_part pins at (replicate n false))
 fit-fewer pages pins at n inside fit = grind (arith, nat_tests, at, length-with_part, length-replicate, outside-pinned)
+
+-- ---- How many pages are pinned, where one is pinned more, and where those of a map aren't any more
+
+abbrev one_if : Bool → ℕ
+one_if b = if b then 1 else 0
+
+-- no more pages are pinned than there are
+pub few-pinned : (pins : List Bool) → pinned_among pins ≤ length pins
+few-pinned [] = omega arith
+few-pinned (b ∷ pins) = grind (arith, few-pinned pins, sum_by-cons one_if b pins)
+
+pub none-pinned : (n : ℕ) → pinned_among (replicate n false) ≡ 0
+none-pinned n = sum_by-replicate one_if n false ∙ omega arith
+
+-- where none is pinned, the list says so of each place
+pub all-false : (pins : List Bool) → pinned_among pins ≡ 0 → pins ≡ replicate (length pins) false
+all-false [] none = refl
+all-false (true ∷ pins) none = absurd (let split = sum_by-cons one_if true pins in omega (arith, none, split))
+all-false (false ∷ pins) none = let split = sum_by-cons one_if false pins in ap (λ (l : List Bool). false ∷ l) (all-false pins (omega (arith, none, split)))
+
+-- what is filled behind a filled part is a longer part
+filled-behind : (pins : List Bool) (at n m : ℕ) → at + n + m ≤ length pins → with_part (with_part pins at (replicate n false)) (at + n) (replicate m false) ≡ with_part pins at (replicate (n + m) false)
+filled-behind pins at n m h1 =
+    grind (arith, nat_tests, length-replicate n false, length-replicate m false, length-replicate (n + m) false, length-with_part pins at (replicate n false), length-with_part (with_part pins at (replicate n false)) (at + n) (replicate m false), length-with_part pins at (replicate (n + m) false), ext_get_or false, filled_at (with_part pins at (replicate n false)) (at + n) m, filled_at pins at n, filled_at pins at (n + m))
+
+new-part : (maps k : ℕ) → k < maps → pinned_among (part_of (replicate (maps * 256) false) (k * 256) 256) ≡ 0
+unfolding part_of
+new-part maps k less = rw (drop-replicate (k * 256) (maps * 256) false, take-replicate 256 (maps * 256 - k * 256) false (omega (arith, less))) (none-pinned 256)
+
+-- the memory without a map
+pub pins-new : (maps : ℕ) → ArePinsOf (replicate (maps * 256) false) (replicate maps 0)
+pins-new maps = grind (arith, nat_tests, length-replicate, get_or-replicate, new-part maps)
+
+-- the pins of one map changed, and its number with them
+pins-changed : (pins now : List Bool) (numbers : List ℕ) (k n : ℕ) → ArePinsOf pins numbers → k < length numbers → length now ≡ length pins
+    → ((j : ℕ) → j ≢ k → part_of now (j * 256) 256 ≡ part_of pins (j * 256) 256) → n ≡ pinned_among (part_of now (k * 256) 256) → ArePinsOf now (slice_set numbers k n)
+pins-changed pins now numbers k n are inside long others here = grind (arith, nat_tests, length-set, get_or-set_same, get_or-set_other)
+
+module _ (pins : List Bool) (numbers : List ℕ) (are : ArePinsOf pins numbers) where
+  -- one page more is pinned
+  module _ (k n : ℕ) (small : n < 256) (inside : k * 256 + n < length pins) (free : slice_index_or pins (k * 256 + n) false ≡ false) where
+    here : k < length numbers
+    here = omega (arith, are.maps, inside, small)
+
+    abbrev owned : List Bool
+    owned = part_of pins (k * 256) 256
+
+    long : length owned ≡ 256
+    long = let h = here in length-part_of pins (k * 256) 256 (omega (arith, are.maps, h))
+
+    was : slice_index_or owned n false ≡ false
+    was = grind (arith, nat_tests, part-at pins (k * 256) 256 n false)
+
+    pub pins-more : ArePinsOf (slice_set pins (k * 256 + n) true) (slice_set numbers k (slice_index_or numbers k 0 + 1))
+    pins-more = grind (arith, nat_tests, pins-changed, here, length-set, part_of-set_other, long, sum_by-set, was, part_of-set_same)
+
+  -- the same by the page's place
+  pub pins-more-at : (place now : ℕ) → place < length pins → slice_index_or pins place false ≡ false → now ≡ slice_index_or numbers (place / 256) 0 → ArePinsOf (slice_set pins place true) (slice_set numbers (place / 256) (now + 1))
+  pins-more-at place now inside free told =
+      let at : place ≡ place / 256 * 256 + place % 256 = omega arith in
+      grind (arith, pins-more (place / 256) (place % 256), ap (λ (i : ℕ). slice_index_or pins i false) at, ap (λ (i : ℕ). slice_set pins i true) at)
+
+  -- no page of a map is pinned any more
+  module _ (k : ℕ) (inside : k < length numbers) where
+    whole : k * 256 + 256 ≤ length pins
+    whole = omega (arith, are.maps, inside)
+
+    -- where none was, nothing changes
+    pub pins-none : slice_index_or numbers k 0 ≡ 0 → with_part pins (k * 256) (replicate 256 false) ≡ pins
+    pins-none none = grind (arith, whole, length-part_of pins (k * 256) 256, all-false (part_of pins (k * 256) 256), are.each k inside, with_part-same pins (k * 256) 256)
+
+    pub pins-cleared : ArePinsOf (with_part pins (k * 256) (replicate 256 false)) (slice_set numbers k 0)
+    pins-cleared =
+        pins-changed pins (with_part pins (k * 256) (replicate 256 false)) numbers k 0 are inside (length-with_part pins (k * 256) (replicate 256 false) whole)
+        (λ j ne. others-filled pins (k * 256) k 0 256 j 256 false (omega arith) (omega arith) whole ne)
+        (sym (none-pinned 256) ∙ sym (ap pinned_among (part-with_part_same pins (k * 256) (replicate 256 false) 256 refl whole)))
+
+-- another map more has no pinned pages
+pub filled-more : (pins : List Bool) (first n : ℕ) → first * 256 + n * 256 + 256 ≤ length pins
+    → with_part (with_part pins (first * 256) (replicate (n * 256) false)) ((first + n) * 256) (replicate 256 false) ≡ with_part pins (first * 256) (replicate ((n + 1) * 256) false)
+filled-more pins first n h1 = grind (arith, nat_tests, filled-behind pins (first * 256) (n * 256) 256)
+
+-- a list that was written back whole
+pub written-back : (new old : List Bool) (n : ℕ) → length new ≡ length old → n ≡ length old → take n (new ++ drop (length new) old) ≡ new
+written-back new old n long e = grind (arith, nat_tests, take-append_seam)

@@ -8,7 +8,7 @@ use crate::memory::Memory;
 
 impl Memory {
     /// How many groups there are.
-    #[tactic(auto, using(crate::proofs::Tallying::groups_told), unfolding(crate::specs::View::view_of))]
+    #[tactic(auto, using(crate::proofs::Counting::groups_told), unfolding(crate::specs::View::view_of))]
     pub fn groups(&self) -> u32
         ensures { result ≡ length self.now.sharing.groups }
     {

@@ -537,7 +537,7 @@ impl Memory {
     }
 
     /// Whether there is a group.
-    #[tactic(auto, using(crate::proofs::Tallying::groups_told), unfolding(crate::specs::View::view_of))]
+    #[tactic(auto, using(crate::proofs::Counting::groups_told), unfolding(crate::specs::View::view_of))]
     pub fn has_groups(&self) -> bool
         ensures { result ≡ nat_lt 0 (length self.now.sharing.groups) }
     {

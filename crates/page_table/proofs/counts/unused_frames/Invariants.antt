@@ -1,7 +1,7 @@
 use Rattle.page_table.proofs.Base.{◌≡◌, ◌≤◌, ◌+◌, ℕ, length, vec_capacity}
 use Rattle.page_table.proofs.Words.{times}
 use Rattle.page_table.proofs.Entries.{one_when}
-use Rattle.page_table.proofs.Unused.{is_between}
+use Rattle.page_table.proofs.Counting.{is_between}
 use Rattle.page_table.proofs.counts.unused_frames.Given as goal
 
 abbrev pub invariant-loop-frame : goal.invariant-loop-frame

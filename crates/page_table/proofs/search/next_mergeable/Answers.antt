@@ -1,7 +1,7 @@
 use Rattle.page_table.proofs.Base.{◌+◌, ◌*◌, arith, nat_tests}
 use Rattle.page_table.proofs.Words.{states_of, next-none}
 use Rattle.page_table.proofs.Creating.{length-contents, length-states}
-use Rattle.page_table.proofs.Next.{next-over}
+use Rattle.page_table.proofs.Partners.{next-over}
 use Rattle.page_table.proofs.search.next_mergeable.Goals as goal
 
 pub loop-index-preserved : goal.loop-index-preserved

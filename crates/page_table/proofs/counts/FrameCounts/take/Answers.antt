@@ -1,5 +1,5 @@
 use Rattle.page_table.proofs.Base.{arith, nat_tests}
-use Rattle.page_table.proofs.Unused.{popped}
+use Rattle.page_table.proofs.Counting.{popped}
 use Rattle.page_table.proofs.counts.FrameCounts.take.Goals as goal
 
 pub index_mut-requires : goal.index_mut-requires

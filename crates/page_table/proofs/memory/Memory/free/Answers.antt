@@ -1,5 +1,5 @@
 use Rattle.page_table.proofs.Base.{arith, nat_tests}
-use Rattle.page_table.proofs.Free.{free_is}
+use Rattle.page_table.proofs.Entries.{free_is}
 use Rattle.page_table.proofs.memory.Memory.free.Goals as goal
 
 pub returns : goal.returns

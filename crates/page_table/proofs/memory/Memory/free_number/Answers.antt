@@ -1,6 +1,6 @@
 use Rattle.page_table.proofs.Base.{arith, nat_tests}
 use Rattle.page_table.proofs.Creating.{tenant_inside}
-use Rattle.page_table.proofs.Shapes.{free_number_told}
+use Rattle.page_table.proofs.Recording.{free_number_told}
 use Rattle.page_table.proofs.memory.Memory.free_number.Goals as goal
 
 pub shapes_from-requires : goal.shapes_from-requires

@@ -1,6 +1,6 @@
 use Rattle.page_table.proofs.Base.{arith, nat_tests}
 use Rattle.page_table.proofs.Words.{view_of}
-use Rattle.page_table.proofs.Free.{free_is}
+use Rattle.page_table.proofs.Entries.{free_is}
 use Rattle.page_table.proofs.memory.Memory.have.Goals as goal
 
 pub overflow_sub-result : goal.overflow_sub-result

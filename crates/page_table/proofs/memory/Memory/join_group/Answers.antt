@@ -3,11 +3,10 @@ use Rattle.page_table.proofs.Words.{page_place, contents_now, Grouped, with_stat
 use Rattle.page_table.proofs.Reading.{content_is}
 use Rattle.page_table.proofs.Merging.{moves}
 use Rattle.page_table.proofs.Scanning.{bytes_here, open-frame, find-in, open-bytes, joins}
-use Rattle.page_table.proofs.Waiters.{pass-others}
+use Rattle.page_table.proofs.Waiters.{pass-others, entries-long}
 use Rattle.page_table.proofs.Ahead.{stay-set}
-use Rattle.page_table.proofs.Fitting.{entries-long}
-use Rattle.page_table.proofs.Seen.{sees}
 use Rattle.page_table.proofs.memory.Memory.join_group.Goals as goal
+use Rattle.page_table.proofs.Partners.{sees}
 use Rattle.page_table.proofs.memory.Memory.join_group.Goals.{After-place_of}
 
 -- the group is the first one that is open

@@ -1,7 +1,5 @@
-use Rattle.page_table.proofs.Recording.{eight_maps}
-use Rattle.page_table.proofs.Base.{nat_tests, arith, get_or_past}
-use Rattle.page_table.proofs.Shapes.{map_told, map_is}
-use Rattle.page_table.proofs.Sides.{order}
+use Rattle.page_table.proofs.Recording.{eight_maps, map_told, map_is}
+use Rattle.page_table.proofs.Base.{nat_tests, arith, get_or_past, order}
 use Rattle.page_table.proofs.Reading.{map_at-past}
 use Rattle.page_table.proofs.Words.{part}
 use Rattle.page_table.proofs.memory.Memory.maps_are_flat.Goals as goal

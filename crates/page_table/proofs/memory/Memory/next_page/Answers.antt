@@ -1,8 +1,7 @@
 use Rattle.page_table.proofs.Base.{◌≡◌, ◌∙◌, drop, Some, sym, arith, length-map, nat_tests}
 use Rattle.page_table.proofs.Words.{first_mergeable, look_from, IsPageAt, states_of, view_of}
 use Rattle.page_table.proofs.Putting.{page_of_entry}
-use Rattle.page_table.proofs.Next.{IsNext, next-is}
-use Rattle.page_table.proofs.Partners.{entry-may}
+use Rattle.page_table.proofs.Partners.{entry-may, IsNext, next-is}
 use Rattle.page_table.proofs.Scanning.{page_there}
 use Rattle.page_table.proofs.memory.Memory.next_page.Goals as goal
 use Rattle.page_table.proofs.memory.Memory.next_page.Goals.{In-Some}

@@ -1,5 +1,5 @@
 use Rattle.page_table.proofs.Base.{nat_tests, arith}
-use Rattle.page_table.proofs.Tallying.{contents-told}
+use Rattle.page_table.proofs.Counting.{contents-told}
 use Rattle.page_table.proofs.memory.Memory.node_chains.Goals as goal
 
 pub returns : goal.returns

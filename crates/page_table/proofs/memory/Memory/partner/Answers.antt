@@ -4,8 +4,7 @@ use Rattle.page_table.proofs.Putting.{page_of_entry}
 use Rattle.page_table.proofs.Entries.{inside}
 use Rattle.page_table.proofs.Scanning.{bytes_here, frame_told, page_there}
 use Rattle.page_table.proofs.Partners.{IsFound, found-waiter, partners-told, waiters-frames, not-waiting, may-told}
-use Rattle.page_table.proofs.Waiters.{waiter_own}
-use Rattle.page_table.proofs.Fitting.{waiting-free}
+use Rattle.page_table.proofs.Waiters.{waiter_own, waiting-free}
 use Rattle.page_table.proofs.memory.Memory.partner.Goals as goal
 use Rattle.page_table.proofs.memory.Memory.partner.Goals.{After-find, In-Some}
 

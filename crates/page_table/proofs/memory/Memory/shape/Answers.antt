@@ -1,9 +1,8 @@
-use Rattle.page_table.proofs.Base.{nat_tests, arith, get_or_past}
-use Rattle.page_table.proofs.Sides.{order}
-use Rattle.page_table.proofs.Shapes.{map_is, map_told}
+use Rattle.page_table.proofs.Base.{nat_tests, arith, get_or_past, order}
 use Rattle.page_table.proofs.Reading.{map_at-part, map_at-past}
 use Rattle.page_table.proofs.Maps.{map_at-maps_of}
 use Rattle.page_table.proofs.Words.{view_of, part}
+use Rattle.page_table.proofs.Recording.{map_is, map_told}
 use Rattle.page_table.proofs.memory.Memory.shape.Goals as goal
 
 pub returns-then-map-ge-MAX_MAPS : goal.returns-then-map-ge-MAX_MAPS

@@ -2,8 +2,7 @@ use Rattle.page_table.proofs.Base.{◌≤◌, ◌+◌, length, arith, nat_tests}
 use Rattle.page_table.proofs.Words.{unmerge_need, used_by, sharing_of, view_of}
 use Rattle.page_table.proofs.Merging.{moves}
 use Rattle.page_table.proofs.Unmerging.{need_reserved, need_fits, unmerged_is}
-use Rattle.page_table.proofs.Fitting.{entries-long}
-use Rattle.page_table.proofs.Waiters.{pass-kept}
+use Rattle.page_table.proofs.Waiters.{pass-kept, entries-long}
 use Rattle.page_table.proofs.Ahead.{ahead-told, stay-broken_from}
 use Rattle.page_table.proofs.memory.Memory.unmerge.Goals as goal
 

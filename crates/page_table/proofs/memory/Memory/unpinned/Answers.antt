@@ -1,7 +1,6 @@
 -- How many pages of a map aren't pinned, told by how many are.
-use Rattle.page_table.proofs.Base.{◌≡◌, ◌∙◌, ◌*◌, ℕ, Some, option_map, ap, arith, nat_tests, zero, suc, ◌+◌, ◌-◌, ◌<◌, ◌≤◌, Bool, true, false, if◌then◌else◌, List, ◌∷◌, length, slice_index_or, Option, refl, get_or_default, get_or_past, sum_by-cons, ext_get_or}
+use Rattle.page_table.proofs.Base.{◌≡◌, ◌∙◌, ◌*◌, ℕ, Some, option_map, ap, arith, nat_tests, zero, suc, ◌+◌, ◌-◌, ◌<◌, ◌≤◌, Bool, true, false, if◌then◌else◌, List, ◌∷◌, length, slice_index_or, Option, refl, get_or_default, get_or_past, sum_by-cons, ext_get_or, order}
 use Rattle.page_table.proofs.Words.{part_of, FlatMap, map_at, map_place, unpinned_from, pinned_among, part, Shape, PinsFit, Pass, Tenant, page_count, MemoryState, pages_of_map, TableState, IsTable, states_of, view_of, IsMemory}
-use Rattle.page_table.proofs.Sides.{order}
 use Rattle.page_table.proofs.Dropping.{number_small, few, map_pins, unpinned_behind}
 use Rattle.page_table.proofs.Reading.{map_at-part}
 use Rattle.page_table.proofs.Maps.{map_at-maps_of, part-at, length-part}

@@ -1,11 +1,9 @@
-use Rattle.page_table.proofs.Waiters.{waiters-few, pass-others, waiters-more}
+use Rattle.page_table.proofs.Waiters.{waiters-few, pass-others, waiters-more, entries-long}
 use Rattle.page_table.proofs.Base.{length, ap, arith, nat_tests, map-append}
 use Rattle.page_table.proofs.Words.{waits, sharing_of, view_of}
 use Rattle.page_table.proofs.Merging.{moves}
-use Rattle.page_table.proofs.Partners.{may-entry}
+use Rattle.page_table.proofs.Partners.{may-entry, sees}
 use Rattle.page_table.proofs.Ahead.{ahead-told, stay-marked}
-use Rattle.page_table.proofs.Fitting.{entries-long}
-use Rattle.page_table.proofs.Seen.{sees}
 use Rattle.page_table.proofs.memory.Memory.wait.Goals as goal
 
 pub page-frame-requires : goal.page-frame-requires

@@ -1,5 +1,5 @@
 use Rattle.page_table.proofs.Base.{arith, length-replicate, nat_tests}
-use Rattle.page_table.proofs.Tallying.{counted-none}
+use Rattle.page_table.proofs.Counting.{counted-none}
 use Rattle.page_table.proofs.page_list.PageList.new.Goals as goal
 
 pub invariant_of-result : goal.invariant_of-result

@@ -1,6 +1,6 @@
 use Rattle.page_table.proofs.Base.{arith, nat_tests}
 use Rattle.page_table.proofs.Words.{length-with_part}
-use Rattle.page_table.proofs.Filled.{pins-cleared, written-back}
+use Rattle.page_table.proofs.Unpinning.{pins-cleared, written-back}
 use Rattle.page_table.proofs.pins.Pins.clear.Goals as goal
 
 pub invariant_of-self : goal.invariant_of-self

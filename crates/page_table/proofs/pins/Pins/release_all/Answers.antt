@@ -1,7 +1,7 @@
 use Rattle.page_table.proofs.Base.{◌≡◌, ◌∙◌, ◌*◌, ℕ, false, replicate, ap, arith, length-replicate, nat_tests}
 use Rattle.page_table.proofs.Words.{with_part, length-with_part}
 use Rattle.page_table.proofs.Creating.{with_part-none}
-use Rattle.page_table.proofs.Filled.{filled-more}
+use Rattle.page_table.proofs.Unpinning.{filled-more}
 use Rattle.page_table.proofs.pins.Pins.release_all.Goals as goal
 
 pub loop-number-init : goal.loop-number-init

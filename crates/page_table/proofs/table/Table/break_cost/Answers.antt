@@ -1,5 +1,5 @@
 use Rattle.page_table.proofs.Base.{arith, nat_tests}
-use Rattle.page_table.proofs.Costs.{cost-counted}
+use Rattle.page_table.proofs.Entries.{cost-counted}
 use Rattle.page_table.proofs.table.Table.break_cost.Goals as goal
 
 pub returns : goal.returns

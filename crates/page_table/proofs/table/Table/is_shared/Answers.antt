@@ -1,5 +1,5 @@
 use Rattle.page_table.proofs.Base.{nat_tests, arith}
-use Rattle.page_table.proofs.Costs.{state-at}
+use Rattle.page_table.proofs.Entries.{state-at}
 use Rattle.page_table.proofs.table.Table.is_shared.Goals as goal
 
 pub returns : goal.returns

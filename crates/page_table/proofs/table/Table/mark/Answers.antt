@@ -1,6 +1,6 @@
 use Rattle.page_table.proofs.Base.{common_steps, arith}
-use Rattle.page_table.proofs.Changing.{own_seen}
 use Rattle.page_table.proofs.Moving.{contents-entry, sharing-marked, used-marked, sound-marked}
+use Rattle.page_table.proofs.Entries.{own_seen}
 use Rattle.page_table.proofs.table.Table.mark.Goals as goal
 
 pub invariant_of-self : goal.invariant_of-self

@@ -1,7 +1,7 @@
 use Rattle.page_table.proofs.Base.{◌≡◌, ⊎_elim, slice_index_or, None, option_map, arith, length-map, eqb_tells, get_or-map, nat_tests}
 use Rattle.page_table.proofs.Words.{is_mergeable, state_of, states_of, next-here}
-use Rattle.page_table.proofs.Next.{next-over}
 use Rattle.page_table.proofs.table.Table.next_mergeable.Goals as goal
+use Rattle.page_table.proofs.Partners.{next-over}
 use Rattle.page_table.proofs.table.Table.next_mergeable.Goals.{After-may_merge}
 
 told : (c : After-may_merge) → is_mergeable (slice_index_or (states_of c.args.self.now.entries) c.loop-place.place None) ≡ c.may_merge.result

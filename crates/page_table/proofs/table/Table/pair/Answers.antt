@@ -1,7 +1,7 @@
 use Rattle.page_table.proofs.Base.{arith, get_or-set_other, filter-append}
-use Rattle.page_table.proofs.Changing.{own_seen, own_alone}
 use Rattle.page_table.proofs.Moving.{pairing-from, contents-pair, used-pair, sound-pair, sharing-pair}
 use Rattle.page_table.proofs.Trees.{tree-absent, tree-room}
+use Rattle.page_table.proofs.Entries.{own_seen, own_alone}
 use Rattle.page_table.proofs.table.Table.pair.Goals as goal
 
 pub insert-requires-clause-new : goal.insert-requires-clause-new
