@@ -334,7 +334,7 @@ lies-there table i entry here = some_on entry.frame table.entries i (ap (is_on e
 pub cost-is : (table : TableState) (pass : Pass) (i : ℕ) → IsTable table → break_cost (sharing_of table pass) i ≡ break_frames table i
 unfolding break_cost groups_of break_frames
 cost-is table pass i h1 =
-    grind (arith, nat_tests, state-at table pass i, shared-cost table, lies-there table i, company-places table.entries table.groups i, shared-cost, lies-there)
+    grind (arith, nat_tests, state-at table pass i, company-places table.entries table.groups i, shared-cost, lies-there)
 
 -- the same, told by the count of the page's frame
 pub cost-counted : (table : TableState) (counts : CountsState) (i : ℕ) (entry : Entry) → IsSound table counts → entry_at table.entries i ≡ Some entry
