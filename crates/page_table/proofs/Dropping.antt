@@ -7,8 +7,7 @@ use Rattle.page_table.proofs.Waiters.{waiter-kept, pins-kept}
 use Rattle.page_table.proofs.Writing.{OneMap}
 use Rattle.page_table.proofs.Unpinning.{fit-fewer, outside-pinned, others-unpinned, tenant-unpinned, pins-inside}
 use Rattle.page_table.proofs.Vacating.{gone_from-last}
-use Rattle.page_table.proofs.Putting.{page_of_entry}
-use Rattle.page_table.proofs.Entries.{free_is, state-at}
+use Rattle.page_table.proofs.Entries.{free_is, state-at, page_of_entry}
 use Rattle.page_table.proofs.Maps.{map_at-maps_of}
 
 -- the waiting pages outside some places

@@ -2,7 +2,6 @@ pub mod Base
 pub mod Words
 pub mod Entries
 pub mod Unmerging
-pub mod Putting
 pub mod Maps
 pub mod Reading
 pub mod Recording
@@ -18,8 +17,6 @@ pub mod Scanning
 pub mod Partners
 pub mod Trees
 pub mod Nodes
-pub mod Slots
-pub mod Ahead
 pub mod Vacating
 pub mod Dropping
 pub mod Unpinning

@@ -4,8 +4,7 @@ use Rattle.page_table.proofs.Words.{Page, Shape, part_of, map_place, page_place,
 use Rattle.page_table.proofs.Maps.{map_at-maps_of, length-concat}
 use Rattle.page_table.proofs.Reading.{map_at-part, content_in, content_is}
 use Rattle.page_table.proofs.Creating.{length-contents}
-use Rattle.page_table.proofs.Entries.{on_one, times-head, times-tail, times-cons, told_at, group_of, length-places}
-use Rattle.page_table.proofs.Putting.{page_inside, content_at, page_of_entry}
+use Rattle.page_table.proofs.Entries.{on_one, times-head, times-tail, times-cons, told_at, group_of, length-places, page_inside, content_at, page_of_entry}
 use Rattle.page_table.proofs.Merging.{map_small, number_small}
 
 -- a place's page by its tenant, map and number

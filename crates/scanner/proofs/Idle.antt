@@ -7,7 +7,7 @@ use Rattle.host_types.specs.Pages.{zero_page, fingerprint_of}
 use Rattle.host_types.specs.Pins.{is_pinned}
 use Rattle.host_types.specs.Sharing.{Sharing, PageState, state_at, is_shared}
 use Rattle.host_types.specs.Visits.{Contents, Visit, visit, begun, is_mergeable, look_from, next_from, page_to_visit, decided, looked_at, has_open, had, met, find_partner}
-use Rattle.page_table.proofs.Ahead.{none-mergeable}
+use Rattle.page_table.proofs.Partners.{none-mergeable}
 use Rattle.page_table.proofs.Partners.{next-is}
 use Rattle.scanner.specs.Idle.{ScansNothing}
 use Rattle.host_types.proofs.Visits.{visit-stopped, visit-none, visit-page, is-same}

@@ -1,7 +1,6 @@
 use Rattle.page_table.proofs.Base.{◌+◌, ℕ, drop, Option, nat_tests, arith}
 use Rattle.page_table.proofs.Words.{first_mergeable, moved_on, TableState, states_of}
-use Rattle.page_table.proofs.Ahead.{ahead-next}
-use Rattle.page_table.proofs.Partners.{pass-ended}
+use Rattle.page_table.proofs.Partners.{pass-ended, ahead-next}
 use Rattle.page_table.proofs.search.end_if_done.Goals as goal
 use Rattle.page_table.proofs.search.end_if_done.Goals.{After-is_some}
 

@@ -3,8 +3,7 @@ use Rattle.page_table.proofs.Base.{◌≡◌, ◌+◌, ◌*◌, ◌<◌, ◌≤�
 use Rattle.page_table.proofs.Words.{first_mergeable, is_mergeable, states_of, Shape, part_of, page_count, TableState, IsTable, AreMaps, contents_of, state_of}
 use Rattle.page_table.proofs.Creating.{length-contents}
 use Rattle.page_table.proofs.Reading.{few_pages, content_in}
-use Rattle.page_table.proofs.Putting.{no_entry_of_content}
-use Rattle.page_table.proofs.Entries.{told_at}
+use Rattle.page_table.proofs.Entries.{told_at, no_entry_of_content}
 use Rattle.page_table.proofs.search.next_in_map.Goals as goal
 
 module _ (table : TableState) (shapes : List (Option Shape)) (k i : ℕ) (fits : IsTable table) (are : AreMaps shapes (contents_of table)) (inside : k < length shapes) (from : k * 256 ≤ i) (to : i < k * 256 + 256) where

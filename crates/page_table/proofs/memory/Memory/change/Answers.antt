@@ -2,8 +2,7 @@ use Rattle.page_table.proofs.Base.{length, ap, arith, nat_tests}
 use Rattle.page_table.proofs.Words.{changed, sharing_of, view_of}
 use Rattle.page_table.proofs.Merging.{moves}
 use Rattle.page_table.proofs.Waiters.{pass-others, entries-long}
-use Rattle.page_table.proofs.Ahead.{ahead-told, stay-marked}
-use Rattle.page_table.proofs.Partners.{sees}
+use Rattle.page_table.proofs.Partners.{sees, ahead-told, stay-marked}
 use Rattle.page_table.proofs.memory.Memory.change.Goals as goal
 
 pub mark-requires : goal.mark-requires

@@ -1,6 +1,6 @@
 use Rattle.page_table.proofs.Base.{arith}
-use Rattle.page_table.proofs.Putting.{page_inside, page_there}
 use Rattle.page_table.proofs.Partners.{sees, sees_entry}
+use Rattle.page_table.proofs.Entries.{page_inside, page_there}
 use Rattle.page_table.proofs.memory.Memory.entry.Goals as goal
 
 pub entry-requires : goal.entry-requires

@@ -1,7 +1,7 @@
 use Rattle.page_table.proofs.Words.{states_of}
 use Rattle.page_table.proofs.Base.{arith}
-use Rattle.page_table.proofs.Ahead.{ahead-found}
 use Rattle.page_table.proofs.Facts.{reads_as}
+use Rattle.page_table.proofs.Partners.{ahead-found}
 use Rattle.page_table.proofs.memory.Memory.facts.Goals as goal
 
 pub returns : goal.returns

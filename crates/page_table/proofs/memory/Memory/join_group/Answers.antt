@@ -4,9 +4,8 @@ use Rattle.page_table.proofs.Reading.{content_is}
 use Rattle.page_table.proofs.Merging.{moves}
 use Rattle.page_table.proofs.Scanning.{bytes_here, open-frame, find-in, open-bytes, joins}
 use Rattle.page_table.proofs.Waiters.{pass-others, entries-long}
-use Rattle.page_table.proofs.Ahead.{stay-set}
 use Rattle.page_table.proofs.memory.Memory.join_group.Goals as goal
-use Rattle.page_table.proofs.Partners.{sees}
+use Rattle.page_table.proofs.Partners.{sees, stay-set}
 use Rattle.page_table.proofs.memory.Memory.join_group.Goals.{After-place_of}
 
 -- the group is the first one that is open

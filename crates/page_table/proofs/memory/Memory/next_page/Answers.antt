@@ -1,9 +1,9 @@
 use Rattle.page_table.proofs.Base.{◌≡◌, ◌∙◌, drop, Some, sym, arith, length-map, nat_tests}
 use Rattle.page_table.proofs.Words.{first_mergeable, look_from, IsPageAt, states_of, view_of}
-use Rattle.page_table.proofs.Putting.{page_of_entry}
 use Rattle.page_table.proofs.Partners.{entry-may, IsNext, next-is}
 use Rattle.page_table.proofs.Scanning.{page_there}
 use Rattle.page_table.proofs.memory.Memory.next_page.Goals as goal
+use Rattle.page_table.proofs.Entries.{page_of_entry}
 use Rattle.page_table.proofs.memory.Memory.next_page.Goals.{In-Some}
 
 told : (c : In-Some) → first_mergeable (look_from c.self.inside.pass.cursor) (drop (look_from c.self.inside.pass.cursor) (states_of c.self.inside.table.entries)) ≡ Some c.in-Some.place

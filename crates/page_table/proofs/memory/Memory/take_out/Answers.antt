@@ -4,8 +4,7 @@ use Rattle.page_table.proofs.Words.{page_place, broken_by, state_at, is_shared_p
 use Rattle.page_table.proofs.Merging.{parts_but, part_pinned, map_small, number_small, cost_told, cost_reserved, own_told, moves}
 use Rattle.page_table.proofs.Unpinning.{pinned-others}
 use Rattle.page_table.proofs.Waiters.{pass-kept, entries-long, pinned_if, sharing-taken, pins-taken}
-use Rattle.page_table.proofs.Ahead.{ahead-told, stay-broken}
-use Rattle.page_table.proofs.Partners.{sees}
+use Rattle.page_table.proofs.Partners.{sees, ahead-told, stay-broken}
 use Rattle.page_table.proofs.memory.Memory.take_out.Goals as goal
 
 pub pin_if-requires : goal.pin_if-requires

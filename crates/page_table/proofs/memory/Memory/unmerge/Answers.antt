@@ -3,7 +3,7 @@ use Rattle.page_table.proofs.Words.{unmerge_need, used_by, sharing_of, view_of}
 use Rattle.page_table.proofs.Merging.{moves}
 use Rattle.page_table.proofs.Unmerging.{need_reserved, need_fits, unmerged_is}
 use Rattle.page_table.proofs.Waiters.{pass-kept, entries-long}
-use Rattle.page_table.proofs.Ahead.{ahead-told, stay-broken_from}
+use Rattle.page_table.proofs.Partners.{ahead-told, stay-broken_from}
 use Rattle.page_table.proofs.memory.Memory.unmerge.Goals as goal
 
 pub take_out_all-requires : goal.take_out_all-requires

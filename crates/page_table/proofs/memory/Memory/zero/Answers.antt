@@ -1,9 +1,8 @@
-use Rattle.page_table.proofs.Ahead.{stay-set}
 use Rattle.page_table.proofs.Base.{arith, nat_tests}
 use Rattle.page_table.proofs.Words.{zeroed, view_of}
 use Rattle.page_table.proofs.Merging.{moves}
 use Rattle.page_table.proofs.Waiters.{pass-left, entries-long}
-use Rattle.page_table.proofs.Partners.{sees}
+use Rattle.page_table.proofs.Partners.{sees, stay-set}
 use Rattle.page_table.proofs.memory.Memory.zero.Goals as goal
 
 pub zero-requires : goal.zero-requires

@@ -1,7 +1,7 @@
 use Rattle.page_table.proofs.Base.{arith, nat_tests, filter-append, take_at, take_at}
 use Rattle.std.proofs.Common.{length-set}
-use Rattle.page_table.proofs.Slots.{placed-pushed, full}
 use Rattle.page_table.proofs.order.GroupOrder.push.Goals as goal
+use Rattle.page_table.proofs.Ending.{placed-pushed, full}
 use Rattle.page_table.proofs.order.GroupOrder.push.Goals.{Else-prove}
 
 pub invariant_of-self : goal.invariant_of-self

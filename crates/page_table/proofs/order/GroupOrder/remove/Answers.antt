@@ -1,5 +1,5 @@
 use Rattle.page_table.proofs.Base.{arith, nat_tests, get_or_default, get_or_default}
-use Rattle.page_table.proofs.Slots.{groups-emptied, slot-of-group, slot-of-group, slot-of-group}
+use Rattle.page_table.proofs.Ending.{groups-emptied, slot-of-group, slot-of-group, slot-of-group}
 use Rattle.page_table.proofs.order.GroupOrder.remove.Goals as goal
 
 pub index-slot-requires : goal.index-slot-requires

@@ -2,8 +2,8 @@ use Rattle.page_table.proofs.Base.{nat_tests, arith, common_steps, get_or-set_ot
 use Rattle.page_table.proofs.Words.{zero_page}
 use Rattle.std.proofs.Common.{length-set}
 use Rattle.page_table.proofs.Ending.{unused-frame, sound-added, states-added, groups-added, used-added, contents-filled, added_entry}
-use Rattle.page_table.proofs.Putting.{no_entry_of_content}
 use Rattle.page_table.proofs.Trees.{tree-set}
+use Rattle.page_table.proofs.Entries.{no_entry_of_content}
 use Rattle.page_table.proofs.table.Table.add.Goals as goal
 
 pub invariant_of-self : goal.invariant_of-self

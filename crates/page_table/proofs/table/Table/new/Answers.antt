@@ -1,6 +1,6 @@
 use Rattle.page_table.proofs.Base.{arith, length-replicate}
 use Rattle.page_table.proofs.Words.{zero_page}
-use Rattle.page_table.proofs.Putting.{sound-new}
+use Rattle.page_table.proofs.Entries.{sound-new}
 use Rattle.page_table.proofs.table.Table.new.Goals as goal
 
 pub invariant_of-result : goal.invariant_of-result

@@ -1,5 +1,5 @@
 use Rattle.page_table.proofs.Base.{◌∙◌, sym}
-use Rattle.page_table.proofs.Putting.{page_inside, page_there}
+use Rattle.page_table.proofs.Entries.{page_inside, page_there}
 use Rattle.page_table.proofs.table.Table.page.Goals as goal
 
 pub get-requires : goal.get-requires

@@ -1,6 +1,6 @@
 use Rattle.page_table.proofs.Base.{arith, nat_tests}
-use Rattle.page_table.proofs.Putting.{page_of_entry}
 use Rattle.page_table.proofs.Unmerging.{no_page, some_pass}
+use Rattle.page_table.proofs.Entries.{page_of_entry}
 use Rattle.page_table.proofs.table.Table.take_out_at.Goals as goal
 
 pub take_out-requires : goal.take_out-requires
