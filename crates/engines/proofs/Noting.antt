@@ -86,15 +86,22 @@ pages-join (event ∷ events) more [] further pages long = absurd (suc-ne-zero (
 pages-join (event ∷ events) more (reply ∷ replies) further pages long =
     pages-join events more replies further (pages_after pages event reply) (omega (arith, long))
 
+-- what an output took, once it was passed on
+Appends-kept : (was half is : Option (List ℕ)) (xs : List ℕ) → Appends was half xs → Keeps half is → Appends was is xs
+Appends-kept None half is xs first kept = tt
+Appends-kept (Some known) None is xs first kept = absurd first
+Appends-kept (Some known) (Some more) None xs first kept = absurd kept
+Appends-kept (Some known) (Some more) (Some all) xs first kept = kept ∙ first
+
 -- nothing happened
-pub noted-none : (w : System) (s : Session) (was : Option (List ℕ)) → StandsForSystem s.host w → HasNoted [] [] w w s s was was
-noted-none w s was stands = record {
+pub noted-none : (w : System) (s : Session) (was is : Option (List ℕ)) → Appends was is [] → StandsForSystem s.host w → HasNoted [] [] w w s s was is
+noted-none w s was is taken stands = record {
   stands = stands;
   happen = refl;
   begun = refl;
   pages = refl;
   refused = sym (or-false s.has_refused);
-  written = Appends-none was;
+  written = taken;
 }
 
 -- one thing happened and then another
@@ -295,34 +302,9 @@ performs-no_run pages event reply old new was is other =
     performs-as (IsOneEvent event reply) (AreOf pages (Run event)) old new was is
     (λ events replies alone. (reply, [], [], alone.0, alone.1, nothing-more (tenant_of event) reply other))
 
--- what an output took once what it had taken was passed on
-Keeps-Appends : (was half is : Option (List ℕ)) (xs : List ℕ) → Keeps was half → Appends half is xs → Appends was is xs
-Keeps-Appends None half is xs kept taken = tt
-Keeps-Appends (Some known) None is xs kept taken = absurd kept
-Keeps-Appends (Some known) (Some same) None xs kept taken = absurd taken
-Keeps-Appends (Some known) (Some same) (Some all) xs kept taken = taken ∙ ap (λ ys. ys ++ xs) kept
-
-pub performs-kept : (Asked : List Event → List Reply → Type 0) (old new : Session) (was half is : Option (List ℕ))
-    → Keeps was half → Performs Asked old new half is → Performs Asked old new was is
-performs-kept Asked old new was half is kept performs w stands =
-    let (events, replies, next, asked, noted) = performs w stands in (
-      events,
-      replies,
-      next,
-      asked,
-      record {
-        stands = noted.stands;
-        happen = noted.happen;
-        begun = noted.begun;
-        pages = noted.pages;
-        refused = noted.refused;
-        written = Keeps-Appends was half is (lines_from old.begun.items events replies) kept noted.written;
-      },
-    )
-
--- no visits, and one more visit
-pub performs-no_visit : (old : Session) (was : Option (List ℕ)) → Performs (AreVisits 0) old old was was
-performs-no_visit old was w stands = ([], [], w, (refl, refl), noted-none w old was stands)
+-- no visits, once what was written is passed on, and one more visit
+pub performs-no_visit : (old : Session) (was is : Option (List ℕ)) → Keeps was is → Performs (AreVisits 0) old old was is
+performs-no_visit old was is kept w stands = ([], [], w, (refl, refl), noted-none w old was is (Appends-kept was was is [] (Appends-none was) kept) stands)
 
 one-more : (n : ℕ) → replicate n Visit ++ Visit ∷ [] ≡ replicate (n + 1) Visit
 one-more n = replicate-append-replicate n 1 Visit
@@ -384,7 +366,7 @@ of-as_long pages (command.Visit count) events replies (visits, counted) =
 
 -- no commands
 pub performs-none : (pages : ℕ) (old : Session) (was : Option (List ℕ)) → Performs (AreOfAll pages []) old old was was
-performs-none pages old was w stands = ([], [], w, (refl, refl), noted-none w old was stands)
+performs-none pages old was w stands = ([], [], w, (refl, refl), noted-none w old was was (Appends-none was) stands)
 
 -- one more command
 are_of-push : (pages : ℕ) (commands : List Command) (command : Command) (events more : List Event) (replies further : List Reply)
@@ -443,12 +425,6 @@ replayed-performed file old new was is status stands begun pages clean performs 
     happened events replies next (subst (λ p. AreOfAll p file.commands events replies) pages are) noted.happen
     (told ∙ ap (λ b. if b then 1 else 0) (noted.refused ∙ ap (λ b. b || has_refusal replies) clean))
     (subst (λ counts. Appends was is (lines_from counts events replies)) begun noted.written)
-
-Appends-kept : (was half is : Option (List ℕ)) (xs : List ℕ) → Appends was half xs → Keeps half is → Appends was is xs
-Appends-kept None half is xs first kept = tt
-Appends-kept (Some known) None is xs first kept = absurd first
-Appends-kept (Some known) (Some more) None xs first kept = absurd kept
-Appends-kept (Some known) (Some more) (Some all) xs first kept = kept ∙ first
 
 -- an output that was passed on
 replayed-kept : (file : HostFile) (was half is : Option (List ℕ)) (status : ℕ) → Keeps half is → IsReplayed file was half status → IsReplayed file was is status

@@ -118,21 +118,6 @@ impl Session {
         ensures bad { IfErr result (λ fault. ¬ IsBad fault) }
     {
         written(writer.flush())?;
-        self.make_visits(number, count, writer, words, watch)
-    }
-
-    /// Makes visits, one after the other.
-    fn make_visits<W: Write, E: Write, V: Watch>(
-        &mut self,
-        number: usize,
-        count: u32,
-        writer: &mut W,
-        words: &mut E,
-        watch: &mut V,
-    ) -> Result<(), FileFault>
-        ensures performs { OnOk result (Performs (AreVisits count) self.old self.new (W.contents writer.old) (W.contents writer.new)) }
-        ensures bad { IfErr result (λ fault. ¬ IsBad fault) }
-    {
         for _visit in 0..count {
             watch.see(number, _visit, count);
             self.apply(number, &Event::Visit, writer, words)?;

@@ -11,6 +11,7 @@ use Rattle.host_core.specs.declared.event.Event.TheVariants.{HostLookup}
 use Rattle.host_core.specs.declared.event.Reply.{Reply}
 use Rattle.host_core.specs.declared.event.Reply.TheVariants.{Value, Refused}
 use Rattle.host_file.specs.declared.command.Command.{Command}
+use Rattle.host_file.specs.declared.command.Command.TheVariants.{Apply}
 use Rattle.engines.specs.Lines.{reply_lines}
 use Rattle.engines.specs.Replay.{is_refusal}
 use Rattle.serving.specs.Lookups.{AreLookedUp, IsAnswerIn, IsLookedUp, lookup_by, lookup_tellings, lookups_in}
@@ -81,6 +82,17 @@ pub lookups-step : (commands : List Command) (place : ℕ) (command named : Comm
 lookups-step commands place command named found within is same finds =
     lookups-more commands place command within is ∙ ap (λ c. lookup_by c ++ lookups_in (drop (place + 1) commands)) same
     ∙ ap (λ events. events ++ lookups_in (drop (place + 1) commands)) finds
+
+-- one more line, of the command at a place, which looks a value up
+pub lookups-told : (parts found : List TenantPart) (commands : List Command) (place : ℕ) (command : Command) (event : Event) (reply : Reply) (before mid_way after : Bool) (was half is : Option (List ℕ))
+    → place < length commands → command ≡ get_or commands place command → command ≡ Apply event → found ≡ parts
+    → (lookup_by (Apply event) ≡ event ∷ []) × IsLookedUp found event reply → after ≡ (mid_way || is_refusal reply) → Appends half is (reply_lines event 0 reply)
+    → AreToldUpTo parts (lookups_in commands) (lookups_in (drop place commands)) before mid_way was half
+    → AreToldUpTo parts (lookups_in commands) (lookups_in (drop (place + 1) commands)) before after was is
+lookups-told parts found commands place command event reply before mid_way after was half is within at named same answered noted more so_far =
+    lookups-next parts (lookups_in commands) (lookups_in (drop place commands)) (lookups_in (drop (place + 1) commands)) event reply before mid_way after was half is
+    (lookups-step commands place command (Apply event) (event ∷ []) within at named answered.0)
+    (subst (λ parts. IsLookedUp parts event reply) same answered.1) noted more so_far
 
 -- none is left
 pub lookups-end : (commands : List Command) (place : ℕ) → length commands ≤ place → lookups_in (drop place commands) ≡ []

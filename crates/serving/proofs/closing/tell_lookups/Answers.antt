@@ -1,7 +1,6 @@
-use Rattle.std.proofs.Common.{◌∙◌, [], ◌∷◌, arith, refl, subst}
+use Rattle.std.proofs.Common.{◌∙◌, [], arith, refl}
 use Rattle.host_file.specs.declared.command.Command.TheVariants.{Apply}
-use Rattle.serving.specs.Lookups.{IsLookedUp}
-use Rattle.serving.proofs.Lookups.{lookups-all, lookups-end, lookups-next, lookups-none, lookups-on, lookups-step}
+use Rattle.serving.proofs.Lookups.{lookups-all, lookups-end, lookups-none, lookups-on, lookups-step, lookups-told}
 use Rattle.serving.proofs.closing.tell_lookups.Goals as goal
 use Rattle.serving.proofs.closing.tell_lookups.Goals.{in-Some+in_ok-tell+in-Value-1, in-Some+in_ok-tell+in-Map-1, in_default-looked_up}
 
@@ -12,18 +11,14 @@ pub loop-number-preserved : goal.loop-number-preserved
 loop-number-preserved g c = elim c.match-looked_up.branch [
   | in-Some+in_ok-tell+in-Value-1 w ↦ rw (w.told-is, w.writer-is) (record {
     parts = c.looked_up.ensures.parts ∙ c.loop-number.invariant.parts;
-    lines = lookups-next _ _ _ _ c.in-Apply.event w.in-Some.reply _ _ _ _ _ _
-        (lookups-step c.args.commands.now c.loop-number.number c.index-commands-number.result (Apply c.in-Apply.event) (c.in-Apply.event ∷ [])
-        c.loop-number-test.true c.index-commands-number.is c.in-Apply.is w.in-Some.ensures.answers.0)
-        (subst (λ parts. IsLookedUp parts c.in-Apply.event w.in-Some.reply) c.loop-number.invariant.parts w.in-Some.ensures.answers.1)
+    lines = lookups-told _ _ c.args.commands.now c.loop-number.number c.index-commands-number.result c.in-Apply.event w.in-Some.reply _ _ _ _ _ _
+        c.loop-number-test.true c.index-commands-number.is c.in-Apply.is c.loop-number.invariant.parts w.in-Some.ensures.answers
         w.in_ok-tell.ensures.refused w.in_ok-tell.ensures.written c.loop-number.invariant.lines;
   })
   | in-Some+in_ok-tell+in-Map-1 w ↦ rw (w.told-is, w.writer-is) (record {
     parts = c.looked_up.ensures.parts ∙ c.loop-number.invariant.parts;
-    lines = lookups-next _ _ _ _ c.in-Apply.event w.in-Some.reply _ _ _ _ _ _
-        (lookups-step c.args.commands.now c.loop-number.number c.index-commands-number.result (Apply c.in-Apply.event) (c.in-Apply.event ∷ [])
-        c.loop-number-test.true c.index-commands-number.is c.in-Apply.is w.in-Some.ensures.answers.0)
-        (subst (λ parts. IsLookedUp parts c.in-Apply.event w.in-Some.reply) c.loop-number.invariant.parts w.in-Some.ensures.answers.1)
+    lines = lookups-told _ _ c.args.commands.now c.loop-number.number c.index-commands-number.result c.in-Apply.event w.in-Some.reply _ _ _ _ _ _
+        c.loop-number-test.true c.index-commands-number.is c.in-Apply.is c.loop-number.invariant.parts w.in-Some.ensures.answers
         w.in_ok-tell.ensures.refused w.in_ok-tell.ensures.written c.loop-number.invariant.lines;
   })
   | in_default-looked_up w ↦ rw (w.told-is, w.writer-is) (record {

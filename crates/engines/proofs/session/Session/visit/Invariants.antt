@@ -1,6 +1,6 @@
 use Rattle.engines.specs.Replay.{AreVisits}
 use Rattle.engines.specs.Sessions.{Performs}
-use Rattle.engines.proofs.session.Session.make_visits.Given as goal
+use Rattle.engines.proofs.session.Session.visit.Given as goal
 
 -- the visits so far were made
 abbrev pub invariant-loop-visit : goal.invariant-loop-visit
