@@ -6,8 +6,9 @@ ghost use Rattle.tree_shape.specs.Searches.{order_to};
 ghost use Rattle.tree_shape.specs.Removals.{IsShrinking, IsTaking, AreMerging, IsPopped, IsOut, is_alone};
 
 use crate::search::order_at;
-use crate::{NONE, Node, settle, settle_by};
+use crate::{NONE, Node, settle};
 use frame_arena::Counted;
+use std::cmp::Ordering;
 
 /// A tree without its first place.
 #[derive(Clone, Copy, Debug, PartialEq, Eq)]
@@ -101,23 +102,31 @@ pub fn take_out(
         return Removed::Nowhere;
     }
     let node = nodes[link as usize];
-    let order = order_at(frames, arena, link, frame);
-    if order.is_eq() {
-        if !is_alone(frames, sizes, link, frame) {
-            return Removed::Stays(link);
+    match order_at(frames, arena, link, frame) {
+        Ordering::Less => match take_out(nodes, frames, sizes, arena, node.right, frame) {
+            Removed::Nowhere => Removed::Nowhere,
+            Removed::Stays(at) => Removed::Stays(at),
+            Removed::Out(taken) => Removed::Out(Taken {
+                place: taken.place,
+                root: settle(nodes, node.left, link, taken.root),
+            }),
+        },
+        Ordering::Equal => {
+            if !is_alone(frames, sizes, link, frame) {
+                return Removed::Stays(link);
+            }
+            Removed::Out(Taken {
+                place: link,
+                root: merge(nodes, node.left, node.right),
+            })
         }
-        return Removed::Out(Taken {
-            place: link,
-            root: merge(nodes, node.left, node.right),
-        });
-    }
-    let left = order.is_gt();
-    match take_out(nodes, frames, sizes, arena, node.far(left), frame) {
-        Removed::Nowhere => Removed::Nowhere,
-        Removed::Stays(at) => Removed::Stays(at),
-        Removed::Out(taken) => Removed::Out(Taken {
-            place: taken.place,
-            root: settle_by(nodes, left, taken.root, link, node.near(left)),
-        }),
+        Ordering::Greater => match take_out(nodes, frames, sizes, arena, node.left, frame) {
+            Removed::Nowhere => Removed::Nowhere,
+            Removed::Stays(at) => Removed::Stays(at),
+            Removed::Out(taken) => Removed::Out(Taken {
+                place: taken.place,
+                root: settle(nodes, taken.root, link, node.right),
+            }),
+        },
     }
 }
