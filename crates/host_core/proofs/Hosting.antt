@@ -142,9 +142,9 @@ pub tenant_there : (views : List TenantView) (t : ℕ) (old : TenantView) → t 
 tenant_there views t old within is = slice_get_read views (length views) t old refl within is
 
 -- the tenant and the memory of a host stand for a system
-pub kept_in : (views : List TenantView) (memory : MemoryState) (t : ℕ) (old : TenantView) → (x : System) × StandsForSystem (record { tenants = views; memory = memory }) x → slice_get views t ≡ Some old → IsKept t old memory
-kept_in views memory t old (x, stands) there =
-    let (tenant, found, stood) = AllZip-found StandsForTenant views x.world t old stands.tenants there in
+pub kept_in : (views : List TenantView) (memory : MemoryState) (t : ℕ) (old : TenantView) → (x : System) × StandsForSystem (record { tenants = views; memory = memory }) x → t < length views → old ≡ get_or views t old → IsKept t old memory
+kept_in views memory t old (x, stands) within is =
+    let (tenant, found, stood) = AllZip-found StandsForTenant views x.world t old stands.tenants (tenant_there views t old within is) in
     (x, tenant, found, stood, stands.memory)
 
 -- the refusal of an event whose tenant isn't there

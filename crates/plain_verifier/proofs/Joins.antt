@@ -109,13 +109,7 @@ same_slot (Bytes set) (Kept b) (x, is, within) q = absurd cc
 same_slot (Bytes a) (Bytes b) p q = ap Bytes (sym q ∙ and_comm b a ∙ p)
 
 registers_join : IsJoin IsBelow join_of_registers
-registers_join = record {
-  trans = below_trans;
-  same = same_register;
-  left = register_below_join_left;
-  right = register_below_join_right;
-  least = registers_join_below;
-}
+registers_join = grind (arith, below_trans, same_register, register_below_join_left, register_below_join_right, registers_join_below)
 
 slots_join : IsJoin IsSlotBelow join_of_slots
 slots_join = record {

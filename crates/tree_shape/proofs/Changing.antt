@@ -24,10 +24,6 @@ pub even-one : (at : ℕ) → IsEven (fork at leaf leaf)
 unfolding IsEven
 even-one at = let none = levels-none in (omega (arith, none), omega (arith, none), tt, tt)
 
-pub even-none : IsEven leaf
-unfolding IsEven
-even-none = tt
-
 -- levels of an even tree that grew out of one, or shrank
 pub record IsGrown (old new : Tree) : Type 0 where
   pub even : IsEven new
@@ -117,14 +113,18 @@ entered-grown order new (fork at l r) even =
     by_test Equal left right = same-grown (fork at l r) even
     by_test Greater left right = grown true at l r even (entered order new l) left
 
+-- a node goes, and one side is all that is left
+alone-shrunk : (s : Bool) (at : ℕ) (t : Tree) → IsEven (sided s (fork at) leaf t) → IsShrunk (sided s (fork at) leaf t) t
+alone-shrunk s at t even =
+    let sides = even-sided s at leaf t even in
+    let none = levels-none in
+    let all = levels-sided s at leaf t in
+    record { even = sides.3; least = omega (arith, none, all); most = omega (arith, none, all) }
+
 -- the first place that is taken out
 pub without_least-shrunk : (at : ℕ) (l r : Tree) → IsEven (fork at l r) → IsShrunk (fork at l r) (without_least at l r)
 unfolding without_least
-without_least-shrunk at leaf r even =
-    let sides = even-sides at leaf r even in
-    let none = levels-none in
-    let all = levels-fork at leaf r in
-    record { even = sides.3; least = omega (arith, none, all); most = omega (arith, none, all) }
+without_least-shrunk at leaf r even = alone-shrunk true at r even
 without_least-shrunk at (fork top a b) r even =
     let sides = even-sides at (fork top a b) r even in
     shrunk true at (fork top a b) r even (without_least top a b) (without_least-shrunk top a b sides.2)
@@ -132,11 +132,7 @@ without_least-shrunk at (fork top a b) r even =
 -- a node goes, and its sides are merged
 pub merged-shrunk : (at : ℕ) (l r : Tree) → IsEven (fork at l r) → IsShrunk (fork at l r) (merged l r)
 unfolding merged
-merged-shrunk at l leaf even =
-    let sides = even-sides at l leaf even in
-    let none = levels-none in
-    let all = levels-fork at l leaf in
-    record { even = sides.2; least = omega (arith, none, all); most = omega (arith, none, all) }
+merged-shrunk at l leaf even = alone-shrunk false at l even
 merged-shrunk at l (fork top a b) even =
     let sides = even-sides at l (fork top a b) even in
     let other = even-fork (least top a) l (fork top a b) sides.0 sides.1 sides.2 sides.3 in

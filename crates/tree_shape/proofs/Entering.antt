@@ -27,11 +27,6 @@ unfolding entered
 entered-side true order new at t u e = rw e refl
 entered-side false order new at t u e = rw e refl
 
--- where nothing hangs
-pub enter-joinable : (nodes : List Node) (new : ℕ) → new < length nodes → IsJoinable nodes none new none
-unfolding Holds
-enter-joinable nodes new inside = let no = levels-none in joinable nodes none new none leaf leaf inside refl refl (omega (arith, no)) (omega (arith, no))
-
 pub enter-none : (nodes : List Node) (frames : List ℕ) (pages : List (List ℕ)) (link new : ℕ) (order : ℕ → Ordering) → link ≡ none → (t : Tree) → IsGrowing nodes frames pages link new t
     → IsEntry nodes (slice_set nodes new (with_sides nodes none none)) order new t (Root new)
 unfolding Holds IsAway

@@ -1,5 +1,6 @@
 -- A look at a node leads to one side, and that side is lower.
 use Rattle.std.proofs.Common.{◌≡◌, ◌≢◌, ℕ, ◌<◌, Bool, true, false, List, length, slice_index_or, Option, None, Some, refl, sym, arith}
+use Rattle.std.specs.Ordering.{is_eq, is_gt}
 use Rattle.std.specs.declared.cmp.Ordering.{Ordering}
 use Rattle.std.specs.declared.cmp.Ordering.TheVariants.{Less, Equal, Greater}
 use Rattle.tree_shape.specs.declared.Node.{Node}
@@ -37,6 +38,17 @@ found-leaf order = refl
 abbrev pub toward : Bool → Ordering
 toward true = Greater
 toward false = Less
+
+-- a content that isn't equal is looked for on a side
+pub equal-order : (o : Ordering) → is_eq o ≡ true → o ≡ Equal
+equal-order Less e = absurd (cc)
+equal-order Equal e = refl
+equal-order Greater e = absurd (cc)
+
+pub side-order : (o : Ordering) → is_eq o ≡ false → o ≡ toward (is_gt o)
+side-order Less e = refl
+side-order Equal e = absurd (cc)
+side-order Greater e = refl
 
 pub found-side : (s : Bool) (order : ℕ → Ordering) (at : ℕ) (t u : Tree) → order at ≡ toward s → found order (sided s (fork at) t u) ≡ found order t
 unfolding found

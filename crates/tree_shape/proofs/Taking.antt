@@ -48,6 +48,12 @@ pub taker : (nodes : List Node) (frames : List ℕ) (pages : List (List ℕ)) (l
 taker nodes frames pages link some t is =
     with-node nodes link t (λ (t : Tree). IsTaking nodes frames pages link t → IsTaker nodes frames pages link) is.shrinks.sound.holds some (λ l r held. λ now. record { l = l; r = r; is = now }) is
 
+-- the same, told by a side
+pub record IsTakerBy (s : Bool) (nodes : List Node) (frames : List ℕ) (pages : List (List ℕ)) (link : ℕ) : Type 0 where
+  pub t : Tree
+  pub u : Tree
+  pub is : IsTaking nodes frames pages link (sided s (fork link) t u)
+
 pub taking-searched : (nodes : List Node) (frames : List ℕ) (pages : List (List ℕ)) (link : ℕ) (t : Tree) → IsTaking nodes frames pages link t → IsSearched nodes frames pages link t
 taking-searched nodes frames pages link t is = record { holds = is.shrinks.sound.holds; framed = is.framed }
 

@@ -33,10 +33,6 @@ pub times-fork : (i at : ℕ) (l r : Tree) → times i (fork at l r) ≡ times i
 unfolding times in_order
 times-fork i at l r = times-row i at (in_order l) (in_order r)
 
-pub times-settled : (i at : ℕ) (l r : Tree) → times i (settled at l r) ≡ times i l + here i at + times i r
-unfolding times
-times-settled i at l r = ap (λ (xs : List ℕ). sum_by (here i) xs) (in_order-settled at l r) ∙ times-row i at (in_order l) (in_order r)
-
 -- away
 pub times-away : (i : ℕ) (t : Tree) → times i t ≡ 0 → IsAway i t
 unfolding IsAway

@@ -26,14 +26,14 @@ impl Node {
     ghost use Rattle.tree_shape.specs.Sides.{far, near};
 
     /// The link of its left side, or of its right one.
-    fn far(self, left: bool) -> u32
+    pub(crate) fn far(self, left: bool) -> u32
         ensures { result ≡ far left self }
     {
         if left { self.left } else { self.right }
     }
 
     /// The link of the other side.
-    fn near(self, left: bool) -> u32
+    pub(crate) fn near(self, left: bool) -> u32
         ensures { result ≡ near left self }
     {
         if left { self.right } else { self.left }
@@ -113,4 +113,17 @@ fn settle(nodes: &mut [Node], left: u32, at: u32, right: u32) -> u32
     }
     join(nodes, left, at, right);
     at
+}
+
+/// Makes a place a node between two sides, the far one first, and settles it.
+fn settle_by(nodes: &mut [Node], left: bool, far: u32, at: u32, near: u32) -> u32
+    requires { AreReadyBy left nodes.old far at near }
+    ensures { (t o : Tree) → AreSidesBy left nodes.old far at near t o
+        → IsHung nodes.old nodes.new result (sided left (settled at) t o) (sided left (fork at) t o) }
+{
+    if left {
+        settle(nodes, far, at, near)
+    } else {
+        settle(nodes, near, at, far)
+    }
 }

@@ -14,8 +14,7 @@ returns-then-place-len c =
 
 pub apply-requires-clause-kept : goal.apply-requires-clause-kept
 apply-requires-clause-kept c =
-    kept_in c.self.inside.tenants.items c.self.inside.memory c.args.number c.index_mut.result.now c.self.invariant
-    (tenant_there c.self.inside.tenants.items c.args.number c.index_mut.result.now (omega (arith, c.self.inside.tenants.ok.0)) c.index_mut.ensures.value)
+    kept_in c.self.inside.tenants.items c.self.inside.memory c.args.number c.index_mut.result.now c.self.invariant (omega (arith, c.self.inside.tenants.ok.0)) c.index_mut.ensures.value
 
 abbrev new : goal.After-apply → HostView
 new c = record { tenants = set c.self.inside.tenants.items c.args.number c.apply.new.self; memory = c.apply.new.memory }

@@ -17,8 +17,7 @@ returns-then-place-len c =
 
 pub make_steps-requires-clause-kept : goal.make_steps-requires-clause-kept
 make_steps-requires-clause-kept c =
-    kept_in c.self.inside.tenants.items c.self.inside.memory c.args.tenant c.index_mut.result.now c.self.invariant
-    (tenant_there c.self.inside.tenants.items c.args.tenant c.index_mut.result.now (omega (arith, c.self.inside.tenants.ok.0)) c.index_mut.ensures.value)
+    kept_in c.self.inside.tenants.items c.self.inside.memory c.args.tenant c.index_mut.result.now c.self.invariant (omega (arith, c.self.inside.tenants.ok.0)) c.index_mut.ensures.value
 
 abbrev new : goal.After-make_steps → HostView
 new c = record { tenants = set c.self.inside.tenants.items c.args.tenant c.make_steps.new.self; memory = c.make_steps.new.memory }

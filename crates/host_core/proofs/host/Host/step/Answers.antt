@@ -15,9 +15,7 @@ returns-then-place-len c =
 
 pub step-requires : goal.step-requires
 step-requires c = record {
-  kept =
-      kept_in c.self.inside.tenants.items c.self.inside.memory c.args.tenant c.index_mut.result.now c.self.invariant
-      (tenant_there c.self.inside.tenants.items c.args.tenant c.index_mut.result.now (omega (arith, c.self.inside.tenants.ok.0)) c.index_mut.ensures.value);
+  kept = kept_in c.self.inside.tenants.items c.self.inside.memory c.args.tenant c.index_mut.result.now c.self.invariant (omega (arith, c.self.inside.tenants.ok.0)) c.index_mut.ensures.value;
 }
 
 abbrev new : goal.After-step → HostView
