@@ -1,6 +1,5 @@
 -- The standard library's words and lemmas that the proofs of this crate use.
 
-
 pub use Rattle.std.proofs.Common.{◌≡◌, ◌≢◌, ◌∙◌, ⊎_elim, ℕ, zero, suc, ◌+◌, ◌<◌, ◌≤◌, ◌==◌, Bool, false, if◌then◌else◌, List, [], ◌∷◌, length, slice_index_or, slice_set, Some, None, option_map, refl, sym, ap, subst, arith, ◌-◌, true, drop, Option, IsSome, IfSome, is_some, ◌&&◌, nat_lt, map, filter, take, unwrap_or, ◌⊎◌, inl, inr, not, sum_by, ◌*◌, ◌++◌, replicate, append_assoc, nat_le, IsSomeAnd, ◌↔◌, ◌/◌, ◌%◌, All, AllPairs, bytes_eq, find, is_none, position, min, ◌||◌, vec_capacity, rules, MatchOption}
 pub use Rattle.std.proofs.Math.ListN.{get_or-map}
 pub use Rattle.std.proofs.Math.Seq.{map-set_same, take-append_seam, take-set-lt, take-append-add}

@@ -4,7 +4,6 @@ use Rattle.page_table.proofs.Words.{Shape, Pass, Tenant, MemoryState, part, unre
 use Rattle.std.proofs.Common.{length-set}
 use Rattle.page_table.proofs.Maps.{length-maps_of}
 use Rattle.page_table.proofs.Entries.{free_is}
-
 pub use Rattle.page_table.proofs.Maps.{length-part}
 use Rattle.page_table.proofs.Maps.{map_at-maps_of, length-maps_of, length-concat}
 use Rattle.page_table.proofs.Reading.{map_at-part}
