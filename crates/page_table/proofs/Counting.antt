@@ -1,6 +1,5 @@
 -- A list that has each frame of count 0 once is as long as there are such frames.
-use Rattle.page_table.proofs.Base.{◌≡◌, ◌∙◌, ℕ, zero, suc, ◌+◌, ◌-◌, ◌<◌, ◌≤◌, Bool, not, List, [], ◌∷◌, length, sum_by, filter, slice_index_or, Option, Some, None, refl, sym, arith, list_any, range_with_len, sum_by-cons, nat_tests, get_or_past, ◌==◌, ◌&&◌, nat_lt, ◌++◌, sum_by_push, replicate, map, length-map}
-use Rattle.page_table.proofs.Words.{Entry, AreCounts, times, one_if_zero, frames_of, pages_on, is_frame, group_contents, unshared_at, volatile_at, PageState, Shape, group_bytes, page_at, Pass, Tenant, contents_now, TableState, IsTable, states_of, groups_of, places_on, IsTally, shared_at, view_of, IsMemory}
+use Rattle.page_table.proofs.Base.{◌≡◌, ◌∙◌, ℕ, zero, suc, ◌+◌, ◌-◌, ◌<◌, ◌≤◌, Bool, not, List, [], ◌∷◌, length, sum_by, filter, slice_index_or, Option, Some, None, refl, sym, arith, list_any, range_with_len, sum_by-cons, nat_tests, get_or_past, ◌==◌, ◌&&◌, nat_lt, ◌++◌, sum_by_push, replicate, map, length-map, Entry, AreCounts, times, one_if_zero, frames_of, pages_on, is_frame, group_contents, unshared_at, volatile_at, PageState, Shape, group_bytes, page_at, Pass, Tenant, contents_now, TableState, IsTable, states_of, groups_of, places_on, IsTally, shared_at, view_of, IsMemory}
 use Rattle.page_table.proofs.Entries.{one_when, times-head, times-tail, one_if_zero-above, times-cons, pages_on-cons, equal}
 use Rattle.page_table.proofs.Scanning.{bytes-of_group}
 

@@ -1,6 +1,5 @@
 -- New pages at places one after another, and what a memory tells of a new map.
-use Rattle.page_table.proofs.Base.{◌≡◌, ◌≢◌, ◌∙◌, ℕ, zero, suc, ◌+◌, ◌-◌, ◌*◌, ◌<◌, ◌≤◌, List, [], ◌∷◌, ◌++◌, length, take, replicate, slice_index_or, slice_set, Option, Some, None, Bool, option_map, refl, sym, ap, arith, nat_le, nat_lt, ◌&&◌, if◌then◌else◌, concat, get_or-set_same, get_or-set_other, length-replicate, append-nil, take-append-drop, replicate-append-replicate, take-replicate, drop-replicate, length-map, nat_tests, get_or-replicate, ext_get_or}
-use Rattle.page_table.proofs.Words.{Pass, Shape, part_of, with_part, map_at, map_place, zero_page, IsShape, byte_len_of, new_page, length-with_part, replicate-zero_page, length-zero_page, Entry, Tenant, page_count, MemoryState, part, free_of, have_of, zero_map, part_created, IsKeptBut, AreMapsKeptBut, KeepsSettings, with_new_pages, view_of, IsMemory, TableState, groups_of, used_by, state_of, states_of, maps_of, flat_of, ArePages, ArePagesOf, contents_of, entry_content}
+use Rattle.page_table.proofs.Base.{◌≡◌, ◌≢◌, ◌∙◌, ℕ, zero, suc, ◌+◌, ◌-◌, ◌*◌, ◌<◌, ◌≤◌, List, [], ◌∷◌, ◌++◌, length, take, replicate, slice_index_or, slice_set, Option, Some, None, Bool, option_map, refl, sym, ap, arith, nat_le, nat_lt, ◌&&◌, if◌then◌else◌, concat, get_or-set_same, get_or-set_other, length-replicate, append-nil, take-append-drop, replicate-append-replicate, take-replicate, drop-replicate, length-map, nat_tests, get_or-replicate, ext_get_or, Pass, Shape, part_of, with_part, map_at, map_place, zero_page, IsShape, byte_len_of, new_page, length-with_part, replicate-zero_page, length-zero_page, Entry, Tenant, page_count, MemoryState, part, free_of, have_of, zero_map, part_created, IsKeptBut, AreMapsKeptBut, KeepsSettings, with_new_pages, view_of, IsMemory, TableState, groups_of, used_by, state_of, states_of, maps_of, flat_of, ArePages, ArePagesOf, contents_of, entry_content}
 use Rattle.std.proofs.Common.{length-set}
 use Rattle.page_table.proofs.Maps.{map_at-maps_of, part-at, written-at, part-kept, lies-apart}
 use Rattle.page_table.proofs.Reading.{content_in, few_pages, map_at-part}

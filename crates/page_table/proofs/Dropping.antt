@@ -1,6 +1,5 @@
 -- What a memory tells of a map that was taken away.
-use Rattle.page_table.proofs.Base.{◌≡◌, ◌∙◌, ℕ, zero, suc, ◌+◌, ◌-◌, ◌*◌, ◌<◌, ◌≤◌, ◌&&◌, nat_le, nat_lt, not, Bool, false, List, [], ◌∷◌, length, map, filter, replicate, slice_index_or, slice_set, Option, Some, None, option_map, refl, ap, arith, length-map, length-replicate, ext_get_or, nat_tests, order}
-use Rattle.page_table.proofs.Words.{Pass, Shape, part_of, with_part, FlatMap, map_at, map_place, PinsFit, Sharing, is_shared, broken, gone, gone_from, part_dropped, waiting_outside, ended_at, dropped, moved_on, length-with_part, Waiter, Tenant, page_count, MemoryState, part, free_of, have_of, IsKeptBut, AreMapsKeptBut, KeepsSettings, TableState, IsTable, AreOwnKeptOutside, ArePagesOf, IsPageAt, state_of, states_of, contents_of, sharing_of, waiting_of, used_by, view_of, is_listed, AreWaiters, IsMemory, IsPass}
+use Rattle.page_table.proofs.Base.{◌≡◌, ◌∙◌, ℕ, zero, suc, ◌+◌, ◌-◌, ◌*◌, ◌<◌, ◌≤◌, ◌&&◌, nat_le, nat_lt, not, Bool, false, List, [], ◌∷◌, length, map, filter, replicate, slice_index_or, slice_set, Option, Some, None, option_map, refl, ap, arith, length-map, length-replicate, ext_get_or, nat_tests, ordered, Pass, Shape, part_of, with_part, FlatMap, map_at, map_place, PinsFit, Sharing, is_shared, broken, gone, gone_from, part_dropped, waiting_outside, ended_at, dropped, moved_on, length-with_part, Waiter, Tenant, page_count, MemoryState, part, free_of, have_of, IsKeptBut, AreMapsKeptBut, KeepsSettings, TableState, IsTable, AreOwnKeptOutside, ArePagesOf, IsPageAt, state_of, states_of, contents_of, sharing_of, waiting_of, used_by, view_of, is_listed, AreWaiters, IsMemory, IsPass}
 use Rattle.page_table.proofs.Creating.{filled_more, with_part-none, length-contents, filled_at, read_refilled, wide_refilled, memory_refilled, one_refilled}
 use Rattle.page_table.proofs.Reading.{content_in, few_pages, map_at-part, map_at-past}
 use Rattle.page_table.proofs.Waiters.{waiter-kept, pins-kept}
@@ -63,7 +62,7 @@ sharing-outside old new pass first n few inside none told =
 -- a map that is there has one of eight numbers
 pub number_small : (memory : MemoryState) (t m : ℕ) (shape : Shape) → option_map (λ (flat : FlatMap). flat.shape) (map_at (part memory t).maps m) ≡ Some shape → m < 8
 unfolding part
-number_small memory t m shape e = grind (arith, nat_tests, map_at-past, order)
+number_small memory t m shape e = grind (arith, nat_tests, map_at-past, ordered)
 
 -- a map was taken away, and nothing else has changed
 pub record Drops (old new : MemoryState) (tenant m : ℕ) (shape : Shape) : Type 0 where

@@ -1,6 +1,5 @@
 -- A page table stays sound where a page is added, where one leaves a frame on which others lie, and where the last page leaves its group and keeps the frame.
-use Rattle.page_table.proofs.Base.{◌≡◌, ◌≢◌, ◌∙◌, ◌⊎◌, ℕ, ◌+◌, ◌-◌, ◌<◌, ◌≤◌, ◌==◌, not, Bool, true, false, List, [], ◌∷◌, length, map, filter, slice_index_or, slice_set, Option, Some, None, option_map, refl, ap, arith, get_or-set_same, get_or-set_other, set-get_or, length-set, map-set, nil_from_length, nat_tests, get_or_default, get_or_past, ⊎_elim, zero, suc, ◌++◌, All, AllPairs, get_or_append_left, get_or-append-add, All-filter, filter_passes, AllPairs-filter, is_same}
-use Rattle.page_table.proofs.Words.{Pass, New, new_page, broken, broken_page, is_shared, left_by, without, without-length, times-gone, times-kept, some_kept, zero_page, length-zero_page, page_at, Entry, TableState, CountsState, IsTable, IsAlone, IsGroup, IsSound, AreCountsOf, times, one_if_zero, entry_at, state_of, states_of, contents_of, groups_of, sharing_of, places_on, pages_on, used_by, filter-absent, ArePlaced, groups_in}
+use Rattle.page_table.proofs.Base.{◌≡◌, ◌≢◌, ◌∙◌, ◌⊎◌, ℕ, ◌+◌, ◌-◌, ◌<◌, ◌≤◌, ◌==◌, not, Bool, true, false, List, [], ◌∷◌, length, map, filter, slice_index_or, slice_set, Option, Some, None, option_map, refl, ap, arith, get_or-set_same, get_or-set_other, set-get_or, length-set, map-set, nil_from_length, nat_tests, get_or_default, get_or_past, ⊎_elim, zero, suc, ◌++◌, All, AllPairs, get_or_append_left, get_or-append-add, All-filter, filter_passes, AllPairs-filter, is_same, Pass, New, new_page, broken, broken_page, is_shared, left_by, without, without-length, times-gone, times-kept, some_kept, zero_page, length-zero_page, page_at, Entry, TableState, CountsState, IsTable, IsAlone, IsGroup, IsSound, AreCountsOf, times, one_if_zero, entry_at, state_of, states_of, contents_of, groups_of, sharing_of, places_on, pages_on, used_by, filter-absent, ArePlaced, groups_in}
 use Rattle.page_table.proofs.Entries.{one_when, on_one, elsewhere, equal, none_on, some_on, pages_on-set, inside, entry_content-kept, contents-set, places_on-set, groups-kept, times-head, times-tail, one_if_zero-above, group_of, told_here, counts-set, entry_fits, table-set, table-changed, counted-changed, lies_alone, apart_alone, pages_on-changed, own_pages-set, length-places, without-here, state-at, content_at, times-cons}
 use Rattle.page_table.proofs.Moving.{contents-entry}
 use Rattle.std.proofs.Common.{length-append}

@@ -1,6 +1,5 @@
 -- Entries by place: what a change of one of them changes.
-use Rattle.page_table.proofs.Base.{◌≡◌, ◌≢◌, ◌∙◌, ⊎_elim, ℕ, zero, suc, ◌+◌, ◌<◌, ◌≤◌, ◌==◌, Bool, true, false, if◌then◌else◌, List, [], ◌∷◌, length, map, option_map, slice_set, Option, Some, None, refl, ap, arith, slice_index_or, get_or-set_same, get_or-set_other, map-set, sum_by-set, sum_by-cons, nat_tests, get_or_past, get_or-map, ◌⊎◌, IfSome, sym, subst, length-set, ◌&&◌, nat_lt, list_any, sum_by, length-map, replicate, set-get_or, get_or-replicate, length-replicate, sum_by-replicate}
-use Rattle.page_table.proofs.Words.{is_shared, PageState, Entry, times, entry_at, entry_content, is_on, places_on, pages_on, one_if_zero, TableState, IsTable, IsGroup, state_of, states_of, Status, own_frame, zero_page, page_at, CountsState, IsEntry, IsAlone, AreCountsOf, LiesRight, used_by, IsOwnAt, own_pages, is_among, without, Pass, Shape, frames_free, Tenant, free_of, groups_of, view_of, state_at, cost_of, break_cost, IsSound, sharing_of, break_frames, length-zero_page, IsPageAt, contents_of}
+use Rattle.page_table.proofs.Base.{◌≡◌, ◌≢◌, ◌∙◌, ⊎_elim, ℕ, zero, suc, ◌+◌, ◌<◌, ◌≤◌, ◌==◌, Bool, true, false, if◌then◌else◌, List, [], ◌∷◌, length, map, option_map, slice_set, Option, Some, None, refl, ap, arith, slice_index_or, get_or-set_same, get_or-set_other, map-set, sum_by-set, sum_by-cons, nat_tests, get_or_past, get_or-map, ◌⊎◌, IfSome, sym, subst, length-set, ◌&&◌, nat_lt, list_any, sum_by, length-map, replicate, set-get_or, get_or-replicate, length-replicate, sum_by-replicate, is_shared, PageState, Entry, times, entry_at, entry_content, is_on, places_on, pages_on, one_if_zero, TableState, IsTable, IsGroup, state_of, states_of, Status, own_frame, zero_page, page_at, CountsState, IsEntry, IsAlone, AreCountsOf, LiesRight, used_by, IsOwnAt, own_pages, is_among, without, Pass, Shape, frames_free, Tenant, free_of, groups_of, view_of, state_at, cost_of, break_cost, IsSound, sharing_of, break_frames, length-zero_page, IsPageAt, contents_of}
 
 abbrev pub one_when : Bool → ℕ
 one_when b = if b then 1 else 0

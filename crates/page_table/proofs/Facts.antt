@@ -1,6 +1,5 @@
 -- The law of every memory, from what holds of its table.
-use Rattle.page_table.proofs.Base.{◌≡◌, ◌≢◌, ◌∙◌, ◌↔◌, ℕ, zero, suc, ◌+◌, ◌<◌, ◌≤◌, true, not, List, [], ◌∷◌, length, map, filter, All, AllPairs, slice_index_or, Option, Some, None, IsSome, IfSome, option_map, refl, sym, ap, arith, list_any, get_or_default, length-map, AllPairs-cons, nat_tests}
-use Rattle.page_table.proofs.Words.{Pass, Shape, Status, Grouped, Zero, PinsFit, is_among, fit-own, contents_in, next_from, page_at, Entry, Tenant, MemoryState, free_of, part, TableState, CountsState, IsTable, IsEntry, IsSound, AreCounts, contents_of, times, one_if_zero, entry_at, state_of, states_of, frames_of, groups_of, sharing_of, is_on, places_on, view_of, IsMemory, ReadsAs, AreGroups, AreMerged, HasPage, status_at, has_both, is_frame, free_frames}
+use Rattle.page_table.proofs.Base.{◌≡◌, ◌≢◌, ◌∙◌, ◌↔◌, ℕ, zero, suc, ◌+◌, ◌<◌, ◌≤◌, true, not, List, [], ◌∷◌, length, map, filter, All, AllPairs, slice_index_or, Option, Some, None, IsSome, IfSome, option_map, refl, sym, ap, arith, list_any, get_or_default, length-map, AllPairs-cons, nat_tests, Pass, Shape, Status, Grouped, Zero, PinsFit, is_among, fit-own, contents_in, next_from, page_at, Entry, Tenant, MemoryState, free_of, part, TableState, CountsState, IsTable, IsEntry, IsSound, AreCounts, contents_of, times, one_if_zero, entry_at, state_of, states_of, frames_of, groups_of, sharing_of, is_on, places_on, view_of, IsMemory, ReadsAs, AreGroups, AreMerged, HasPage, status_at, has_both, is_frame, free_frames}
 use Rattle.page_table.proofs.Entries.{one_when, alone, inside, times-head, times-tail, one_if_zero-above, times-cons, told_at, group_of, entry_told, entry_fits, among-places, length-places, free_is, page_there as no_page, page_of_entry}
 use Rattle.page_table.proofs.Maps.{length-maps_of}
 use Rattle.page_table.proofs.Reading.{map_at-part, is_page_at}

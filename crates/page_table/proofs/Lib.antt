@@ -1,5 +1,4 @@
 pub mod Base
-pub mod Words
 pub mod Entries
 pub mod Unmerging
 pub mod Maps

@@ -1,6 +1,5 @@
 -- What a memory tells after pages came to share frames, or left shared ones: the bytes of each page stay.
-use Rattle.page_table.proofs.Base.{◌≡◌, ◌≢◌, ℕ, ◌+◌, ◌*◌, ◌<◌, ◌≤◌, List, length, Option, refl, arith, Bool, nat_tests}
-use Rattle.page_table.proofs.Words.{Pass, Shape, Page, part_of, page_place, break_cost, Sharing, Tenant, MemoryState, part, free_of, have_of, IsPageOf, IsOwn, AreKept, IsKeptBut, KeepsSettings, with_pins, TableState, IsOwnAt, contents_of, sharing_of, used_by, break_frames, view_of, IsMemory}
+use Rattle.page_table.proofs.Base.{◌≡◌, ◌≢◌, ℕ, ◌+◌, ◌*◌, ◌<◌, ◌≤◌, List, length, Option, refl, arith, Bool, nat_tests, Pass, Shape, Page, part_of, page_place, break_cost, Sharing, Tenant, MemoryState, part, free_of, have_of, IsPageOf, IsOwn, AreKept, IsKeptBut, KeepsSettings, with_pins, TableState, IsOwnAt, contents_of, sharing_of, used_by, break_frames, view_of, IsMemory}
 use Rattle.page_table.proofs.Reading.{page_located, page_number, few_pages}
 use Rattle.page_table.proofs.Entries.{free_is, state-at}
 

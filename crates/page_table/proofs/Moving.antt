@@ -1,6 +1,5 @@
 -- A page keeps its frame or moves to a shared frame of the same bytes: pages are marked, move, and join groups; and two pages become a new last group.
-use Rattle.page_table.proofs.Base.{◌≡◌, ◌≢◌, ◌∙◌, ◌⊎◌, ℕ, zero, suc, ◌+◌, ◌-◌, ◌<◌, ◌≤◌, ◌==◌, true, false, List, [], ◌∷◌, ◌++◌, length, map, slice_index_or, slice_set, Option, Some, None, option_map, refl, ap, arith, get_or-set_other, length-set, set-get_or, sum_by-cons, length-append, map-append, nat_tests}
-use Rattle.page_table.proofs.Words.{Pass, Status, Grouped, Zero, is_shared, with_status, with_page, joined_by, paired, zeroed, zero_page, page_at, Entry, TableState, CountsState, IsOwnAt, IsTable, IsEntry, IsAlone, IsGroup, IsSound, AreCountsOf, times, one_if_zero, entry_at, contents_of, groups_of, state_of, states_of, sharing_of, forgets, is_on, places_on, pages_on, used_by, joined_on, marked}
+use Rattle.page_table.proofs.Base.{◌≡◌, ◌≢◌, ◌∙◌, ◌⊎◌, ℕ, zero, suc, ◌+◌, ◌-◌, ◌<◌, ◌≤◌, ◌==◌, true, false, List, [], ◌∷◌, ◌++◌, length, map, slice_index_or, slice_set, Option, Some, None, option_map, refl, ap, arith, get_or-set_other, length-set, set-get_or, sum_by-cons, length-append, map-append, nat_tests, Pass, Status, Grouped, Zero, is_shared, with_status, with_page, joined_by, paired, zeroed, zero_page, page_at, Entry, TableState, CountsState, IsOwnAt, IsTable, IsEntry, IsAlone, IsGroup, IsSound, AreCountsOf, times, one_if_zero, entry_at, contents_of, groups_of, state_of, states_of, sharing_of, forgets, is_on, places_on, pages_on, used_by, joined_on, marked}
 use Rattle.page_table.proofs.Entries.{one_when, on_one, equal, inside, alone, group_of, contents-set, places_on-set, groups-kept, groups-each, pages_on-cons, none_on, states-set, told_here, one_if_zero-above, counts-set, page-on, is_alone, entry_fits, table-set, table-changed, counted-changed, apart_alone, fits-after, own_seen, pages_on-changed, lies_alone, own_pages-set, content_at}
 use Rattle.page_table.proofs.Counting.{times-push}
 use Rattle.page_table.proofs.Waiters.{waiting-forgets}

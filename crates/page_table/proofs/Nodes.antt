@@ -1,7 +1,6 @@
 -- How many contents have more than one group, told by the chains of the tree: of all contents one is taken out
 -- after another, and how often it occurs is the length of its chain.
-use Rattle.page_table.proofs.Base.{◌≡◌, ◌≢◌, ◌⊎◌, ⊎_elim, ℕ, suc, ◌+◌, nat_lt, not, bytes_eq, true, false, if◌then◌else◌, List, [], ◌∷◌, ◌++◌, length, map, filter, slice_index_or, All, AllPairs, refl, ap, arith, concat, Less, length-append, append-nil, All-tail, filter-append, sum_by-cons, sum_by-append, is_eq-slice_cmp, bytes_eq-Decides, nat_tests, All-head}
-use Rattle.page_table.proofs.Words.{times_among, repeated_among, seconds_behind, page_at, Groups, IsChain, has, content, order, many_in, dups_in, chains_among, dups_among, filter-chain, filter-no_chain, IsTreeOf}
+use Rattle.page_table.proofs.Base.{◌≡◌, ◌≢◌, ◌⊎◌, ⊎_elim, ℕ, suc, ◌+◌, nat_lt, not, bytes_eq, true, false, if◌then◌else◌, List, [], ◌∷◌, ◌++◌, length, map, filter, slice_index_or, All, AllPairs, refl, ap, arith, concat, Less, length-append, append-nil, All-tail, filter-append, sum_by-cons, sum_by-append, is_eq-slice_cmp, bytes_eq-Decides, nat_tests, All-head, times_among, repeated_among, seconds_behind, page_at, Groups, IsChain, has, content, order, many_in, dups_in, chains_among, dups_among, filter-chain, filter-no_chain, IsTreeOf}
 use Rattle.page_table.proofs.Entries.{one_when}
 
 -- all contents but one

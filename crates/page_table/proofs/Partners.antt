@@ -1,6 +1,5 @@
 -- Waiting pages as callers see them.
-use Rattle.page_table.proofs.Base.{◌≡◌, ◌∙◌, ℕ, ◌+◌, ◌<◌, Bool, true, false, All, is_some, drop, slice_index_or, List, [], ◌∷◌, length, map, find, Option, Some, None, option_map, refl, sym, arith, All-nil, All-cons, nat_tests, zero, suc, ◌-◌, ◌≤◌, get_or-drop, length-drop, order, slice_set, IsSome, IfSome, get_or-set_other, get_or-set_same, set_past, get_or_past}
-use Rattle.page_table.proofs.Words.{Page, Shape, page_place, is_pinned, PageState, state_at, is_shared, contents_in, is_partner, is_mergeable, first_mergeable, look_from, moved_on, one_more, Waiter, is_match, Entry, Pass, Tenant, IsNotWaiting, MayMerge, TableState, IsTable, entry_at, waiting_of, states_of, sharing_of, view_of, IsMemory, IsPass, IsWaiter, AreWaiters, is_listed, next-after, next-none, page_at, page_bytes, MemoryState, bytes_of_map, frame_at, IsPageOf, IsOwn, contents_now, IsPageAt, IsOwnAt, contents_of, IsEntry, state_of, Status, Sharing, broken_page, broken, broken_from, with_page, marked, IsAhead}
+use Rattle.page_table.proofs.Base.{◌≡◌, ◌∙◌, ℕ, ◌+◌, ◌<◌, Bool, true, false, All, is_some, drop, slice_index_or, List, [], ◌∷◌, length, map, find, Option, Some, None, option_map, refl, sym, arith, All-nil, All-cons, nat_tests, zero, suc, ◌-◌, ◌≤◌, get_or-drop, length-drop, ordered, slice_set, IsSome, IfSome, get_or-set_other, get_or-set_same, set_past, get_or_past, Page, Shape, page_place, is_pinned, PageState, state_at, is_shared, contents_in, is_partner, is_mergeable, first_mergeable, look_from, moved_on, one_more, Waiter, is_match, Entry, Pass, Tenant, IsNotWaiting, MayMerge, TableState, IsTable, entry_at, waiting_of, states_of, sharing_of, view_of, IsMemory, IsPass, IsWaiter, AreWaiters, is_listed, next-after, next-none, page_at, page_bytes, MemoryState, bytes_of_map, frame_at, IsPageOf, IsOwn, contents_now, IsPageAt, IsOwnAt, contents_of, IsEntry, state_of, Status, Sharing, broken_page, broken, broken_from, with_page, marked, IsAhead}
 use Rattle.page_table.proofs.Scanning.{frame_told, bytes_here}
 use Rattle.page_table.proofs.Entries.{entry_fits, state-at, content_at, told_at}
 use Rattle.page_table.proofs.Waiters.{waiters-kept, ahead-free, listed-told, not-pinned}
@@ -10,7 +9,7 @@ use Rattle.page_table.proofs.Writing.{own_entry}
 over : (pages : List (Option PageState)) (n d : ℕ) → ((i : ℕ) → n ≤ i → i < n + d → is_mergeable (slice_index_or pages i None) ≡ false)
     → first_mergeable n (drop n pages) ≡ first_mergeable (n + d) (drop (n + d) pages)
 over pages n zero apart = grind arith
-over pages n (suc d) apart = grind (arith, nat_tests, order n (length pages), next-after pages n, next-none pages, over pages (n + 1) d)
+over pages n (suc d) apart = grind (arith, nat_tests, ordered n (length pages), next-after pages n, next-none pages, over pages (n + 1) d)
 
 -- pages that may not be merged are passed over
 pub next-over : (pages : List (Option PageState)) (n m : ℕ) → n ≤ m → ((i : ℕ) → n ≤ i → i < m → is_mergeable (slice_index_or pages i None) ≡ false)

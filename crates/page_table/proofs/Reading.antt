@@ -1,6 +1,5 @@
 -- What a memory tells of a page that is there.
-use Rattle.page_table.proofs.Base.{◌≡◌, ◌∙◌, ℕ, ◌+◌, ◌*◌, ◌<◌, ◌≤◌, List, [], length, take, drop, slice_index_or, Option, Some, None, option_map, unwrap_or, sym, ap, arith, get_or_past, get_or-take, get_or-drop, nat_tests, common_steps, order}
-use Rattle.page_table.proofs.Words.{Pass, Shape, Page, part_of, FlatMap, FlatMaps, map_at, map_place, page_place, page_bytes, IsShape, byte_len_of, state_at, Entry, Tenant, page_count, part, bytes_of_map, frame_at, IsPageOf, TableState, IsPageAt, maps_of, flat_of, ArePagesOf, AreMaps, contents_of, entry_at, state_of, view_of, IsMemory}
+use Rattle.page_table.proofs.Base.{◌≡◌, ◌∙◌, ℕ, ◌+◌, ◌*◌, ◌<◌, ◌≤◌, List, [], length, take, drop, slice_index_or, Option, Some, None, option_map, unwrap_or, sym, ap, arith, get_or_past, get_or-take, get_or-drop, nat_tests, common_steps, ordered, Pass, Shape, Page, part_of, FlatMap, FlatMaps, map_at, map_place, page_place, page_bytes, IsShape, byte_len_of, state_at, Entry, Tenant, page_count, part, bytes_of_map, frame_at, IsPageOf, TableState, IsPageAt, maps_of, flat_of, ArePagesOf, AreMaps, contents_of, entry_at, state_of, view_of, IsMemory}
 use Rattle.std.proofs.Common.{length-take}
 use Rattle.page_table.proofs.Maps.{map_at-maps_of, page_bytes-page}
 use Rattle.page_table.proofs.Entries.{told_here}
@@ -31,7 +30,7 @@ pub record IsLocated (shapes : List (Option Shape)) (contents : List (List ℕ))
 
 pub located : (shapes : List (Option Shape)) (contents : List (List ℕ)) (t m at : ℕ) → AreMaps shapes contents
     → at < length (bytes_in (map_at (part_of (maps_of shapes contents) (t * 8) 8) m)) → IsLocated shapes contents t m at
-located shapes contents t m at are there = grind (arith, nat_tests, common_steps, map_at-past, order, map_at-part, map_at-maps_of)
+located shapes contents t m at are there = grind (arith, nat_tests, common_steps, map_at-past, ordered, map_at-part, map_at-maps_of)
 
 -- the pages of a shape within the limits are at most 256
 pub few_pages : (shape : Shape) → IsShape shape → page_count shape ≤ 256

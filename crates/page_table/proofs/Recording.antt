@@ -1,6 +1,5 @@
 -- Frames reserved for open runs, and what the maps of a memory meet.
-use Rattle.page_table.proofs.Base.{◌≡◌, ◌∙◌, ℕ, ◌+◌, ◌-◌, ◌*◌, ◌<◌, ◌≤◌, List, length, sum_by, slice_index_or, slice_set, Option, arith, get_or-set_same, get_or-set_other, sum_by-set, nat_tests, zero, suc, [], ◌∷◌, map, drop, Some, None, IfSome, option_map, is_none, position, refl, All, position_or_len, get_or_past, get_or-take, get_or-drop, concat, length-take-le, All-nil, All-cons, All-head, All-tail, All-append, All-take, All-drop}
-use Rattle.page_table.proofs.Words.{Shape, Pass, Tenant, MemoryState, part, unreserved_tenant, free_of, have_of, IsKeptBut, TableState, contents_of, maps_of, used_by, view_of, IsMemory, part_of, FlatMap, FlatMaps, map_at, map_place, IsFlatMap, IsPage, page_at, Entry, free_number, flat_of, entry_content, ArePages, ArePagesOf, AreMaps}
+use Rattle.page_table.proofs.Base.{◌≡◌, ◌∙◌, ℕ, ◌+◌, ◌-◌, ◌*◌, ◌<◌, ◌≤◌, List, length, sum_by, slice_index_or, slice_set, Option, arith, get_or-set_same, get_or-set_other, sum_by-set, nat_tests, zero, suc, [], ◌∷◌, map, drop, Some, None, IfSome, option_map, is_none, position, refl, All, position_or_len, get_or_past, get_or-take, get_or-drop, concat, length-take-le, All-nil, All-cons, All-head, All-tail, All-append, All-take, All-drop, Shape, Pass, Tenant, MemoryState, part, unreserved_tenant, free_of, have_of, IsKeptBut, TableState, contents_of, maps_of, used_by, view_of, IsMemory, part_of, FlatMap, FlatMaps, map_at, map_place, IsFlatMap, IsPage, page_at, Entry, free_number, flat_of, entry_content, ArePages, ArePagesOf, AreMaps}
 use Rattle.std.proofs.Common.{length-set}
 use Rattle.page_table.proofs.Maps.{length-maps_of}
 use Rattle.page_table.proofs.Entries.{free_is}

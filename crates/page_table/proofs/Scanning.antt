@@ -1,6 +1,5 @@
 -- What a memory tells of pages by their places, of open groups and of waiting pages.
-use Rattle.page_table.proofs.Base.{◌≡◌, ◌∙◌, ℕ, suc, ◌+◌, ◌*◌, ◌/◌, ◌%◌, ◌<◌, ◌≤◌, ◌==◌, Bool, true, if◌then◌else◌, List, [], ◌∷◌, map, find, slice_index_or, Option, Some, None, option_map, is_some, refl, ap, arith, list_any, length-take-le, sum_by-cons, bytes_eq-Decides, nat_tests, common_steps}
-use Rattle.page_table.proofs.Words.{Page, Shape, part_of, map_place, page_place, page_bytes, joined_by, contents_in, group_bytes, is_open, has_open, join_first, page_at, Entry, Pass, Tenant, MemoryState, part, bytes_of_map, frame_at, IsPageOf, frame_of_group, open_frame, TableState, IsTable, IsPageAt, maps_of, contents_of, entry_at, groups_of, sharing_of, frames_of, times, is_on, places_on, pages_on, is_open_frame, joined_on, view_of, IsMemory}
+use Rattle.page_table.proofs.Base.{◌≡◌, ◌∙◌, ℕ, suc, ◌+◌, ◌*◌, ◌/◌, ◌%◌, ◌<◌, ◌≤◌, ◌==◌, Bool, true, if◌then◌else◌, List, [], ◌∷◌, map, find, slice_index_or, Option, Some, None, option_map, is_some, refl, ap, arith, list_any, length-take-le, sum_by-cons, bytes_eq-Decides, nat_tests, common_steps, Page, Shape, part_of, map_place, page_place, page_bytes, joined_by, contents_in, group_bytes, is_open, has_open, join_first, page_at, Entry, Pass, Tenant, MemoryState, part, bytes_of_map, frame_at, IsPageOf, frame_of_group, open_frame, TableState, IsTable, IsPageAt, maps_of, contents_of, entry_at, groups_of, sharing_of, frames_of, times, is_on, places_on, pages_on, is_open_frame, joined_on, view_of, IsMemory}
 use Rattle.page_table.proofs.Maps.{map_at-maps_of, length-concat}
 use Rattle.page_table.proofs.Reading.{map_at-part, content_in, content_is}
 use Rattle.page_table.proofs.Creating.{length-contents}

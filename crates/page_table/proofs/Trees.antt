@@ -1,6 +1,5 @@
 -- The tree of groups has the groups of each content in order of creation, whatever happens to the table.
-use Rattle.page_table.proofs.Base.{◌≡◌, ◌≢◌, ◌∙◌, ℕ, zero, suc, ◌<◌, ◌≤◌, ◌==◌, nat_lt, Bool, true, List, [], ◌∷◌, length, filter, find, slice_index_or, slice_set, All, refl, arith, concat, get_or-set_other, length-set, sum_by-append, nat_tests}
-use Rattle.page_table.proofs.Words.{page_at, Groups, IsChain, has, content, has-itself, TableState, CountsState, IsSound, IsTreeOf, times, pages_on, is_open_frame, without-length, times-gone, times-kept}
+use Rattle.page_table.proofs.Base.{◌≡◌, ◌≢◌, ◌∙◌, ℕ, zero, suc, ◌<◌, ◌≤◌, ◌==◌, nat_lt, Bool, true, List, [], ◌∷◌, length, filter, find, slice_index_or, slice_set, All, refl, arith, concat, get_or-set_other, length-set, sum_by-append, nat_tests, page_at, Groups, IsChain, has, content, has-itself, TableState, CountsState, IsSound, IsTreeOf, times, pages_on, is_open_frame, without-length, times-gone, times-kept}
 use Rattle.page_table.proofs.Ending.{but}
 use Rattle.page_table.proofs.Entries.{one_when, times-head, times-tail, one_if_zero-above, group_of, times-cons, page-on}
 

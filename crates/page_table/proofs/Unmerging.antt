@@ -1,6 +1,5 @@
 -- What the breaks of several pages take, each after the breaks before it, and what unmerging takes, told by the pages on the groups' frames.
-use Rattle.page_table.proofs.Base.{◌≡◌, ℕ, zero, suc, ◌+◌, ◌-◌, ◌<◌, ◌≤◌, ◌==◌, ◌&&◌, nat_lt, Bool, true, false, if◌then◌else◌, List, [], ◌∷◌, length, map, filter, sum_by, take, drop, slice_index_or, slice_set, Option, Some, None, option_map, is_some, refl, sym, arith, list_any, get_or-set_other, length-set, length-map, get_or-drop, length-drop, sum_by_more, sum_by-cons, nat_tests, any-filter_same}
-use Rattle.page_table.proofs.Words.{Pass, Shape, part_of, Sharing, state_at, is_shared, is_shared_page, is_in_company, without, broken, break_cost, broken_from, cost_from, unmerged, members, zeros_at, zero_pages, unmerge_need, SharesNothing, Entry, Tenant, have_of, view_of, IsMemory, TableState, CountsState, IsTable, IsSound, times, one_if_zero, entry_at, state_of, states_of, groups_of, sharing_of, used_by, new_pass, is_on, places_on, pages_on, shared_at}
+use Rattle.page_table.proofs.Base.{◌≡◌, ℕ, zero, suc, ◌+◌, ◌-◌, ◌<◌, ◌≤◌, ◌==◌, ◌&&◌, nat_lt, Bool, true, false, if◌then◌else◌, List, [], ◌∷◌, length, map, filter, sum_by, take, drop, slice_index_or, slice_set, Option, Some, None, option_map, is_some, refl, sym, arith, list_any, get_or-set_other, length-set, length-map, get_or-drop, length-drop, sum_by_more, sum_by-cons, nat_tests, any-filter_same, Pass, Shape, part_of, Sharing, state_at, is_shared, is_shared_page, is_in_company, without, broken, break_cost, broken_from, cost_from, unmerged, members, zeros_at, zero_pages, unmerge_need, SharesNothing, Entry, Tenant, have_of, view_of, IsMemory, TableState, CountsState, IsTable, IsSound, times, one_if_zero, entry_at, state_of, states_of, groups_of, sharing_of, used_by, new_pass, is_on, places_on, pages_on, shared_at}
 use Rattle.host_types.proofs.Without as law_of_times
 use Rattle.host_types.proofs.Unmerging as law
 use Rattle.page_table.proofs.Creating.{length-states}

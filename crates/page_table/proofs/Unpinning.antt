@@ -1,6 +1,5 @@
 -- What a memory tells where the pins of one tenant changed.
-use Rattle.page_table.proofs.Base.{◌≡◌, ◌≢◌, ◌∙◌, ◌⊎◌, ℕ, ◌+◌, ◌*◌, ◌<◌, ◌≤◌, Bool, true, false, List, length, replicate, slice_index_or, Option, refl, sym, ap, arith, length-replicate, length-map, nat_tests, ext_get_or, order, ◌-◌, ◌/◌, ◌%◌, if◌then◌else◌, [], ◌∷◌, ◌++◌, take, drop, slice_set, get_or-set_same, get_or-set_other, length-set, take-replicate, drop-replicate, get_or-replicate, take-append_seam, sum_by-cons, sum_by-set, sum_by-replicate}
-use Rattle.page_table.proofs.Words.{Shape, part_of, with_part, map_place, PinsFit, PageState, length-part_of, length-with_part, with_part-whole, Pass, Tenant, IsKeptBut, with_pins, part, TableState, states_of, view_of, IsMemory, part-with_part_same, with_part-same, pinned_among, ArePinsOf}
+use Rattle.page_table.proofs.Base.{◌≡◌, ◌≢◌, ◌∙◌, ◌⊎◌, ℕ, ◌+◌, ◌*◌, ◌<◌, ◌≤◌, Bool, true, false, List, length, replicate, slice_index_or, Option, refl, sym, ap, arith, length-replicate, length-map, nat_tests, ext_get_or, ordered, ◌-◌, ◌/◌, ◌%◌, if◌then◌else◌, [], ◌∷◌, ◌++◌, take, drop, slice_set, get_or-set_same, get_or-set_other, length-set, take-replicate, drop-replicate, get_or-replicate, take-append_seam, sum_by-cons, sum_by-set, sum_by-replicate, Shape, part_of, with_part, map_place, PinsFit, PageState, length-part_of, length-with_part, with_part-whole, Pass, Tenant, IsKeptBut, with_pins, part, TableState, states_of, view_of, IsMemory, part-with_part_same, with_part-same, pinned_among, ArePinsOf}
 use Rattle.page_table.proofs.Creating.{length-contents, filled_at, others-filled}
 use Rattle.page_table.proofs.Waiters.{pinned_if}
 use Rattle.page_table.proofs.Maps.{part_of-set_other, part-at, length-part, part_of-set_same}
@@ -17,7 +16,7 @@ others-unpinned pins t m n u few all ne = others-filled pins (t * 2048 + m) t m 
 
 -- a page that is pinned still stands outside, and was pinned
 pub outside-pinned : (pins : List Bool) (at n i : ℕ) → at + n ≤ length pins → slice_index_or (with_part pins at (replicate n false)) i false ≡ true → ((i < at) ⊎ (at + n ≤ i)) × (slice_index_or pins i false ≡ true)
-outside-pinned pins at n i inside pinned = grind (arith, nat_tests, at, filled_at, order)
+outside-pinned pins at n i inside pinned = grind (arith, nat_tests, at, filled_at, ordered)
 
 -- and so of the tenant itself
 pub tenant-unpinned : (pins : List Bool) (t m n : ℕ) → m + n ≤ 2048 → t * 2048 + 2048 ≤ length pins

@@ -1,6 +1,5 @@
 -- A page table stays sound where a page is taken away that has its own frame, or leaves others on its frame.
-use Rattle.page_table.proofs.Base.{◌≡◌, ℕ, zero, suc, ◌+◌, ◌-◌, ◌<◌, ◌≤◌, ◌==◌, true, false, if◌then◌else◌, length, slice_index_or, slice_set, Some, None, option_map, refl, arith, length-set, map-set, set-set, nat_tests, common_steps}
-use Rattle.page_table.proofs.Words.{Pass, Sharing, is_shared, broken, gone, gone_from, broken-own, Entry, TableState, CountsState, IsTable, IsGroup, IsOwnAt, IsSound, AreCountsOf, one_if_zero, entry_at, state_of, groups_of, sharing_of, pages_on, used_by}
+use Rattle.page_table.proofs.Base.{◌≡◌, ℕ, zero, suc, ◌+◌, ◌-◌, ◌<◌, ◌≤◌, ◌==◌, true, false, if◌then◌else◌, length, slice_index_or, slice_set, Some, None, option_map, refl, arith, length-set, map-set, set-set, nat_tests, common_steps, Pass, Sharing, is_shared, broken, gone, gone_from, broken-own, Entry, TableState, CountsState, IsTable, IsGroup, IsOwnAt, IsSound, AreCountsOf, one_if_zero, entry_at, state_of, groups_of, sharing_of, pages_on, used_by}
 use Rattle.page_table.proofs.Entries.{one_when, places_on-set, groups-kept, one_if_zero-above, group_of, counts-set, inside, equal, some_on, is_alone, entry_fits, table-changed, counted-changed, apart_alone, pages_on-changed, own_pages-set, without-here, state-at}
 use Rattle.page_table.proofs.Ending.{groups-left}
 

@@ -1,6 +1,5 @@
 -- The pages that wait: what keeps them, and how many there are.
-use Rattle.page_table.proofs.Base.{◌≡◌, ◌≢◌, ◌∙◌, ℕ, ◌<◌, ◌≤◌, ◌==◌, ◌||◌, not, false, List, [], ◌∷◌, ◌++◌, length, map, filter, slice_index_or, slice_set, Option, Some, None, refl, ap, arith, list_any, get_or-set_other, nat_tests, ◌&&◌, Bool, true, if◌then◌else◌, option_map, sym, subst, get_or_default, length-map, get_or_past}
-use Rattle.page_table.proofs.Words.{is_shared, waiting_without, Waiter, Entry, Pass, TableState, AreOwnKept, AreOthersKept, entry_at, own_pages, waiting_of, forgets, is_listed, IsWaiter, AreWaiters, IsPass, Volatile, Waiting, is_pinned, pinned, broken_by, PinsFit, Sharing, state_at, is_shared_page, broken, fit-by, entry_content, contents_of, state_of, states_of, sharing_of}
+use Rattle.page_table.proofs.Base.{◌≡◌, ◌≢◌, ◌∙◌, ℕ, ◌<◌, ◌≤◌, ◌==◌, ◌||◌, not, false, List, [], ◌∷◌, ◌++◌, length, map, filter, slice_index_or, slice_set, Option, Some, None, refl, ap, arith, list_any, get_or-set_other, nat_tests, ◌&&◌, Bool, true, if◌then◌else◌, option_map, sym, subst, get_or_default, length-map, get_or_past, is_shared, waiting_without, Waiter, Entry, Pass, TableState, AreOwnKept, AreOthersKept, entry_at, own_pages, waiting_of, forgets, is_listed, IsWaiter, AreWaiters, IsPass, Volatile, Waiting, is_pinned, pinned, broken_by, PinsFit, Sharing, state_at, is_shared_page, broken, fit-by, entry_content, contents_of, state_of, states_of, sharing_of}
 use Rattle.page_table.proofs.Entries.{inside, own_pages-set, state-at}
 
 -- where each page has its bytes, there are as many places

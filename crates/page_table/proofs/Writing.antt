@@ -1,6 +1,5 @@
 -- What a memory tells after bytes of a page were written.
-use Rattle.page_table.proofs.Base.{◌≡◌, ◌≢◌, ◌∙◌, Bool, ℕ, ◌+◌, ◌*◌, ◌<◌, ◌≤◌, List, [], length, slice_index_or, slice_set, Option, Some, None, IfSome, false, option_map, refl, ap, arith, concat, get_or-set_same, get_or-set_other, get_or_past, length-take-le, nat_tests, common_steps}
-use Rattle.page_table.proofs.Words.{Pass, Shape, Page, part_of, with_part, FlatMap, map_at, map_place, page_place, byte_len_of, is_shared, length-with_part, Tenant, page_count, MemoryState, part, bytes_of_map, IsPageOf, IsOwn, map_written, part_written, IsKeptBut, AreMapsKeptBut, KeepsSettings, TableState, entry_at, flat_of, ArePages, ArePagesOf, contents_of, groups_of, used_by, view_of, IsMemory, take-with_part, drop-with_part_before}
+use Rattle.page_table.proofs.Base.{◌≡◌, ◌≢◌, ◌∙◌, Bool, ℕ, ◌+◌, ◌*◌, ◌<◌, ◌≤◌, List, [], length, slice_index_or, slice_set, Option, Some, None, IfSome, false, option_map, refl, ap, arith, concat, get_or-set_same, get_or-set_other, get_or_past, length-take-le, nat_tests, common_steps, Pass, Shape, Page, part_of, with_part, FlatMap, map_at, map_place, page_place, byte_len_of, is_shared, length-with_part, Tenant, page_count, MemoryState, part, bytes_of_map, IsPageOf, IsOwn, map_written, part_written, IsKeptBut, AreMapsKeptBut, KeepsSettings, TableState, entry_at, flat_of, ArePages, ArePagesOf, contents_of, groups_of, used_by, view_of, IsMemory, take-with_part, drop-with_part_before}
 use Rattle.std.proofs.Common.{length-set}
 use Rattle.page_table.proofs.Maps.{maps_of-changed, length-maps_of, part_of-set_same, part_of-set_other, concat-written, length-concat}
 use Rattle.page_table.proofs.Entries.{state-at}

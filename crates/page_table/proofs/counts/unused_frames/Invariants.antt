@@ -1,5 +1,4 @@
-use Rattle.page_table.proofs.Base.{◌≡◌, ◌≤◌, ◌+◌, ℕ, length, vec_capacity}
-use Rattle.page_table.proofs.Words.{times}
+use Rattle.page_table.proofs.Base.{◌≡◌, ◌≤◌, ◌+◌, ℕ, length, vec_capacity, times}
 use Rattle.page_table.proofs.Entries.{one_when}
 use Rattle.page_table.proofs.Counting.{is_between}
 use Rattle.page_table.proofs.counts.unused_frames.Given as goal

@@ -1,4 +1,4 @@
-use Rattle.page_table.proofs.Words.{part-range}
+use Rattle.page_table.proofs.Base.{part-range}
 use Rattle.page_table.proofs.memory.shapes_from.Goals as goal
 
 pub returns-clause-shapes : goal.returns-clause-shapes

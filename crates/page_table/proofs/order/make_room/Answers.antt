@@ -1,5 +1,4 @@
-use Rattle.page_table.proofs.Base.{◌≡◌, ◌∙◌, ◌<◌, ℕ, List, length, slice_index_or, sym, ap, subst, arith, rules, filter_same}
-use Rattle.page_table.proofs.Words.{groups_in}
+use Rattle.page_table.proofs.Base.{◌≡◌, ◌∙◌, ◌<◌, ℕ, List, length, slice_index_or, sym, ap, subst, arith, rules, filter_same, groups_in}
 use Rattle.page_table.proofs.order.make_room.Goals as goal
 use Rattle.page_table.proofs.Ending.{groups-below, groups-apart, groups-again}
 use Rattle.page_table.proofs.order.make_room.Goals.{After-deref}

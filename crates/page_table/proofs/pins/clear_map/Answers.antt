@@ -1,5 +1,4 @@
-use Rattle.page_table.proofs.Base.{arith, length-take-le, length-replicate, nat_tests}
-use Rattle.page_table.proofs.Words.{put_mid-with_part}
+use Rattle.page_table.proofs.Base.{arith, length-take-le, length-replicate, nat_tests, put_mid-with_part}
 use Rattle.page_table.proofs.pins.clear_map.Goals as goal
 
 pub returns : goal.returns

@@ -1,5 +1,4 @@
-use Rattle.page_table.proofs.Base.{◌+◌, ℕ, drop, Option, nat_tests, arith}
-use Rattle.page_table.proofs.Words.{first_mergeable, moved_on, TableState, states_of}
+use Rattle.page_table.proofs.Base.{◌+◌, ℕ, drop, Option, nat_tests, arith, first_mergeable, moved_on, TableState, states_of}
 use Rattle.page_table.proofs.Partners.{pass-ended, ahead-next}
 use Rattle.page_table.proofs.search.end_if_done.Goals as goal
 use Rattle.page_table.proofs.search.end_if_done.Goals.{After-is_some}

@@ -1,6 +1,5 @@
 -- No page may be merged where no map is, or behind a map's pages.
-use Rattle.page_table.proofs.Base.{◌≡◌, ◌+◌, ◌*◌, ◌<◌, ◌≤◌, false, drop, slice_index_or, MatchOption, Option, None, Some, ℕ, arith, nat_tests, ◌∙◌, ◌-◌, List, [], length, option_map, sym, ap}
-use Rattle.page_table.proofs.Words.{first_mergeable, is_mergeable, states_of, Shape, part_of, page_count, TableState, IsTable, AreMaps, contents_of, state_of}
+use Rattle.page_table.proofs.Base.{◌≡◌, ◌+◌, ◌*◌, ◌<◌, ◌≤◌, false, drop, slice_index_or, MatchOption, Option, None, Some, ℕ, arith, nat_tests, ◌∙◌, ◌-◌, List, [], length, option_map, sym, ap, first_mergeable, is_mergeable, states_of, Shape, part_of, page_count, TableState, IsTable, AreMaps, contents_of, state_of}
 use Rattle.page_table.proofs.Creating.{length-contents}
 use Rattle.page_table.proofs.Reading.{few_pages, content_in}
 use Rattle.page_table.proofs.Entries.{told_at, no_entry_of_content}

@@ -1,5 +1,4 @@
-use Rattle.page_table.proofs.Base.{◌+◌, ◌*◌, arith, nat_tests}
-use Rattle.page_table.proofs.Words.{states_of, next-none}
+use Rattle.page_table.proofs.Base.{◌+◌, ◌*◌, arith, nat_tests, states_of, next-none}
 use Rattle.page_table.proofs.Creating.{length-contents, length-states}
 use Rattle.page_table.proofs.Partners.{next-over}
 use Rattle.page_table.proofs.search.next_mergeable.Goals as goal

@@ -1,5 +1,4 @@
-use Rattle.page_table.proofs.Base.{◌≡◌, ◌+◌, ◌*◌, ◌≤◌, drop}
-use Rattle.page_table.proofs.Words.{first_mergeable, states_of}
+use Rattle.page_table.proofs.Base.{◌≡◌, ◌+◌, ◌*◌, ◌≤◌, drop, first_mergeable, states_of}
 use Rattle.page_table.proofs.search.next_mergeable.Given as goal
 
 -- no page before the place may be merged, and the place is in the map or at its end

@@ -1,5 +1,4 @@
-use Rattle.page_table.proofs.Base.{ℕ, ◌≡◌, Bool, if◌then◌else◌, refl, arith, sum_by_more, nat_tests}
-use Rattle.page_table.proofs.Words.{pages_on}
+use Rattle.page_table.proofs.Base.{ℕ, ◌≡◌, Bool, if◌then◌else◌, refl, arith, sum_by_more, nat_tests, pages_on}
 use mir.Val.{bool_byte}
 use Rattle.page_table.proofs.table.count_on.Goals as goal
 

@@ -1,5 +1,4 @@
-use Rattle.page_table.proofs.Base.{◌≡◌, ◌≤◌, take}
-use Rattle.page_table.proofs.Words.{pages_on}
+use Rattle.page_table.proofs.Base.{◌≡◌, ◌≤◌, take, pages_on}
 use Rattle.page_table.proofs.table.count_on.Given as goal
 
 abbrev pub invariant-loop-entry : goal.invariant-loop-entry

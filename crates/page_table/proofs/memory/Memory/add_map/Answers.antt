@@ -1,5 +1,4 @@
-use Rattle.page_table.proofs.Base.{◌≡◌, ◌∙◌, ◌+◌, ◌*◌, ℕ, replicate, slice_set, Some, ap, arith, nat_tests}
-use Rattle.page_table.proofs.Words.{with_part, map_place, zero_page, new_page, page_count, contents_of, states_of, used_by, view_of}
+use Rattle.page_table.proofs.Base.{◌≡◌, ◌∙◌, ◌+◌, ◌*◌, ℕ, replicate, slice_set, Some, ap, arith, nat_tests, with_part, map_place, zero_page, new_page, page_count, contents_of, states_of, used_by, view_of}
 use Rattle.page_table.proofs.Creating.{Creates, memory_created, creates, index_inside, no_contents, tenant_inside, number_empty, room_inside, length-contents}
 use Rattle.page_table.proofs.Waiters.{pass-kept, kept-own}
 use Rattle.page_table.proofs.Reading.{few_pages}

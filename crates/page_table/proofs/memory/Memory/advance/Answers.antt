@@ -1,5 +1,4 @@
-use Rattle.page_table.proofs.Base.{◌≡◌, ◌∙◌, ◌+◌, ◌<◌, false, drop, is_some, Some, sym, ap, arith, length-map, nat_tests}
-use Rattle.page_table.proofs.Words.{page_place, first_mergeable, look_from, states_of, view_of, AreWaiters, is_listed}
+use Rattle.page_table.proofs.Base.{◌≡◌, ◌∙◌, ◌+◌, ◌<◌, false, drop, is_some, Some, sym, ap, arith, length-map, nat_tests, page_place, first_mergeable, look_from, states_of, view_of, AreWaiters, is_listed}
 use Rattle.page_table.proofs.Creating.{length-contents}
 use Rattle.page_table.proofs.Partners.{advanced, moved-on, moved-ended, pass-on, pass-ended, waits-not, next-is, ahead-next}
 use Rattle.page_table.proofs.memory.Memory.advance.Goals as goal

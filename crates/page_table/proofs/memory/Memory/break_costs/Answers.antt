@@ -1,5 +1,4 @@
-use Rattle.page_table.proofs.Base.{◌+◌, ◌*◌, ◌<◌, ◌≤◌, length, ℕ, arith, List, Option, nat_tests}
-use Rattle.page_table.proofs.Words.{Pass, Page, Shape, page_place, Tenant, IsPageOf, bytes_of_map, part, TableState, view_of, IsMemory}
+use Rattle.page_table.proofs.Base.{◌+◌, ◌*◌, ◌<◌, ◌≤◌, length, ℕ, arith, List, Option, nat_tests, Pass, Page, Shape, page_place, Tenant, IsPageOf, bytes_of_map, part, TableState, view_of, IsMemory}
 use Rattle.std.proofs.Common.{length-take}
 use Rattle.page_table.proofs.Creating.{length-contents}
 use Rattle.page_table.proofs.Reading.{page_located}

@@ -1,5 +1,4 @@
-use Rattle.page_table.proofs.Base.{length, ap, arith, nat_tests}
-use Rattle.page_table.proofs.Words.{changed, sharing_of, view_of}
+use Rattle.page_table.proofs.Base.{length, ap, arith, nat_tests, changed, sharing_of, view_of}
 use Rattle.page_table.proofs.Merging.{moves}
 use Rattle.page_table.proofs.Waiters.{pass-others, entries-long}
 use Rattle.page_table.proofs.Partners.{sees, ahead-told, stay-marked}

@@ -1,5 +1,4 @@
-use Rattle.page_table.proofs.Words.{states_of}
-use Rattle.page_table.proofs.Base.{arith}
+use Rattle.page_table.proofs.Base.{arith, states_of}
 use Rattle.page_table.proofs.Facts.{reads_as}
 use Rattle.page_table.proofs.Partners.{ahead-found}
 use Rattle.page_table.proofs.memory.Memory.facts.Goals as goal

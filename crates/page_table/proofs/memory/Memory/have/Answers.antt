@@ -1,5 +1,4 @@
-use Rattle.page_table.proofs.Base.{arith, nat_tests}
-use Rattle.page_table.proofs.Words.{view_of}
+use Rattle.page_table.proofs.Base.{arith, nat_tests, view_of}
 use Rattle.page_table.proofs.Entries.{free_is}
 use Rattle.page_table.proofs.memory.Memory.have.Goals as goal
 

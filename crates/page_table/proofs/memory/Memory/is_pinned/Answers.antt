@@ -1,6 +1,5 @@
-use Rattle.page_table.proofs.Base.{◌∙◌, ap, arith, get_or_past, length-map}
+use Rattle.page_table.proofs.Base.{◌∙◌, ap, arith, get_or_past, length-map, is_pinned, view_of}
 use Rattle.page_table.proofs.Creating.{length-contents}
-use Rattle.page_table.proofs.Words.{is_pinned, view_of}
 use Rattle.page_table.proofs.Reading.{is_page_at}
 use Rattle.page_table.proofs.memory.Memory.is_pinned.Goals as goal
 

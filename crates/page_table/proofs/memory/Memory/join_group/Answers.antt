@@ -1,5 +1,4 @@
-use Rattle.page_table.proofs.Base.{◌≡◌, find, Some, arith, nat_tests}
-use Rattle.page_table.proofs.Words.{page_place, contents_now, Grouped, with_status, is_open_frame, states_of, view_of, joined}
+use Rattle.page_table.proofs.Base.{◌≡◌, find, Some, arith, nat_tests, page_place, contents_now, Grouped, with_status, is_open_frame, states_of, view_of, joined}
 use Rattle.page_table.proofs.Reading.{content_is}
 use Rattle.page_table.proofs.Merging.{moves}
 use Rattle.page_table.proofs.Scanning.{bytes_here, open-frame, find-in, open-bytes, joins}

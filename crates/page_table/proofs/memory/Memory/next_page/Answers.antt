@@ -1,5 +1,4 @@
-use Rattle.page_table.proofs.Base.{◌≡◌, ◌∙◌, drop, Some, sym, arith, length-map, nat_tests}
-use Rattle.page_table.proofs.Words.{first_mergeable, look_from, IsPageAt, states_of, view_of}
+use Rattle.page_table.proofs.Base.{◌≡◌, ◌∙◌, drop, Some, sym, arith, length-map, nat_tests, first_mergeable, look_from, IsPageAt, states_of, view_of}
 use Rattle.page_table.proofs.Partners.{entry-may, IsNext, next-is}
 use Rattle.page_table.proofs.Scanning.{page_there}
 use Rattle.page_table.proofs.memory.Memory.next_page.Goals as goal

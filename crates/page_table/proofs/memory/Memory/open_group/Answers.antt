@@ -1,5 +1,4 @@
-use Rattle.page_table.proofs.Base.{◌≡◌, find, nat_tests, arith}
-use Rattle.page_table.proofs.Words.{page_place, contents_now, is_open_frame, view_of}
+use Rattle.page_table.proofs.Base.{◌≡◌, find, nat_tests, arith, page_place, contents_now, is_open_frame, view_of}
 use Rattle.page_table.proofs.Scanning.{bytes_here, open-frame, has-open}
 use Rattle.page_table.proofs.memory.Memory.open_group.Goals as goal
 

@@ -1,5 +1,4 @@
-use Rattle.page_table.proofs.Base.{arith, nat_tests, get_or-set_other, get_or-set_same, get_or_past, set_past}
-use Rattle.page_table.proofs.Words.{paired, view_of}
+use Rattle.page_table.proofs.Base.{arith, nat_tests, get_or-set_other, get_or-set_same, get_or_past, set_past, paired, view_of}
 use Rattle.page_table.proofs.Merging.{moves, map_small, number_small}
 use Rattle.page_table.proofs.Waiters.{pass-left-both, entries-long}
 use Rattle.page_table.proofs.Partners.{sees}

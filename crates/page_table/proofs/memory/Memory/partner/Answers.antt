@@ -1,5 +1,4 @@
-use Rattle.page_table.proofs.Base.{bytes_eq-Decides, ◌≡◌, ◌<◌, List, ℕ, find, option_map, arith, nat_tests}
-use Rattle.page_table.proofs.Words.{Page, page_place, Waiter, is_match, IsPageOf, contents_now, partner_place, view_of, page_at}
+use Rattle.page_table.proofs.Base.{bytes_eq-Decides, ◌≡◌, ◌<◌, List, ℕ, find, option_map, arith, nat_tests, Page, page_place, Waiter, is_match, IsPageOf, contents_now, partner_place, view_of, page_at}
 use Rattle.page_table.proofs.Entries.{inside, page_of_entry}
 use Rattle.page_table.proofs.Scanning.{bytes_here, frame_told, page_there}
 use Rattle.page_table.proofs.Partners.{IsFound, found-waiter, partners-told, waiters-frames, not-waiting, may-told}

@@ -1,5 +1,4 @@
-use Rattle.page_table.proofs.Base.{nat_tests, arith}
-use Rattle.page_table.proofs.Words.{view_of}
+use Rattle.page_table.proofs.Base.{nat_tests, arith, view_of}
 use Rattle.page_table.proofs.Reading.{is_page_at}
 use Rattle.page_table.proofs.memory.Memory.pins.Goals as goal
 

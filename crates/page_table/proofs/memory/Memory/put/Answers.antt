@@ -1,5 +1,4 @@
-use Rattle.page_table.proofs.Base.{arith, nat_tests}
-use Rattle.page_table.proofs.Words.{length-with_part}
+use Rattle.page_table.proofs.Base.{arith, nat_tests, length-with_part}
 use Rattle.page_table.proofs.Writing.{memory_written, writes}
 use Rattle.page_table.proofs.Partners.{sees}
 use Rattle.page_table.proofs.memory.Memory.put.Goals as goal

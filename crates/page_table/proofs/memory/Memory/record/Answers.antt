@@ -1,5 +1,4 @@
-use Rattle.page_table.proofs.Base.{nat_tests, arith}
-use Rattle.page_table.proofs.Words.{part}
+use Rattle.page_table.proofs.Base.{nat_tests, arith, part}
 use Rattle.page_table.proofs.memory.Memory.record.Goals as goal
 
 pub returns-clause-all : goal.returns-clause-all

@@ -1,5 +1,4 @@
-use Rattle.page_table.proofs.Base.{◌≡◌, ◌+◌, ◌*◌, [], None, replicate, slice_set, arith, nat_tests}
-use Rattle.page_table.proofs.Words.{with_part, map_place, ended_at, page_count, contents_of, sharing_of, view_of, IsPass, IsMemory}
+use Rattle.page_table.proofs.Base.{◌≡◌, ◌+◌, ◌*◌, [], None, replicate, slice_set, arith, nat_tests, with_part, map_place, ended_at, page_count, contents_of, sharing_of, view_of, IsPass, IsMemory}
 use Rattle.page_table.proofs.Dropping.{Drops, left_outside, pass-outside, index_inside, places_inside, pages_there, few, map_pins, long_new, memory_dropped, drops}
 use Rattle.page_table.proofs.memory.Memory.remove_map.Goals as goal
 

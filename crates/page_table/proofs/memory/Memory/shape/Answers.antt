@@ -1,7 +1,6 @@
-use Rattle.page_table.proofs.Base.{nat_tests, arith, get_or_past, order}
+use Rattle.page_table.proofs.Base.{nat_tests, arith, get_or_past, ordered, view_of, part}
 use Rattle.page_table.proofs.Reading.{map_at-part, map_at-past}
 use Rattle.page_table.proofs.Maps.{map_at-maps_of}
-use Rattle.page_table.proofs.Words.{view_of, part}
 use Rattle.page_table.proofs.Recording.{map_is, map_told}
 use Rattle.page_table.proofs.memory.Memory.shape.Goals as goal
 
@@ -11,4 +10,4 @@ returns-then-map-ge-MAX_MAPS c = grind (arith, nat_tests, map_at-past)
 
 pub returns : goal.returns
 unfolding view_of part
-returns c = grind (arith, nat_tests, map_at-part, map_at-maps_of, map_told, map_is, get_or_past, order)
+returns c = grind (arith, nat_tests, map_at-part, map_at-maps_of, map_told, map_is, get_or_past, ordered)

@@ -1,6 +1,5 @@
-use Rattle.page_table.proofs.Base.{◌≡◌, ◌≤◌, ◌+◌, ◌&&◌, length, arith, nat_tests, get_or_past, length-map}
+use Rattle.page_table.proofs.Base.{◌≡◌, ◌≤◌, ◌+◌, ◌&&◌, length, arith, nat_tests, get_or_past, length-map, page_place, broken_by, state_at, is_shared_page, break_cost, Sharing, MemoryState, part, used_by, sharing_of, view_of, IsPass}
 use Rattle.page_table.proofs.Creating.{length-contents}
-use Rattle.page_table.proofs.Words.{page_place, broken_by, state_at, is_shared_page, break_cost, Sharing, MemoryState, part, used_by, sharing_of, view_of, IsPass}
 use Rattle.page_table.proofs.Merging.{parts_but, part_pinned, map_small, number_small, cost_told, cost_reserved, own_told, moves}
 use Rattle.page_table.proofs.Unpinning.{pinned-others}
 use Rattle.page_table.proofs.Waiters.{pass-kept, entries-long, pinned_if, sharing-taken, pins-taken}

@@ -1,5 +1,4 @@
-use Rattle.page_table.proofs.Base.{◌≤◌, ◌+◌, length, arith, nat_tests}
-use Rattle.page_table.proofs.Words.{unmerge_need, used_by, sharing_of, view_of}
+use Rattle.page_table.proofs.Base.{◌≤◌, ◌+◌, length, arith, nat_tests, unmerge_need, used_by, sharing_of, view_of}
 use Rattle.page_table.proofs.Merging.{moves}
 use Rattle.page_table.proofs.Unmerging.{need_reserved, need_fits, unmerged_is}
 use Rattle.page_table.proofs.Waiters.{pass-kept, entries-long}

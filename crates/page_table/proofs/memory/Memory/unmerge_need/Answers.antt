@@ -1,5 +1,4 @@
-use Rattle.page_table.proofs.Base.{nat_tests, arith}
-use Rattle.page_table.proofs.Words.{view_of}
+use Rattle.page_table.proofs.Base.{nat_tests, arith, view_of}
 use Rattle.page_table.proofs.Creating.{length-states}
 use Rattle.page_table.proofs.Unmerging.{all_cost}
 use Rattle.page_table.proofs.memory.Memory.unmerge_need.Goals as goal

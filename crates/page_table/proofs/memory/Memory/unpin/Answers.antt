@@ -1,5 +1,4 @@
-use Rattle.page_table.proofs.Base.{◌≡◌, ◌*◌, ◌<◌, false, length, replicate, refl, arith, nat_tests}
-use Rattle.page_table.proofs.Words.{with_part, frames_free, view_of, PinsFit, states_of}
+use Rattle.page_table.proofs.Base.{◌≡◌, ◌*◌, ◌<◌, false, length, replicate, refl, arith, nat_tests, with_part, frames_free, view_of, PinsFit, states_of}
 use Rattle.page_table.proofs.Recording.{tenant_there}
 use Rattle.page_table.proofs.Unpinning.{pins-inside, part-unpinned, others-kept, fit-fewer}
 use Rattle.page_table.proofs.memory.Memory.unpin.Goals as goal

@@ -1,6 +1,5 @@
 -- How many pages of a map aren't pinned, told by how many are.
-use Rattle.page_table.proofs.Base.{◌≡◌, ◌∙◌, ◌*◌, ℕ, Some, option_map, ap, arith, nat_tests, zero, suc, ◌+◌, ◌-◌, ◌<◌, ◌≤◌, Bool, true, false, if◌then◌else◌, List, ◌∷◌, length, slice_index_or, Option, refl, get_or_default, get_or_past, sum_by-cons, ext_get_or, order}
-use Rattle.page_table.proofs.Words.{part_of, FlatMap, map_at, map_place, unpinned_from, pinned_among, part, Shape, PinsFit, Pass, Tenant, page_count, MemoryState, pages_of_map, TableState, IsTable, states_of, view_of, IsMemory}
+use Rattle.page_table.proofs.Base.{◌≡◌, ◌∙◌, ◌*◌, ℕ, Some, option_map, ap, arith, nat_tests, zero, suc, ◌+◌, ◌-◌, ◌<◌, ◌≤◌, Bool, true, false, if◌then◌else◌, List, ◌∷◌, length, slice_index_or, Option, refl, get_or_default, get_or_past, sum_by-cons, ext_get_or, ordered, part_of, FlatMap, map_at, map_place, unpinned_from, pinned_among, part, Shape, PinsFit, Pass, Tenant, page_count, MemoryState, pages_of_map, TableState, IsTable, states_of, view_of, IsMemory}
 use Rattle.page_table.proofs.Dropping.{number_small, few, map_pins, unpinned_behind}
 use Rattle.page_table.proofs.Reading.{map_at-part}
 use Rattle.page_table.proofs.Maps.{map_at-maps_of, part-at, length-part}
@@ -39,7 +38,7 @@ module _ (table : TableState) (shapes : List (Option Shape)) (tenants : List Ten
   -- a tenant that has a map is there
   tenant-inside : t < length now.tenants
   unfolding view_of part
-  tenant-inside = grind (arith, nat_tests, number_small now t m shape here, map_at-part, map_at-maps_of, get_or_past shapes, order)
+  tenant-inside = grind (arith, nat_tests, number_small now t m shape here, map_at-part, map_at-maps_of, get_or_past shapes, ordered)
 
   module _ (fits : IsTable table) (fit : PinsFit (states_of table.entries) pass.pins) where
     abbrev k : ℕ

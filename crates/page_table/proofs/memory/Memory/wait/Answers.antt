@@ -1,6 +1,5 @@
 use Rattle.page_table.proofs.Waiters.{waiters-few, pass-others, waiters-more, entries-long}
-use Rattle.page_table.proofs.Base.{length, ap, arith, nat_tests, map-append}
-use Rattle.page_table.proofs.Words.{waits, sharing_of, view_of}
+use Rattle.page_table.proofs.Base.{length, ap, arith, nat_tests, map-append, waits, sharing_of, view_of}
 use Rattle.page_table.proofs.Merging.{moves}
 use Rattle.page_table.proofs.Partners.{may-entry, sees, ahead-told, stay-marked}
 use Rattle.page_table.proofs.memory.Memory.wait.Goals as goal

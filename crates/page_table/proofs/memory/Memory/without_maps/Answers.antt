@@ -1,6 +1,5 @@
 -- A memory without maps.
-use Rattle.page_table.proofs.Base.{◌≡◌, ◌*◌, replicate, None, arith, rules, nat_tests, length-map, length-replicate, ℕ, zero, suc, List, ◌∷◌, drop, Option, option_map, refl, ap, sum_by-replicate}
-use Rattle.page_table.proofs.Words.{unreserved_tenant, new_pass, Options, map-replicate, Entry, AreLimits, new_memory, TableState, contents_of, groups_of, own_pages, state_of, maps_of, view_of}
+use Rattle.page_table.proofs.Base.{◌≡◌, ◌*◌, replicate, None, arith, rules, nat_tests, length-map, length-replicate, ℕ, zero, suc, List, ◌∷◌, drop, Option, option_map, refl, ap, sum_by-replicate, unreserved_tenant, new_pass, Options, map-replicate, Entry, AreLimits, new_memory, TableState, contents_of, groups_of, own_pages, state_of, maps_of, view_of}
 use Rattle.page_table.proofs.Maps.{part-at}
 use Rattle.page_table.proofs.Entries.{all_same, empty_table}
 use Rattle.page_table.proofs.memory.Memory.without_maps.Goals as goal

@@ -1,5 +1,4 @@
-use Rattle.page_table.proofs.Base.{arith, nat_tests}
-use Rattle.page_table.proofs.Words.{zeroed, view_of}
+use Rattle.page_table.proofs.Base.{arith, nat_tests, zeroed, view_of}
 use Rattle.page_table.proofs.Merging.{moves}
 use Rattle.page_table.proofs.Waiters.{pass-left, entries-long}
 use Rattle.page_table.proofs.Partners.{sees, stay-set}

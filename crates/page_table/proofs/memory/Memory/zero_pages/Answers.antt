@@ -1,5 +1,4 @@
-use Rattle.page_table.proofs.Base.{◌∙◌}
-use Rattle.page_table.proofs.Words.{view_of}
+use Rattle.page_table.proofs.Base.{◌∙◌, view_of}
 use Rattle.page_table.proofs.Unmerging.{zeros-told}
 use Rattle.page_table.proofs.memory.Memory.zero_pages.Goals as goal
 

@@ -1,5 +1,4 @@
-use Rattle.page_table.proofs.Base.{◌≡◌, ◌<◌, ◌≤◌, ◌+◌, ◌-◌, ℕ, sum_by, slice_set, Option, option_map, arith, get_or_default, nat_tests, length-map, sum_by-le, get_or-le-sum_by, sum_by-set, map-set}
-use Rattle.page_table.proofs.Words.{unshared_at, volatile_at, PageState, entry_at, state_of, states_of, shared_at}
+use Rattle.page_table.proofs.Base.{◌≡◌, ◌<◌, ◌≤◌, ◌+◌, ◌-◌, ℕ, sum_by, slice_set, Option, option_map, arith, get_or_default, nat_tests, length-map, sum_by-le, get_or-le-sum_by, sum_by-set, map-set, unshared_at, volatile_at, PageState, entry_at, state_of, states_of, shared_at}
 use Rattle.std.proofs.Common.{length-set}
 use Rattle.page_table.proofs.Entries.{told_at}
 use Rattle.page_table.proofs.page_list.PageList.replace.Goals as goal

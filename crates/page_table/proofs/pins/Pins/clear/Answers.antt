@@ -1,5 +1,4 @@
-use Rattle.page_table.proofs.Base.{arith, nat_tests}
-use Rattle.page_table.proofs.Words.{length-with_part}
+use Rattle.page_table.proofs.Base.{arith, nat_tests, length-with_part}
 use Rattle.page_table.proofs.Unpinning.{pins-cleared, written-back}
 use Rattle.page_table.proofs.pins.Pins.clear.Goals as goal
 

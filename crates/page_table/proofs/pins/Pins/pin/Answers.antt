@@ -1,5 +1,4 @@
-use Rattle.page_table.proofs.Base.{arith, get_or_default, nat_tests}
-use Rattle.page_table.proofs.Words.{length-part_of}
+use Rattle.page_table.proofs.Base.{arith, get_or_default, nat_tests, length-part_of}
 use Rattle.page_table.proofs.Unpinning.{pins-more-at, few-pinned}
 use Rattle.page_table.proofs.pins.Pins.pin.Goals as goal
 

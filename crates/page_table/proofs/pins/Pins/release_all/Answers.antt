@@ -1,5 +1,4 @@
-use Rattle.page_table.proofs.Base.{◌≡◌, ◌∙◌, ◌*◌, ℕ, false, replicate, ap, arith, length-replicate, nat_tests}
-use Rattle.page_table.proofs.Words.{with_part, length-with_part}
+use Rattle.page_table.proofs.Base.{◌≡◌, ◌∙◌, ◌*◌, ℕ, false, replicate, ap, arith, length-replicate, nat_tests, with_part, length-with_part}
 use Rattle.page_table.proofs.Creating.{with_part-none}
 use Rattle.page_table.proofs.Unpinning.{filled-more}
 use Rattle.page_table.proofs.pins.Pins.release_all.Goals as goal

@@ -1,5 +1,4 @@
-use Rattle.page_table.proofs.Base.{◌≡◌, ◌*◌, false, replicate}
-use Rattle.page_table.proofs.Words.{with_part}
+use Rattle.page_table.proofs.Base.{◌≡◌, ◌*◌, false, replicate, with_part}
 use Rattle.page_table.proofs.pins.Pins.release_all.Given as goal
 
 abbrev pub invariant-loop-number : goal.invariant-loop-number

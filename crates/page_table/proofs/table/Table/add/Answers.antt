@@ -1,5 +1,4 @@
-use Rattle.page_table.proofs.Base.{nat_tests, arith, common_steps, get_or-set_other}
-use Rattle.page_table.proofs.Words.{zero_page}
+use Rattle.page_table.proofs.Base.{nat_tests, arith, common_steps, get_or-set_other, zero_page}
 use Rattle.std.proofs.Common.{length-set}
 use Rattle.page_table.proofs.Ending.{unused-frame, sound-added, states-added, groups-added, used-added, contents-filled, added_entry}
 use Rattle.page_table.proofs.Trees.{tree-set}

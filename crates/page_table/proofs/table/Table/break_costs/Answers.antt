@@ -1,5 +1,4 @@
-use Rattle.page_table.proofs.Base.{arith, nat_tests}
-use Rattle.page_table.proofs.Words.{cost_from}
+use Rattle.page_table.proofs.Base.{arith, nat_tests, cost_from}
 use Rattle.page_table.proofs.Unmerging.{cost_from-more}
 use Rattle.page_table.proofs.table.Table.break_costs.Goals as goal
 

@@ -1,5 +1,4 @@
-use Rattle.page_table.proofs.Base.{◌≡◌, ◌≤◌}
-use Rattle.page_table.proofs.Words.{Pass, cost_from, sharing_of}
+use Rattle.page_table.proofs.Base.{◌≡◌, ◌≤◌, Pass, cost_from, sharing_of}
 use Rattle.page_table.proofs.table.Table.break_costs.Given as goal
 
 abbrev pub invariant-loop-number : goal.invariant-loop-number

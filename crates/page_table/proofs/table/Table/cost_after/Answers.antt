@@ -1,5 +1,4 @@
-use Rattle.page_table.proofs.Base.{◌≡◌, Bool, if◌then◌else◌, arith, nat_tests}
-use Rattle.page_table.proofs.Words.{part_of, pages_on}
+use Rattle.page_table.proofs.Base.{◌≡◌, Bool, if◌then◌else◌, arith, nat_tests, part_of, pages_on}
 use mir.Val.{bool_byte}
 use Rattle.page_table.proofs.Unmerging.{cost-after, cost-after-own, cost-after-none, count-part, entry-behind, pages-before}
 use Rattle.page_table.proofs.table.Table.cost_after.Goals as goal

@@ -1,5 +1,4 @@
-use Rattle.page_table.proofs.Base.{arith, common_steps, nat_tests}
-use Rattle.page_table.proofs.Words.{page_at}
+use Rattle.page_table.proofs.Base.{arith, common_steps, nat_tests, page_at}
 use Rattle.std.proofs.Common.{length-set}
 use Rattle.page_table.proofs.Ending.{unused-frame, contents-left, sharing-left, used-left, sound-left}
 use Rattle.page_table.proofs.Entries.{kept-shared}

@@ -1,5 +1,4 @@
-use Rattle.page_table.proofs.Base.{arith, length-replicate}
-use Rattle.page_table.proofs.Words.{zero_page}
+use Rattle.page_table.proofs.Base.{arith, length-replicate, zero_page}
 use Rattle.page_table.proofs.Entries.{sound-new}
 use Rattle.page_table.proofs.table.Table.new.Goals as goal
 

@@ -1,5 +1,4 @@
-use Rattle.page_table.proofs.Base.{◌≡◌, ⊎_elim, slice_index_or, None, option_map, arith, length-map, eqb_tells, get_or-map, nat_tests}
-use Rattle.page_table.proofs.Words.{is_mergeable, state_of, states_of, next-here}
+use Rattle.page_table.proofs.Base.{◌≡◌, ⊎_elim, slice_index_or, None, option_map, arith, length-map, eqb_tells, get_or-map, nat_tests, is_mergeable, state_of, states_of, next-here}
 use Rattle.page_table.proofs.table.Table.next_mergeable.Goals as goal
 use Rattle.page_table.proofs.Partners.{next-over}
 use Rattle.page_table.proofs.table.Table.next_mergeable.Goals.{After-may_merge}

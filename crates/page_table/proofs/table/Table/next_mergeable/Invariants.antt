@@ -1,5 +1,4 @@
-use Rattle.page_table.proofs.Base.{◌≡◌, ℕ, ◌<◌, ◌≤◌, false, slice_index_or, None}
-use Rattle.page_table.proofs.Words.{is_mergeable, states_of}
+use Rattle.page_table.proofs.Base.{◌≡◌, ℕ, ◌<◌, ◌≤◌, false, slice_index_or, None, is_mergeable, states_of}
 use Rattle.page_table.proofs.table.Table.next_mergeable.Given as goal
 
 -- no page before the place may be merged

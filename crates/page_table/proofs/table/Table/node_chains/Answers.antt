@@ -1,5 +1,4 @@
-use Rattle.page_table.proofs.Base.{◌∙◌, sym, arith, nat_tests}
-use Rattle.page_table.proofs.Words.{chains-few}
+use Rattle.page_table.proofs.Base.{◌∙◌, sym, arith, nat_tests, chains-few}
 use Rattle.page_table.proofs.Trees.{tree-length}
 use Rattle.page_table.proofs.Nodes.{tree-nodes}
 use Rattle.page_table.proofs.table.Table.node_chains.Goals as goal

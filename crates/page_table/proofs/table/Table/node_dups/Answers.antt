@@ -1,5 +1,4 @@
-use Rattle.page_table.proofs.Base.{◌∙◌, sym, arith, nat_tests}
-use Rattle.page_table.proofs.Words.{dups-fit}
+use Rattle.page_table.proofs.Base.{◌∙◌, sym, arith, nat_tests, dups-fit}
 use Rattle.page_table.proofs.Trees.{tree-length}
 use Rattle.page_table.proofs.Nodes.{tree-nodes}
 use Rattle.page_table.proofs.table.Table.node_dups.Goals as goal

@@ -1,5 +1,4 @@
-use Rattle.page_table.proofs.Base.{[], arith, nat_tests}
-use Rattle.page_table.proofs.Words.{page_at, groups_at}
+use Rattle.page_table.proofs.Base.{[], arith, nat_tests, page_at, groups_at}
 use Rattle.page_table.proofs.Trees.{found-open}
 use Rattle.page_table.proofs.table.Table.open_group.Goals as goal
 

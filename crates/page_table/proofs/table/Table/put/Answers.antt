@@ -1,5 +1,4 @@
-use Rattle.page_table.proofs.Base.{arith, nat_tests}
-use Rattle.page_table.proofs.Words.{with_part, page_at, length-with_part}
+use Rattle.page_table.proofs.Base.{arith, nat_tests, with_part, page_at, length-with_part}
 use Rattle.page_table.proofs.Trees.{tree-set}
 use Rattle.page_table.proofs.Entries.{own_seen, own_alone, contents-put, sound-put, content_at}
 use Rattle.page_table.proofs.table.Table.put.Goals as goal

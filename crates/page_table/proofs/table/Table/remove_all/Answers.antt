@@ -1,5 +1,4 @@
-use Rattle.page_table.proofs.Base.{[], arith, nat_tests}
-use Rattle.page_table.proofs.Words.{gone_from, contents_of}
+use Rattle.page_table.proofs.Base.{[], arith, nat_tests, gone_from, contents_of}
 use Rattle.page_table.proofs.Creating.{filled_more, with_part-none, length-contents, filled_at}
 use Rattle.page_table.proofs.Vacating.{gone-more}
 use Rattle.page_table.proofs.table.Table.remove_all.Goals as goal

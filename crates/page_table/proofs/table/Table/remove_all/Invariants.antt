@@ -1,5 +1,4 @@
-use Rattle.page_table.proofs.Base.{◌≡◌, ◌≤◌, [], length, replicate}
-use Rattle.page_table.proofs.Words.{with_part, gone_from, Pass, AreOwnKeptOutside, contents_of, sharing_of, used_by}
+use Rattle.page_table.proofs.Base.{◌≡◌, ◌≤◌, [], length, replicate, with_part, gone_from, Pass, AreOwnKeptOutside, contents_of, sharing_of, used_by}
 use Rattle.page_table.proofs.table.Table.remove_all.Given as goal
 
 abbrev pub invariant-loop-number : goal.invariant-loop-number

@@ -1,5 +1,4 @@
-use Rattle.page_table.proofs.Base.{◌≡◌, ◌&&◌, slice_index_or, Some, arith, nat_lt, nat_tests}
-use Rattle.page_table.proofs.Words.{TableState, entry_at, break_frames}
+use Rattle.page_table.proofs.Base.{◌≡◌, ◌&&◌, slice_index_or, Some, arith, nat_lt, nat_tests, TableState, entry_at, break_frames}
 use Rattle.page_table.proofs.Entries.{one_when, cost-counted}
 use Rattle.page_table.proofs.Ending.{sharing-unbroken}
 use Rattle.page_table.proofs.table.Table.take_out.Goals as goal

@@ -1,5 +1,4 @@
-use Rattle.page_table.proofs.Base.{length, arith, nat_tests}
-use Rattle.page_table.proofs.Words.{broken_from, cost_from, sharing_of, used_by}
+use Rattle.page_table.proofs.Base.{length, arith, nat_tests, broken_from, cost_from, sharing_of, used_by}
 use Rattle.page_table.proofs.Creating.{length-contents}
 use Rattle.page_table.proofs.Unmerging.{broken_next, cost_next, next_fits, all_cost, nothing_shared}
 use Rattle.page_table.proofs.table.Table.take_out_all.Goals as goal

@@ -1,5 +1,4 @@
-use Rattle.page_table.proofs.Base.{◌≡◌, ◌+◌, length}
-use Rattle.page_table.proofs.Words.{broken_from, cost_from, Pass, AreOwnKept, contents_of, sharing_of, used_by}
+use Rattle.page_table.proofs.Base.{◌≡◌, ◌+◌, length, broken_from, cost_from, Pass, AreOwnKept, contents_of, sharing_of, used_by}
 use Rattle.page_table.proofs.table.Table.take_out_all.Given as goal
 
 abbrev pub invariant-loop-place : goal.invariant-loop-place

@@ -1,5 +1,4 @@
-use Rattle.page_table.proofs.Base.{arith, get_or-set_other, nat_tests, map-set}
-use Rattle.page_table.proofs.Words.{contents_of}
+use Rattle.page_table.proofs.Base.{arith, get_or-set_other, nat_tests, map-set, contents_of}
 use Rattle.page_table.proofs.Vacating.{sharing-vacated, used-vacated, sound-vacated}
 use Rattle.page_table.proofs.table.Table.vacate.Goals as goal
 
