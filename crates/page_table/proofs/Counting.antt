@@ -98,10 +98,10 @@ unfolding groups_of
 groups_told table = length-map table.groups (λ f. places_on 0 f table.entries)
 
 -- the bytes of the groups' pages are those of their frames
-pub contents-told : (table : TableState) (shapes : List (Option Shape)) (tenants : List Tenant) (pass : Pass) (reserved : ℕ) (is : IsMemory table shapes tenants reserved) (fits : IsTable table)
+pub contents_told : (table : TableState) (shapes : List (Option Shape)) (tenants : List Tenant) (pass : Pass) (reserved : ℕ) (is : IsMemory table shapes tenants reserved) (fits : IsTable table)
     → group_contents (contents_now (view_of table shapes tenants pass)) (view_of table shapes tenants pass).sharing ≡ map (page_at table.arena) table.groups
 unfolding view_of group_contents groups_of
-contents-told table shapes tenants pass reserved is fits = by_groups table.groups (bytes-of_group table shapes tenants pass reserved is fits)
+contents_told table shapes tenants pass reserved is fits = by_groups table.groups (bytes-of_group table shapes tenants pass reserved is fits)
   where
     by_groups : (gs : List ℕ) → ((g : ℕ) → 1 ≤ times g gs → group_bytes (contents_now (view_of table shapes tenants pass)) (places_on 0 g table.entries) ≡ page_at table.arena g)
         → map (group_bytes (contents_now (view_of table shapes tenants pass))) (map (λ f. places_on 0 f table.entries) gs) ≡ map (page_at table.arena) gs

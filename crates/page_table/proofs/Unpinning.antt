@@ -82,8 +82,8 @@ unfolding part_of
 new-part maps k less = rw (drop-replicate (k * 256) (maps * 256) false, take-replicate 256 (maps * 256 - k * 256) false (omega (arith, less))) (none-pinned 256)
 
 -- the memory without a map
-pub pins-new : (maps : ℕ) → ArePinsOf (replicate (maps * 256) false) (replicate maps 0)
-pins-new maps = grind (arith, nat_tests, length-replicate, get_or-replicate, new-part maps)
+pub pins_new : (maps : ℕ) → ArePinsOf (replicate (maps * 256) false) (replicate maps 0)
+pins_new maps = grind (arith, nat_tests, length-replicate, get_or-replicate, new-part maps)
 
 -- the pins of one map changed, and its number with them
 pins-changed : (pins now : List Bool) (numbers : List ℕ) (k n : ℕ) → ArePinsOf pins numbers → k < length numbers → length now ≡ length pins

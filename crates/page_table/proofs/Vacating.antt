@@ -47,10 +47,10 @@ gone_from-last s i zero = grind arith
 gone_from-last s i (suc n) = grind (arith, gone_from-last (gone s i) (i + 1) n)
 
 -- a page whose group ended goes then
-pub gone-ended : (old ended new : TableState) (pass : Pass) (i : ℕ) → sharing_of ended pass ≡ broken (sharing_of old pass) i → IsOwnAt ended i → sharing_of new pass ≡ record (gone (sharing_of ended pass) i) { pins = pass.pins }
+pub gone_ended : (old ended new : TableState) (pass : Pass) (i : ℕ) → sharing_of ended pass ≡ broken (sharing_of old pass) i → IsOwnAt ended i → sharing_of new pass ≡ record (gone (sharing_of ended pass) i) { pins = pass.pins }
     → sharing_of new pass ≡ record (gone (sharing_of old pass) i) { pins = pass.pins }
 unfolding gone
-gone-ended old ended new pass i h1 h2 h3 = grind (arith, nat_tests, broken-own, state-at ended pass i)
+gone_ended old ended new pass i h1 h2 h3 = grind (arith, nat_tests, broken-own, state-at ended pass i)
 
 -- one page more goes, whatever is pinned
 pub gone-more : (old part new : TableState) (pass : Pass) (i n : ℕ) → sharing_of part pass ≡ record (gone_from (sharing_of old pass) i n) { pins = pass.pins }

@@ -40,6 +40,7 @@ impl Memory {
     }
 
     /// How many contents have two groups or more. The number is kept, and no group is looked at.
+    #[tactic(auto, using(std::proofs::lemmas::Bool::Decides::nat_tests, crate::proofs::Counting::contents_told))]
     pub fn node_chains(&self) -> u32
         ensures { result ≡ stable_node_chains (contents_now self.now) self.now.sharing }
     {
@@ -48,6 +49,7 @@ impl Memory {
     }
 
     /// How many groups such contents have. The number is kept, and no group is looked at.
+    #[tactic(auto, using(std::proofs::lemmas::Bool::Decides::nat_tests, crate::proofs::Counting::contents_told))]
     pub fn node_dups(&self) -> u32
         ensures { result ≡ stable_node_dups (contents_now self.now) self.now.sharing }
     {

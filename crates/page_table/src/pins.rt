@@ -30,6 +30,7 @@ impl Model for Pins {
 
 impl Pins {
     /// No page of so many maps is pinned.
+    #[tactic(auto, using(std::proofs::lemmas::Bool::Decides::nat_tests, crate::proofs::Unpinning::pins_new))]
     pub(crate) fn new(alloc: Global, maps: u32) -> Result<Self, AllocError>
         requires { maps ≤ 128 }
         ensures { IfOk result (λ pins. pins ≡ replicate (maps * 256) false) }

@@ -528,6 +528,7 @@ impl Table {
     }
 
     /// Takes a page away. Its frame is unused then where no other page lies on it; nothing is copied.
+    #[tactic(auto, using(std::proofs::lemmas::Bool::Decides::nat_tests, crate::proofs::Vacating::gone_ended))]
     fn remove(&mut self, place: usize)
         requires { IsPageAt self.old place }
         ensures contents { contents_of self.new ≡ slice_set (contents_of self.old) place [] }
