@@ -16,10 +16,10 @@ pub apply-requires-clause-kept : goal.apply-requires-clause-kept
 apply-requires-clause-kept c =
     kept_in c.self.inside.tenants.items c.self.inside.memory c.args.number c.index_mut.result.now c.self.invariant (omega (arith, c.self.inside.tenants.ok.0)) c.index_mut.ensures.value
 
-abbrev new : goal.After-apply → HostView
+abbrev new : goal.After-self-1 → HostView
 new c = record { tenants = set c.self.inside.tenants.items c.args.number c.apply.new.self; memory = c.apply.new.memory }
 
-serves : (c : goal.After-apply) → Hosts (record { tenants = c.self.inside.tenants.items; memory = c.self.inside.memory }) c.args.event.now c.apply.result (new c)
+serves : (c : goal.After-self-1) → Hosts (record { tenants = c.self.inside.tenants.items; memory = c.self.inside.memory }) c.args.event.now c.apply.result (new c)
 serves c =
     hosts-served c.self.inside.tenants.items c.self.inside.memory c.apply.new.memory c.args.number c.index_mut.result.now c.apply.new.self c.args.event.now c.apply.result
     (tenant_there c.self.inside.tenants.items c.args.number c.index_mut.result.now (omega (arith, c.self.inside.tenants.ok.0)) c.index_mut.ensures.value) c.apply.ensures

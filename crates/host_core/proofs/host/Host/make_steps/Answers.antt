@@ -1,4 +1,4 @@
-use Rattle.std.proofs.Common.{◌≤◌, length, set, subst, arith, Some}
+use Rattle.std.proofs.Common.{◌≤◌, length, set, refl, subst, arith, Some}
 use Rattle.std.proofs.lemmas.Option.{slice_get_past}
 use Rattle.host_types.specs.declared.fault.Fault.TheVariants.{BadTenant}
 use Rattle.host_core.specs.declared.event.Reply.TheVariants.{Refused}
@@ -19,10 +19,10 @@ pub make_steps-requires-clause-kept : goal.make_steps-requires-clause-kept
 make_steps-requires-clause-kept c =
     kept_in c.self.inside.tenants.items c.self.inside.memory c.args.tenant c.index_mut.result.now c.self.invariant (omega (arith, c.self.inside.tenants.ok.0)) c.index_mut.ensures.value
 
-abbrev new : goal.After-make_steps → HostView
+abbrev new : goal.After-self-1 → HostView
 new c = record { tenants = set c.self.inside.tenants.items c.args.tenant c.make_steps.new.self; memory = c.make_steps.new.memory }
 
-makes : (c : goal.After-make_steps) → HostMakesSteps (record { tenants = c.self.inside.tenants.items; memory = c.self.inside.memory }) c.args.tenant c.args.limit c.make_steps.result (new c)
+makes : (c : goal.After-self-1) → HostMakesSteps (record { tenants = c.self.inside.tenants.items; memory = c.self.inside.memory }) c.args.tenant c.args.limit c.make_steps.result (new c)
 makes c =
     host-made c.self.inside.tenants.items c.self.inside.memory c.make_steps.new.memory c.args.tenant c.args.limit c.index_mut.result.now c.make_steps.new.self c.make_steps.result
     (tenant_there c.self.inside.tenants.items c.args.tenant c.index_mut.result.now (omega (arith, c.self.inside.tenants.ok.0)) c.index_mut.ensures.value) c.make_steps.ensures.steps

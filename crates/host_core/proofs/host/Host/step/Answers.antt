@@ -18,10 +18,10 @@ step-requires c = record {
   kept = kept_in c.self.inside.tenants.items c.self.inside.memory c.args.tenant c.index_mut.result.now c.self.invariant (omega (arith, c.self.inside.tenants.ok.0)) c.index_mut.ensures.value;
 }
 
-abbrev new : goal.After-step → HostView
+abbrev new : goal.After-self-1 → HostView
 new c = record { tenants = set c.self.inside.tenants.items c.args.tenant c.step.new.self; memory = c.step.new.memory }
 
-serves : (c : goal.After-step) → Hosts (record { tenants = c.self.inside.tenants.items; memory = c.self.inside.memory }) (Step c.args.tenant) c.step.result (new c)
+serves : (c : goal.After-self-1) → Hosts (record { tenants = c.self.inside.tenants.items; memory = c.self.inside.memory }) (Step c.args.tenant) c.step.result (new c)
 serves c =
     hosts-served c.self.inside.tenants.items c.self.inside.memory c.step.new.memory c.args.tenant c.index_mut.result.now c.step.new.self (Step c.args.tenant) c.step.result
     (tenant_there c.self.inside.tenants.items c.args.tenant c.index_mut.result.now (omega (arith, c.self.inside.tenants.ok.0)) c.index_mut.ensures.value) c.step.ensures
