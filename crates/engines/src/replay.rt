@@ -16,7 +16,7 @@ use crate::explanation::explain_host;
 use crate::fault::written;
 use crate::lines::write_refusal;
 use crate::session::Session;
-use crate::watch::{Unwatched, Watch};
+use crate::watch::Watch;
 use host_core::Host;
 use host_file::{BadFile, Cause, FileFault, HostFile, MAX_BYTES, Place, read_file};
 use host_types::Fault;
@@ -27,26 +27,9 @@ use std::io::{Read, Write};
 /// Applies the events of the host file that the reader gives, in their order, to a new host. Each run that
 /// ends, each value that is looked up and each refusal is one line of the output, each counter that is
 /// asked for too, and nothing else is written there; which event was refused, and what that means, goes
-/// to `words`. Answers the status: 0, or 1 if a refusal was written. A
-/// bad file applies nothing; after a write that fails no further event is applied.
-pub fn replay<R: Read, W: Write, E: Write>(
-    alloc: Global,
-    reader: &mut R,
-    writer: &mut W,
-    words: &mut E,
-) -> Result<u8, FileFault>
-    ensures status { IfOk result (λ status. status ≤ 1) }
-    ensures replayed { IfOk result (λ status. IfSome (R.remaining reader.old) (λ bytes.
-        (length bytes ≤ max_bytes) × ((file : HostFile) × IsFileText bytes file
-        × IsReplayed file (W.contents writer.old) (W.contents writer.new) status))) }
-    ensures bad { IfErr result (λ fault. IsBad fault → (writer.new ≡ writer.old) × (words.new ≡ words.old)) }
-    ensures no_file { IfErr result (λ fault. IsBad fault → IfSome (R.remaining reader.old) AreNoFile) }
-{
-    replay_watched(alloc, reader, writer, words, &mut Unwatched)
-}
-
-/// Replays as `replay` does, and tells somebody how far it is.
-pub fn replay_watched<R: Read, W: Write, E: Write, V: Watch>(
+/// to `words`, and how far it is to the watch (`Unwatched`: to nobody). Answers the status: 0, or 1 if a
+/// refusal was written. A bad file applies nothing; after a write that fails no further event is applied.
+pub fn replay<R: Read, W: Write, E: Write, V: Watch>(
     alloc: Global,
     reader: &mut R,
     writer: &mut W,

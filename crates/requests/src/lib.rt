@@ -7,11 +7,11 @@ mod progress;
 use command_line::{Request, WrongWords, request_of};
 use engines::Watch;
 use engines::check::check;
-use engines::replay::replay_watched;
+use engines::replay::replay;
 use host_file::FileFault;
 use progress::Plans;
 pub use progress::Progress;
-use serving::serve_watched;
+use serving::serve_file;
 use std::alloc::{AllocError, Global};
 use std::fs;
 use std::io::{self, Write};
@@ -93,7 +93,7 @@ fn replay_at<R: AllocGlobal + Files, W: Write, E: Write, V: Watch>(
     progress: &mut V,
 ) -> Result<u8, FileFault> {
     let mut file = fs::open(rt, path).map_err(FileFault::Read)?;
-    replay_watched(rt.alloc(), &mut file, output, errors, progress)
+    replay(rt.alloc(), &mut file, output, errors, progress)
 }
 
 /// Serves the host file at a path.
@@ -108,5 +108,5 @@ where
     R: AllocGlobal + Files + Threads + Wait + Sync,
 {
     let mut file = fs::open(rt, path).map_err(FileFault::Read)?;
-    serve_watched(rt, rt.alloc(), &mut file, output, errors, gate)
+    serve_file(rt, rt.alloc(), &mut file, output, errors, gate)
 }

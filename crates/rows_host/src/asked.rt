@@ -1,5 +1,6 @@
 //! What a request asks for.
 
+use engines::Unwatched;
 use engines::check::check;
 use engines::replay::replay;
 use host_file::FileFault;
@@ -7,6 +8,7 @@ use serving::serve_file;
 use std::io::{Read, Write};
 use std::sync::Wait;
 use std::thread::Threads;
+use tenant_workers::Open;
 
 /// What stands before the words of a check.
 const CHECK: &str = "check\t";
@@ -46,8 +48,8 @@ impl<'a> Asked<'a> {
     {
         match self {
             Asked::Check(fields) => check_fields(rt, fields, output, words),
-            Asked::Replay => replay(rt.alloc(), reader, output, words),
-            Asked::Serve => serve_file(rt, rt.alloc(), reader, output, words),
+            Asked::Replay => replay(rt.alloc(), reader, output, words, &mut Unwatched),
+            Asked::Serve => serve_file(rt, rt.alloc(), reader, output, words, &Open),
         }
     }
 }

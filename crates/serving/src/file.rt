@@ -24,35 +24,17 @@ use std::alloc::{AllocError, Global};
 use std::io::{Read, Write};
 use std::sync::Wait;
 use std::thread::Threads;
-use tenant_workers::{Gate, Open, Plan, ScanPlan, Shared, serve};
+use tenant_workers::{Gate, Plan, ScanPlan, Shared, serve};
 use turn::HostSeat;
 
 /// Serves the host file that the reader gives. Its maps, programs, values and options are made, loaded,
 /// written and set in the file's order, and the first refusal among them is written and ends it. Then a
 /// thread a tenant makes the tenant's runs in the file's order, while one for the scanner makes all visits.
 /// When they have ended each run or its refusal is one line, by tenant and in order, and then each value
-/// that is looked up. What a refusal means goes to `words`. Answers the status: 0, or 1 if a refusal was
-/// written. A bad file applies nothing.
-pub fn serve_file<T: Threads + Wait + Sync, R: Read, W: Write, E: Write>(
-    rt: &T,
-    alloc: Global,
-    reader: &mut R,
-    writer: &mut W,
-    words: &mut E,
-) -> Result<u8, FileFault>
-    ensures status { IfOk result (λ status. status ≤ 1) }
-    ensures served { IfOk result (λ status. IfSome (R.remaining reader.old) (λ bytes.
-        (length bytes ≤ max_bytes) × ((file : HostFile) × IsFileText bytes file × All (IsServedCommand file.tenants) file.commands
-        × IsServedSo file status (W.contents writer.old) (W.contents writer.new)))) }
-    ensures bad { IfErr result (λ fault. IsBad fault → (writer.new ≡ writer.old) × (words.new ≡ words.old)) }
-    ensures no_file { IfErr result (λ fault. IsBad fault → IfSome (R.remaining reader.old) AreNotServed) }
-{
-    serve_watched(rt, alloc, reader, writer, words, &Open)
-}
-
-/// Serves as `serve_file` does, and tells a gate how far the threads are.
+/// that is looked up. What a refusal means goes to `words`, and how far the threads are to the gate (`Open`:
+/// nobody waits at it). Answers the status: 0, or 1 if a refusal was written. A bad file applies nothing.
 #[tactic(auto, using(crate::proofs::Served::status_few, crate::proofs::Served::none_served, crate::proofs::Served::some_unserved))]
-pub fn serve_watched<T: Threads + Wait + Sync, R: Read, W: Write, E: Write, G: Gate + Sync>(
+pub fn serve_file<T: Threads + Wait + Sync, R: Read, W: Write, E: Write, G: Gate + Sync>(
     rt: &T,
     alloc: Global,
     reader: &mut R,

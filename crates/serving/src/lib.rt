@@ -9,4 +9,4 @@ mod opening;
 mod runs;
 mod telling;
 
-pub use file::{serve_file, serve_watched};
+pub use file::serve_file;

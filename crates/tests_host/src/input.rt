@@ -1,5 +1,6 @@
 //! Inputs that are no text or too long.
 
+use engines::Unwatched;
 use engines::replay::replay;
 use host_file::{Cause, FileFault, Key, MAX_BYTES};
 use std::alloc::Global;
@@ -9,7 +10,13 @@ use std::io::Read;
 /// Whether a replay of some bytes finds a bad file.
 fn is_bad(alloc: Global, mut bytes: &[u8]) -> bool {
     matches!(
-        replay(alloc, &mut bytes, &mut io::sink(), &mut io::sink()),
+        replay(
+            alloc,
+            &mut bytes,
+            &mut io::sink(),
+            &mut io::sink(),
+            &mut Unwatched
+        ),
         Err(FileFault::Bad(_))
     )
 }
@@ -22,7 +29,13 @@ fn bytes_that_are_no_text_are_a_bad_file(rt: HostRuntime) {
 /// What is wrong with a file that is one character so many times; of `#` it is one comment.
 fn wrong_with(alloc: Global, byte: u8, size: u64) -> Option<Cause> {
     let mut reader = io::repeat(byte).take(size);
-    match replay(alloc, &mut reader, &mut io::sink(), &mut io::sink()) {
+    match replay(
+        alloc,
+        &mut reader,
+        &mut io::sink(),
+        &mut io::sink(),
+        &mut Unwatched,
+    ) {
         Err(FileFault::Bad(file)) => Some(file.cause),
         _ => None,
     }

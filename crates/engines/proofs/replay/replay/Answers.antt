@@ -1,5 +1,5 @@
 use Rattle.engines.proofs.Noting.{replayed-read}
-use Rattle.engines.proofs.replay.replay_watched.Goals as goal
+use Rattle.engines.proofs.replay.replay.Goals as goal
 
 pub returns-clause-replayed : goal.returns-clause-replayed
 returns-clause-replayed g c =

@@ -1,5 +1,5 @@
 use Rattle.serving.proofs.Served.{served-read}
-use Rattle.serving.proofs.file.serve_watched.Goals as goal
+use Rattle.serving.proofs.file.serve_file.Goals as goal
 
 pub returns-clause-served : goal.returns-clause-served
 returns-clause-served g c =
