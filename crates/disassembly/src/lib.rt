@@ -61,27 +61,25 @@ fn write_insn<W: fmt::Write>(
     insn: &Insn,
     slot: Option<u32>,
 ) -> fmt::Result {
-    match Operation::of(insn.opcode) {
-        Some(
-            Operation::Alu {
-                code,
-                width,
-                source,
-            },
-        ) => write_arithmetic(f, insn, code, width, source),
-        Some(Operation::Load { size, extension }) => write_load(f, insn, size, extension),
-        Some(Operation::Store { size, source }) => write_store(f, insn, size, source),
-        Some(Operation::LoadImmediate) => write_load_immediate(f, insn),
-        Some(Operation::Jump { distance }) => write_jump(f, insn, distance, slot),
-        Some(
-            Operation::Branch {
-                comparison,
-                width,
-                source,
-            },
-        ) => write_branch(f, insn, comparison, width, source, slot),
-        Some(Operation::Call) => write!(f, "call {}", insn.imm),
-        Some(Operation::Exit) => write!(f, "exit"),
-        None => write!(f, "opcode {:02x}", insn.opcode),
+    let Some(operation) = Operation::of(insn.opcode) else {
+        return write!(f, "opcode {:02x}", insn.opcode);
+    };
+    match operation {
+        Operation::Alu {
+            code,
+            width,
+            source,
+        } => write_arithmetic(f, insn, code, width, source),
+        Operation::Load { size, extension } => write_load(f, insn, size, extension),
+        Operation::Store { size, source } => write_store(f, insn, size, source),
+        Operation::LoadImmediate => write_load_immediate(f, insn),
+        Operation::Jump { distance } => write_jump(f, insn, distance, slot),
+        Operation::Branch {
+            comparison,
+            width,
+            source,
+        } => write_branch(f, insn, comparison, width, source, slot),
+        Operation::Call => write!(f, "call {}", insn.imm),
+        Operation::Exit => write!(f, "exit"),
     }
 }

@@ -10,6 +10,18 @@ struct Place {
     offset: i16,
 }
 
+impl Place {
+    /// The place at an instruction's offset from a register.
+    fn of(insn: &Insn, number: &'static str, base: u8) -> Place {
+        let offset = insn.offset;
+        Place {
+            number,
+            base,
+            offset,
+        }
+    }
+}
+
 impl fmt::Display for Place {
     fn fmt<W: fmt::Write>(&self, f: &mut fmt::Formatter<W>) -> fmt::Result {
         let sign = if self.offset < 0 { '-' } else { '+' };
@@ -29,12 +41,7 @@ pub fn write_load<W: fmt::Write>(
         Extension::Zero => unsigned(size),
         Extension::Sign => signed(size),
     };
-    let place = Place {
-        number,
-        base: insn.src,
-        offset: insn.offset,
-    };
-    write!(f, "r{} = {place}", insn.dst)
+    write!(f, "r{} = {}", insn.dst, Place::of(insn, number, insn.src))
 }
 
 /// Writes a store to memory.
@@ -44,11 +51,7 @@ pub fn write_store<W: fmt::Write>(
     size: Size,
     source: Source,
 ) -> fmt::Result {
-    let place = Place {
-        number: unsigned(size),
-        base: insn.dst,
-        offset: insn.offset,
-    };
+    let place = Place::of(insn, unsigned(size), insn.dst);
     let operand = Operand::of(insn, Width::Bits64, source);
     write!(f, "{place} = {operand}")
 }

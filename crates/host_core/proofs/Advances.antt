@@ -26,7 +26,7 @@ use Rattle.interp.specs.Machine.{MachineState, Next, step}
 use Rattle.interp.specs.Needs.{map_of, answer_of, maps_after}
 use Rattle.interp.specs.OnMaps.{HasRoom, IsRoomy, StandsOn, IsMet, ReachesOn, FollowsOn}
 use Rattle.interp.specs.StandsFor.{Running, StandsFor, Asks, value_of}
-use Rattle.interp.specs.Written.{written_by}
+use Rattle.interp.specs.Written.{written, written_by}
 use Rattle.tenant_runs.specs.Meeting.{sharing_met}
 use Rattle.tenant_runs.specs.Storing.{maps_of, HasFrames, HasStored}
 use Rattle.tenant_runs.specs.UnderWay.{IsUnderWay, IsAsking, part_with_have}
@@ -35,7 +35,7 @@ use Rattle.tenant_runs.proofs.Roomy.{answered_slot}
 use Rattle.host_core.specs.declared.tenant.OpenRun.{OpenRun as KeptRun}
 use Rattle.host_core.specs.World.{pins_of}
 use Rattle.host_core.specs.Happens.{sharing_after}
-use Rattle.host_core.specs.Stretches.{IsUnderWayAt, HasAdvanced, AreMade, AreMadeFrom, IsAnswered, went_on, answered, ended, needed_in, part_in, reserved_of}
+use Rattle.host_core.specs.Stretches.{IsUnderWayAt, HasAdvanced, AreMade, AreMadeFrom, KeepsPins, IsAnswered, went_on, answered, ended, needed_in, part_in, reserved_of}
 use Rattle.host_core.proofs.Instructions.{instructions_before-within}
 
 -- the program that was taken is the one that stands at the place
@@ -122,6 +122,21 @@ room_had v t u memory maps room =
     let same = needed_of_part v t memory u maps in
     omega (arith, frames, same)
 
+-- one step more of such a chain, by what it asks and what the memory is after it
+linked : (v : Accepted) (t all mine : ℕ) (s : MachineState) (first : MemoryState) (n : ℕ) (w u : MachineState) (between memory : MemoryState) → all ≡ reserved_of first + mine
+    → IsChained v t all mine s first n w between → step v.subject.text w ≡ Some (Next u) → (need : Need) → u.memory.maps ≡ maps_after need [] w.memory.maps
+    → memory.sharing ≡ sharing_after between.sharing t (written v.subject.text w) → KeepsPins t between.sharing memory.sharing → maps_of t memory ≡ u.memory.maps
+    → HasRoom (HasFrames t) memory (reserve_from v u.slot) (writes_from v u.slot) → ReadsAs memory → KeepsSettings first memory → IsChained v t all mine s first (suc n) u memory
+linked v t all mine s first n w u between memory whole before makes need changes shares others maps room reads settings =
+    let enough = enough_free all mine (needed_in v t memory.sharing u) first memory whole settings reads (room_had v t u memory maps room) in
+    record {
+      made = (w, between.sharing, before.made, record { makes = makes; need = need; value = []; maps = changes; shares = shares; others = others; enough = enough });
+      maps = maps;
+      room = room;
+      reads = reads;
+      settings = settings;
+    }
+
 chained : (v : Accepted) (t all mine : ℕ) (s : MachineState) (first : MemoryState) (n : ℕ) (u : MachineState) (memory : MemoryState) → ReadsAs first → all ≡ reserved_of first + mine → IsRoomy (maps_of t) (HasFrames t) v s first
     → ReachesOn (HasStored t) v s first n u memory → IsChained v t all mine s first n u memory
 chained v t all mine s first zero u memory reads whole roomy (here, same) =
@@ -133,63 +148,25 @@ chained v t all mine s first (suc n) u memory reads whole roomy (w, between, rea
         let same = private.same in
         let fewer = private.less in
         let less = fewer.reserve in
-        let maps : maps_of t memory ≡ u.memory.maps = rw same (before.maps ∙ sym private.maps) in
-        let left : HasRoom (HasFrames t) memory (reserve_from v u.slot) (writes_from v u.slot) =
+        let room : HasRoom (HasFrames t) memory (reserve_from v u.slot) (writes_from v u.slot) =
         rw same (λ some few small among. before.room some few (omega (arith, small, less)) (λ m is. fewer.fewer m (among m is))) in
-        let settings : KeepsSettings first memory = rw same before.settings in
-        let reads' : ReadsAs memory = rw same before.reads in
-        record {
-          made = (
-            w,
-            between.sharing,
-            before.made,
-            record {
-              makes = makes;
-              need = Private;
-              value = [];
-              maps = private.maps;
-              shares = ap (λ (m : MemoryState). m.sharing) same ∙ ap (sharing_after between.sharing t) (sym private.quiet);
-              others = λ k other. ap (λ (m : MemoryState). pins_of m.sharing k) same;
-              enough = enough_free all mine (needed_in v t memory.sharing u) first memory whole settings reads' (room_had v t u memory maps left);
-            },
-          );
-          maps = maps;
-          room = left;
-          reads = reads';
-          settings = settings;
-        }
+        linked v t all mine s first n w u between memory whole before makes Private private.maps
+        (ap (λ (m : MemoryState). m.sharing) same ∙ ap (sharing_after between.sharing t) (sym private.quiet)) (λ k other. ap (λ (m : MemoryState). pins_of m.sharing k) same)
+        (rw same (before.maps ∙ sym private.maps)) room (rw same before.reads) (rw same before.settings)
     by before (inr stores) =
         let stored = stores.stored in
         let charged = stores.charged in
         let has = before.room (1 + reserve_from v u.slot) (writes_from v w.slot) charged (λ m is. is) in
-        let maps : maps_of t memory ≡ u.memory.maps =
-        ap (λ (owned : TenantPart). owned.maps) stored.owned ∙ ap (λ m. maps_after (Store stores.map stores.at stores.size stores.number) [] m) before.maps ∙ sym stores.maps in
-        let left : HasRoom (HasFrames t) memory (reserve_from v u.slot) (writes_from v u.slot) =
+        let need = Store stores.map stores.at stores.size stores.number in
+        let shares = stored.sharing ∙ ap (λ (b : Bool). stored_sharing b between.sharing t stores.map stores.at (byte_count stores.size)) has.running
+        ∙ ap (sharing_after between.sharing t) (sym stores.writes) in
+        let others : KeepsPins t between.sharing memory.sharing = λ k other. sym (pins_of_part memory k) ∙ ap (λ (owned : TenantPart). owned.pins) (stored.others k other) ∙ pins_of_part between k in
+        let maps = ap (λ (owned : TenantPart). owned.maps) stored.owned ∙ ap (maps_after need []) before.maps ∙ sym stores.maps in
+        let room : HasRoom (HasFrames t) memory (reserve_from v u.slot) (writes_from v u.slot) =
         λ some few small among. stored.room some (writes_from v w.slot) few stores.among (λ m is. stores.fewer m (among m is))
         (before.room (1 + some) (writes_from v w.slot) (omega (arith, small, charged)) (λ m is. is)) in
-        let settings : KeepsSettings first memory = record { tenants = stored.settings.tenants ∙ before.settings.tenants; frames = stored.settings.frames ∙ before.settings.frames } in
-        record {
-          made = (
-            w,
-            between.sharing,
-            before.made,
-            record {
-              makes = makes;
-              need = Store stores.map stores.at stores.size stores.number;
-              value = [];
-              maps = stores.maps;
-              shares = stored.sharing
-                  ∙ ap (λ (b : Bool). stored_sharing b between.sharing t stores.map stores.at (byte_count stores.size)) has.running
-                  ∙ ap (sharing_after between.sharing t) (sym stores.writes);
-              others = λ k other. sym (pins_of_part memory k) ∙ ap (λ (owned : TenantPart). owned.pins) (stored.others k other) ∙ pins_of_part between k;
-              enough = enough_free all mine (needed_in v t memory.sharing u) first memory whole settings stored.reads (room_had v t u memory maps left);
-            },
-          );
-          maps = maps;
-          room = left;
-          reads = stored.reads;
-          settings = settings;
-        }
+        linked v t all mine s first n w u between memory whole before makes need stores.maps shares others maps room stored.reads
+        (record { tenants = stored.settings.tenants ∙ before.settings.tenants; frames = stored.settings.frames ∙ before.settings.frames })
 
 -- so they are steps from the memory with what was reserved
 made_from : (v : Accepted) (s : MachineState) (n t : ℕ) (before released : MemoryState) (u : MachineState) (memory : MemoryState) → IsStarted v t s before released → ReachesOn (HasStored t) v s released n u memory → AreMadeFrom v s n t before u memory.sharing

@@ -112,13 +112,7 @@ registers_join : IsJoin IsBelow join_of_registers
 registers_join = grind (arith, below_trans, same_register, register_below_join_left, register_below_join_right, registers_join_below)
 
 slots_join : IsJoin IsSlotBelow join_of_slots
-slots_join = record {
-  trans = slot_below_trans;
-  same = same_slot;
-  left = slot_below_join_left;
-  right = slot_below_join_right;
-  least = slots_join_below;
-}
+slots_join = record { trans = slot_below_trans; same = same_slot; left = slot_below_join_left; right = slot_below_join_right; least = slots_join_below }
 
 -- lists that are merged place by place
 merged-comm : {X : Type 0} (f : X → X → X) → ((a b : X) → f a b ≡ f b a) → (xs ys : List X) → merged f xs ys ≡ merged f ys xs

@@ -1,8 +1,10 @@
 //! Calls that may answer 41. A body that always does meets its contract, as memory may run out.
 
+use crate::tell;
 use crate::tenants::{Tenant, two_tenants};
 use host_types::{Fault, MapNo};
 use ksm_counters::Counters;
+use std::io;
 use std::sync::Wait;
 use tenant_runs::RunReply;
 use tenant_workers::Open;
@@ -52,7 +54,7 @@ fn counters_loaded(rt: &impl Wait, tenant: &mut Tenant<'_>) -> [Result<[u32; 3],
 }
 
 /// What the first of two tenants is answered.
-pub(crate) fn answers(rt: &(impl Wait + AllocGlobal)) -> Result<Made, Fault> {
+fn answers(rt: &(impl Wait + AllocGlobal)) -> Result<Made, Fault> {
     let alloc = rt.alloc();
     let (shared, first, _second, _scanner, _host) = two_tenants(alloc, 7)?;
     let mut tenant = Tenant::new(&shared, alloc, first);
@@ -98,9 +100,7 @@ fn made_until_refused(rt: &impl Wait, mut tenant: Tenant<'_>) -> (u32, Option<Fa
 /// How many maps each of two tenants makes beside its first one and why no more, and the counters after visits
 /// of all pages. Of each tenant's eight pages of zeros the first one and three of the others may be merged: these
 /// eight have one frame, and the other eight their own. One stays for the page of zeros: seven of seventeen are left.
-pub(crate) fn filled(
-    rt: &(impl Wait + AllocGlobal),
-) -> Result<([(u32, Option<Fault>); 2], Counters), Fault> {
+fn filled(rt: &(impl Wait + AllocGlobal)) -> Result<([(u32, Option<Fault>); 2], Counters), Fault> {
     let alloc = rt.alloc();
     let (shared, first, second, mut scanner, mut host) = two_tenants(alloc, 17)?;
     let maps = [
@@ -109,4 +109,9 @@ pub(crate) fn filled(
     ];
     shared.scan_batch(rt, &mut scanner, 40);
     Ok((maps, shared.counters(rt, &mut host)))
+}
+
+pub(crate) fn tell_rows(rt: &(impl Print + Wait + AllocGlobal)) -> io::Result<()> {
+    tell(rt, "always_out_of_memory", answers(rt))?;
+    tell(rt, "maps of a seat", filled(rt))
 }

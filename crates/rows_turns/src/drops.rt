@@ -1,8 +1,10 @@
 //! A map that goes and comes again while a program of its tenant names it, beside another tenant's map.
 
+use crate::tell;
 use crate::tenants::{Tenant, two_tenants};
 use host_types::{Fault, MapNo};
 use ksm_counters::Counters;
+use std::io;
 use std::sync::Wait;
 use tenant_runs::RunReply;
 use tenant_workers::Open;
@@ -70,7 +72,7 @@ fn create_map(
 
 /// The answers in their order. The group of both pages keeps its frame when the first page goes, and the second
 /// tenant's store then writes there in place.
-pub(crate) fn answers(rt: &(impl Wait + AllocGlobal)) -> Result<Dropped, Fault> {
+fn answers(rt: &(impl Wait + AllocGlobal)) -> Result<Dropped, Fault> {
     let alloc = rt.alloc();
     let (shared, first, second, mut scanner, mut host) = two_tenants(alloc, 4)?;
     let mut first = Tenant::new(&shared, alloc, first);
@@ -88,4 +90,8 @@ pub(crate) fn answers(rt: &(impl Wait + AllocGlobal)) -> Result<Dropped, Fault> 
         run: second.count(rt, &Open),
         last: shared.counters(rt, &mut host),
     })
+}
+
+pub(crate) fn tell_row(rt: &(impl Print + Wait + AllocGlobal)) -> io::Result<()> {
+    tell(rt, "a map goes and comes again", answers(rt))
 }

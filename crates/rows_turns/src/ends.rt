@@ -4,9 +4,11 @@ ghost use Rattle.std.specs.Prelude.{◌≡◌, IfOk};
 ghost use Rattle.turn.specs.Seats.{IsIdle};
 
 use crate::numbers::{grow, number, tenants, with_numbers};
+use crate::tell;
 use host_types::{Fault, Options};
 use page_table::Memory;
 use std::alloc::Global;
+use std::io;
 use std::sync::Wait;
 use turn::{HostSeat, ScanSeat, Seat, Turn};
 
@@ -97,7 +99,7 @@ fn is_whole_by(rt: &(impl Wait + AllocGlobal), ending: u32) -> Result<bool, Faul
 
 /// A `close` that changes another tenant's part meets its contract, as does one that gives nothing to some
 /// seats; so every tenant's map is looked at, whichever seat ends the turn.
-pub(crate) fn whole(rt: &(impl Wait + AllocGlobal)) -> Result<[bool; 3], Fault> {
+fn whole(rt: &(impl Wait + AllocGlobal)) -> Result<[bool; 3], Fault> {
     Ok([
         is_whole_by(rt, 0)?,
         is_whole_by(rt, 1)?,
@@ -113,7 +115,12 @@ fn is_numbered(alloc: Global, seats: u32) -> Result<bool, Fault> {
 }
 
 /// The same of fewer seats than tenants, as many, and more.
-pub(crate) fn numbered(rt: &impl AllocGlobal) -> Result<[Result<bool, Fault>; 3], Fault> {
+fn numbered(rt: &impl AllocGlobal) -> Result<[Result<bool, Fault>; 3], Fault> {
     let alloc = rt.alloc();
     Ok([2, 3, 4].map(|seats| is_numbered(alloc, seats)))
+}
+
+pub(crate) fn tell_rows(rt: &(impl Print + Wait + AllocGlobal)) -> io::Result<()> {
+    tell(rt, "every tenant has its map at the end", whole(rt))?;
+    tell(rt, "a turn has a seat for each tenant", numbered(rt))
 }

@@ -4,8 +4,10 @@
 ghost use Rattle.std.specs.Prelude.{◌≡◌};
 ghost use Rattle.turn.specs.Seats.{IsIdle};
 
+use crate::tell;
 use crate::tenants::{Tenant, two_tenants};
 use host_types::Fault;
+use std::io;
 use std::sync::{Mutex, Wait};
 use tenant_runs::RunReply;
 use tenant_workers::{Gate, Open, Shared};
@@ -66,7 +68,7 @@ pub(crate) struct Runs {
 
 /// One tenant's run after the other's, with two visits before each instruction. A run that held the turn to its end
 /// would wait for ever for its gate, which takes turns to scan.
-pub(crate) fn runs_scanned(rt: &(impl Wait + AllocGlobal)) -> Result<Runs, Fault> {
+fn runs_scanned(rt: &(impl Wait + AllocGlobal)) -> Result<Runs, Fault> {
     let alloc = rt.alloc();
     let (shared, first, second, scanner, _host) = two_tenants(alloc, 8)?;
     let mut first = Tenant::new(&shared, alloc, first);
@@ -95,9 +97,7 @@ impl<'a> Guest for Other<'a> {
 }
 
 /// What the first tenant's run answers, and the last of the second's, which runs before each instruction.
-pub(crate) fn run_overtaken(
-    rt: &(impl Wait + AllocGlobal),
-) -> Result<[Result<RunReply, Fault>; 2], Fault> {
+fn run_overtaken(rt: &(impl Wait + AllocGlobal)) -> Result<[Result<RunReply, Fault>; 2], Fault> {
     let alloc = rt.alloc();
     let (shared, first, second, _scanner, _host) = two_tenants(alloc, 8)?;
     let mut first = Tenant::new(&shared, alloc, first);
@@ -110,4 +110,9 @@ pub(crate) fn run_overtaken(
     });
     let reply = first.count(rt, &gate);
     Ok([reply, gate.into_guest().last])
+}
+
+pub(crate) fn tell_rows(rt: &(impl Print + Wait + AllocGlobal)) -> io::Result<()> {
+    tell(rt, "turn_held_through_run", runs_scanned(rt))?;
+    tell(rt, "a gate runs another tenant", run_overtaken(rt))
 }

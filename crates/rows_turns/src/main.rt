@@ -18,8 +18,6 @@ mod wakes;
 use host_types::Fault;
 use std::fmt::Debug;
 use std::io;
-use std::sync::Wait;
-use std::thread::Threads;
 
 /// Writes the name of a row and its answer, or why there was none.
 fn tell<T: Debug + Drop>(rt: &impl Print, name: &str, answer: Result<T, Fault>) -> io::Result<()> {
@@ -29,49 +27,16 @@ fn tell<T: Debug + Drop>(rt: &impl Print, name: &str, answer: Result<T, Fault>) 
     }
 }
 
-/// Whether threads that sleep until a turn ends were woken. Where they aren't, the rows behind would wait for them.
-fn tell_wakes<R>(rt: R) -> io::Result<bool>
-where
-    R: AllocGlobal + Print + Threads + Wait + Copy + Send + 'static,
-{
-    let woken = wakes::woken(rt);
-    tell(&rt, "sleepers that are woken", woken)?;
-    let rounds = wakes::rounds_woken(rt);
-    tell(&rt, "rounds in which no ring is missed", rounds)?;
-    Ok(woken == Ok(wakes::SLEEPERS) && rounds == Ok(wakes::ROUNDS))
-}
-
 fn main(rt: HostRuntime) -> io::Result<()> {
-    if !tell_wakes(rt)? {
+    if !wakes::tell_rows(rt)? {
         return Ok(());
     }
-    tell(
-        &rt,
-        "each of two threads counts to a thousand",
-        turns::counted(&rt),
-    )?;
-    tell(&rt, "try_take_never_wins", turns::tried(&rt))?;
-    tell(&rt, "every tenant has its map at the end", ends::whole(&rt))?;
-    tell(
-        &rt,
-        "a turn has a seat for each tenant",
-        ends::numbered(&rt),
-    )?;
-    tell(&rt, "always_out_of_memory", calls::answers(&rt))?;
-    tell(&rt, "maps of a seat", calls::filled(&rt))?;
-    tell(&rt, "no frame is free", refused::answers(&rt))?;
-    tell(
-        &rt,
-        "no frame is free for three counters",
-        refused::three_answers(&rt),
-    )?;
-    tell(&rt, "turn_held_through_run", gates::runs_scanned(&rt))?;
-    tell(&rt, "a gate runs another tenant", gates::run_overtaken(&rt))?;
+    turns::tell_rows(&rt)?;
+    ends::tell_rows(&rt)?;
+    calls::tell_rows(&rt)?;
+    refused::tell_rows(&rt)?;
+    gates::tell_rows(&rt)?;
     copy::tell_row(&rt)?;
-    tell(&rt, "a map goes and comes again", drops::answers(&rt))?;
-    tell(
-        &rt,
-        "tenants that meet within their runs",
-        serving::meetings(&rt),
-    )
+    drops::tell_row(&rt)?;
+    serving::tell_row(&rt)
 }

@@ -5,9 +5,11 @@ ghost use Rattle.turn.specs.Seats.{IsIdle, own_part};
 ghost use Rattle.tenant_workers.specs.Runs.{IsResting};
 
 use crate::numbers::with_numbers;
+use crate::tell;
 use crate::tenants::{Tenant, two_tenants};
 use host_types::{Fault, MapNo, Options};
 use std::alloc::Global;
+use std::io;
 use std::sync::Wait;
 use tenant_runs::RunReply;
 use tenant_workers::{Open, Shared};
@@ -24,7 +26,7 @@ pub(crate) struct Crowded {
 }
 
 /// What the first of two tenants is answered, and the host at last, whose frame a new map has.
-pub(crate) fn answers(rt: &(impl Wait + AllocGlobal)) -> Result<Crowded, Fault> {
+fn answers(rt: &(impl Wait + AllocGlobal)) -> Result<Crowded, Fault> {
     let alloc = rt.alloc();
     let (shared, first, _second, mut scanner, mut host) = two_tenants(alloc, 3)?;
     let mut tenant = Tenant::new(&shared, alloc, first);
@@ -60,9 +62,7 @@ fn lend_to_three(alloc: Global) -> Result<(Shared, Seat, Seat, Seat), Fault>
 
 /// What runs of three tenants answer whose pages have all frames: the counter's of each, and one of the first
 /// that needs no frame.
-pub(crate) fn three_answers(
-    rt: &(impl Wait + AllocGlobal),
-) -> Result<[Result<RunReply, Fault>; 4], Fault> {
+fn three_answers(rt: &(impl Wait + AllocGlobal)) -> Result<[Result<RunReply, Fault>; 4], Fault> {
     let alloc = rt.alloc();
     let (shared, first, second, third) = lend_to_three(alloc)?;
     let mut first = Tenant::new(&shared, alloc, first);
@@ -74,4 +74,9 @@ pub(crate) fn three_answers(
         third.count(rt, &Open),
         first.run_text(rt, &RETURN, &Open),
     ])
+}
+
+pub(crate) fn tell_rows(rt: &(impl Print + Wait + AllocGlobal)) -> io::Result<()> {
+    tell(rt, "no frame is free", answers(rt))?;
+    tell(rt, "no frame is free for three counters", three_answers(rt))
 }

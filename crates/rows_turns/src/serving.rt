@@ -6,10 +6,12 @@ ghost use Rattle.turn.specs.Seats.{IsIdle, own_part};
 ghost use Rattle.tenant_workers.specs.Plans.{IsFor};
 ghost use Rattle.tenant_workers.specs.Runs.{IsResting};
 
+use crate::tell;
 use crate::tenants::two_tenants;
 use host_types::Fault;
 use std::alloc::Global;
 use std::hint::spin_loop;
+use std::io;
 use std::sync::Wait;
 use std::sync::atomic::{AtomicU64, Ordering};
 use std::thread::Threads;
@@ -176,7 +178,7 @@ fn meet_once<R: Threads + Wait + Sync>(rt: &R, alloc: Global) -> Result<bool, Fa
 
 /// How often they meet, of twenty times. A `serve` that runs one tenant after the other, or that answers each run 41
 /// without a thread, is ruled out by it; one that holds the turn through a run by `turn_held_through_run`.
-pub(crate) fn meetings<R: AllocGlobal + Threads + Wait + Sync>(rt: &R) -> Result<u32, Fault> {
+fn meetings<R: AllocGlobal + Threads + Wait + Sync>(rt: &R) -> Result<u32, Fault> {
     let mut met = 0u32;
     for _time in 0..20 {
         if meet_once(rt, rt.alloc())? {
@@ -184,4 +186,11 @@ pub(crate) fn meetings<R: AllocGlobal + Threads + Wait + Sync>(rt: &R) -> Result
         }
     }
     Ok(met)
+}
+
+pub(crate) fn tell_row<R>(rt: &R) -> io::Result<()>
+where
+    R: AllocGlobal + Print + Threads + Wait + Sync,
+{
+    tell(rt, "tenants that meet within their runs", meetings(rt))
 }

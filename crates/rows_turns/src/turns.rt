@@ -4,11 +4,12 @@ ghost use Rattle.std.specs.Prelude.{◌≡◌, IfOk};
 ghost use Rattle.turn.specs.Seats.{IsIdle};
 
 use crate::numbers::{grow, look, number, with_numbers};
+use crate::tell;
 use host_types::{Fault, Options};
 use std::alloc::Global;
 use std::sync::Wait;
-use std::thread;
 use std::thread::Threads;
+use std::{io, thread};
 use turn::{Seat, Turn};
 
 /// Two tenants and four frames.
@@ -59,9 +60,7 @@ fn numbers_at_end(rt: &impl Wait, turn: Turn, mut first: Seat, mut second: Seat)
 }
 
 /// What each of two threads sees at the end that add 1 a thousand times, and the memory has then.
-pub(crate) fn counted<R: AllocGlobal + Threads + Wait + Sync>(
-    rt: &R,
-) -> Result<[Option<u64>; 3], Fault> {
+fn counted<R: AllocGlobal + Threads + Wait + Sync>(rt: &R) -> Result<[Option<u64>; 3], Fault> {
     let Two {
         turn,
         first,
@@ -101,11 +100,19 @@ fn tries(turn: &Turn, first: &mut Seat, second: &mut Seat) -> [bool; 3]
 }
 
 /// A `try_take` that never wins meets its contract, so this row rules it out.
-pub(crate) fn tried(rt: &impl AllocGlobal) -> Result<[bool; 3], Fault> {
+fn tried(rt: &impl AllocGlobal) -> Result<[bool; 3], Fault> {
     let Two {
         turn,
         mut first,
         mut second,
     } = two_tenants(rt.alloc())?;
     Ok(tries(&turn, &mut first, &mut second))
+}
+
+pub(crate) fn tell_rows<R>(rt: &R) -> io::Result<()>
+where
+    R: AllocGlobal + Print + Threads + Wait + Sync,
+{
+    tell(rt, "each of two threads counts to a thousand", counted(rt))?;
+    tell(rt, "try_take_never_wins", tried(rt))
 }

@@ -7,13 +7,14 @@ ghost use Rattle.turn.specs.Seats.{IsIdle};
 
 use crate::ends::{Three, three_tenants};
 use crate::numbers::grow;
+use crate::tell;
 use host_types::Fault;
 use std::alloc::{AllocError, Global};
 use std::hint::spin_loop;
 use std::sync::atomic::{AtomicU64, Ordering};
 use std::sync::{Arc, Wait};
-use std::thread;
 use std::thread::Threads;
+use std::{io, thread};
 use turn::{Seat, Turn};
 
 /// How often a number is looked at until a thread counts as one that sleeps for ever: for seconds.
@@ -23,10 +24,10 @@ const LOOKS: u32 = 200_000_000;
 const UNTIL_ASLEEP: u32 = 2_000_000;
 
 /// How many rounds a sleeper has in which the memory is given just when it is about to sleep.
-pub(crate) const ROUNDS: u64 = 20_000;
+const ROUNDS: u64 = 20_000;
 
 /// How many threads sleep while the memory is kept.
-pub(crate) const SLEEPERS: u64 = 2;
+const SLEEPERS: u64 = 2;
 
 /// What threads share: the turn, which round it is, and how many turns sleepers had.
 #[derive(Drop)]
@@ -143,7 +144,7 @@ where
 
 /// How many of two threads are woken that sleep while the memory is kept: the first by its end, and the second
 /// by the first.
-pub(crate) fn woken<R>(rt: R) -> Result<u64, Fault>
+fn woken<R>(rt: R) -> Result<u64, Fault>
 where
     R: AllocGlobal + Threads + Wait + Copy + Send + 'static,
 {
@@ -154,7 +155,7 @@ where
 }
 
 /// In how many rounds a thread is woken, or doesn't fall asleep, that is about to sleep while the memory is given.
-pub(crate) fn rounds_woken<R>(rt: R) -> Result<u64, Fault>
+fn rounds_woken<R>(rt: R) -> Result<u64, Fault>
 where
     R: AllocGlobal + Threads + Wait + Copy + Send + 'static,
 {
@@ -169,4 +170,16 @@ where
         }
     }
     Ok(woken)
+}
+
+/// Whether they were woken. Where they aren't, the rows behind would wait for them.
+pub(crate) fn tell_rows<R>(rt: R) -> io::Result<bool>
+where
+    R: AllocGlobal + Print + Threads + Wait + Copy + Send + 'static,
+{
+    let woken = woken(rt);
+    tell(&rt, "sleepers that are woken", woken)?;
+    let rounds = rounds_woken(rt);
+    tell(&rt, "rounds in which no ring is missed", rounds)?;
+    Ok(woken == Ok(SLEEPERS) && rounds == Ok(ROUNDS))
 }
