@@ -33,6 +33,30 @@ fn page_count(maps: &[Option<ArrayMap>]) -> usize {
     count
 }
 
+/// How many pages of a map have zeros alone.
+fn zero_pages_in(map: &ArrayMap) -> usize {
+    let mut count: usize = 0;
+    for page in map.bytes().chunks(4096) {
+        if page.iter().all(|byte| *byte == 0) {
+            count = count.saturating_add(1);
+        }
+    }
+    count
+}
+
+/// How many pages of both tenants are to lie on the zero frame.
+fn pages_for_zero_frame(maps: &[Option<ArrayMap>], pages: Pages) -> usize {
+    let mut count: usize = 0;
+    if let Pages::Zero = pages {
+        for map in maps {
+            if let Some(map) = map {
+                count = count.saturating_add(zero_pages_in(map));
+            }
+        }
+    }
+    count.saturating_mul(TENANTS as usize)
+}
+
 /// A memory in which both tenants have a row's maps, given on flat lists too. `None` where it can't be
 /// made so.
 pub(crate) fn memory_of(
@@ -44,7 +68,10 @@ pub(crate) fn memory_of(
     let count = page_count(maps).saturating_mul(TENANTS as usize);
     let frames = u32::try_from(count.saturating_add(ROOM).saturating_add(1)).ok()?;
     let mut memory = Memory::new(alloc, frames, TENANTS, pages.options()).ok()?;
-    if fill(&mut memory, setting) && place(&mut memory, count, pages) {
+    if !fill(&mut memory, setting) || !place(&mut memory, count, pages) {
+        return None;
+    }
+    if memory.zero_pages() as usize == pages_for_zero_frame(maps, pages) {
         Some(memory)
     } else {
         None
