@@ -5,7 +5,7 @@ use borrow.Rule.Simd.Lanes.{act2}
 use borrow.Table.Row.{s_int}
 use mir.Syntax.{wrap_add, wrap_mul}
 use Rattle.host_types.specs.Pages.{folded}
-use Rattle.frame_arena.specs.Digits.{paired}
+use Rattle.frame_arena.specs.Digits.{digit_pairs}
 
 -- ---- lists by cuts of four
 
@@ -39,16 +39,16 @@ one_lane : (a b c d : ℕ) → a < 256 → b < 256 → c < 256 → d < 256
     → sum32 (product32 (a * 31 + b * 1 + (c * 0 + d * 0)) 961) (a * 0 + b * 0 + (c * 31 + d * 1)) ≡ (a * 31 + b) * 961 + (c * 31 + d)
 one_lane a b c d a_fits b_fits c_fits d_fits = omega arith
 
-pub lanes-paired : (n : ℕ) (xs : List ℕ) → length xs ≡ 4 * n → Each1 (Fits w8) xs
-    → zip2 sum32 (zip2 product32 (dots xs (weights n (31 ∷ 1 ∷ 0 ∷ 0 ∷ []))) (replicate n 961)) (dots xs (weights n (0 ∷ 0 ∷ 31 ∷ 1 ∷ []))) ≡ paired 961 (paired 31 xs)
-lanes-paired zero [] e fits = refl
-lanes-paired zero (a ∷ xs) e fits = absurd (omega (arith, e))
-lanes-paired (suc n) [] e fits = absurd (omega (arith, e))
-lanes-paired (suc n) (a ∷ []) e fits = absurd (omega (arith, e))
-lanes-paired (suc n) (a ∷ b ∷ []) e fits = absurd (omega (arith, e))
-lanes-paired (suc n) (a ∷ b ∷ c ∷ []) e fits = absurd (omega (arith, e))
-lanes-paired (suc n) (a ∷ b ∷ c ∷ d ∷ xs) e fits =
-    let rest = lanes-paired n xs (omega (arith, e)) fits.1.1.1.1 in
+pub lanes-digit_pairs : (n : ℕ) (xs : List ℕ) → length xs ≡ 4 * n → Each1 (Fits w8) xs
+    → zip2 sum32 (zip2 product32 (dots xs (weights n (31 ∷ 1 ∷ 0 ∷ 0 ∷ []))) (replicate n 961)) (dots xs (weights n (0 ∷ 0 ∷ 31 ∷ 1 ∷ []))) ≡ digit_pairs 961 (digit_pairs 31 xs)
+lanes-digit_pairs zero [] e fits = refl
+lanes-digit_pairs zero (a ∷ xs) e fits = absurd (omega (arith, e))
+lanes-digit_pairs (suc n) [] e fits = absurd (omega (arith, e))
+lanes-digit_pairs (suc n) (a ∷ []) e fits = absurd (omega (arith, e))
+lanes-digit_pairs (suc n) (a ∷ b ∷ []) e fits = absurd (omega (arith, e))
+lanes-digit_pairs (suc n) (a ∷ b ∷ c ∷ []) e fits = absurd (omega (arith, e))
+lanes-digit_pairs (suc n) (a ∷ b ∷ c ∷ d ∷ xs) e fits =
+    let rest = lanes-digit_pairs n xs (omega (arith, e)) fits.1.1.1.1 in
     rw (one_lane a b c d fits.0.fits fits.1.0.fits fits.1.1.0.fits fits.1.1.1.0.fits, rest) refl
 
 -- ---- a fingerprint with digits of a larger base folded in
@@ -80,7 +80,7 @@ behind f s t = omega arith
 
 -- the digits to base 31^8 of bytes
 abbrev eights : List ℕ → List ℕ
-eights xs = paired 923521 (paired 961 (paired 31 xs))
+eights xs = digit_pairs 923521 (digit_pairs 961 (digit_pairs 31 xs))
 
 -- the last eight bytes of a list
 last-eight : (f : ℕ) (xs : List ℕ) → length xs ≡ 8 → fold folded f xs ≡ (852891037441 * f + slice_index_or (eights xs) 0 0) % 2 ^ 64

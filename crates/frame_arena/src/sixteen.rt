@@ -2,7 +2,7 @@
 //! neighbours to digits of a larger base: four bytes make one to base 31^4, eight one to base 31^8.
 ghost use Rattle.std.specs.Prelude.{◌≡◌, fold, length};
 ghost use Rattle.host_types.specs.Pages.{folded};
-ghost use Rattle.frame_arena.specs.Digits.{paired};
+ghost use Rattle.frame_arena.specs.Digits.{digit_pairs};
 
 use std::simd::prelude::*;
 
@@ -20,7 +20,7 @@ pub(crate) fn with_sixteen(fingerprint: u64, bytes: &[u8]) -> u64
 
 /// Sixteen digits to base 31 as four to base 31^4.
 fn fours_of(bytes: u8x16) -> u32x4
-    ensures { result ≡ paired 961 (paired 31 bytes) }
+    ensures { result ≡ digit_pairs 961 (digit_pairs 31 bytes) }
 {
     let high = bytes.dot4(u8x16::from_array([31, 1, 0, 0, 31, 1, 0, 0, 31, 1, 0, 0, 31, 1, 0, 0]));
     let low = bytes.dot4(u8x16::from_array([0, 0, 31, 1, 0, 0, 31, 1, 0, 0, 31, 1, 0, 0, 31, 1]));
@@ -29,7 +29,7 @@ fn fours_of(bytes: u8x16) -> u32x4
 
 /// Four digits to base 31^4 as two to base 31^8.
 fn eights_of(fours: u32x4) -> u64x2
-    ensures { result ≡ paired 923521 fours }
+    ensures { result ≡ digit_pairs 923521 fours }
 {
     let first = fours.swizzle([0, 2]).cast::<u64>();
     let second = fours.swizzle([1, 3]).cast::<u64>();

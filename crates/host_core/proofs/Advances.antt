@@ -28,7 +28,7 @@ use Rattle.interp.specs.OnMaps.{HasRoom, IsRoomy, StandsOn, IsMet, ReachesOn, Fo
 use Rattle.interp.specs.StandsFor.{Running, StandsFor, Asks, value_of}
 use Rattle.interp.specs.Written.{written, written_by}
 use Rattle.tenant_runs.specs.Meeting.{sharing_met}
-use Rattle.tenant_runs.specs.Storing.{maps_of, HasFrames, HasStored}
+use Rattle.tenant_runs.specs.Storing.{maps_of_part, HasStoreFrames, HasStored}
 use Rattle.tenant_runs.specs.UnderWay.{IsUnderWay, IsAsking, part_with_have}
 use Rattle.tenant_runs.proofs.OnMaps.{Keeps, steps_keep}
 use Rattle.tenant_runs.proofs.Roomy.{answered_slot}
@@ -69,12 +69,12 @@ pub record IsStarted (v : Accepted) (t : ℕ) (s : MachineState) (before release
   pub eight : length (part released t).maps ≡ 8
   pub all : reserved_of before ≡ reserved_of released + needed_in v t before.sharing s
   pub reads : ReadsAs released
-  pub roomy : IsRoomy (maps_of t) (HasFrames t) v s released
+  pub roomy : IsRoomy (maps_of_part t) (HasStoreFrames t) v s released
 
 pub started : (programs : List (Option Accepted)) (kept : KeptRun) (v : Accepted) (s : MachineState) (t : ℕ) (before released : MemoryState) → IsUnderWayAt programs kept v s (part before t) → ReadsAs before → ReadsAs released
     → part released t ≡ with_reserve 0 (part before t) → have_of released + 0 ≡ have_of before + (part before t).reserve → released ≡ with_record before t 0 → IsStarted v t s before released
 started programs kept v s t before released under reads reads' recorded have all =
-    let maps : maps_of t released ≡ s.memory.maps = ap (λ (owned : TenantPart). owned.maps) recorded ∙ under.maps in
+    let maps : maps_of_part t released ≡ s.memory.maps = ap (λ (owned : TenantPart). owned.maps) recorded ∙ under.maps in
     let sharing : released.sharing ≡ before.sharing = ap (λ (memory : MemoryState). memory.sharing) all in
     let frames : length released.arena ≡ length before.arena = ap (λ (memory : MemoryState). length memory.arena) all in
     let free : free_of released ≡ free_of before = ap (λ (memory : MemoryState). free_of memory) all in
@@ -101,8 +101,8 @@ started programs kept v s t before released under reads reads' recorded have all
 -- what steps that are met make of a memory
 record IsChained (v : Accepted) (t all mine : ℕ) (s : MachineState) (first : MemoryState) (n : ℕ) (u : MachineState) (memory : MemoryState) : Type 0 where
   made : AreMade v t all mine (length first.arena) s first.sharing n u memory.sharing
-  maps : maps_of t memory ≡ u.memory.maps
-  room : HasRoom (HasFrames t) memory (reserve_from v u.slot) (writes_from v u.slot)
+  maps : maps_of_part t memory ≡ u.memory.maps
+  room : HasRoom (HasStoreFrames t) memory (reserve_from v u.slot) (writes_from v u.slot)
   reads : ReadsAs memory
   settings : KeepsSettings first memory
 
@@ -115,7 +115,7 @@ enough_free all mine least first memory whole settings reads room =
     omega (arith, whole, most, reserved, free, room)
 
 -- what the rest of the run may need may be had
-room_had : (v : Accepted) (t : ℕ) (u : MachineState) (memory : MemoryState) → maps_of t memory ≡ u.memory.maps → HasRoom (HasFrames t) memory (reserve_from v u.slot) (writes_from v u.slot) → needed_in v t memory.sharing u ≤ have_of memory
+room_had : (v : Accepted) (t : ℕ) (u : MachineState) (memory : MemoryState) → maps_of_part t memory ≡ u.memory.maps → HasRoom (HasStoreFrames t) memory (reserve_from v u.slot) (writes_from v u.slot) → needed_in v t memory.sharing u ≤ have_of memory
 room_had v t u memory maps room =
     let has = room (reserve_from v u.slot) (writes_from v u.slot) (omega arith) (λ m writes. writes) in
     let frames = has.frames in
@@ -125,8 +125,8 @@ room_had v t u memory maps room =
 -- one step more of such a chain, by what it asks and what the memory is after it
 linked : (v : Accepted) (t all mine : ℕ) (s : MachineState) (first : MemoryState) (n : ℕ) (w u : MachineState) (between memory : MemoryState) → all ≡ reserved_of first + mine
     → IsChained v t all mine s first n w between → step v.subject.text w ≡ Some (Next u) → (need : Need) → u.memory.maps ≡ maps_after need [] w.memory.maps
-    → memory.sharing ≡ sharing_after between.sharing t (written v.subject.text w) → KeepsPins t between.sharing memory.sharing → maps_of t memory ≡ u.memory.maps
-    → HasRoom (HasFrames t) memory (reserve_from v u.slot) (writes_from v u.slot) → ReadsAs memory → KeepsSettings first memory → IsChained v t all mine s first (suc n) u memory
+    → memory.sharing ≡ sharing_after between.sharing t (written v.subject.text w) → KeepsPins t between.sharing memory.sharing → maps_of_part t memory ≡ u.memory.maps
+    → HasRoom (HasStoreFrames t) memory (reserve_from v u.slot) (writes_from v u.slot) → ReadsAs memory → KeepsSettings first memory → IsChained v t all mine s first (suc n) u memory
 linked v t all mine s first n w u between memory whole before makes need changes shares others maps room reads settings =
     let enough = enough_free all mine (needed_in v t memory.sharing u) first memory whole settings reads (room_had v t u memory maps room) in
     record {
@@ -137,7 +137,7 @@ linked v t all mine s first n w u between memory whole before makes need changes
       settings = settings;
     }
 
-chained : (v : Accepted) (t all mine : ℕ) (s : MachineState) (first : MemoryState) (n : ℕ) (u : MachineState) (memory : MemoryState) → ReadsAs first → all ≡ reserved_of first + mine → IsRoomy (maps_of t) (HasFrames t) v s first
+chained : (v : Accepted) (t all mine : ℕ) (s : MachineState) (first : MemoryState) (n : ℕ) (u : MachineState) (memory : MemoryState) → ReadsAs first → all ≡ reserved_of first + mine → IsRoomy (maps_of_part t) (HasStoreFrames t) v s first
     → ReachesOn (HasStored t) v s first n u memory → IsChained v t all mine s first n u memory
 chained v t all mine s first zero u memory reads whole roomy (here, same) =
     rw (here, same) record { made = (refl, refl); maps = roomy.maps; room = roomy.room; reads = reads; settings = record { tenants = refl; frames = refl } }
@@ -148,7 +148,7 @@ chained v t all mine s first (suc n) u memory reads whole roomy (w, between, rea
         let same = private.same in
         let fewer = private.less in
         let less = fewer.reserve in
-        let room : HasRoom (HasFrames t) memory (reserve_from v u.slot) (writes_from v u.slot) =
+        let room : HasRoom (HasStoreFrames t) memory (reserve_from v u.slot) (writes_from v u.slot) =
         rw same (λ some few small among. before.room some few (omega (arith, small, less)) (λ m is. fewer.fewer m (among m is))) in
         linked v t all mine s first n w u between memory whole before makes Private private.maps
         (ap (λ (m : MemoryState). m.sharing) same ∙ ap (sharing_after between.sharing t) (sym private.quiet)) (λ k other. ap (λ (m : MemoryState). pins_of m.sharing k) same)
@@ -162,7 +162,7 @@ chained v t all mine s first (suc n) u memory reads whole roomy (w, between, rea
         ∙ ap (sharing_after between.sharing t) (sym stores.writes) in
         let others : KeepsPins t between.sharing memory.sharing = λ k other. sym (pins_of_part memory k) ∙ ap (λ (owned : TenantPart). owned.pins) (stored.others k other) ∙ pins_of_part between k in
         let maps = ap (λ (owned : TenantPart). owned.maps) stored.owned ∙ ap (maps_after need []) before.maps ∙ sym stores.maps in
-        let room : HasRoom (HasFrames t) memory (reserve_from v u.slot) (writes_from v u.slot) =
+        let room : HasRoom (HasStoreFrames t) memory (reserve_from v u.slot) (writes_from v u.slot) =
         λ some few small among. stored.room some (writes_from v w.slot) few stores.among (λ m is. stores.fewer m (among m is))
         (before.room (1 + some) (writes_from v w.slot) (omega (arith, small, charged)) (λ m is. is)) in
         linked v t all mine s first n w u between memory whole before makes need stores.maps shares others maps room stored.reads
@@ -177,7 +177,7 @@ made_from v s n t before released u memory start reaches =
     subst (λ sharing. AreMade v t (reserved_of before) mine (length before.arena) s sharing n u memory.sharing) start.sharing framed
 
 -- the run stands where it starts
-pub stands_at : (programs : List (Option Accepted)) (kept : KeptRun) (v : Accepted) (s : MachineState) (t : ℕ) (before released : MemoryState) → IsUnderWayAt programs kept v s (part before t) → IsStarted v t s before released → StandsOn (maps_of t) (HasFrames t) v kept.run s released
+pub stands_at : (programs : List (Option Accepted)) (kept : KeptRun) (v : Accepted) (s : MachineState) (t : ℕ) (before released : MemoryState) → IsUnderWayAt programs kept v s (part before t) → IsStarted v t s before released → StandsOn (maps_of_part t) (HasStoreFrames t) v kept.run s released
 stands_at programs kept v s t before released under start = record { stands = under.stands; roomy = start.roomy }
 
 -- a tenant still has eight places for maps
@@ -190,15 +190,15 @@ pub record IsAskedAt (v : Accepted) (t : ℕ) (s : MachineState) (n : ℕ) (need
   pub here : MachineState
   pub last : n ≡ suc made
   pub reached : ReachesOn (HasStored t) v s released made here memory
-  pub roomy : IsRoomy (maps_of t) (HasFrames t) v here memory
+  pub roomy : IsRoomy (maps_of_part t) (HasStoreFrames t) v here memory
   pub asks : Asks v here need run
 
 asked_by : (v : Accepted) (t : ℕ) (s : MachineState) (n : ℕ) (need : Need) (run : Running) (released memory : MemoryState) → (made : ℕ) × (here : MachineState) × (n ≡ suc made) × ReachesOn (HasStored t) v s released made here memory
-    × IsRoomy (maps_of t) (HasFrames t) v here memory × Asks v here need run → IsAskedAt v t s n need run released memory
+    × IsRoomy (maps_of_part t) (HasStoreFrames t) v here memory × Asks v here need run → IsAskedAt v t s n need run released memory
 asked_by v t s n need run released memory (made, here, last, reached, roomy, asks) = record { made = made; here = here; last = last; reached = reached; roomy = roomy; asks = asks }
 
 pub asked_at : (v : Accepted) (t : ℕ) (s : MachineState) (n : ℕ) (need : Need) (run : Running) (released memory : MemoryState) → (need ≡ Private → ⊥) → ((number : ℕ) → need ≡ Ended number → ⊥)
-    → FollowsOn (maps_of t) (HasFrames t) (HasStored t) v s released n need run memory → IsAskedAt v t s n need run released memory
+    → FollowsOn (maps_of_part t) (HasStoreFrames t) (HasStored t) v s released n need run memory → IsAskedAt v t s n need run released memory
 asked_at v t s n Private run released memory some going follows = absurd (some refl)
 asked_at v t s n (Ended number) run released memory some going follows = absurd (going number refl)
 asked_at v t s n (Load m at size) run released memory some going follows = absurd follows
@@ -221,7 +221,7 @@ asking_at v t s n need run before released memory start asked =
     }
 
 -- what is kept until it asks, goes on or ends
-pub kept_on : (v : Accepted) (t : ℕ) (s : MachineState) (n : ℕ) (need : Need) (run : Running) (before released memory : MemoryState) → IsStarted v t s before released → FollowsOn (maps_of t) (HasFrames t) (HasStored t) v s released n need run memory
+pub kept_on : (v : Accepted) (t : ℕ) (s : MachineState) (n : ℕ) (need : Need) (run : Running) (before released memory : MemoryState) → IsStarted v t s before released → FollowsOn (maps_of_part t) (HasStoreFrames t) (HasStored t) v s released n need run memory
     → Keeps t released memory × (length (part memory t).maps ≡ 8)
 kept_on v t s n Private run before released memory start (next, reaches, on) = (steps_keep v t s released n next memory reaches, still_eight v t s before released n next memory start reaches)
 kept_on v t s n (Ended number) run before released memory start (made, here, last, reaches, same, makes, flat, few) = (steps_keep v t s released made here memory reaches, still_eight v t s before released made here memory start reaches)
@@ -232,7 +232,7 @@ kept_on v t s n (Update m key flags) run before released memory start (made, her
 kept_on v t s n (Delete m key) run before released memory start (made, here, last, reaches, roomy, asks) = (steps_keep v t s released made here memory reaches, still_eight v t s before released made here memory start reaches)
 
 -- what the rest of a run may need may be had
-pub private_room : (v : Accepted) (t : ℕ) (s : MachineState) (n : ℕ) (run : Running) (released memory : MemoryState) → FollowsOn (maps_of t) (HasFrames t) (HasStored t) v s released n Private run memory → needed_from v (part memory t) run.slot ≤ have_of memory
+pub private_room : (v : Accepted) (t : ℕ) (s : MachineState) (n : ℕ) (run : Running) (released memory : MemoryState) → FollowsOn (maps_of_part t) (HasStoreFrames t) (HasStored t) v s released n Private run memory → needed_from v (part memory t) run.slot ≤ have_of memory
 private_room v t s n run released memory (next, reaches, on) =
     let has = on.roomy.room (reserve_from v next.slot) (writes_from v next.slot) (omega arith) (λ m writes. writes) in
     rw on.stands.slot has.frames
@@ -249,7 +249,7 @@ part_recorded v t next after maps running reserve =
 -- steps after which just what is left of the run is reserved
 pub private_advanced : (programs : List (Option Accepted)) (kept : KeptRun) (v : Accepted) (s : MachineState) (t limit many : ℕ) (run : Running) (before released memory after : MemoryState)
     → IsUnderWayAt programs kept v s (part before t) → IsStarted v t s before released → IsVerified v → 0 < limit → many ≡ min (instructions_of v.subject.text) limit
-    → (n : ℕ) × FollowsOn (maps_of t) (HasFrames t) (HasStored t) v s released n Private run memory × (run.steps ≡ kept.run.steps + n) → run.steps ≡ kept.run.steps + many
+    → (n : ℕ) × FollowsOn (maps_of_part t) (HasStoreFrames t) (HasStored t) v s released n Private run memory × (run.steps ≡ kept.run.steps + n) → run.steps ≡ kept.run.steps + many
     → part after t ≡ with_reserve (needed_from v (part memory t) run.slot) (part memory t) → after.sharing ≡ memory.sharing
     → HasAdvanced v s t limit kept.run before None run after
 private_advanced programs kept v s t limit many run before released memory after under start verified some least (n, (next, reaches, on), made) whole recorded sharing =
@@ -270,7 +270,7 @@ private_advanced programs kept v s t limit many run before released memory after
 -- steps with the last of which the run ends
 pub ended_advanced : (programs : List (Option Accepted)) (kept : KeptRun) (v : Accepted) (s : MachineState) (t limit many number : ℕ) (run : Running) (before released memory after : MemoryState)
     → IsStarted v t s before released → many ≡ min (instructions_of v.subject.text) limit
-    → (n : ℕ) × FollowsOn (maps_of t) (HasFrames t) (HasStored t) v s released n (Ended number) run memory × (run.steps ≡ kept.run.steps + n) → run.steps ≤ kept.run.steps + many
+    → (n : ℕ) × FollowsOn (maps_of_part t) (HasStoreFrames t) (HasStored t) v s released n (Ended number) run memory × (run.steps ≡ kept.run.steps + n) → run.steps ≤ kept.run.steps + many
     → part after t ≡ without_run (part memory t) → after.sharing ≡ pins_released memory.sharing t
     → HasAdvanced v s t limit kept.run before (Some number) run after
 ended_advanced programs kept v s t limit many number run before released memory after start least (n, (made, here, last, reaches, same, makes, flat, few), counted) most recorded sharing =
@@ -334,7 +334,7 @@ answer_made v s here t n made need run after_run before memory after last reache
 pub asked_advanced : (kept : KeptRun) (v : Accepted) (s : MachineState) (t limit many : ℕ) (need : Need) (run after_run : Running) (before released memory after : MemoryState)
     → IsStarted v t s before released → many ≡ min (instructions_of v.subject.text) limit
     → (need ≡ Private → ⊥) → ((number : ℕ) → need ≡ Ended number → ⊥)
-    → (n : ℕ) × FollowsOn (maps_of t) (HasFrames t) (HasStored t) v s released n need run memory × (run.steps ≡ kept.run.steps + n) → run.steps ≤ kept.run.steps + many
+    → (n : ℕ) × FollowsOn (maps_of_part t) (HasStoreFrames t) (HasStored t) v s released n need run memory × (run.steps ≡ kept.run.steps + n) → run.steps ≤ kept.run.steps + many
     → ((here : MachineState) → IsAsking v here need run (part_with_have memory t) → (next : MachineState) × (step v.subject.text here ≡ Some (Next next)) × IsUnderWay v after_run next (part after t))
     → (part after t).reserve ≡ needed_from v (part after t) run.slot → after_run.steps ≡ run.steps → after.sharing ≡ sharing_met (part memory t) memory.sharing t need
     → HasAdvanced v s t limit kept.run before None after_run after

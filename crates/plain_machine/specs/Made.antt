@@ -14,10 +14,10 @@ use Rattle.plain_machine.specs.declared.machine.Ending.{Ending}
 use Rattle.plain_machine.specs.declared.machine.Ending.TheVariants.{Exited, Faulted, Cut}
 
 -- what a step is said to have made is what the standard's step makes; an exit and a fault leave the state
-abbrev pub IsMade : List ℕ → MachineState → Made → MachineState → Type 0
-IsMade text old made.Next new = step text old ≡ Some (Next new)
-IsMade text old (made.Exits number) new = (step text old ≡ Some (Exits number old.memory.maps)) × (new ≡ old)
-IsMade text old made.Fault new = (step text old ≡ None) × (new ≡ old)
+abbrev pub IsStepMade : List ℕ → MachineState → Made → MachineState → Type 0
+IsStepMade text old made.Next new = step text old ≡ Some (Next new)
+IsStepMade text old (made.Exits number) new = (step text old ≡ Some (Exits number old.memory.maps)) × (new ≡ old)
+IsStepMade text old made.Fault new = (step text old ≡ None) × (new ≡ old)
 
 -- a part of a step made of a state what it is said to make, at the same slot; a fault changes nothing
 pub record IsPart (made : Option MachineState) (old : MachineState) (result : Option (Unit {0})) (new : MachineState) : Type 0 where

@@ -12,7 +12,7 @@ use Rattle.verifier_kinds.specs.declared.description.StackSlot.{StackSlot}
 use Rattle.verifier_kinds.specs.declared.description.StackSlot.TheVariants.{Kept, Bytes}
 use Rattle.verifier_kinds.specs.declared.description.Description.{Description}
 use Rattle.verifier_kinds.specs.Kinds.{rank, of_rank, range_in, offsets_in, IsWithin, IsKindBelow, IsBelow}
-use Rattle.verifier_kinds.specs.Descriptions.{IsSlotBelow, join_of_registers, join_of_slots, merged, join_of}
+use Rattle.verifier_kinds.specs.Descriptions.{IsSlotBelow, join_of_registers, join_of_slots, joined_with, join_of}
 use Rattle.verifier_kinds.proofs.Order.{below_trans, slot_below_trans}
 use Rattle.verifier_kinds.proofs.Joins.{register_below_join_left, register_below_join_right, slot_below_join_left, slot_below_join_right}
 use Rattle.verifier_kinds.proofs.Least.{registers_join_below, slots_join_below}
@@ -115,27 +115,27 @@ slots_join : IsJoin IsSlotBelow join_of_slots
 slots_join = record { trans = slot_below_trans; same = same_slot; left = slot_below_join_left; right = slot_below_join_right; least = slots_join_below }
 
 -- lists that are merged place by place
-merged-comm : {X : Type 0} (f : X → X → X) → ((a b : X) → f a b ≡ f b a) → (xs ys : List X) → merged f xs ys ≡ merged f ys xs
-merged-comm f comm [] [] = refl
-merged-comm f comm [] (y ∷ ys) = refl
-merged-comm f comm (x ∷ xs) [] = refl
-merged-comm f comm (x ∷ xs) (y ∷ ys) = ap (λ z. z ∷ merged f xs ys) (comm x y) ∙ ap (λ zs. f y x ∷ zs) (merged-comm f comm xs ys)
+joined_with-comm : {X : Type 0} (f : X → X → X) → ((a b : X) → f a b ≡ f b a) → (xs ys : List X) → joined_with f xs ys ≡ joined_with f ys xs
+joined_with-comm f comm [] [] = refl
+joined_with-comm f comm [] (y ∷ ys) = refl
+joined_with-comm f comm (x ∷ xs) [] = refl
+joined_with-comm f comm (x ∷ xs) (y ∷ ys) = ap (λ z. z ∷ joined_with f xs ys) (comm x y) ∙ ap (λ zs. f y x ∷ zs) (joined_with-comm f comm xs ys)
 
-merged-assoc : {X : Type 0} (f : X → X → X) → ((a b c : X) → f (f a b) c ≡ f a (f b c)) → (xs ys zs : List X) → merged f (merged f xs ys) zs ≡ merged f xs (merged f ys zs)
-merged-assoc f assoc [] ys zs = refl
-merged-assoc f assoc (x ∷ xs) [] zs = refl
-merged-assoc f assoc (x ∷ xs) (y ∷ ys) [] = refl
-merged-assoc f assoc (x ∷ xs) (y ∷ ys) (z ∷ zs) = ap (λ u. u ∷ merged f (merged f xs ys) zs) (assoc x y z) ∙ ap (λ us. f x (f y z) ∷ us) (merged-assoc f assoc xs ys zs)
+joined_with-assoc : {X : Type 0} (f : X → X → X) → ((a b c : X) → f (f a b) c ≡ f a (f b c)) → (xs ys zs : List X) → joined_with f (joined_with f xs ys) zs ≡ joined_with f xs (joined_with f ys zs)
+joined_with-assoc f assoc [] ys zs = refl
+joined_with-assoc f assoc (x ∷ xs) [] zs = refl
+joined_with-assoc f assoc (x ∷ xs) (y ∷ ys) [] = refl
+joined_with-assoc f assoc (x ∷ xs) (y ∷ ys) (z ∷ zs) = ap (λ u. u ∷ joined_with f (joined_with f xs ys) zs) (assoc x y z) ∙ ap (λ us. f x (f y z) ∷ us) (joined_with-assoc f assoc xs ys zs)
 
 -- the join of descriptions
 pub join_of-comm : (d e : Description) → join_of d e ≡ join_of e d
 join_of-comm d e =
     let made : List (Option Kind) → List StackSlot → Description = λ registers stack. record { registers = registers; stack = stack } in
-    ap (λ registers. made registers (merged join_of_slots d.stack e.stack)) (merged-comm join_of_registers (join-comm registers_join) d.registers e.registers)
-    ∙ ap (made (merged join_of_registers e.registers d.registers)) (merged-comm join_of_slots (join-comm slots_join) d.stack e.stack)
+    ap (λ registers. made registers (joined_with join_of_slots d.stack e.stack)) (joined_with-comm join_of_registers (join-comm registers_join) d.registers e.registers)
+    ∙ ap (made (joined_with join_of_registers e.registers d.registers)) (joined_with-comm join_of_slots (join-comm slots_join) d.stack e.stack)
 
 pub join_of-assoc : (c d e : Description) → join_of (join_of c d) e ≡ join_of c (join_of d e)
 join_of-assoc c d e =
     let made : List (Option Kind) → List StackSlot → Description = λ registers stack. record { registers = registers; stack = stack } in
-    ap (λ registers. made registers (merged join_of_slots (merged join_of_slots c.stack d.stack) e.stack)) (merged-assoc join_of_registers (join-assoc registers_join) c.registers d.registers e.registers)
-    ∙ ap (made (merged join_of_registers c.registers (merged join_of_registers d.registers e.registers))) (merged-assoc join_of_slots (join-assoc slots_join) c.stack d.stack e.stack)
+    ap (λ registers. made registers (joined_with join_of_slots (joined_with join_of_slots c.stack d.stack) e.stack)) (joined_with-assoc join_of_registers (join-assoc registers_join) c.registers d.registers e.registers)
+    ∙ ap (made (joined_with join_of_registers c.registers (joined_with join_of_registers d.registers e.registers))) (joined_with-assoc join_of_slots (join-assoc slots_join) c.stack d.stack e.stack)

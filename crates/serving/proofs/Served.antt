@@ -14,7 +14,7 @@ use Rattle.host_file.specs.Served.{IsServedCommand}
 use Rattle.turn.specs.Seats.{own_part}
 use Rattle.tenant_workers.specs.declared.plans.TenantPlan.{TenantPlan}
 use Rattle.tenant_workers.specs.Jobs.{AreEach}
-use Rattle.tenant_workers.specs.Plans.{AreAnswered, AreServed, IsServed, Planned, planned_by}
+use Rattle.tenant_workers.specs.Plans.{AreAnswered, AreServed, IsPlanServed, Planned, planned_by}
 use Rattle.engines.specs.Input.{AreNoFile}
 use Rattle.engines.specs.Lines.{reply_lines}
 use Rattle.serving.specs.Lookups.{AreLookedUp, lookup_tellings, lookups_in}
@@ -44,10 +44,10 @@ each-many f R (x ∷ xs) [] each = absurd each
 each-many f R (x ∷ xs) (y ∷ ys) each = ap suc (each-many f R xs ys each.1)
 
 pub served-many : (old new : List TenantPlan) → AreServed old new → length new ≡ length old
-served-many old new each = each-many planned_by IsServed old new each
+served-many old new each = each-many planned_by IsPlanServed old new each
 
 -- the answers are those of a plan with the file's runs
-answered-of : (opened planned new : Planned) (runs : List (ℕ × List ℕ)) → opened.runs ≡ [] → planned ≡ with_runs opened runs → IsServed planned new
+answered-of : (opened planned new : Planned) (runs : List (ℕ × List ℕ)) → opened.runs ≡ [] → planned ≡ with_runs opened runs → IsPlanServed planned new
     → AreAnswered opened.programs runs (own_part opened.seat) new.replies (own_part new.seat)
 answered-of opened planned new runs none same is =
     subst (λ asked. AreAnswered opened.programs asked (own_part opened.seat) new.replies (own_part new.seat)) (ap (λ before. before ++ runs) none)
@@ -61,7 +61,7 @@ pub served-each : (commands : List Command) (first opened planned new : List Ten
     → AreServed planned new → (t : ℕ) → IfSome (slice_get (map outcome_of new) t) (IsServedTenant commands t)
 served-each commands first opened planned new fresh open_so run_so each =
     each-at outcome_of (IsServedTenant commands) new (λ t plan there.
-    let both = each-both planned_by IsServed planned new t plan plan each there in
+    let both = each-both planned_by IsPlanServed planned new t plan plan each there in
     let behind : t < length opened = omega (arith, both.0, run_so.as_many) in
     let before : t < length first = omega (arith, behind, open_so.as_many) in
     let new_plan = fresh t plan before in

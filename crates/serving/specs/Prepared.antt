@@ -26,13 +26,13 @@ pub record HaveRuns (commands : List Command) (old new : List TenantPlan) : Type
   pub each : (t : ℕ) (plan : TenantPlan) → t < length old → planned_by (get_or new t plan) ≡ with_runs (planned_by (get_or old t plan)) (runs_for t commands)
 
 -- what `pages_to_scan` is after a command
-abbrev pub pages_after : ℕ → Command → ℕ
-pages_after pages (Apply (Set PagesToScan value)) = value
-pages_after pages _ = pages
+abbrev pub pages_after_command : ℕ → Command → ℕ
+pages_after_command pages (Apply (Set PagesToScan value)) = value
+pages_after_command pages _ = pages
 
 -- what it is when all options are set
 abbrev pub pages_set : ℕ → List Command → ℕ
-pages_set pages commands = fold pages_after pages commands
+pages_set pages commands = fold pages_after_command pages commands
 
 -- how many visits a command asks for; without a count as many pages as are scanned
 abbrev pub visits_by : ℕ → Command → ℕ

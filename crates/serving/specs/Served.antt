@@ -29,28 +29,28 @@ abbrev pub AreNotServed : List ℕ → Type 0
 AreNotServed bytes = AreNoFile bytes ⊎ ((file : HostFile) × IsFileText bytes file × Any (λ command. ¬ IsServedCommand file.tenants command) file.commands)
 
 -- what came of a tenant: what its runs were answered, and its part after them
-pub record Outcome : Type 0 where
+pub record TenantOutcome : Type 0 where
   pub replies : List (Result RunReply Fault)
   pub part : TenantPart
 
-abbrev pub outcome_of : TenantPlan → Outcome
+abbrev pub outcome_of : TenantPlan → TenantOutcome
 outcome_of plan = record { replies = plan.replies.items; part = own_part plan.seat }
 
 -- The runs that the file asks of a tenant were answered, in the file's order, from what the file gave the tenant
 -- before a thread started.
-pub record IsServedTenant (commands : List Command) (t : ℕ) (outcome : Outcome) : Type 0 where
+pub record IsServedTenant (commands : List Command) (t : ℕ) (outcome : TenantOutcome) : Type 0 where
   pub home : Home
   pub opened : AreOpenedFor t commands first_home home
   pub answered : AreAnswered home.programs (runs_for t commands) home.part outcome.replies outcome.part
 
 -- what is told of them: of each run by tenant and in order, then of each lookup in the file's order
-abbrev pub tellings_of : List Command → List Outcome → List Reply → List Telling
+abbrev pub tellings_of : List Command → List TenantOutcome → List Reply → List Telling
 tellings_of commands outcomes answers =
     all_run_tellings commands 0 (map (λ outcome. outcome.replies) outcomes) ++ lookup_tellings (lookups_in commands) answers
 
 -- The lookups were answered from the tenants' parts, all was written, and the status says whether a refusal is
 -- among it.
-pub record AreTold (commands : List Command) (outcomes : List Outcome) (status : ℕ) (old new : Option (List ℕ)) : Type 0 where
+pub record AreTold (commands : List Command) (outcomes : List TenantOutcome) (status : ℕ) (old new : Option (List ℕ)) : Type 0 where
   pub answers : List Reply
   pub looked_up : AreLookedUp (map (λ outcome. outcome.part) outcomes) (lookups_in commands) answers
   pub noted : status ≡ if tell_refusal (tellings_of commands outcomes answers) then 1 else 0
@@ -63,5 +63,5 @@ pub data IsServedSo (file : HostFile) (status : ℕ) (old new : Option (List ℕ
       → Appends old new (line_of (refusal_text fault)) → IsServedSo file status old new
   stopped : (event : Event) (fault : Fault) → IsStopped file.tenants file.commands event fault → status ≡ 1
       → Appends old new (reply_lines event 0 (Refused fault)) → IsServedSo file status old new
-  served : (outcomes : List Outcome) → length outcomes ≡ file.tenants → ((t : ℕ) → IfSome (slice_get outcomes t) (IsServedTenant file.commands t))
+  served : (outcomes : List TenantOutcome) → length outcomes ≡ file.tenants → ((t : ℕ) → IfSome (slice_get outcomes t) (IsServedTenant file.commands t))
       → AreTold file.commands outcomes status old new → IsServedSo file status old new

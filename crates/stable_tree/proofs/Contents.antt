@@ -11,16 +11,16 @@ use Rattle.std.proofs.lemmas.List.Elements.{All-cons, All-weaker}
 use Rattle.frame_arena.specs.Pages.{page_at}
 use Rattle.tree_shape.specs.Shape.{in_order, height_at}
 use Rattle.std.proofs.Math.Seq.{get_or-append_seam}
-use Rattle.tree_shape.specs.Changes.{found, entered, taken}
-use Rattle.tree_shape.specs.Searches.{order_to, AreFramed, IsSearched, IsSound}
+use Rattle.tree_shape.specs.Changes.{found, entered, tree_without}
+use Rattle.tree_shape.specs.Searches.{order_to, AreFramed, IsSearched, IsSearchSound}
 use Rattle.tree_shape.proofs.Order.{IsBefore, IsBehind, IsAligned, IsBetween, between, entered-between}
 use Rattle.tree_shape.proofs.Ascending.{ascending-aligned}
-use Rattle.tree_shape.proofs.Leaving.{IsLeaving, leaving, taken-leaving}
+use Rattle.tree_shape.proofs.Leaving.{IsLeaving, leaving, tree_without-leaving}
 use Rattle.tree_shape.proofs.Bound.{height-few}
 use Rattle.stable_tree.specs.declared.store.Store.{Store}
 use Rattle.stable_tree.specs.Digits.{digits}
 use Rattle.stable_tree.specs.Groups.{IsSorted, IsCutAt, content, is_there}
-use Rattle.stable_tree.specs.Places.{walk, frames_of, chain_at, used, IsWhole, IsHead, tree_in, heads_in, chains_in}
+use Rattle.stable_tree.specs.Places.{walk, frames_at, chain_at, used, IsWholeStore, IsHead, tree_in, heads_in, chains_in}
 use Rattle.stable_tree.proofs.Digits.{below-digits}
 use Rattle.stable_tree.proofs.Sorting.{first-there}
 use Rattle.stable_tree.proofs.Walks.{stands}
@@ -28,7 +28,7 @@ use Rattle.stable_tree.proofs.Trees.{levels-few, framed-all}
 use Rattle.stable_tree.proofs.Hanging.{heads-used, heads-few}
 use Rattle.stable_tree.proofs.Placing.{place-inside}
 
-first-of : (n : ℕ) (frames nexts : List ℕ) (at : ℕ) → 1 ≤ n → slice_index_or (frames_of frames (walk n nexts at)) 0 0 ≡ slice_index_or frames at 0
+first-of : (n : ℕ) (frames nexts : List ℕ) (at : ℕ) → 1 ≤ n → slice_index_or (frames_at frames (walk n nexts at)) 0 0 ≡ slice_index_or frames at 0
 unfolding walk
 first-of zero frames nexts at some = absurd (omega (arith, some))
 first-of (suc n) frames nexts at some = refl
@@ -40,7 +40,7 @@ not-equal : (o : Ordering) → o ≡ Greater → is_eq o ≡ false
 not-equal o e = ap is_eq e
 
 -- an even tree is low
-pub whole-sound : (store : Store) (free : List ℕ) → IsWhole store free → IsSound store.nodes.items store.root (tree_in store)
+pub whole-sound : (store : Store) (free : List ℕ) → IsWholeStore store free → IsSearchSound store.nodes.items store.root (tree_in store)
 whole-sound store free whole =
     let low = levels-few (tree_in store) in
     let few = heads-few store.nexts.items store.sizes.items (heads_in store) whole.hung.filled in
@@ -50,12 +50,12 @@ whole-sound store free whole =
     record { holds = whole.holds; even = whole.even; low = omega (arith, low, few, all, most, least) }
 
 -- a way down is short
-pub whole-few : (store : Store) (free : List ℕ) → IsWhole store free → height_at store.nodes.items store.root ≤ 2 * digits (length (chains_in store))
+pub whole-few : (store : Store) (free : List ℕ) → IsWholeStore store free → height_at store.nodes.items store.root ≤ 2 * digits (length (chains_in store))
 whole-few store free whole =
     let same = length-map (heads_in store) (chain_at store.frames.items store.nexts.items store.sizes.items) in
     rw same (height-few store.nodes.items store.root (tree_in store) (digits (length (heads_in store))) whole.holds whole.even (below-digits (length (heads_in store))))
 
-module _ (pages : List (List ℕ)) (store : Store) (free : List ℕ) (whole : IsWhole store free) (sorted : IsSorted pages (chains_in store)) where
+module _ (pages : List (List ℕ)) (store : Store) (free : List ℕ) (whole : IsWholeStore store free) (sorted : IsSorted pages (chains_in store)) where
   abbrev g : ℕ → List ℕ
   g = chain_at store.frames.items store.nexts.items store.sizes.items
 
@@ -129,12 +129,12 @@ module _ (pages : List (List ℕ)) (store : Store) (free : List ℕ) (whole : Is
       pub there : is_there pages (page_at pages frame) (chains_in store) (length head.earlier) ≡ true
       pub inside : length head.earlier < length (chains_in store)
       pub chain : slice_index_or (chains_in store) (length head.earlier) [] ≡ g at
-      pub less : in_order (taken stand (tree_in store)) ≡ head.earlier ++ head.later
+      pub less : in_order (tree_without stand (tree_in store)) ≡ head.earlier ++ head.later
 
     pub found-here : (at : ℕ) → found stand (tree_in store) ≡ Some at → IsHere at
-    found-here at is = by_leaving (taken-leaving stand at (tree_in store) whole-aligned is)
+    found-here at is = by_leaving (tree_without-leaving stand at (tree_in store) whole-aligned is)
       where
-        by_leaving : IsLeaving stand at heads (in_order (taken stand (tree_in store))) → IsHere at
+        by_leaving : IsLeaving stand at heads (in_order (tree_without stand (tree_in store))) → IsHere at
         by_leaving (leaving earlier later before behind equal was now) =
             let seam : slice_index_or heads (length earlier) 0 ≡ at = ap (λ xs. slice_index_or xs (length earlier) 0) was ∙ get_or-append_seam earlier at later 0 in
             let size = length-append earlier (at ∷ later) in

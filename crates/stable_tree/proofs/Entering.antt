@@ -10,21 +10,21 @@ use Rattle.tree_shape.specs.Shape.{Tree, leaf, fork, in_order, Holds, IsEven, Is
 use Rattle.tree_shape.specs.Changes.{found}
 use Rattle.tree_shape.specs.Searches.{order_to, IsGrowing}
 use Rattle.tree_shape.specs.Removals.{IsTaking}
-use Rattle.tree_shape.proofs.Times.{here, times-fork, times-leaf, times-once}
+use Rattle.tree_shape.proofs.Times.{here, times_among-fork, times_among-leaf, times_among-once}
 use Rattle.stable_tree.specs.declared.store.Store.{Store}
 use Rattle.stable_tree.specs.Groups.{IsSorted}
-use Rattle.stable_tree.specs.Edits.{IsAnswer}
-use Rattle.stable_tree.specs.Places.{walk, hanging, used, times, AreHung, HasRoom, IsWhole, IsHead, tree_in, heads_in, chains_in}
+use Rattle.stable_tree.specs.Edits.{IsSearchAnswer}
+use Rattle.stable_tree.specs.Places.{walk, hanging, used, times_among, AreHung, HasReservedRoom, IsWholeStore, IsHead, tree_in, heads_in, chains_in}
 use Rattle.stable_tree.proofs.Counting.{written}
-use Rattle.stable_tree.proofs.Walks.{times-cons}
+use Rattle.stable_tree.proofs.Walks.{times_among-cons}
 use Rattle.stable_tree.proofs.Trees.{all-front, all-back, read-tree}
-use Rattle.stable_tree.proofs.Hanging.{shared-again, times-cut, times-both, length-cut, length-both, heads-used}
+use Rattle.stable_tree.proofs.Hanging.{shared-again, times_among-cut, times_among-both, length-cut, length-both, heads-used}
 use Rattle.stable_tree.proofs.Placing.{spare-inside}
 use Rattle.stable_tree.proofs.Contents.{whole-sound, whole-framed, found-here, missing-here}
 
 -- what is told of a content that was looked for
-pub answer-of : (pages : List (List ℕ)) (store : Store) (free : List ℕ) (whole : IsWhole store free) (sorted : IsSorted pages (chains_in store)) (frame : ℕ) (told : Option ℕ)
-    → told ≡ found (order_to pages store.frames.items frame) (tree_in store) → IsAnswer pages frame store told
+pub answer-of : (pages : List (List ℕ)) (store : Store) (free : List ℕ) (whole : IsWholeStore store free) (sorted : IsSorted pages (chains_in store)) (frame : ℕ) (told : Option ℕ)
+    → told ≡ found (order_to pages store.frames.items frame) (tree_in store) → IsSearchAnswer pages frame store told
 answer-of pages store free whole sorted frame None e =
     let is = missing-here pages store free whole sorted frame 0 (sym e) in
     record { k = length is.earlier; cut = is.cut; absent = is.absent }
@@ -40,7 +40,7 @@ pub record IsRenoded (old new : Store) (nodes : List Node) (root : ℕ) : Type 0
   pub nexts : new.nexts.items ≡ old.nexts.items
   pub sizes : new.sizes.items ≡ old.sizes.items
   pub same_room : new.room ≡ old.room
-  pub room : HasRoom new
+  pub room : HasReservedRoom new
 
 -- a store whose nodes were written
 abbrev pub renoded_store : Store → List Node → ℕ → Store
@@ -54,7 +54,7 @@ renoded_store store nodes root = record {
   room = store.room;
 }
 
-pub renoded : (store : Store) (nodes : List Node) (root : ℕ) → length nodes ≡ length store.nodes.items → HasRoom store → IsRenoded store (renoded_store store nodes root) nodes root
+pub renoded : (store : Store) (nodes : List Node) (root : ℕ) → length nodes ≡ length store.nodes.items → HasReservedRoom store → IsRenoded store (renoded_store store nodes root) nodes root
 renoded store nodes root long room = record {
   nodes_are = written store.nodes.len nodes store.nodes.items (long ∙ sym store.nodes.ok.0) (sym store.nodes.ok.0);
   root_is = refl;
@@ -65,7 +65,7 @@ renoded store nodes root long room = record {
   room = record { nodes = room.nodes; frames = room.frames; nexts = room.nexts; sizes = room.sizes; free = room.free };
 }
 
-pub unchanged : (store : Store) (nodes : List Node) → nodes ≡ store.nodes.items → HasRoom store → IsRenoded store (renoded_store store nodes store.root) store.nodes.items store.root
+pub unchanged : (store : Store) (nodes : List Node) → nodes ≡ store.nodes.items → HasReservedRoom store → IsRenoded store (renoded_store store nodes store.root) store.nodes.items store.root
 unchanged store nodes same room = subst (λ (new : List Node). IsRenoded store (renoded_store store nodes store.root) new store.root) same (renoded store nodes store.root (ap length same) room)
 
 -- the same nodes
@@ -79,7 +79,7 @@ module _ (old new : Store) (is : IsRenoded old new old.nodes.items old.root) whe
   pub same-chains : chains_in new ≡ chains_in old
   same-chains = rw (is.nodes_are, is.root_is, is.frames, is.nexts, is.sizes) refl
 
-  pub same-whole : (free : List ℕ) → IsWhole old free → IsWhole new free
+  pub same-whole : (free : List ℕ) → IsWholeStore old free → IsWholeStore new free
   same-whole free whole = record {
     holds = rw (is.nodes_are, is.root_is) whole.holds;
     even = rw (is.nodes_are, is.root_is) whole.even;
@@ -100,7 +100,7 @@ module _ (old new : Store) (nodes : List Node) (root : ℕ) (is : IsRenoded old 
   pub other-heads : heads_in new ≡ in_order t
   other-heads = ap in_order other-tree
 
-  pub other-whole : (was free : List ℕ) → IsWhole old was → IsEven t → AreHung old.frames.items old.nexts.items old.sizes.items (in_order t) free (length old.nodes.items) → IsWhole new free
+  pub other-whole : (was free : List ℕ) → IsWholeStore old was → IsEven t → AreHung old.frames.items old.nexts.items old.sizes.items (in_order t) free (length old.nodes.items) → IsWholeStore new free
   other-whole was free whole even hangs =
       let size = hung.kept.size in
       let few = whole.few in
@@ -122,12 +122,12 @@ hanging-alone nexts sizes at e = rw e refl
 
 -- a head comes between two
 module _ (frames nexts sizes earlier later free : List ℕ) (new bound : ℕ) (alone : slice_index_or sizes new 0 ≡ 1) where
-  times-alone : (i : ℕ) → times i (used nexts sizes (earlier ++ new ∷ later)) ≡ times i (used nexts sizes (earlier ++ later)) + here i new
-  times-alone i =
-      let a = times-cut i nexts sizes earlier new later in
-      let b = times-both i nexts sizes earlier later in
-      let c = ap (times i) (hanging-alone nexts sizes new alone) in
-      let d = times-cons i new [] in
+  times_among-alone : (i : ℕ) → times_among i (used nexts sizes (earlier ++ new ∷ later)) ≡ times_among i (used nexts sizes (earlier ++ later)) + here i new
+  times_among-alone i =
+      let a = times_among-cut i nexts sizes earlier new later in
+      let b = times_among-both i nexts sizes earlier later in
+      let c = ap (times_among i) (hanging-alone nexts sizes new alone) in
+      let d = times_among-cons i new [] in
       omega (arith, a, b, c, d)
 
   length-alone : length (used nexts sizes (earlier ++ new ∷ later)) ≡ length (used nexts sizes (earlier ++ later)) + 1
@@ -139,7 +139,7 @@ module _ (frames nexts sizes earlier later free : List ℕ) (new bound : ℕ) (a
       record {
         filled = All-append P earlier (new ∷ later) (all-front P earlier later hung.filled) (All-cons P new later (omega (arith, alone)) (all-back P earlier later hung.filled));
         shared = shared-again (used nexts sizes (earlier ++ later)) (new ∷ free) (used nexts sizes (earlier ++ new ∷ later)) free bound hung.shared
-            (λ i. let a = times-alone i in let b = times-cons i new free in omega (arith, a, b))
+            (λ i. let a = times_among-alone i in let b = times_among-cons i new free in omega (arith, a, b))
             (let a = length-alone in omega (arith, a));
         framed = hung.framed;
         linked = hung.linked;
@@ -152,7 +152,7 @@ module _ (frames nexts sizes earlier later free : List ℕ) (new bound : ℕ) (a
       record {
         filled = All-append P earlier later (all-front P earlier (new ∷ later) hung.filled) (All-tail P new later (all-back P earlier (new ∷ later) hung.filled));
         shared = shared-again (used nexts sizes (earlier ++ new ∷ later)) free (used nexts sizes (earlier ++ later)) (new ∷ free) bound hung.shared
-            (λ i. let a = times-alone i in let b = times-cons i new free in omega (arith, a, b))
+            (λ i. let a = times_among-alone i in let b = times_among-cons i new free in omega (arith, a, b))
             (let a = length-alone in omega (arith, a));
         framed = hung.framed;
         linked = hung.linked;
@@ -177,19 +177,19 @@ remove-between g earlier out later =
     ∙ ap (λ l. remove l (length earlier)) (sym (map-append g earlier (out ∷ later)))
 
 -- the places of a tree's nodes stand once
-module _ (store : Store) (free : List ℕ) (whole : IsWhole store free) where
-  tree-times : (i : ℕ) (t : Tree) → Rattle.tree_shape.proofs.Times.times i t ≡ times i (in_order t)
+module _ (store : Store) (free : List ℕ) (whole : IsWholeStore store free) where
+  tree-times_among : (i : ℕ) (t : Tree) → Rattle.tree_shape.proofs.Times.times i t ≡ times_among i (in_order t)
   unfolding Rattle.tree_shape.proofs.Times.times
-  tree-times i t = refl
+  tree-times_among i t = refl
 
-  heads-once : (i : ℕ) → times i (heads_in store) + times i free ≤ 1
+  heads-once : (i : ℕ) → times_among i (heads_in store) + times_among i free ≤ 1
   heads-once i =
       let a = heads-used i store.nexts.items store.sizes.items (heads_in store) whole.hung.filled in
       let b = whole.hung.shared.once i in
       omega (arith, a, b)
 
   pub tree-once : IsOnce (tree_in store)
-  tree-once = times-once (tree_in store) (λ i. let a = tree-times i (tree_in store) in let b = heads-once i in omega (arith, a, b))
+  tree-once = times_among-once (tree_in store) (λ i. let a = tree-times_among i (tree_in store) in let b = heads-once i in omega (arith, a, b))
 
   pub whole-taking : (pages : List (List ℕ)) → IsSorted pages (chains_in store) → IsTaking store.nodes.items store.frames.items pages store.root (tree_in store)
   whole-taking pages sorted = record {
@@ -197,7 +197,7 @@ module _ (store : Store) (free : List ℕ) (whole : IsWhole store free) where
     framed = whole-framed pages store free whole sorted;
   }
 
-pub whole-growing : (store : Store) (place : ℕ) (free : List ℕ) → IsWhole store (place ∷ free) → (pages : List (List ℕ)) → IsSorted pages (chains_in store)
+pub whole-growing : (store : Store) (place : ℕ) (free : List ℕ) → IsWholeStore store (place ∷ free) → (pages : List (List ℕ)) → IsSorted pages (chains_in store)
     → IsGrowing store.nodes.items store.frames.items pages store.root place (tree_in store)
 whole-growing store place free whole pages sorted =
     let inside = spare-inside store place free whole in
@@ -206,12 +206,12 @@ whole-growing store place free whole pages sorted =
     record {
       sound = whole-sound store (place ∷ free) whole;
       framed = whole-framed pages store (place ∷ free) whole sorted;
-      once = times-once (fork place (tree_in store) leaf) (λ i.
-          let a = times-fork i place (tree_in store) leaf in
-          let b = times-leaf i in
-          let c = tree-times store (place ∷ free) whole i (tree_in store) in
+      once = times_among-once (fork place (tree_in store) leaf) (λ i.
+          let a = times_among-fork i place (tree_in store) leaf in
+          let b = times_among-leaf i in
+          let c = tree-times_among store (place ∷ free) whole i (tree_in store) in
           let d = heads-once store (place ∷ free) whole i in
-          let e = times-cons i place free in
+          let e = times_among-cons i place free in
           omega (arith, a, b, c, d, e));
       inside = inside;
       some = λ same. omega (arith, same, inside, few, low);

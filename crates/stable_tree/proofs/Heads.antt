@@ -3,7 +3,7 @@ use Rattle.std.proofs.Common.{◌≡◌, ℕ, ◌+◌, ◌-◌, ◌<◌, ◌≤�
 use Rattle.std.specs.Vec.{with_item}
 use Rattle.std.proofs.lemmas.List.{length-map}
 use Rattle.stable_tree.specs.declared.store.Store.{Store}
-use Rattle.stable_tree.specs.Places.{end, hanging, chain_at, IsWhole, IsHead, IsLengthened, heads_in, chains_in}
+use Rattle.stable_tree.specs.Places.{end, hanging, chain_at, IsWholeStore, IsHead, IsLengthened, heads_in, chains_in}
 use Rattle.stable_tree.proofs.Walks.{length-walk, end-stands}
 use Rattle.stable_tree.proofs.Lengthening.{head-some, head-inside, hanging-inside, hanging-within, groups-few, seam-get, grown-chains, grown-hung}
 
@@ -18,7 +18,7 @@ pub record HeadFacts (store : Store) (at : ℕ) : Type 0 where
   pub sized : length store.sizes.items ≡ length store.nodes.items
   pub low : length store.nodes.items < 4294967295
 
-pub head-facts : (store : Store) (free : List ℕ) (at : ℕ) → IsWhole store free → IsHead store at → HeadFacts store at
+pub head-facts : (store : Store) (free : List ℕ) (at : ℕ) → IsWholeStore store free → IsHead store at → HeadFacts store at
 head-facts store free at whole head =
     let some = head-some store.frames.items store.nexts.items store.sizes.items (heads_in store) free head.earlier at head.later (length store.nodes.items) whole.hung head.is in
     record {
@@ -46,7 +46,7 @@ longer_store store at place = record {
   room = store.room;
 }
 
-pub longer-whole : (store : Store) (at place : ℕ) → IsWhole store (place ∷ store.free.items) → IsHead store at → IsWhole (longer_store store at place) store.free.items
+pub longer-whole : (store : Store) (at place : ℕ) → IsWholeStore store (place ∷ store.free.items) → IsHead store at → IsWholeStore (longer_store store at place) store.free.items
 longer-whole store at place whole head = record {
   holds = whole.holds;
   even = whole.even;
@@ -64,7 +64,7 @@ pub head-chain : (store : Store) (earlier : List ℕ) (at : ℕ) (later : List �
     → slice_index_or (chains_in store) (length earlier) [] ≡ chain_at store.frames.items store.nexts.items store.sizes.items at
 head-chain store earlier at later is = rw is (seam-get (chain_at store.frames.items store.nexts.items store.sizes.items) earlier at later)
 
-pub longer-chains : (store : Store) (at place : ℕ) → IsWhole store (place ∷ store.free.items) → (earlier later : List ℕ) → heads_in store ≡ earlier ++ at ∷ later
+pub longer-chains : (store : Store) (at place : ℕ) → IsWholeStore store (place ∷ store.free.items) → (earlier later : List ℕ) → heads_in store ≡ earlier ++ at ∷ later
     → IsLengthened store (longer_store store at place) at place (length earlier) (slice_index_or store.sizes.items at 0)
 longer-chains store at place whole earlier later is =
     let chain = head-chain store earlier at later is in

@@ -4,17 +4,17 @@ use Rattle.tree_shape.specs.declared.Node.{Node}
 use Rattle.tree_shape.specs.declared.search.Entered.TheVariants.{There, Root}
 use Rattle.tree_shape.specs.Shape.{Tree, leaf, fork, IsHung}
 use Rattle.tree_shape.specs.Changes.{found, entered}
-use Rattle.tree_shape.specs.Searches.{order_to, IsGrowing, IsEntry}
+use Rattle.tree_shape.specs.Searches.{order_to, IsGrowing, IsEnteredAt}
 use Rattle.tree_shape.proofs.Changing.{entered-grown}
 use Rattle.stable_tree.specs.declared.store.Store.{Store}
 use Rattle.stable_tree.specs.Groups.{IsSorted}
 use Rattle.stable_tree.specs.Edits.{IsPut, added, lengthened}
-use Rattle.stable_tree.specs.Places.{frames_of, chain_at, AreHung, IsWhole, IsHead, IsLengthened, tree_in, heads_in, chains_in}
+use Rattle.stable_tree.specs.Places.{frames_at, chain_at, AreHung, IsWholeStore, IsHead, IsLengthened, tree_in, heads_in, chains_in}
 use Rattle.stable_tree.proofs.Contents.{found-here, missing-here, IsNowhere}
 use Rattle.stable_tree.proofs.Entering.{IsRenoded, other-heads, other-whole, renoded_store, renoded, unchanged, whole-growing, same-whole, same-head, same-chains, same-heads, hanging-alone, head-in, insert-between}
 
 -- the place came into the tree
-module _ (pages : List (List ℕ)) (frame : ℕ) (old new : Store) (place root : ℕ) (nodes : List Node) (whole : IsWhole old (place ∷ old.free.items)) (sorted : IsSorted pages (chains_in old))
+module _ (pages : List (List ℕ)) (frame : ℕ) (old new : Store) (place root : ℕ) (nodes : List Node) (whole : IsWholeStore old (place ∷ old.free.items)) (sorted : IsSorted pages (chains_in old))
     (framed : slice_index_or old.frames.items place 0 ≡ frame) (alone : slice_index_or old.sizes.items place 0 ≡ 1) (is : IsRenoded old new nodes root)
     (told : IsNowhere pages old (place ∷ old.free.items) whole sorted frame place)
     (hung : IsHung old.nodes.items nodes root (entered (order_to pages old.frames.items frame) place (tree_in old)) (fork place (tree_in old) leaf)) where
@@ -24,7 +24,7 @@ module _ (pages : List (List ℕ)) (frame : ℕ) (old new : Store) (place root :
   heads : heads_in new ≡ told.earlier ++ place ∷ told.later
   heads = other-heads old new nodes root is grown (fork place (tree_in old) leaf) hung ∙ told.more
 
-  pub put-whole : IsWhole new old.free.items
+  pub put-whole : IsWholeStore new old.free.items
   put-whole =
       other-whole old new nodes root is grown (fork place (tree_in old) leaf) hung (place ∷ old.free.items) old.free.items whole
       (entered-grown (order_to pages old.frames.items frame) place (tree_in old) whole.even).even
@@ -37,12 +37,12 @@ module _ (pages : List (List ℕ)) (frame : ℕ) (old new : Store) (place root :
       (rw (heads, is.frames, is.nexts, is.sizes)
       (insert-between (chain_at old.frames.items old.nexts.items old.sizes.items) told.earlier place told.later
       ∙ ap (λ chain. insert (map (chain_at old.frames.items old.nexts.items old.sizes.items) (told.earlier ++ told.later)) (length told.earlier) chain)
-      (ap (frames_of old.frames.items) (hanging-alone old.nexts.items old.sizes.items place alone) ∙ ap (λ (f : ℕ). f ∷ []) framed)
+      (ap (frames_at old.frames.items) (hanging-alone old.nexts.items old.sizes.items place alone) ∙ ap (λ (f : ℕ). f ∷ []) framed)
       ∙ ap (λ heads. insert (map (chain_at old.frames.items old.nexts.items old.sizes.items) heads) (length told.earlier) (frame ∷ [])) (sym told.is)))
       refl
 
 -- the place came behind others
-pub put-lengthened : (pages : List (List ℕ)) (frame : ℕ) (old mid new : Store) (place at groups : ℕ) (whole : IsWhole old (place ∷ old.free.items)) (sorted : IsSorted pages (chains_in old))
+pub put-lengthened : (pages : List (List ℕ)) (frame : ℕ) (old mid new : Store) (place at groups : ℕ) (whole : IsWholeStore old (place ∷ old.free.items)) (sorted : IsSorted pages (chains_in old))
     → slice_index_or old.frames.items place 0 ≡ frame → IsRenoded old mid old.nodes.items old.root
     → found (order_to pages old.frames.items frame) (tree_in old) ≡ Some at
     → ((earlier later : List ℕ) → heads_in mid ≡ earlier ++ at ∷ later → IsLengthened mid new at place (length earlier) groups)
@@ -59,12 +59,12 @@ put-lengthened pages frame old mid new place at groups whole sorted framed is ha
 pub record IsThere (pages : List (List ℕ)) (frame : ℕ) (mid : Store) (place : ℕ) (nodes : List Node) (at : ℕ) : Type 0 where
   pub found_is : found (order_to pages mid.frames.items frame) (tree_in mid) ≡ Some at
   pub same : IsRenoded mid (renoded_store mid nodes mid.root) mid.nodes.items mid.root
-  pub whole : IsWhole (renoded_store mid nodes mid.root) (place ∷ mid.free.items)
+  pub whole : IsWholeStore (renoded_store mid nodes mid.root) (place ∷ mid.free.items)
   pub head : IsHead (renoded_store mid nodes mid.root) at
 
 -- what the tree tells of a place that was put in
-module _ {pages : List (List ℕ)} {frame : ℕ} {mid : Store} {place : ℕ} {nodes : List Node} (whole : IsWhole mid (place ∷ mid.free.items)) (sorted : IsSorted pages (chains_in mid)) (framed : slice_index_or mid.frames.items place 0 ≡ frame) where
-  pub put-there : {at : ℕ} → ((t : Tree) → IsGrowing mid.nodes.items mid.frames.items pages mid.root place t → IsEntry mid.nodes.items nodes (order_to pages mid.frames.items (slice_index_or mid.frames.items place 0)) place t (There at))
+module _ {pages : List (List ℕ)} {frame : ℕ} {mid : Store} {place : ℕ} {nodes : List Node} (whole : IsWholeStore mid (place ∷ mid.free.items)) (sorted : IsSorted pages (chains_in mid)) (framed : slice_index_or mid.frames.items place 0 ≡ frame) where
+  pub put-there : {at : ℕ} → ((t : Tree) → IsGrowing mid.nodes.items mid.frames.items pages mid.root place t → IsEnteredAt mid.nodes.items nodes (order_to pages mid.frames.items (slice_index_or mid.frames.items place 0)) place t (There at))
       → IsThere pages frame mid place nodes at
   put-there {at} told =
       let entry = rw framed at (told (tree_in mid) (whole-growing mid place mid.free.items whole pages sorted)) in
@@ -77,8 +77,8 @@ module _ {pages : List (List ℕ)} {frame : ℕ} {mid : Store} {place : ℕ} {no
       }
 
   pub put-new : {root : ℕ} → slice_index_or mid.sizes.items place 0 ≡ 1
-      → ((t : Tree) → IsGrowing mid.nodes.items mid.frames.items pages mid.root place t → IsEntry mid.nodes.items nodes (order_to pages mid.frames.items (slice_index_or mid.frames.items place 0)) place t (Root root))
-      → IsWhole (renoded_store mid nodes root) mid.free.items × IsPut pages frame (chains_in mid) (chains_in (renoded_store mid nodes root)) 0
+      → ((t : Tree) → IsGrowing mid.nodes.items mid.frames.items pages mid.root place t → IsEnteredAt mid.nodes.items nodes (order_to pages mid.frames.items (slice_index_or mid.frames.items place 0)) place t (Root root))
+      → IsWholeStore (renoded_store mid nodes root) mid.free.items × IsPut pages frame (chains_in mid) (chains_in (renoded_store mid nodes root)) 0
   put-new {root} alone told =
       let entry = rw framed at (told (tree_in mid) (whole-growing mid place mid.free.items whole pages sorted)) in
       let new = renoded_store mid nodes root in

@@ -5,10 +5,10 @@ use Rattle.std.specs.Vec.{with_item}
 use Rattle.std.proofs.lemmas.List.{get_or-set_same, get_or_read, length-set}
 use Rattle.tree_shape.proofs.Times.{here}
 use Rattle.stable_tree.specs.declared.store.Store.{Store}
-use Rattle.stable_tree.specs.Places.{walk, hanging, frames_of, chain_at, used, times, AreHung, IsWhole, IsHead, IsWithout, heads_in}
-use Rattle.stable_tree.proofs.Walks.{times-cons, times-first, apart-set, walk-there, walk-next, IsShorter, walk-shortened, walk-cut, Once}
-use Rattle.stable_tree.proofs.Hanging.{IsChanged, Apart, one-changed, shared-again, times-cut, length-cut}
-use Rattle.stable_tree.proofs.Lengthening.{cut-filled, cut-shared, head-inside, hanging-once, hanging-inside, changed-times, changed-length, changed-filled, changed-chains}
+use Rattle.stable_tree.specs.Places.{walk, hanging, frames_at, chain_at, used, times_among, AreHung, IsWholeStore, IsHead, IsWithout, heads_in}
+use Rattle.stable_tree.proofs.Walks.{times_among-cons, times_among-first, apart-set, walk-there, walk-next, IsShorter, walk-shortened, walk-cut, Once}
+use Rattle.stable_tree.proofs.Hanging.{IsChanged, Apart, one-changed, shared-again, times_among-cut, length-cut}
+use Rattle.stable_tree.proofs.Lengthening.{cut-filled, cut-shared, head-inside, hanging-once, hanging-inside, changed-times_among, changed-length, changed-filled, changed-chains}
 use Rattle.stable_tree.proofs.Heads.{head-chain, head-facts}
 
 module _ (frames nexts sizes heads free earlier : List ℕ) (at : ℕ) (later : List ℕ) (bound gone j : ℕ) (given newer : List ℕ) (hung : AreHung frames nexts sizes heads free bound) (is : heads ≡ earlier ++ at ∷ later)
@@ -31,13 +31,13 @@ module _ (frames nexts sizes heads free earlier : List ℕ) (at : ℕ) (later : 
   changed = one-changed frames nexts sizes given newer sized earlier at later
       (cut-filled frames nexts sizes heads free earlier at later bound hung is)
       (λ i. let most = (cut-shared frames nexts sizes heads free earlier at later bound hung is).once i in omega (arith, most))
-      f n (apart-set (hanging nexts sizes at) sizes at (groups - 1) (times-first groups nexts at (omega (arith, more))))
+      f n (apart-set (hanging nexts sizes at) sizes at (groups - 1) (times_among-first groups nexts at (omega (arith, more))))
 
   shorter-chain : chain_at given newer sized at ≡ remove (chain_at frames nexts sizes at) j
-  shorter-chain = rw size (short.chain ∙ ap (λ (m : ℕ). remove (frames_of frames (walk m nexts at)) j) one-more)
+  shorter-chain = rw size (short.chain ∙ ap (λ (m : ℕ). remove (frames_at frames (walk m nexts at)) j) one-more)
 
-  shorter-places : (i : ℕ) → times i (hanging newer sized at) + here i gone ≡ times i (hanging nexts sizes at)
-  shorter-places i = rw size (short.places i ∙ ap (λ (m : ℕ). times i (walk m nexts at)) one-more)
+  shorter-places : (i : ℕ) → times_among i (hanging newer sized at) + here i gone ≡ times_among i (hanging nexts sizes at)
+  shorter-places i = rw size (short.places i ∙ ap (λ (m : ℕ). times_among i (walk m nexts at)) one-more)
 
   pub less-chains : map (chain_at given newer sized) (earlier ++ at ∷ later) ≡ slice_set (map (chain_at frames nexts sizes) (earlier ++ at ∷ later)) (length earlier) (remove (chain_at frames nexts sizes at) j)
   less-chains =
@@ -49,8 +49,8 @@ module _ (frames nexts sizes heads free earlier : List ℕ) (at : ℕ) (later : 
     filled = changed-filled frames nexts sizes given newer sized earlier at later changed (omega (arith, size, more));
     shared = shared-again (used nexts sizes (earlier ++ at ∷ later)) free (used newer sized (earlier ++ at ∷ later)) (gone ∷ free) bound
         (cut-shared frames nexts sizes heads free earlier at later bound hung is)
-        (λ i. let a = changed-times frames nexts sizes given newer sized earlier at later changed i in let b = times-cut i nexts sizes earlier at later in
-        let c = shorter-places i in let d = times-cons i gone free in omega (arith, a, b, c, d))
+        (λ i. let a = changed-times_among frames nexts sizes given newer sized earlier at later changed i in let b = times_among-cut i nexts sizes earlier at later in
+        let c = shorter-places i in let d = times_among-cons i gone free in omega (arith, a, b, c, d))
         (let a = changed-length frames nexts sizes given newer sized earlier at later changed in let b = length-cut nexts sizes earlier at later in omega (arith, a, b, size, more));
     framed = all_given;
     linked = all_newer;
@@ -69,7 +69,7 @@ cut_store store at = record {
   room = store.room;
 }
 
-module _ (store : Store) (at gone : ℕ) (whole : IsWhole store store.free.items) (head : IsHead store at) (more : 2 ≤ slice_index_or store.sizes.items at 0)
+module _ (store : Store) (at gone : ℕ) (whole : IsWholeStore store store.free.items) (head : IsHead store at) (more : 2 ≤ slice_index_or store.sizes.items at 0)
     (last : gone ≡ slice_index_or (hanging store.nexts.items store.sizes.items at) (slice_index_or store.sizes.items at 0 - 1) 0) where
   abbrev all : ℕ
   all = slice_index_or store.sizes.items at 0
@@ -81,7 +81,7 @@ module _ (store : Store) (at gone : ℕ) (whole : IsWhole store store.free.items
       (ap (λ (m : ℕ). slice_index_or (walk m store.nexts.items at) (all - 1) 0) e ∙ sym last)
       (walk-cut (all - 1) store.nexts.items store.frames.items at)
 
-  pub cut-whole : IsWhole (cut_store store at) (gone ∷ store.free.items)
+  pub cut-whole : IsWholeStore (cut_store store at) (gone ∷ store.free.items)
   cut-whole = record {
     holds = whole.holds;
     even = whole.even;
@@ -110,7 +110,7 @@ pulled_store store at place = record {
   room = store.room;
 }
 
-module _ (store : Store) (at place j : ℕ) (whole : IsWhole store store.free.items) (head : IsHead store at) (more : j + 1 < slice_index_or store.sizes.items at 0)
+module _ (store : Store) (at place j : ℕ) (whole : IsWholeStore store store.free.items) (head : IsHead store at) (more : j + 1 < slice_index_or store.sizes.items at 0)
     (stands : place ≡ slice_index_or (hanging store.nexts.items store.sizes.items at) j 0) where
   abbrev size_all : ℕ
   size_all = slice_index_or store.sizes.items at 0
@@ -118,7 +118,7 @@ module _ (store : Store) (at place j : ℕ) (whole : IsWhole store store.free.it
   abbrev bound_all : ℕ
   bound_all = length store.nodes.items
 
-  place-stands : 1 ≤ times place (hanging store.nexts.items store.sizes.items at)
+  place-stands : 1 ≤ times_among place (hanging store.nexts.items store.sizes.items at)
   place-stands = rw stands (walk-there size_all j store.nexts.items at (omega (arith, more)))
 
   pub pulled-inside : place < bound_all
@@ -130,7 +130,7 @@ module _ (store : Store) (at place j : ℕ) (whole : IsWhole store store.free.it
       let there = walk-there size_all (suc j) store.nexts.items at (omega (arith, more)) in
       let f : slice_index_or (walk size_all store.nexts.items at) (suc j) 0 ≡ slice_index_or store.nexts.items place 0 = e ∙ ap (λ (p : ℕ). slice_index_or store.nexts.items p 0) (sym stands) in
       hanging-inside store.frames.items store.nexts.items store.sizes.items (heads_in store) store.free.items head.earlier at head.later bound_all whole.hung head.is (slice_index_or store.nexts.items place 0)
-      (subst (λ (p : ℕ). 1 ≤ times p (hanging store.nexts.items store.sizes.items at)) f there)
+      (subst (λ (p : ℕ). 1 ≤ times_among p (hanging store.nexts.items store.sizes.items at)) f there)
 
   pulled-short : IsShorter (size_all - 1) j store.nexts.items store.frames.items at (slice_set store.nexts.items place (slice_index_or store.nexts.items (slice_index_or store.nexts.items place 0) 0))
       (slice_set store.frames.items place (slice_index_or store.frames.items (slice_index_or store.nexts.items place 0) 0)) (slice_index_or store.nexts.items place 0)
@@ -152,7 +152,7 @@ module _ (store : Store) (at place j : ℕ) (whole : IsWhole store store.free.it
   pulled-nexts : length (slice_set store.nexts.items place (slice_index_or store.nexts.items (slice_index_or store.nexts.items place 0) 0)) ≡ bound_all
   pulled-nexts = length-set store.nexts.items place (slice_index_or store.nexts.items (slice_index_or store.nexts.items place 0) 0) ∙ whole.hung.linked
 
-  pub pulled-whole : IsWhole (pulled_store store at place) (slice_index_or store.nexts.items place 0 ∷ store.free.items)
+  pub pulled-whole : IsWholeStore (pulled_store store at place) (slice_index_or store.nexts.items place 0 ∷ store.free.items)
   pulled-whole = record {
     holds = whole.holds;
     even = whole.even;
@@ -184,10 +184,10 @@ pub record IsPulling (store : Store) (at place behind : ℕ) : Type 0 where
   pub next_framed : slice_index_or store.nexts.items place 0 < length store.frames.items
   pub next_linked : slice_index_or store.nexts.items place 0 < length store.nexts.items
   pub sized : at < length store.sizes.items
-  pub whole : IsWhole (pulled_store store at place) (slice_index_or store.nexts.items place 0 ∷ store.free.items)
+  pub whole : IsWholeStore (pulled_store store at place) (slice_index_or store.nexts.items place 0 ∷ store.free.items)
   pub chains : IsWithout store (pulled_store store at place) at (slice_index_or store.sizes.items at 0 - 1 - behind)
 
-pub pulling : {store : Store} {at place behind : ℕ} → IsWhole store store.free.items → IsHead store at → (1 ≤ behind) × (behind < slice_index_or store.sizes.items at 0)
+pub pulling : {store : Store} {at place behind : ℕ} → IsWholeStore store store.free.items → IsHead store at → (1 ≤ behind) × (behind < slice_index_or store.sizes.items at 0)
     → place ≡ slice_index_or (hanging store.nexts.items store.sizes.items at) (slice_index_or store.sizes.items at 0 - 1 - behind) 0 → IsPulling store at place behind
 pulling {store} {at} {place} {behind} whole head stands placed =
     let facts = head-facts store store.free.items at whole head in

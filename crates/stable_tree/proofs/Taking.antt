@@ -10,14 +10,14 @@ use Rattle.tree_shape.specs.declared.Node.{Node}
 use Rattle.tree_shape.specs.declared.removal.Taken.{Taken}
 use Rattle.tree_shape.specs.declared.removal.Removed.TheVariants.{Nowhere, Stays, Out}
 use Rattle.tree_shape.specs.Shape.{Tree, IsHung}
-use Rattle.tree_shape.specs.Changes.{found, taken}
+use Rattle.tree_shape.specs.Changes.{found, tree_without}
 use Rattle.tree_shape.specs.Searches.{order_to}
-use Rattle.tree_shape.specs.Removals.{is_alone, IsTaking, IsOut}
-use Rattle.tree_shape.proofs.Changing.{taken-shrunk}
+use Rattle.tree_shape.specs.Removals.{is_alone, IsTaking, IsRemoval}
+use Rattle.tree_shape.proofs.Changing.{tree_without-shrunk}
 use Rattle.stable_tree.specs.declared.store.Store.{Store}
 use Rattle.stable_tree.specs.Groups.{IsSorted, has}
 use Rattle.stable_tree.specs.Edits.{IsTakenOut, nowhere, alone, shortened, IsShortened, missing, shorter}
-use Rattle.stable_tree.specs.Places.{walk, hanging, frames_of, chain_at, AreHung, IsWhole, IsHead, IsStanding, tree_in, heads_in, chains_in}
+use Rattle.stable_tree.specs.Places.{walk, hanging, frames_at, chain_at, AreHung, IsWholeStore, IsHead, IsStanding, tree_in, heads_in, chains_in}
 use Rattle.stable_tree.proofs.Sorting.{filter-there, filter-not_there, both}
 use Rattle.stable_tree.proofs.Walks.{length-walk}
 use Rattle.stable_tree.proofs.Heads.{chain-length, head-facts}
@@ -73,12 +73,12 @@ pub record IsShortening (store : Store) (at frame place behind groups : ℕ) : T
   pub placed : place ≡ slice_index_or (hanging store.nexts.items store.sizes.items at) (slice_index_or store.sizes.items at 0 - 1 - behind) 0
   pub framed : slice_index_or (chain_at store.frames.items store.nexts.items store.sizes.items at) (slice_index_or store.sizes.items at 0 - 1 - behind) 0 ≡ frame
 
-pub groups-read : {store : Store} {at groups : ℕ} → IsWhole store store.free.items → IsHead store at → groups ≡ slice_index_or store.sizes.items at groups → groups ≡ slice_index_or store.sizes.items at 0
+pub groups-read : {store : Store} {at groups : ℕ} → IsWholeStore store store.free.items → IsHead store at → groups ≡ slice_index_or store.sizes.items at groups → groups ≡ slice_index_or store.sizes.items at 0
 groups-read {store} {at} {groups} whole head read =
     let facts = head-facts store store.free.items at whole head in
     get_or_read store.sizes.items at groups (omega (arith, facts.inside, facts.sized)) read 0
 
-pub shortening : {store : Store} {at frame place behind groups : ℕ} → IsWhole store store.free.items → IsHead store at → is_alone store.frames.items store.sizes.items frame at ≡ false
+pub shortening : {store : Store} {at frame place behind groups : ℕ} → IsWholeStore store store.free.items → IsHead store at → is_alone store.frames.items store.sizes.items frame at ≡ false
     → groups ≡ slice_index_or store.sizes.items at groups → IsStanding (walk groups store.nexts.items at) store.frames.items frame place behind → IsShortening store at frame place behind groups
 shortening {store} {at} {frame} {place} {behind} {groups} whole head shared read stands =
     let facts = head-facts store store.free.items at whole head in
@@ -96,7 +96,7 @@ shortening {store} {at} {frame} {place} {behind} {groups} whole head shared read
     }
 
 -- no such content
-pub take-nowhere : (pages : List (List ℕ)) (frame : ℕ) (old new : Store) (whole : IsWhole old old.free.items) (sorted : IsSorted pages (chains_in old)) → IsRenoded old new old.nodes.items old.root
+pub take-nowhere : (pages : List (List ℕ)) (frame : ℕ) (old new : Store) (whole : IsWholeStore old old.free.items) (sorted : IsSorted pages (chains_in old)) → IsRenoded old new old.nodes.items old.root
     → found (order_to pages old.frames.items frame) (tree_in old) ≡ None → IsTakenOut pages frame (chains_in old) (chains_in new) 0
 take-nowhere pages frame old new whole sorted is lacks =
     let told = missing-here pages old old.free.items whole sorted frame 0 lacks in
@@ -104,7 +104,7 @@ take-nowhere pages frame old new whole sorted is lacks =
     nowhere (rw none (All-nil (λ g. g ≢ frame))) (same-chains old new is) refl
 
 -- one of several groups, or none of them
-pub take-stays : (pages : List (List ℕ)) (frame : ℕ) (old mid new : Store) (at before : ℕ) (whole : IsWhole old old.free.items) (sorted : IsSorted pages (chains_in old)) → IsRenoded old mid old.nodes.items old.root
+pub take-stays : (pages : List (List ℕ)) (frame : ℕ) (old mid new : Store) (at before : ℕ) (whole : IsWholeStore old old.free.items) (sorted : IsSorted pages (chains_in old)) → IsRenoded old mid old.nodes.items old.root
     → found (order_to pages old.frames.items frame) (tree_in old) ≡ Some at → IsShortened mid new at frame before → IsTakenOut pages frame (chains_in old) (chains_in new) before
 take-stays pages frame old mid new at before whole sorted is has (missing others same none) =
     let told = found-here pages old old.free.items whole sorted frame at has in
@@ -123,12 +123,12 @@ take-stays pages frame old mid new at before whole sorted is has (shorter j insi
     (omega (arith, counted, size, sizes))
 
 -- a group alone
-module _ (pages : List (List ℕ)) (frame : ℕ) (old new : Store) (place root : ℕ) (nodes : List Node) (whole : IsWhole old old.free.items) (sorted : IsSorted pages (chains_in old))
+module _ (pages : List (List ℕ)) (frame : ℕ) (old new : Store) (place root : ℕ) (nodes : List Node) (whole : IsWholeStore old old.free.items) (sorted : IsSorted pages (chains_in old))
     (is : IsRenoded old new nodes root) (told : IsHere pages old old.free.items whole sorted frame place)
     (single : is_alone old.frames.items old.sizes.items frame place ≡ true)
-    (hung : IsHung old.nodes.items nodes root (taken (order_to pages old.frames.items frame) (tree_in old)) (tree_in old)) where
+    (hung : IsHung old.nodes.items nodes root (tree_without (order_to pages old.frames.items frame) (tree_in old)) (tree_in old)) where
   abbrev left : Tree
-  left = taken (order_to pages old.frames.items frame) (tree_in old)
+  left = tree_without (order_to pages old.frames.items frame) (tree_in old)
 
   heads : heads_in new ≡ told.head.earlier ++ told.head.later
   heads = other-heads old new nodes root is left (tree_in old) hung ∙ told.less
@@ -136,17 +136,17 @@ module _ (pages : List (List ℕ)) (frame : ℕ) (old new : Store) (place root :
   one : slice_index_or old.sizes.items place 0 ≡ 1
   one = (alone-tells old.frames.items old.sizes.items frame place single).0
 
-  pub out-whole : IsWhole new (place ∷ old.free.items)
+  pub out-whole : IsWholeStore new (place ∷ old.free.items)
   out-whole =
       other-whole old new nodes root is left (tree_in old) hung old.free.items (place ∷ old.free.items) whole
-      (taken-shrunk (order_to pages old.frames.items frame) (tree_in old) whole.even).even
+      (tree_without-shrunk (order_to pages old.frames.items frame) (tree_in old) whole.even).even
       (rw told.less (head-out old.frames.items old.nexts.items old.sizes.items told.head.earlier told.head.later old.free.items place (length old.nodes.items) one
       (subst (λ (heads : List ℕ). AreHung old.frames.items old.nexts.items old.sizes.items heads old.free.items (length old.nodes.items)) told.head.is whole.hung)))
 
   pub out-chains : (last : List (List ℕ)) → last ≡ chains_in new → IsTakenOut pages frame (chains_in old) last 1
   out-chains last e =
       let chain : slice_index_or (chains_in old) (length told.head.earlier) [] ≡ frame ∷ [] =
-      told.chain ∙ ap (frames_of old.frames.items) (hanging-alone old.nexts.items old.sizes.items place one) ∙ ap (λ (f : ℕ). f ∷ []) (alone-tells old.frames.items old.sizes.items frame place single).1 in
+      told.chain ∙ ap (frames_at old.frames.items) (hanging-alone old.nexts.items old.sizes.items place one) ∙ ap (λ (f : ℕ). f ∷ []) (alone-tells old.frames.items old.sizes.items frame place single).1 in
       alone (length told.head.earlier) told.inside (ap length chain) (ap (λ chain. slice_index_or chain 0 0) chain)
       (e ∙ (rw (heads, is.frames, is.nexts, is.sizes)
       (remove-between (chain_at old.frames.items old.nexts.items old.sizes.items) told.head.earlier place told.head.later
@@ -158,19 +158,19 @@ pub record IsStaying (pages : List (List ℕ)) (frame : ℕ) (old : Store) (node
   pub found_is : found (order_to pages old.frames.items frame) (tree_in old) ≡ Some at
   pub shared : is_alone old.frames.items old.sizes.items frame at ≡ false
   pub same : IsRenoded old (renoded_store old nodes old.root) old.nodes.items old.root
-  pub whole : IsWhole (renoded_store old nodes old.root) old.free.items
+  pub whole : IsWholeStore (renoded_store old nodes old.root) old.free.items
   pub head : IsHead (renoded_store old nodes old.root) at
 
 -- what the tree tells of a content that is taken out
-module _ {pages : List (List ℕ)} {frame : ℕ} {old : Store} {nodes : List Node} (whole : IsWhole old old.free.items) (sorted : IsSorted pages (chains_in old)) where
-  pub out-nowhere : ((t : Tree) → IsTaking old.nodes.items old.frames.items pages old.root t → IsOut old.nodes.items nodes (order_to pages old.frames.items frame) (is_alone old.frames.items old.sizes.items frame) t Nowhere)
-      → IsWhole (renoded_store old nodes old.root) old.free.items × IsTakenOut pages frame (chains_in old) (chains_in (renoded_store old nodes old.root)) 0
+module _ {pages : List (List ℕ)} {frame : ℕ} {old : Store} {nodes : List Node} (whole : IsWholeStore old old.free.items) (sorted : IsSorted pages (chains_in old)) where
+  pub out-nowhere : ((t : Tree) → IsTaking old.nodes.items old.frames.items pages old.root t → IsRemoval old.nodes.items nodes (order_to pages old.frames.items frame) (is_alone old.frames.items old.sizes.items frame) t Nowhere)
+      → IsWholeStore (renoded_store old nodes old.root) old.free.items × IsTakenOut pages frame (chains_in old) (chains_in (renoded_store old nodes old.root)) 0
   out-nowhere told =
       let out = told (tree_in old) (whole-taking old old.free.items whole pages sorted) in
       let same = unchanged old nodes out.1 whole.room in
       (same-whole old (renoded_store old nodes old.root) same old.free.items whole, take-nowhere pages frame old (renoded_store old nodes old.root) whole sorted same out.0)
 
-  pub out-stays : {at : ℕ} → ((t : Tree) → IsTaking old.nodes.items old.frames.items pages old.root t → IsOut old.nodes.items nodes (order_to pages old.frames.items frame) (is_alone old.frames.items old.sizes.items frame) t (Stays at))
+  pub out-stays : {at : ℕ} → ((t : Tree) → IsTaking old.nodes.items old.frames.items pages old.root t → IsRemoval old.nodes.items nodes (order_to pages old.frames.items frame) (is_alone old.frames.items old.sizes.items frame) t (Stays at))
       → IsStaying pages frame old nodes at
   out-stays {at} told =
       let out = told (tree_in old) (whole-taking old old.free.items whole pages sorted) in
@@ -183,9 +183,9 @@ module _ {pages : List (List ℕ)} {frame : ℕ} {old : Store} {nodes : List Nod
         head = same-head old (renoded_store old nodes old.root) same at (found-here pages old old.free.items whole sorted frame at out.0).head;
       }
 
-  pub out-taken : {gone : Taken} → ((t : Tree) → IsTaking old.nodes.items old.frames.items pages old.root t → IsOut old.nodes.items nodes (order_to pages old.frames.items frame) (is_alone old.frames.items old.sizes.items frame) t (Out gone))
-      → IsWhole (renoded_store old nodes gone.root) (gone.place ∷ old.free.items) × ((last : List (List ℕ)) → last ≡ chains_in (renoded_store old nodes gone.root) → IsTakenOut pages frame (chains_in old) last 1)
-  out-taken {gone} told =
+  pub out-tree_without : {gone : Taken} → ((t : Tree) → IsTaking old.nodes.items old.frames.items pages old.root t → IsRemoval old.nodes.items nodes (order_to pages old.frames.items frame) (is_alone old.frames.items old.sizes.items frame) t (Out gone))
+      → IsWholeStore (renoded_store old nodes gone.root) (gone.place ∷ old.free.items) × ((last : List (List ℕ)) → last ≡ chains_in (renoded_store old nodes gone.root) → IsTakenOut pages frame (chains_in old) last 1)
+  out-tree_without {gone} told =
       let out = told (tree_in old) (whole-taking old old.free.items whole pages sorted) in
       let new = renoded_store old nodes gone.root in
       let is = renoded old nodes gone.root out.2.kept.size whole.room in

@@ -20,9 +20,9 @@ pub record IsMissing (arena : List (List ℕ)) (frame : ℕ) (chains : List (Lis
   pub cut : IsCutAt arena (page_at arena frame) chains k
   pub absent : is_there arena (page_at arena frame) chains k ≡ false
 
-abbrev pub IsAnswer : List (List ℕ) → ℕ → Store → Option ℕ → Type 0
-IsAnswer arena frame store None = IsMissing arena frame (chains_in store)
-IsAnswer arena frame store (Some at) = IsFound arena frame store at
+abbrev pub IsSearchAnswer : List (List ℕ) → ℕ → Store → Option ℕ → Type 0
+IsSearchAnswer arena frame store None = IsMissing arena frame (chains_in store)
+IsSearchAnswer arena frame store (Some at) = IsFound arena frame store at
 
 -- a group is put in, where its content had so many before
 pub data IsPut (arena : List (List ℕ)) (frame : ℕ) (old new : List (List ℕ)) (before : ℕ) : Type 0 where

@@ -19,12 +19,12 @@ abbrev pub hanging : List ℕ → List ℕ → ℕ → List ℕ
 hanging nexts sizes at = walk (slice_index_or sizes at 0) nexts at
 
 -- the frames of some places
-abbrev pub frames_of : List ℕ → List ℕ → List ℕ
-frames_of frames places = map (λ place. slice_index_or frames place 0) places
+abbrev pub frames_at : List ℕ → List ℕ → List ℕ
+frames_at frames places = map (λ place. slice_index_or frames place 0) places
 
 -- the frames of the groups that hang at a place
 abbrev pub chain_at : List ℕ → List ℕ → List ℕ → ℕ → List ℕ
-chain_at frames nexts sizes at = frames_of frames (hanging nexts sizes at)
+chain_at frames nexts sizes at = frames_at frames (hanging nexts sizes at)
 
 -- the places of all groups, by the places of the nodes at which they hang
 abbrev pub used : List ℕ → List ℕ → List ℕ → List ℕ
@@ -41,13 +41,13 @@ abbrev pub tree_at : List Node → ℕ → Tree
 tree_at nodes link = tree_within (height_at nodes link) nodes link
 
 -- how often a place stands in a list
-abbrev pub times : ℕ → List ℕ → ℕ
-times i places = sum_by (λ at. if i == at then 1 else 0) places
+abbrev pub times_among : ℕ → List ℕ → ℕ
+times_among i places = sum_by (λ at. if i == at then 1 else 0) places
 
 -- each place below a bound is used once or free once
 pub record AreShared (held free : List ℕ) (bound : ℕ) : Type 0 where
-  pub once : (i : ℕ) → times i held + times i free ≤ 1
-  pub inside : (i : ℕ) → bound ≤ i → times i held + times i free ≡ 0
+  pub once : (i : ℕ) → times_among i held + times_among i free ≤ 1
+  pub inside : (i : ℕ) → bound ≤ i → times_among i held + times_among i free ≡ 0
   pub all : length held + length free ≡ bound
 
 -- at each of some places a group hangs at least, and each place has one group or is free
@@ -70,7 +70,7 @@ abbrev pub chains_in : Store → List (List ℕ)
 chains_in store = map (chain_at store.frames.items store.nexts.items store.sizes.items) (heads_in store)
 
 -- there is memory for a number of places
-pub record HasRoom (store : Store) : Type 0 where
+pub record HasReservedRoom (store : Store) : Type 0 where
   pub nodes : store.room ≤ vec_capacity store.nodes
   pub frames : store.room ≤ vec_capacity store.frames
   pub nexts : store.room ≤ vec_capacity store.nexts
@@ -78,20 +78,20 @@ pub record HasRoom (store : Store) : Type 0 where
   pub free : store.room ≤ vec_capacity store.free
 
 -- an even tree of contents, at whose nodes all groups hang, where these places are free
-pub record IsWhole (store : Store) (free : List ℕ) : Type 0 where
+pub record IsWholeStore (store : Store) (free : List ℕ) : Type 0 where
   pub holds : Holds store.nodes.items store.root (tree_in store)
   pub even : IsEven (tree_in store)
   pub hung : AreHung store.frames.items store.nexts.items store.sizes.items (heads_in store) free (length store.nodes.items)
   pub few : length store.nodes.items ≤ store.room
   pub low : store.room < none
-  pub room : HasRoom store
+  pub room : HasReservedRoom store
 
 abbrev pub IsStore : Store → Type 0
-IsStore store = IsWhole store store.free.items
+IsStore store = IsWholeStore store store.free.items
 
 -- a place has a new group alone, and hangs nowhere yet
 pub record IsPlaced (old new : Store) (frame place : ℕ) : Type 0 where
-  pub whole : IsWhole new (place ∷ new.free.items)
+  pub whole : IsWholeStore new (place ∷ new.free.items)
   pub heads : heads_in new ≡ heads_in old
   pub chains : chains_in new ≡ chains_in old
   pub framed : slice_index_or new.frames.items place 0 ≡ frame

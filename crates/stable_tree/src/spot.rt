@@ -18,11 +18,11 @@ pub struct Spot<'a> {
 
 impl<'a> Model for Spot<'a> {
     ghost use Rattle.std.specs.Prelude.{◌≡◌, ◌<◌, ℕ, List, All, length};
-    ghost use Rattle.stable_tree.specs.Places.{walk, frames_of};
+    ghost use Rattle.stable_tree.specs.Places.{walk, frames_at};
 
     ghost Value = { List ℕ };
 
-    ghost view = { λ spot. frames_of spot.frames.now (walk spot.groups spot.nexts.now spot.place) };
+    ghost view = { λ spot. frames_at spot.frames.now (walk spot.groups spot.nexts.now spot.place) };
 
     ghost invariant = { λ spot. All (λ place. place < length spot.frames.now) (walk spot.groups spot.nexts.now spot.place)
         × (length spot.nexts.now ≡ length spot.frames.now) };

@@ -5,8 +5,8 @@ ghost use Rattle.std.specs.List.{concat};
 ghost use Rattle.tree_shape.specs.Removals.{is_alone};
 ghost use Rattle.stable_tree.specs.Digits.{digits};
 ghost use Rattle.stable_tree.specs.Groups.{IsSorted};
-ghost use Rattle.stable_tree.specs.Places.{IsStore, IsWhole, IsPlaced, IsHead, IsLengthened, IsStanding, IsWithout, walk, end, hanging, frames_of, heads_in, chains_in};
-ghost use Rattle.stable_tree.specs.Edits.{IsAnswer, IsPut, IsTakenOut, IsShortened};
+ghost use Rattle.stable_tree.specs.Places.{IsStore, IsWholeStore, IsPlaced, IsHead, IsLengthened, IsStanding, IsWithout, walk, end, hanging, frames_at, heads_in, chains_in};
+ghost use Rattle.stable_tree.specs.Edits.{IsSearchAnswer, IsPut, IsTakenOut, IsShortened};
 
 use frame_arena::Counted;
 use std::alloc::{AllocError, Global};
@@ -125,7 +125,7 @@ fn last_of(nexts: &[u32], at: u32, groups: u32) -> u32
 
 /// Puts a place behind the groups of a content. Tells how many it had.
 pub(crate) fn lengthen(store: &mut Store, at: u32, place: u32) -> u32
-    requires whole { IsWhole store.old (place ∷ store.old.free.items) }
+    requires whole { IsWholeStore store.old (place ∷ store.old.free.items) }
     requires head { IsHead store.old at }
     ensures whole { IsStore store.new }
     ensures chains { (earlier later : List ℕ) → heads_in store.old ≡ earlier ++ at ∷ later
@@ -144,7 +144,7 @@ pub(crate) fn find(store: &Store, arena: &mut Counted, frame: u32) -> Option<u32
     requires whole { IsStore store.now }
     requires frame { frame < length arena.old.pages }
     requires sorted { IsSorted arena.old.pages (chains_in store.now) }
-    ensures found { IsAnswer arena.old.pages frame store.now result }
+    ensures found { IsSearchAnswer arena.old.pages frame store.now result }
     ensures pages { arena.new.pages ≡ arena.old.pages }
     ensures few { arena.new.steps ≤ arena.old.steps + 2 * digits (length (chains_in store.now)) }
 {
@@ -185,7 +185,7 @@ struct Standing {
 fn place_of(frames: &[u32], nexts: &[u32], at: u32, groups: u32, frame: u32) -> Option<Standing>
     requires framed { All (λ place. place < length frames.now) (walk groups nexts.now at) }
     requires linked { length nexts.now ≡ length frames.now }
-    ensures { MatchOption result (All (λ group. group ≢ frame) (frames_of frames.now (walk groups nexts.now at)))
+    ensures { MatchOption result (All (λ group. group ≢ frame) (frames_at frames.now (walk groups nexts.now at)))
         (λ standing. IsStanding (walk groups nexts.now at) frames.now frame standing.place standing.behind) }
 {
     let mut place = at;
@@ -203,7 +203,7 @@ fn place_of(frames: &[u32], nexts: &[u32], at: u32, groups: u32, frame: u32) -> 
 
 /// Makes a place free that hangs nowhere. It takes no memory.
 fn give_back(store: &mut Store, place: u32)
-    requires { IsWhole store.old (place ∷ store.old.free.items) }
+    requires { IsWholeStore store.old (place ∷ store.old.free.items) }
     ensures whole { IsStore store.new }
     ensures chains { chains_in store.new ≡ chains_in store.old }
     ensures room { store.new.room ≡ store.old.room }
@@ -308,8 +308,8 @@ pub(crate) fn first_below(
 ) -> Option<u32>
     requires framed { All (λ place. place < length frames.now) (walk groups nexts.now at) }
     requires linked { length nexts.now ≡ length frames.now }
-    requires counted { All (λ frame. frame < length counts.now) (frames_of frames.now (walk groups nexts.now at)) }
-    ensures { result ≡ find (λ frame. nat_lt (slice_index_or counts.now frame 0) limit) (frames_of frames.now (walk groups nexts.now at)) }
+    requires counted { All (λ frame. frame < length counts.now) (frames_at frames.now (walk groups nexts.now at)) }
+    ensures { result ≡ find (λ frame. nat_lt (slice_index_or counts.now frame 0) limit) (frames_at frames.now (walk groups nexts.now at)) }
 {
     let mut place = at;
     for _passed in 0..groups {

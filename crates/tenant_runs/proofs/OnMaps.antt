@@ -18,16 +18,16 @@ use Rattle.interp.specs.Runs.{Reaches}
 use Rattle.interp.specs.StandsFor.{Running, Asks}
 use Rattle.interp.specs.OnMaps.{IsRoomy, StandsOn, IsMet, ReachesOn, FollowsOn}
 use Rattle.tenant_runs.specs.Meeting.{KeepsSizes}
-use Rattle.tenant_runs.specs.Storing.{maps_of, HasFrames, HasStored}
+use Rattle.tenant_runs.specs.Storing.{maps_of_part, HasStoreFrames, HasStored}
 use Rattle.tenant_runs.specs.UnderWay.{IsUnderWay, part_with_have}
 use Rattle.tenant_runs.proofs.Rooms.{keeps_after}
 use Rattle.tenant_runs.proofs.Finishing.{IsAskedOn, IsFollowed, reaches_on}
 
 -- a run that is under way, once all that is reserved for it may be had
 pub stands_on : (v : Accepted) (tenant : ℕ) (run : Running) (s : MachineState) (old new : MemoryState) → IsUnderWay v run s (part_with_have old tenant) → part new tenant ≡ with_reserve 0 (part old tenant)
-    → have_of new + 0 ≡ have_of old + (part old tenant).reserve → StandsOn (maps_of tenant) (HasFrames tenant) v run s new
+    → have_of new + 0 ≡ have_of old + (part old tenant).reserve → StandsOn (maps_of_part tenant) (HasStoreFrames tenant) v run s new
 stands_on v tenant run s old new way recorded have =
-    let kept : maps_of tenant new ≡ maps_of tenant old = ap (λ (owned : TenantPart). owned.maps) recorded in
+    let kept : maps_of_part tenant new ≡ maps_of_part tenant old = ap (λ (owned : TenantPart). owned.maps) recorded in
     let enough : needed_from v (part old tenant) run.slot ≤ have_of old + (part old tenant).reserve = way.reserve in
     let reserved : needed_from v (part old tenant) s.slot ≤ have_of old + (part old tenant).reserve = rw way.stands.slot at enough in
     let running : (part new tenant).running ≡ true = ap (λ (owned : TenantPart). owned.running) recorded ∙ way.running in
@@ -87,7 +87,7 @@ pub record IsAskedLater (v : Accepted) (tenant : ℕ) (s : MachineState) (n : �
   pub keeps : Keeps tenant old new
 
 asked_by : (v : Accepted) (tenant : ℕ) (s : MachineState) (n : ℕ) (need : Need) (run : Running) (old new : MemoryState) → (made : ℕ) × (t : MachineState) × (n ≡ suc made) × ReachesOn (HasStored tenant) v s old made t new
-    × IsRoomy (maps_of tenant) (HasFrames tenant) v t new × Asks v t need run → length (part old tenant).maps ≡ 8 → IsAskedLater v tenant s n need run old new
+    × IsRoomy (maps_of_part tenant) (HasStoreFrames tenant) v t new × Asks v t need run → length (part old tenant).maps ≡ 8 → IsAskedLater v tenant s n need run old new
 asked_by v tenant s n need run old new (made, t, count, reaches, roomy, asks) eight =
     let keeps = steps_keep v tenant s old made t new reaches in
     let has = roomy.room (reserve_from v t.slot) (writes_from v t.slot) (omega arith) (λ m writes. writes) in
@@ -103,7 +103,7 @@ asked_by v tenant s n need run old new (made, t, count, reaches, roomy, asks) ei
     }
 
 pub asked_later : (v : Accepted) (tenant : ℕ) (s : MachineState) (n : ℕ) (need : Need) (run : Running) (old new : MemoryState) → (need ≡ Private → ⊥) → ((number : ℕ) → need ≡ Ended number → ⊥)
-    → FollowsOn (maps_of tenant) (HasFrames tenant) (HasStored tenant) v s old n need run new → length (part old tenant).maps ≡ 8 → IsAskedLater v tenant s n need run old new
+    → FollowsOn (maps_of_part tenant) (HasStoreFrames tenant) (HasStored tenant) v s old n need run new → length (part old tenant).maps ≡ 8 → IsAskedLater v tenant s n need run old new
 asked_later v tenant s n Private run old new some going follows eight = absurd (some refl)
 asked_later v tenant s n (Ended number) run old new some going follows eight = absurd (going number refl)
 asked_later v tenant s n (Load m at size) run old new some going follows eight = absurd follows
@@ -121,7 +121,7 @@ pub record IsEndedLater (v : Accepted) (tenant : ℕ) (s : MachineState) (number
   pub keeps : Keeps tenant old new
 
 pub ended_later : (v : Accepted) (tenant : ℕ) (start run after : Running) (s : MachineState) (number n : ℕ) (owned : TenantPart) (old new : MemoryState) → (followed : IsFollowed v start run s owned)
-    → FollowsOn (maps_of tenant) (HasFrames tenant) (HasStored tenant) v followed.state old n (Ended number) after new → after.steps ≡ run.steps + n → IsEndedLater v tenant s number start after old new
+    → FollowsOn (maps_of_part tenant) (HasStoreFrames tenant) (HasStored tenant) v followed.state old n (Ended number) after new → after.steps ≡ run.steps + n → IsEndedLater v tenant s number start after old new
 ended_later v tenant start run after s number n owned old new followed (made, t, count, reaches, same, makes, flat, few) more =
     let counted = followed.steps in
     record {

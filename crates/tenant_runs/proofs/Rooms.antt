@@ -14,7 +14,7 @@ use Rattle.bpf_decode.specs.Opcodes.{byte_count}
 use Rattle.page_table.specs.State.{MemoryState}
 use Rattle.page_table.specs.Changes.{with_record, opened, ended, KeepsSettings}
 use Rattle.interp.specs.declared.need.Need.TheVariants.{Store, Update}
-use Rattle.tenant_runs.specs.Meeting.{MayMeet, answer_in, KeepsSizes}
+use Rattle.tenant_runs.specs.Meeting.{MayMeet, answer_for, KeepsSizes}
 
 -- aligned bytes lie in one page
 pub in_page : (at : ℕ) (size : Size) → at % byte_count size ≡ 0 → at % 4096 + byte_count size ≤ 4096
@@ -45,11 +45,11 @@ store_asked owned m at number size value may = by_map (map_at owned.maps m) refl
 
 -- the answer of an update
 pub update_answered : (owned : TenantPart) (m key flags answer : ℕ) (value : List ℕ) (after : FlatMaps) → MayMeet owned (Update m key flags) value → helper Updates owned.maps m key value flags ≡ Some (answer, after)
-    → answer ≡ answer_in owned (Update m key flags)
+    → answer ≡ answer_for owned (Update m key flags)
 unfolding helper
 update_answered owned m key flags answer value after may helped = by_map (map_at owned.maps m) refl
   where
-    by_map : (there : Option FlatMap) → map_at owned.maps m ≡ there → answer ≡ answer_in owned (Update m key flags)
+    by_map : (there : Option FlatMap) → map_at owned.maps m ≡ there → answer ≡ answer_for owned (Update m key flags)
     by_map None e = absurd (rw e at may)
     by_map (Some flat) e = rw e (sym (ap (λ (o : Option (ℕ × FlatMaps)). (unwrap_or o (answer, after)).0) (rw e at helped)))
 

@@ -21,7 +21,7 @@ use Rattle.bpf_decode.specs.Opcodes.{byte_count}
 use Rattle.interp.specs.declared.need.Need.TheVariants.{Store}
 use Rattle.interp.specs.OnMaps.{HasRoomFor, KeepsRoom}
 use Rattle.interp.specs.StandsFor.{AreAmong}
-use Rattle.tenant_runs.specs.Storing.{HasFrames}
+use Rattle.tenant_runs.specs.Storing.{HasStoreFrames}
 use Rattle.tenant_runs.proofs.Rooms.{in_page, some_bytes}
 use Rattle.tenant_runs.proofs.Pinning.{own_pins, pages_after, stored_pays}
 
@@ -89,7 +89,7 @@ module _ (memory : MemoryState) (t m at : ℕ) (size : Size) (reads : ReadsAs me
       stored_pays memory t m at (byte_count size) 1 (1 + total) total writes later there.flat after reads flat there.found there.within (touched-within at (byte_count size) (in_page at size aligned)) few marked among now pages
 
   -- a memory that has room for a store has the frames that it takes
-  pub room_enough : HasRoomFor (HasFrames t) memory m → store_frames memory.sharing t m at (byte_count size) ≤ have_of memory
+  pub room_enough : HasRoomFor (HasStoreFrames t) memory m → store_frames memory.sharing t m at (byte_count size) ≤ have_of memory
   room_enough (writes, marked, has) =
       let after = pinned_as (stored_sharing (part memory t).running memory.sharing t m at (byte_count size)) t (part memory t) in
       let enough = has.frames in
@@ -98,7 +98,7 @@ module _ (memory : MemoryState) (t m at : ℕ) (size : Size) (reads : ReadsAs me
 
   -- and has room for what comes behind it
   pub room_kept : (new : MemoryState) (number : ℕ) → part new t ≡ pinned_as new.sharing t (part_stored (part memory t) m at (byte_count size) number)
-      → new.sharing ≡ stored_sharing (part memory t).running memory.sharing t m at (byte_count size) → have_of new + store_frames memory.sharing t m at (byte_count size) ≡ have_of memory → KeepsRoom (HasFrames t) memory m new
+      → new.sharing ≡ stored_sharing (part memory t).running memory.sharing t m at (byte_count size) → have_of new + store_frames memory.sharing t m at (byte_count size) ≡ have_of memory → KeepsRoom (HasStoreFrames t) memory m new
   room_kept new number owned sharing have total writes later marked among has =
       let pins : (part new t).pins ≡ part_of (stored_sharing (part memory t).running memory.sharing t m at (byte_count size)).pins (t * 2048) 2048 =
       ap (λ (one : TenantPart). one.pins) owned ∙ ap (λ (s : Sharing). part_of s.pins (t * 2048) 2048) sharing in
@@ -109,7 +109,7 @@ module _ (memory : MemoryState) (t m at : ℕ) (size : Size) (reads : ReadsAs me
       record { running = ap (λ (one : TenantPart). one.running) owned ∙ has.running; frames = omega (arith, least, enough, have) }
 
 -- so has one after a store that takes nothing and pins nothing
-pub room_same : (memory new : MemoryState) (t m at number : ℕ) (size : Size) → part new t ≡ pinned_as new.sharing t (part_stored (part memory t) m at (byte_count size) number) → new.sharing ≡ memory.sharing → have_of new ≡ have_of memory → KeepsRoom (HasFrames t) memory m new
+pub room_same : (memory new : MemoryState) (t m at number : ℕ) (size : Size) → part new t ≡ pinned_as new.sharing t (part_stored (part memory t) m at (byte_count size) number) → new.sharing ≡ memory.sharing → have_of new ≡ have_of memory → KeepsRoom (HasStoreFrames t) memory m new
 room_same memory new t m at number size owned same have total writes later marked among has =
     let pins : (part new t).pins ≡ (part memory t).pins = own_pins new t ∙ ap (λ (s : Sharing). part_of s.pins (t * 2048) 2048) same ∙ sym (own_pins memory t) in
     let pages : (k : ℕ) → pages_of_map (part new t) k ≡ pages_of_map (part memory t) k =

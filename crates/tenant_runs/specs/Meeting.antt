@@ -16,8 +16,8 @@ abbrev pub MayMeet : TenantPart → Need → List ℕ → Type 0
 MayMeet owned need value = IsSomeAnd (map_at owned.maps (map_of need)) (MayAsk need value)
 
 -- what the tenant's map answers
-abbrev pub answer_in : TenantPart → Need → ℕ
-answer_in owned need = unwrap_or (option_map (answer_of need) (map_at owned.maps (map_of need))) 0
+abbrev pub answer_for : TenantPart → Need → ℕ
+answer_for owned need = unwrap_or (option_map (answer_of need) (map_at owned.maps (map_of need))) 0
 
 -- how many frames it takes: a store and an update take out the pages that they write
 abbrev pub frames_met : TenantPart → Sharing → ℕ → Need → ℕ

@@ -11,11 +11,11 @@ use Rattle.admission.specs.Reserve.{needed_by}
 use Rattle.interp.specs.OnMaps.{KeepsRoom}
 
 -- the tenant's maps
-abbrev pub maps_of : ℕ → MemoryState → FlatMaps
-maps_of tenant memory = (part memory tenant).maps
+abbrev pub maps_of_part : ℕ → MemoryState → FlatMaps
+maps_of_part tenant memory = (part memory tenant).maps
 
 -- the memory has the frames for stores of the tenant's open run that take so many at most and write these maps alone
-pub record HasFrames (tenant : ℕ) (memory : MemoryState) (total : ℕ) (writes : ℕ → Bool) : Type 0 where
+pub record HasStoreFrames (tenant : ℕ) (memory : MemoryState) (total : ℕ) (writes : ℕ → Bool) : Type 0 where
   pub running : (part memory tenant).running ≡ true
   pub frames : needed_by total writes (part memory tenant) ≤ have_of memory
 
@@ -28,5 +28,5 @@ pub record HasStored (tenant : ℕ) (old : MemoryState) (m at : ℕ) (size : Siz
   pub sharing : new.sharing ≡ stored_sharing (part old tenant).running old.sharing tenant m at (byte_count size)
   pub settings : KeepsSettings old new
   pub have : have_of new + store_frames old.sharing tenant m at (byte_count size) ≡ have_of old
-  pub room : KeepsRoom (HasFrames tenant) old m new
+  pub room : KeepsRoom (HasStoreFrames tenant) old m new
   pub reads : ReadsAs new

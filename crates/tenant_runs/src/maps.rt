@@ -3,7 +3,7 @@ ghost use Rattle.bpf_decode.specs.Opcodes.{byte_count};
 ghost use Rattle.page_table.specs.Changes.{IsOwn};
 ghost use Rattle.page_table.specs.State.{part, map_bytes};
 ghost use Rattle.interp.specs.OnMaps.{HasRoomFor};
-ghost use Rattle.tenant_runs.specs.Storing.{maps_of, HasFrames, HasStored};
+ghost use Rattle.tenant_runs.specs.Storing.{maps_of_part, HasStoreFrames, HasStored};
 
 use crate::meeting::look_up;
 use bpf_decode::Size;
@@ -23,9 +23,9 @@ pub struct TenantMaps {
 impl MapMemory for TenantMaps {
     type Memory = Memory;
 
-    ghost maps = { λ of memory. maps_of of.tenant memory };
+    ghost maps = { λ of memory. maps_of_part of.tenant memory };
 
-    ghost room = { λ of memory total writes. HasFrames of.tenant memory total writes };
+    ghost room = { λ of memory total writes. HasStoreFrames of.tenant memory total writes };
 
     ghost stored = { λ of old map at size number new. HasStored of.tenant old map at size number new };
 
@@ -54,7 +54,7 @@ impl MapMemory for TenantMaps {
 fn store_apart(memory: &mut Memory, tenant: u32, map: MapNo, at: u32, size: Size, value: u64)
     requires within { at + byte_count size ≤ length (map_bytes (part memory.old tenant) map) }
     requires aligned { at % byte_count size ≡ 0 }
-    requires room { HasRoomFor (HasFrames tenant) memory.old map }
+    requires room { HasRoomFor (HasStoreFrames tenant) memory.old map }
     ensures { HasStored tenant memory.old map at size value memory.new }
 {
     memory.facts();

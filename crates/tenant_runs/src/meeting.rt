@@ -4,7 +4,7 @@ ghost use Rattle.host_types.specs.Memory.{FlatMap, map_at};
 ghost use Rattle.page_table.specs.State.{part, have_of};
 ghost use Rattle.page_table.specs.Changes.{IsKeptBut};
 ghost use Rattle.write_break.specs.Stores.{pinned_as};
-ghost use Rattle.tenant_runs.specs.Meeting.{MayMeet, answer_in, frames_met, part_met, sharing_met, KeepsSizes};
+ghost use Rattle.tenant_runs.specs.Meeting.{MayMeet, answer_for, frames_met, part_met, sharing_met, KeepsSizes};
 
 use host_types::MapNo;
 use interp::Need;
@@ -20,7 +20,7 @@ pub fn meet(memory: &mut Memory, tenant: u32, need: Need, value: &[u8]) -> u64
     requires there { length (part memory.old tenant).maps ≡ 8 }
     requires may { MayMeet (part memory.old tenant) need value.now }
     requires room { frames_met (part memory.old tenant) memory.old.sharing tenant need ≤ have_of memory.old + (part memory.old tenant).reserve }
-    ensures answer { result ≡ answer_in (part memory.old tenant) need }
+    ensures answer { result ≡ answer_for (part memory.old tenant) need }
     ensures part { part memory.new tenant ≡ pinned_as memory.new.sharing tenant (part_met (part memory.old tenant) need value.now) }
     ensures others { IsKeptBut tenant memory.old memory.new }
     ensures sharing { memory.new.sharing ≡ sharing_met (part memory.old tenant) memory.old.sharing tenant need }

@@ -2,7 +2,7 @@
 use Rattle.std.proofs.Common.{◌≡◌, suc, List, [], ◌∷◌, ◌++◌, length, map, append_assoc, append-nil, ap, refl, subst, Result, Ok, Err, arith}
 use Rattle.std.specs.declared.thread.PromisedHandle.{PromisedHandle}
 use Rattle.tenant_workers.specs.declared.threads.Becomes.{Becomes}
-use Rattle.tenant_workers.specs.Jobs.{AreEach, IsBegun, IsEnded}
+use Rattle.tenant_workers.specs.Jobs.{AreEach, IsJobBegun, IsJobDone}
 
 -- whatever is made of the rest is to follow what is made
 abbrev pub Awaits : {X Y : Type 0} → (X → Y → Type 0) → List X → List X → List Y → Type 0
@@ -31,7 +31,7 @@ each-length R (x ∷ xs) (y ∷ ys) (one, rest) = ap suc (each-length R xs ys re
 
 -- what may come of the jobs came of them
 pub each-ended : {T : Type 0} (becomes : T → T → Type 0) (jobs : List T) (begun : List (Result (PromisedHandle T (Becomes T)) T)) (done : List T)
-    → AreEach (IsBegun becomes) jobs begun → AreEach (IsEnded becomes) begun done → AreEach becomes jobs done
+    → AreEach (IsJobBegun becomes) jobs begun → AreEach (IsJobDone becomes) begun done → AreEach becomes jobs done
 each-ended becomes [] [] [] first second = tt
 each-ended becomes [] [] (z ∷ zs) first second = absurd second
 each-ended becomes [] (y ∷ ys) zs first second = absurd first
@@ -40,11 +40,11 @@ each-ended becomes (x ∷ xs) (y ∷ ys) [] first second = absurd second
 each-ended becomes (x ∷ xs) (y ∷ ys) (z ∷ zs) (one, rest) (two, more) = (two x one, each-ended becomes xs ys zs rest more)
 
 -- a thread kept its promise
-pub kept-ended : {T : Type 0} (becomes : T → T → Type 0) (thread : PromisedHandle T (Becomes T)) (done : T) → becomes thread.promise.0.value done → IsEnded becomes (Ok thread) done
+pub kept-ended : {T : Type 0} (becomes : T → T → Type 0) (thread : PromisedHandle T (Becomes T)) (done : T) → becomes thread.promise.0.value done → IsJobDone becomes (Ok thread) done
 kept-ended becomes thread done kept job is = subst (λ was. becomes was done) is kept
 
 -- a job that was refused
-pub refused-ended : {T : Type 0} (becomes : T → T → Type 0) (done : T) → IsEnded becomes (Err done) done
+pub refused-ended : {T : Type 0} (becomes : T → T → Type 0) (done : T) → IsJobDone becomes (Err done) done
 refused-ended becomes done job is = is
 
 -- what is told of what elements are mapped to

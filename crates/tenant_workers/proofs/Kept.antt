@@ -5,7 +5,7 @@ use Rattle.std.proofs.lemmas.List.{length-map, take_at}
 use Rattle.host_types.specs.declared.fault.Fault.{Fault}
 use Rattle.tenant_runs.specs.declared.driving.RunReply.{RunReply}
 use Rattle.tenant_workers.specs.declared.plans.TenantPlan.{TenantPlan}
-use Rattle.tenant_workers.specs.Plans.{AreSamePlans, AreServed, IsServed, Planned, planned_by}
+use Rattle.tenant_workers.specs.Plans.{AreSamePlans, AreServed, IsPlanServed, Planned, planned_by}
 use Rattle.tenant_workers.specs.Jobs.{AreEach}
 use Rattle.tenant_workers.proofs.Jobs.{each-mapped}
 
@@ -28,8 +28,8 @@ same_many old new same = sym (length-map new planned_by) ∙ ap length same ∙ 
 
 -- plans that were served, as they were before room was made in them
 pub served-from : (old reserved beyond new : List TenantPlan) (count : ℕ) → AreSamePlans old reserved → length old ≡ count
-    → AreEach (λ was is. IsServed (planned_by was) (planned_by is)) (take count (reserved ++ beyond)) new → AreServed old new
+    → AreEach (λ was is. IsPlanServed (planned_by was) (planned_by is)) (take count (reserved ++ beyond)) new → AreServed old new
 served-from old reserved beyond new count same many each =
     let whole = take_at reserved beyond count (same_many old reserved same ∙ many) in
-    subst (λ plans. AreEach IsServed plans (map planned_by new)) (ap (map planned_by) whole ∙ same)
-    (each-mapped planned_by IsServed (take count (reserved ++ beyond)) new each)
+    subst (λ plans. AreEach IsPlanServed plans (map planned_by new)) (ap (map planned_by) whole ∙ same)
+    (each-mapped planned_by IsPlanServed (take count (reserved ++ beyond)) new each)

@@ -11,15 +11,15 @@ AreEach R (x ∷ xs) (y ∷ ys) = R x y × AreEach R xs ys
 AreEach R xs ys = ⊥
 
 -- a job was begun: its thread promises what may come of it, or that came of it at once
-abbrev pub IsBegun : {T : Type 0} → (T → T → Type 0) → T → Result (PromisedHandle T (Becomes T)) T → Type 0
-IsBegun becomes job begun = MatchResult begun (λ thread. thread.promise.0.value ≡ job) (becomes job)
+abbrev pub IsJobBegun : {T : Type 0} → (T → T → Type 0) → T → Result (PromisedHandle T (Becomes T)) T → Type 0
+IsJobBegun becomes job begun = MatchResult begun (λ thread. thread.promise.0.value ≡ job) (becomes job)
 
 -- this may come of the job that was begun
-abbrev pub IsEnded : {T : Type 0} → (T → T → Type 0) → Result (PromisedHandle T (Becomes T)) T → T → Type 0
-IsEnded {T} becomes begun done = (job : T) → IsBegun becomes job begun → becomes job done
+abbrev pub IsJobDone : {T : Type 0} → (T → T → Type 0) → Result (PromisedHandle T (Becomes T)) T → T → Type 0
+IsJobDone {T} becomes begun done = (job : T) → IsJobBegun becomes job begun → becomes job done
 
 -- there is room for so many jobs, and none is begun or done
-pub record HasRoomFor {T : Type 0} (jobs : ℕ) (room : Room T) : Type 0 where
+pub record HasRoomForJobs {T : Type 0} (jobs : ℕ) (room : Room T) : Type 0 where
   pub none_begun : room.begun.items ≡ []
   pub room_begun : jobs ≤ vec_capacity room.begun
   pub none_done : room.done.items ≡ []

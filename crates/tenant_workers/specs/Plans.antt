@@ -17,7 +17,7 @@ pub record IsFor (turn : TableId) (plan : TenantPlan) : Type 0 where
   pub own : plan.shared.now ≡ turn
 
 -- the plan has room for as many replies as it has runs
-pub record HasRoom (plan : TenantPlan) : Type 0 where
+pub record HasReplyRoom (plan : TenantPlan) : Type 0 where
   pub room : length plan.runs.items ≤ vec_capacity plan.replies
 
 -- what a plan says: whose it is, its programs, its runs by program number and context, and their replies
@@ -48,7 +48,7 @@ AreAnswered programs runs old replies new =
     AllReply programs runs old replies new ⊎ ((replies ≡ replicate (length runs) (Err OutOfMemory)) × (new ≡ old))
 
 -- a plan was served: its runs were answered, and otherwise it says what it said
-pub record IsServed (old new : Planned) : Type 0 where
+pub record IsPlanServed (old new : Planned) : Type 0 where
   pub turn : new.turn ≡ old.turn
   pub seat : IsSameSeat old.seat new.seat
   pub programs : new.programs ≡ old.programs
@@ -57,4 +57,4 @@ pub record IsServed (old new : Planned) : Type 0 where
 
 -- each of the plans was served
 abbrev pub AreServed : List TenantPlan → List TenantPlan → Type 0
-AreServed old new = AreEach IsServed (map planned_by old) (map planned_by new)
+AreServed old new = AreEach IsPlanServed (map planned_by old) (map planned_by new)

@@ -1,6 +1,6 @@
 ghost use Rattle.std.specs.Prelude.{◌≡◌, ◌≤◌, IfErr, OnErr, OnOk, All, length, replicate, vec_capacity, Err};
 ghost use Rattle.host_types.specs.declared.fault.Fault.TheVariants.{OutOfMemory};
-ghost use Rattle.tenant_workers.specs.Plans.{AreSamePlans, AreServed, HasRoom, IsFor, IsServed, planned_by};
+ghost use Rattle.tenant_workers.specs.Plans.{AreSamePlans, AreServed, HasReplyRoom, IsFor, IsPlanServed, planned_by};
 
 use crate::gate::{Gate, Passed};
 use crate::plans::{Plan, ScanPlan, TenantPlan};
@@ -67,7 +67,7 @@ fn runs_in(tenants: &[TenantPlan]) -> u64 {
 
 /// Makes room in each plan for as many replies as it has runs.
 fn reserve_all(tenants: &mut [TenantPlan]) -> Result<(), AllocError>
-    ensures room { OnOk result (All HasRoom tenants.new) }
+    ensures room { OnOk result (All HasReplyRoom tenants.new) }
     ensures same { AreSamePlans tenants.old tenants.new }
 {
     for tenant in tenants.iter_mut() {
@@ -96,9 +96,9 @@ impl<'a> TenantPlan<'a> {
 }
 
 impl<'a> Job for TenantPlan<'a> {
-    ghost is_ready = { HasRoom };
+    ghost is_ready = { HasReplyRoom };
 
-    ghost becomes = { λ old new. IsServed (planned_by old) (planned_by new) };
+    ghost becomes = { λ old new. IsPlanServed (planned_by old) (planned_by new) };
 
     fn run<R: Wait>(self, rt: &R, alloc: Global, gate: &impl Gate) -> TenantPlan<'a> {
         let mut plan = self;

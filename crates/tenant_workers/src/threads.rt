@@ -1,7 +1,7 @@
 //! Threads that do a job each, beside one that scans.
 
 ghost use Rattle.std.specs.Prelude.{◌≡◌, ◌≤◌, [], All, IfOk, vec_len, vec_capacity};
-ghost use Rattle.tenant_workers.specs.Jobs.{AreEach, HasRoomFor, IsBegun, IsEnded};
+ghost use Rattle.tenant_workers.specs.Jobs.{AreEach, HasRoomForJobs, IsJobBegun, IsJobDone};
 
 use crate::gate::Gate;
 use std::alloc::{AllocError, Global};
@@ -56,7 +56,7 @@ pub(crate) struct Room<T: Job + Drop> {
 impl<T: Job + Drop> Room<T> {
     /// Room for so many jobs.
     pub(crate) fn new(alloc: Global, jobs: usize) -> Result<Room<T>, AllocError>
-        ensures { IfOk result (HasRoomFor jobs) }
+        ensures { IfOk result (HasRoomForJobs jobs) }
     {
         Ok(Room {
             begun: Vec::with_capacity(alloc, jobs)?,
@@ -81,7 +81,7 @@ where
     T: Job + Send + Drop,
     S: Scan + Send,
     requires ready { All T.is_ready jobs.items }
-    requires room { HasRoomFor (vec_len jobs) room }
+    requires room { HasRoomForJobs (vec_len jobs) room }
     ensures { AreEach T.becomes jobs.items result.items }
 {
     let Room { begun, done } = room;
@@ -121,7 +121,7 @@ fn begin_all<'s, E, R: Threads + Wait + Sync, G: Gate + Sync, T: Job + Send + Dr
     requires ready { All T.is_ready jobs.items }
     requires none { begun.old.items ≡ [] }
     requires room { vec_len jobs ≤ vec_capacity begun.old }
-    ensures begun { AreEach (IsBegun T.becomes) jobs.items begun.new.items }
+    ensures begun { AreEach (IsJobBegun T.becomes) jobs.items begun.new.items }
 {
     for job in jobs {
         let number = begun.len();
@@ -141,7 +141,7 @@ fn begin<'s, E, R: Threads + Wait + Sync, G: Gate + Sync, T: Job + Send + Drop +
     refused: &'s AtomicUsize,
 ) -> Begun<T>
     requires { T.is_ready job }
-    ensures { IsBegun T.becomes job result }
+    ensures { IsJobBegun T.becomes job result }
 {
     let promise = Becomes(Snapshot::of(&job));
     let started = scope.spawn_with(
@@ -169,7 +169,7 @@ fn begin<'s, E, R: Threads + Wait + Sync, G: Gate + Sync, T: Job + Send + Drop +
 fn end_all<R: Threads, T: Job + Drop>(rt: &R, begun: Vec<Begun<T>>, done: &mut Vec<T>)
     requires none { done.old.items ≡ [] }
     requires room { vec_len begun ≤ vec_capacity done.old }
-    ensures { AreEach (IsEnded T.becomes) begun.items done.new.items }
+    ensures { AreEach (IsJobDone T.becomes) begun.items done.new.items }
 {
     for one in begun {
         let job = match one {

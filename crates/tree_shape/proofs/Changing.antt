@@ -4,16 +4,16 @@ use Rattle.std.specs.declared.cmp.Ordering.{Ordering}
 use Rattle.std.specs.declared.cmp.Ordering.TheVariants.{Less, Equal, Greater}
 use Rattle.std.proofs.lemmas.List.{append-nil}
 use Rattle.tree_shape.specs.Shape.{Tree, leaf, fork, levels, in_order, IsEven}
-use Rattle.tree_shape.specs.Turns.{left_up, right_up, settled}
-use Rattle.tree_shape.specs.Changes.{by_order, entered, least, without_least, merged, taken}
+use Rattle.tree_shape.specs.Turns.{left_up, right_up, balanced_at}
+use Rattle.tree_shape.specs.Changes.{by_order, entered, least, without_least, joined_sides, tree_without}
 use Rattle.tree_shape.specs.Sides.{sided}
 use Rattle.tree_shape.proofs.Sided.{levels-sided}
-use Rattle.tree_shape.proofs.Turning.{levels-fork, levels-none, even-fork, even-sides, even-sided, in_order-settled, settled-sided}
+use Rattle.tree_shape.proofs.Turning.{levels-fork, levels-none, even-fork, even-sides, even-sided, in_order-balanced_at, balanced_at-sided}
 
 -- sides that are even already
-pub settled-flat : (at : ℕ) (l r : Tree) → levels l ≤ levels r + 1 → levels r ≤ levels l + 1 → settled at l r ≡ fork at l r
-unfolding settled
-settled-flat at l r left right = by_test (nat_lt (levels r + 1) (levels l)) (nat_lt (levels l + 1) (levels r)) refl refl
+pub balanced_at-flat : (at : ℕ) (l r : Tree) → levels l ≤ levels r + 1 → levels r ≤ levels l + 1 → balanced_at at l r ≡ fork at l r
+unfolding balanced_at
+balanced_at-flat at l r left right = by_test (nat_lt (levels r + 1) (levels l)) (nat_lt (levels l + 1) (levels r)) refl refl
   where
     by_test : (t u : Bool) → nat_lt (levels r + 1) (levels l) ≡ t → nat_lt (levels l + 1) (levels r) ≡ u → (if t then left_up at l r else (if u then right_up at l r else fork at l r)) ≡ fork at l r
     by_test true u test other = let more : levels r + 1 < levels l = grind (arith, test) in absurd (omega (arith, more, left))
@@ -57,17 +57,17 @@ changed-levels l r m n k is = by_test (nat_lt (r + 1) m) (nat_lt (m + 1) r) refl
         let same : n ≡ suc (max m r) = is.flat few less in
         (λ h. omega (arith, same), λ h. omega (arith, same), λ h. omega (arith, same), λ h. omega (arith, same))
 
-flat-sided : (s : Bool) (at : ℕ) (t u : Tree) → levels t ≤ levels u + 1 → levels u ≤ levels t + 1 → sided s (settled at) t u ≡ sided s (fork at) t u
-flat-sided true at t u few less = settled-flat at t u few less
-flat-sided false at t u few less = settled-flat at u t less few
+flat-sided : (s : Bool) (at : ℕ) (t u : Tree) → levels t ≤ levels u + 1 → levels u ≤ levels t + 1 → sided s (balanced_at at) t u ≡ sided s (fork at) t u
+flat-sided true at t u few less = balanced_at-flat at t u few less
+flat-sided false at t u few less = balanced_at-flat at u t less few
 
 -- a node whose one side grew or shrank
 module _ (s : Bool) (at : ℕ) (t u : Tree) (even : IsEven (sided s (fork at) t u)) (new : Tree) where
   changed : IsEven new → levels t ≤ levels new + 1 → levels new ≤ levels t + 1
-      → IsEven (sided s (settled at) new u) × AreLevels (levels t) (levels u) (levels new) (levels (sided s (settled at) new u)) (levels (sided s (fork at) t u))
+      → IsEven (sided s (balanced_at at) new u) × AreLevels (levels t) (levels u) (levels new) (levels (sided s (balanced_at at) new u)) (levels (sided s (fork at) t u))
   changed evenly least most =
       let sides = even-sided s at t u even in
-      let settles = settled-sided s at new u evenly sides.3 (omega (arith, most, sides.0)) (omega (arith, least, sides.1)) in (
+      let settles = balanced_at-sided s at new u evenly sides.3 (omega (arith, most, sides.0)) (omega (arith, least, sides.1)) in (
         settles.even,
         record {
           left = sides.0;
@@ -79,16 +79,16 @@ module _ (s : Bool) (at : ℕ) (t u : Tree) (even : IsEven (sided s (fork at) t 
         },
       )
 
-  grown : IsGrown t new → IsGrown (sided s (fork at) t u) (sided s (settled at) new u)
+  grown : IsGrown t new → IsGrown (sided s (fork at) t u) (sided s (balanced_at at) new u)
   grown is =
       let now = changed is.even (omega (arith, is.least)) is.most in
-      let told = changed-levels (levels t) (levels u) (levels new) (levels (sided s (settled at) new u)) (levels (sided s (fork at) t u)) now.1 in
+      let told = changed-levels (levels t) (levels u) (levels new) (levels (sided s (balanced_at at) new u)) (levels (sided s (fork at) t u)) now.1 in
       record { even = now.0; least = told.0 is.least; most = told.1 is.most }
 
-  shrunk : IsShrunk t new → IsShrunk (sided s (fork at) t u) (sided s (settled at) new u)
+  shrunk : IsShrunk t new → IsShrunk (sided s (fork at) t u) (sided s (balanced_at at) new u)
   shrunk is =
       let now = changed is.even is.least (omega (arith, is.most)) in
-      let told = changed-levels (levels t) (levels u) (levels new) (levels (sided s (settled at) new u)) (levels (sided s (fork at) t u)) now.1 in
+      let told = changed-levels (levels t) (levels u) (levels new) (levels (sided s (balanced_at at) new u)) (levels (sided s (fork at) t u)) now.1 in
       record { even = now.0; least = told.2 is.least; most = told.3 is.most }
 
 same-grown : (t : Tree) → IsEven t → IsGrown t t
@@ -108,7 +108,7 @@ entered-grown order new (fork at l r) even =
     let sides = even-sides at l r even in
     by_test (order at) (entered-grown order new l sides.2) (entered-grown order new r sides.3)
   where
-    by_test : (o : Ordering) → IsGrown l (entered order new l) → IsGrown r (entered order new r) → IsGrown (fork at l r) (by_order o (settled at l (entered order new r)) (fork at l r) (settled at (entered order new l) r))
+    by_test : (o : Ordering) → IsGrown l (entered order new l) → IsGrown r (entered order new r) → IsGrown (fork at l r) (by_order o (balanced_at at l (entered order new r)) (fork at l r) (balanced_at at (entered order new l) r))
     by_test Less left right = grown false at r l even (entered order new r) right
     by_test Equal left right = same-grown (fork at l r) even
     by_test Greater left right = grown true at l r even (entered order new l) left
@@ -130,10 +130,10 @@ without_least-shrunk at (fork top a b) r even =
     shrunk true at (fork top a b) r even (without_least top a b) (without_least-shrunk top a b sides.2)
 
 -- a node goes, and its sides are merged
-pub merged-shrunk : (at : ℕ) (l r : Tree) → IsEven (fork at l r) → IsShrunk (fork at l r) (merged l r)
-unfolding merged
-merged-shrunk at l leaf even = alone-shrunk false at l even
-merged-shrunk at l (fork top a b) even =
+pub joined_sides-shrunk : (at : ℕ) (l r : Tree) → IsEven (fork at l r) → IsShrunk (fork at l r) (joined_sides l r)
+unfolding joined_sides
+joined_sides-shrunk at l leaf even = alone-shrunk false at l even
+joined_sides-shrunk at l (fork top a b) even =
     let sides = even-sides at l (fork top a b) even in
     let other = even-fork (least top a) l (fork top a b) sides.0 sides.1 sides.2 sides.3 in
     let is = shrunk false (least top a) (fork top a b) l other (without_least top a b) (without_least-shrunk top a b sides.3) in
@@ -143,31 +143,31 @@ merged-shrunk at l (fork top a b) even =
     let high = is.most in
     record { even = is.even; least = omega (arith, one, two, low); most = omega (arith, one, two, high) }
 
-pub taken-shrunk : (order : ℕ → Ordering) (t : Tree) → IsEven t → IsShrunk t (taken order t)
-unfolding taken
-taken-shrunk order leaf even = same-shrunk leaf even
-taken-shrunk order (fork at l r) even =
+pub tree_without-shrunk : (order : ℕ → Ordering) (t : Tree) → IsEven t → IsShrunk t (tree_without order t)
+unfolding tree_without
+tree_without-shrunk order leaf even = same-shrunk leaf even
+tree_without-shrunk order (fork at l r) even =
     let sides = even-sides at l r even in
-    by_test (order at) (taken-shrunk order l sides.2) (taken-shrunk order r sides.3)
+    by_test (order at) (tree_without-shrunk order l sides.2) (tree_without-shrunk order r sides.3)
   where
-    by_test : (o : Ordering) → IsShrunk l (taken order l) → IsShrunk r (taken order r) → IsShrunk (fork at l r) (by_order o (settled at l (taken order r)) (merged l r) (settled at (taken order l) r))
-    by_test Less left right = shrunk false at r l even (taken order r) right
-    by_test Equal left right = merged-shrunk at l r even
-    by_test Greater left right = shrunk true at l r even (taken order l) left
+    by_test : (o : Ordering) → IsShrunk l (tree_without order l) → IsShrunk r (tree_without order r) → IsShrunk (fork at l r) (by_order o (balanced_at at l (tree_without order r)) (joined_sides l r) (balanced_at at (tree_without order l) r))
+    by_test Less left right = shrunk false at r l even (tree_without order r) right
+    by_test Equal left right = joined_sides-shrunk at l r even
+    by_test Greater left right = shrunk true at l r even (tree_without order l) left
 
 -- the places in order
 pub in_order-least : (at : ℕ) (l r : Tree) → least at l ∷ in_order (without_least at l r) ≡ in_order l ++ at ∷ in_order r
 unfolding in_order least without_least
 in_order-least at leaf r = refl
 in_order-least at (fork top a b) r =
-    ap (λ xs. least top a ∷ xs) (in_order-settled at (without_least top a b) r)
+    ap (λ xs. least top a ∷ xs) (in_order-balanced_at at (without_least top a b) r)
     ∙ ap (λ xs. xs ++ at ∷ in_order r) (in_order-least top a b)
 
-pub in_order-merged : (l r : Tree) → in_order (merged l r) ≡ in_order l ++ in_order r
-unfolding in_order merged
-in_order-merged l leaf = sym (append-nil (in_order l))
-in_order-merged l (fork top a b) =
-    in_order-settled (least top a) l (without_least top a b) ∙ ap (λ xs. in_order l ++ xs) (in_order-least top a b)
+pub in_order-joined_sides : (l r : Tree) → in_order (joined_sides l r) ≡ in_order l ++ in_order r
+unfolding in_order joined_sides
+in_order-joined_sides l leaf = sym (append-nil (in_order l))
+in_order-joined_sides l (fork top a b) =
+    in_order-balanced_at (least top a) l (without_least top a b) ∙ ap (λ xs. in_order l ++ xs) (in_order-least top a b)
 
 -- Where a place is put in, unless one of an equal content is there.
 pub data IsEntered (order : ℕ → Ordering) (new : ℕ) (old now : List ℕ) : Type 0 where
@@ -180,45 +180,45 @@ entered-places order new leaf = put [] [] refl refl
 entered-places order new (fork at l r) = by_test (order at) refl (entered-places order new l) (entered-places order new r)
   where
     by_test : (o : Ordering) → order at ≡ o → IsEntered order new (in_order l) (in_order (entered order new l)) → IsEntered order new (in_order r) (in_order (entered order new r))
-        → IsEntered order new (in_order l ++ at ∷ in_order r) (in_order (by_order o (settled at l (entered order new r)) (fork at l r) (settled at (entered order new l) r)))
+        → IsEntered order new (in_order l ++ at ∷ in_order r) (in_order (by_order o (balanced_at at l (entered order new r)) (fork at l r) (balanced_at at (entered order new l) r)))
     by_test Less e left (put earlier later was is) =
         put (in_order l ++ at ∷ earlier) later
         (ap (λ xs. in_order l ++ at ∷ xs) was ∙ sym (append_assoc (in_order l) (at ∷ earlier) later))
-        (in_order-settled at l (entered order new r) ∙ ap (λ xs. in_order l ++ at ∷ xs) is ∙ sym (append_assoc (in_order l) (at ∷ earlier) (new ∷ later)))
+        (in_order-balanced_at at l (entered order new r) ∙ ap (λ xs. in_order l ++ at ∷ xs) is ∙ sym (append_assoc (in_order l) (at ∷ earlier) (new ∷ later)))
     by_test Less e left (there found earlier later equal was is) =
         there found (in_order l ++ at ∷ earlier) later equal
         (ap (λ xs. in_order l ++ at ∷ xs) was ∙ sym (append_assoc (in_order l) (at ∷ earlier) (found ∷ later)))
-        (in_order-settled at l (entered order new r) ∙ ap (λ xs. in_order l ++ at ∷ xs) is)
+        (in_order-balanced_at at l (entered order new r) ∙ ap (λ xs. in_order l ++ at ∷ xs) is)
     by_test Equal e left right = there at (in_order l) (in_order r) e refl refl
     by_test Greater e (put earlier later was is) right =
         put earlier (later ++ at ∷ in_order r)
         (ap (λ xs. xs ++ at ∷ in_order r) was ∙ append_assoc earlier later (at ∷ in_order r))
-        (in_order-settled at (entered order new l) r ∙ ap (λ xs. xs ++ at ∷ in_order r) is ∙ append_assoc earlier (new ∷ later) (at ∷ in_order r))
+        (in_order-balanced_at at (entered order new l) r ∙ ap (λ xs. xs ++ at ∷ in_order r) is ∙ append_assoc earlier (new ∷ later) (at ∷ in_order r))
     by_test Greater e (there found earlier later equal was is) right =
         there found earlier (later ++ at ∷ in_order r) equal
         (ap (λ xs. xs ++ at ∷ in_order r) was ∙ append_assoc earlier (found ∷ later) (at ∷ in_order r))
-        (in_order-settled at (entered order new l) r ∙ ap (λ xs. xs ++ at ∷ in_order r) is)
+        (in_order-balanced_at at (entered order new l) r ∙ ap (λ xs. xs ++ at ∷ in_order r) is)
 
 -- Where a place of an equal content is taken out, if the way down leads to one.
 pub data IsTaken (order : ℕ → Ordering) (old now : List ℕ) : Type 0 where
   gone : (at : ℕ) (earlier later : List ℕ) → order at ≡ Equal → old ≡ earlier ++ at ∷ later → now ≡ earlier ++ later → IsTaken order old now
   kept : now ≡ old → IsTaken order old now
 
-pub taken-places : (order : ℕ → Ordering) (t : Tree) → IsTaken order (in_order t) (in_order (taken order t))
-unfolding taken in_order
-taken-places order leaf = kept refl
-taken-places order (fork at l r) = by_test (order at) refl (taken-places order l) (taken-places order r)
+pub tree_without-places : (order : ℕ → Ordering) (t : Tree) → IsTaken order (in_order t) (in_order (tree_without order t))
+unfolding tree_without in_order
+tree_without-places order leaf = kept refl
+tree_without-places order (fork at l r) = by_test (order at) refl (tree_without-places order l) (tree_without-places order r)
   where
-    by_test : (o : Ordering) → order at ≡ o → IsTaken order (in_order l) (in_order (taken order l)) → IsTaken order (in_order r) (in_order (taken order r))
-        → IsTaken order (in_order l ++ at ∷ in_order r) (in_order (by_order o (settled at l (taken order r)) (merged l r) (settled at (taken order l) r)))
+    by_test : (o : Ordering) → order at ≡ o → IsTaken order (in_order l) (in_order (tree_without order l)) → IsTaken order (in_order r) (in_order (tree_without order r))
+        → IsTaken order (in_order l ++ at ∷ in_order r) (in_order (by_order o (balanced_at at l (tree_without order r)) (joined_sides l r) (balanced_at at (tree_without order l) r)))
     by_test Less e left (gone found earlier later equal was is) =
         gone found (in_order l ++ at ∷ earlier) later equal
         (ap (λ xs. in_order l ++ at ∷ xs) was ∙ sym (append_assoc (in_order l) (at ∷ earlier) (found ∷ later)))
-        (in_order-settled at l (taken order r) ∙ ap (λ xs. in_order l ++ at ∷ xs) is ∙ sym (append_assoc (in_order l) (at ∷ earlier) later))
-    by_test Less e left (kept is) = kept (in_order-settled at l (taken order r) ∙ ap (λ xs. in_order l ++ at ∷ xs) is)
-    by_test Equal e left right = gone at (in_order l) (in_order r) e refl (in_order-merged l r)
+        (in_order-balanced_at at l (tree_without order r) ∙ ap (λ xs. in_order l ++ at ∷ xs) is ∙ sym (append_assoc (in_order l) (at ∷ earlier) later))
+    by_test Less e left (kept is) = kept (in_order-balanced_at at l (tree_without order r) ∙ ap (λ xs. in_order l ++ at ∷ xs) is)
+    by_test Equal e left right = gone at (in_order l) (in_order r) e refl (in_order-joined_sides l r)
     by_test Greater e (gone found earlier later equal was is) right =
         gone found earlier (later ++ at ∷ in_order r) equal
         (ap (λ xs. xs ++ at ∷ in_order r) was ∙ append_assoc earlier (found ∷ later) (at ∷ in_order r))
-        (in_order-settled at (taken order l) r ∙ ap (λ xs. xs ++ at ∷ in_order r) is ∙ append_assoc earlier later (at ∷ in_order r))
-    by_test Greater e (kept is) right = kept (in_order-settled at (taken order l) r ∙ ap (λ xs. xs ++ at ∷ in_order r) is)
+        (in_order-balanced_at at (tree_without order l) r ∙ ap (λ xs. xs ++ at ∷ in_order r) is ∙ append_assoc earlier later (at ∷ in_order r))
+    by_test Greater e (kept is) right = kept (in_order-balanced_at at (tree_without order l) r ∙ ap (λ xs. xs ++ at ∷ in_order r) is)

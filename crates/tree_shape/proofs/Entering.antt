@@ -4,9 +4,9 @@ use Rattle.std.specs.declared.cmp.Ordering.{Ordering}
 use Rattle.tree_shape.specs.declared.Node.{Node}
 use Rattle.tree_shape.specs.declared.search.Entered.TheVariants.{Root}
 use Rattle.tree_shape.specs.Shape.{Tree, leaf, fork, Holds, IsAway, IsJoinable, IsHung, none, blank, with_sides}
-use Rattle.tree_shape.specs.Turns.{settled}
+use Rattle.tree_shape.specs.Turns.{balanced_at}
 use Rattle.tree_shape.specs.Changes.{found, entered}
-use Rattle.tree_shape.specs.Searches.{IsSearched, IsGrowing, IsEntry}
+use Rattle.tree_shape.specs.Searches.{IsSearched, IsGrowing, IsEnteredAt}
 use Rattle.tree_shape.proofs.Holding.{holds-joined}
 use Rattle.tree_shape.specs.Sides.{sided, far, near, AreSidesBy, AreReadyBy}
 use Rattle.tree_shape.proofs.Sided.{levels-sided}
@@ -22,13 +22,13 @@ entered-leaf : (order : ℕ → Ordering) (new : ℕ) → entered order new leaf
 unfolding entered
 entered-leaf order new = refl
 
-entered-side : (s : Bool) (order : ℕ → Ordering) (new at : ℕ) (t u : Tree) → order at ≡ toward s → entered order new (sided s (fork at) t u) ≡ sided s (settled at) (entered order new t) u
+entered-side : (s : Bool) (order : ℕ → Ordering) (new at : ℕ) (t u : Tree) → order at ≡ toward s → entered order new (sided s (fork at) t u) ≡ sided s (balanced_at at) (entered order new t) u
 unfolding entered
 entered-side true order new at t u e = rw e refl
 entered-side false order new at t u e = rw e refl
 
 pub enter-none : (nodes : List Node) (frames : List ℕ) (pages : List (List ℕ)) (link new : ℕ) (order : ℕ → Ordering) → link ≡ none → (t : Tree) → IsGrowing nodes frames pages link new t
-    → IsEntry nodes (slice_set nodes new (with_sides nodes none none)) order new t (Root new)
+    → IsEnteredAt nodes (slice_set nodes new (with_sides nodes none none)) order new t (Root new)
 unfolding Holds IsAway
 enter-none nodes frames pages link new order e leaf is = (
   found-leaf order,
@@ -112,8 +112,8 @@ module _ (s : Bool) (nodes : List Node) (frames : List ℕ) (pages : List (List 
         let more = (entered-grown order new t (even-sided s link t u is.sound.even).2).most in
         ready-by s mid root link (near s node) grown u sides-grown (omega (arith, all, low, more)) (omega (arith, all, low))
 
-    pub entry-grown : (last : List Node) (result : ℕ) → order link ≡ toward s → found order t ≡ None → IsHung mid last result (sided s (settled link) grown u) (sided s (fork link) grown u)
-        → IsEntry nodes last order new (sided s (fork link) t u) (Root result)
+    pub entry-grown : (last : List Node) (result : ℕ) → order link ≡ toward s → found order t ≡ None → IsHung mid last result (sided s (balanced_at link) grown u) (sided s (fork link) grown u)
+        → IsEnteredAt nodes last order new (sided s (fork link) t u) (Root result)
     entry-grown last result e lacks turned = (
       (let found_is = found-side s order link t u e in rw found_is lacks),
       record {

@@ -6,9 +6,9 @@ use Rattle.tree_shape.specs.declared.Node.{Node}
 use Rattle.tree_shape.specs.declared.search.Entered.{Entered}
 use Rattle.tree_shape.specs.declared.search.Entered.TheVariants.{There, Root}
 use Rattle.tree_shape.specs.Shape.{Tree, fork, IsHung, none, blank}
-use Rattle.tree_shape.specs.Turns.{settled}
+use Rattle.tree_shape.specs.Turns.{balanced_at}
 use Rattle.tree_shape.specs.Changes.{entered}
-use Rattle.tree_shape.specs.Searches.{IsGrowing, IsEntry}
+use Rattle.tree_shape.specs.Searches.{IsGrowing, IsEnteredAt}
 use Rattle.tree_shape.specs.Sides.{sided, far, near, AreSidesBy, AreReadyBy}
 use Rattle.tree_shape.proofs.Standing.{with-sided}
 use Rattle.tree_shape.proofs.Searching.{toward, found-side, found-here}
@@ -19,11 +19,11 @@ module _ (nodes : List Node) (frames : List ℕ) (pages : List (List ℕ)) (link
   node = slice_index_or nodes link blank
 
   abbrev Told : ℕ → List Node → Entered → Type 0
-  Told at now e = (t : Tree) → IsGrowing nodes frames pages at new t → IsEntry nodes now order new t e
+  Told at now e = (t : Tree) → IsGrowing nodes frames pages at new t → IsEnteredAt nodes now order new t e
 
-  by_side : (s : Bool) (now : List Node) (e : Entered) → ((t u : Tree) → IsGrowing nodes frames pages link new (sided s (fork link) t u) → IsEntry nodes now order new (sided s (fork link) t u) e) → Told link now e
+  by_side : (s : Bool) (now : List Node) (e : Entered) → ((t u : Tree) → IsGrowing nodes frames pages link new (sided s (fork link) t u) → IsEnteredAt nodes now order new (sided s (fork link) t u) e) → Told link now e
   by_side s now e told t is =
-      with-sided s nodes link t (λ (t : Tree). IsGrowing nodes frames pages link new t → IsEntry nodes now order new t e) is.sound.holds some told is
+      with-sided s nodes link t (λ (t : Tree). IsGrowing nodes frames pages link new t → IsEnteredAt nodes now order new t e) is.sound.holds some told is
 
   pub here-there : order link ≡ Equal → Told link nodes (There link)
   here-there equal = by_side true nodes (There link) (λ l r is. (found-here order link l r equal, refl))
@@ -40,7 +40,7 @@ module _ (nodes : List Node) (frames : List ℕ) (pages : List (List ℕ)) (link
     side-ready t u is root inner = ready-grown s nodes frames pages link new t u is order mid root (inner t (growing-side s nodes frames pages link new t u is)).1
 
     pub side-root : order link ≡ toward s → (last : List Node) (root result : ℕ) → Told (far s node) mid (Root root)
-        → ((t u : Tree) → AreSidesBy s mid root link (near s node) t u → IsHung mid last result (sided s (settled link) t u) (sided s (fork link) t u)) → Told link last (Root result)
+        → ((t u : Tree) → AreSidesBy s mid root link (near s node) t u → IsHung mid last result (sided s (balanced_at link) t u) (sided s (fork link) t u)) → Told link last (Root result)
     side-root e last root result inner turn = by_side s last (Root result) (λ t u is.
         let was = inner t (growing-side s nodes frames pages link new t u is) in
         entry-grown s nodes frames pages link new t u is order mid root was.1 last result e was.0

@@ -1,11 +1,11 @@
 -- What stays where only the places of some tree are written.
 use Rattle.std.proofs.Common.{ℕ, ◌≤◌, List, slice_index_or, ◌∙◌, arith}
 use Rattle.tree_shape.specs.declared.Node.{Node}
-use Rattle.tree_shape.specs.Shape.{Tree, leaf, fork, Holds, IsAway, AreApart, IsKept, blank}
+use Rattle.tree_shape.specs.Shape.{Tree, leaf, fork, Holds, IsAway, AreApart, IsShapeKept, blank}
 use Rattle.tree_shape.proofs.Times.{times, away-times, times-away}
 
 -- a tree that is apart stays
-pub holds-frame : (old new : List Node) (w : Tree) (link : ℕ) (t : Tree) → IsKept old new w → AreApart t w → Holds old link t → Holds new link t
+pub holds-frame : (old new : List Node) (w : Tree) (link : ℕ) (t : Tree) → IsShapeKept old new w → AreApart t w → Holds old link t → Holds new link t
 unfolding Holds AreApart
 holds-frame old new w link leaf kept apart holds = holds
 holds-frame old new w link (fork at l r) kept apart holds =
@@ -25,7 +25,7 @@ pub away-within : (i : ℕ) (t u : Tree) → times i u ≤ times i t → IsAway 
 away-within i t u le away = let no = away-times i t away in times-away i u (omega (arith, no, le))
 
 -- two changes, one after the other
-pub kept-after : (old mid new : List Node) (v w all : Tree) → IsKept old mid v → IsKept mid new w → ((i : ℕ) → IsAway i all → IsAway i v) → ((i : ℕ) → IsAway i all → IsAway i w) → IsKept old new all
+pub kept-after : (old mid new : List Node) (v w all : Tree) → IsShapeKept old mid v → IsShapeKept mid new w → ((i : ℕ) → IsAway i all → IsAway i v) → ((i : ℕ) → IsAway i all → IsAway i w) → IsShapeKept old new all
 kept-after old mid new v w all first second inner outer =
     let one = first.size in
     let two = second.size in

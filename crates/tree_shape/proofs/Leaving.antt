@@ -5,10 +5,10 @@ use Rattle.std.proofs.lemmas.List.Elements.{All-append, All-cons}
 use Rattle.std.specs.declared.cmp.Ordering.{Ordering}
 use Rattle.std.specs.declared.cmp.Ordering.TheVariants.{Less, Equal, Greater}
 use Rattle.tree_shape.specs.Shape.{Tree, leaf, fork, in_order}
-use Rattle.tree_shape.specs.Turns.{settled}
-use Rattle.tree_shape.specs.Changes.{by_order, found, merged, taken}
-use Rattle.tree_shape.proofs.Turning.{in_order-settled}
-use Rattle.tree_shape.proofs.Changing.{in_order-merged}
+use Rattle.tree_shape.specs.Turns.{balanced_at}
+use Rattle.tree_shape.specs.Changes.{by_order, found, joined_sides, tree_without}
+use Rattle.tree_shape.proofs.Turning.{in_order-balanced_at}
+use Rattle.tree_shape.proofs.Changing.{in_order-joined_sides}
 use Rattle.tree_shape.proofs.Order.{IsBefore, IsBehind, IsAligned}
 
 -- a place goes from between the earlier ones and the later ones
@@ -21,34 +21,34 @@ none-some out found lacks is = cc
 some-same : (at out : ℕ) → Some at ≡ Some out → at ≡ out
 some-same at out is = cc
 
-pub taken-leaving : (order : ℕ → Ordering) (out : ℕ) (t : Tree) → IsAligned order t → found order t ≡ Some out → IsLeaving order out (in_order t) (in_order (taken order t))
-unfolding IsAligned taken found in_order
-taken-leaving order out leaf aligned is = absurd (none-some out None refl is)
-taken-leaving order out (fork at l r) aligned is =
-    by_test (order at) refl is (λ e. taken-leaving order out l aligned.2 e) (λ e. taken-leaving order out r aligned.3 e)
+pub tree_without-leaving : (order : ℕ → Ordering) (out : ℕ) (t : Tree) → IsAligned order t → found order t ≡ Some out → IsLeaving order out (in_order t) (in_order (tree_without order t))
+unfolding IsAligned tree_without found in_order
+tree_without-leaving order out leaf aligned is = absurd (none-some out None refl is)
+tree_without-leaving order out (fork at l r) aligned is =
+    by_test (order at) refl is (λ e. tree_without-leaving order out l aligned.2 e) (λ e. tree_without-leaving order out r aligned.3 e)
   where
-    on_right : All (IsBefore order) (in_order l) → order at ≡ Less → IsLeaving order out (in_order r) (in_order (taken order r))
-        → IsLeaving order out (in_order l ++ at ∷ in_order r) (in_order (settled at l (taken order r)))
+    on_right : All (IsBefore order) (in_order l) → order at ≡ Less → IsLeaving order out (in_order r) (in_order (tree_without order r))
+        → IsLeaving order out (in_order l ++ at ∷ in_order r) (in_order (balanced_at at l (tree_without order r)))
     on_right lefts less (leaving earlier later before behind equal was now) =
         leaving (in_order l ++ at ∷ earlier) later
         (All-append (IsBefore order) (in_order l) (at ∷ earlier) lefts (All-cons (IsBefore order) at earlier less before)) behind equal
         (ap (λ xs. in_order l ++ at ∷ xs) was ∙ sym (append_assoc (in_order l) (at ∷ earlier) (out ∷ later)))
-        (in_order-settled at l (taken order r) ∙ ap (λ xs. in_order l ++ at ∷ xs) now ∙ sym (append_assoc (in_order l) (at ∷ earlier) later))
+        (in_order-balanced_at at l (tree_without order r) ∙ ap (λ xs. in_order l ++ at ∷ xs) now ∙ sym (append_assoc (in_order l) (at ∷ earlier) later))
 
-    on_left : All (IsBehind order) (in_order r) → order at ≡ Greater → IsLeaving order out (in_order l) (in_order (taken order l))
-        → IsLeaving order out (in_order l ++ at ∷ in_order r) (in_order (settled at (taken order l) r))
+    on_left : All (IsBehind order) (in_order r) → order at ≡ Greater → IsLeaving order out (in_order l) (in_order (tree_without order l))
+        → IsLeaving order out (in_order l ++ at ∷ in_order r) (in_order (balanced_at at (tree_without order l) r))
     on_left rights greater (leaving earlier later before behind equal was now) =
         leaving earlier (later ++ at ∷ in_order r) before
         (All-append (IsBehind order) later (at ∷ in_order r) behind (All-cons (IsBehind order) at (in_order r) greater rights)) equal
         (ap (λ xs. xs ++ at ∷ in_order r) was ∙ append_assoc earlier (out ∷ later) (at ∷ in_order r))
-        (in_order-settled at (taken order l) r ∙ ap (λ xs. xs ++ at ∷ in_order r) now ∙ append_assoc earlier later (at ∷ in_order r))
+        (in_order-balanced_at at (tree_without order l) r ∙ ap (λ xs. xs ++ at ∷ in_order r) now ∙ append_assoc earlier later (at ∷ in_order r))
 
     by_test : (o : Ordering) → order at ≡ o → by_order o (found order r) (Some at) (found order l) ≡ Some out
-        → (found order l ≡ Some out → IsLeaving order out (in_order l) (in_order (taken order l)))
-        → (found order r ≡ Some out → IsLeaving order out (in_order r) (in_order (taken order r)))
-        → IsLeaving order out (in_order l ++ at ∷ in_order r) (in_order (by_order o (settled at l (taken order r)) (merged l r) (settled at (taken order l) r)))
+        → (found order l ≡ Some out → IsLeaving order out (in_order l) (in_order (tree_without order l)))
+        → (found order r ≡ Some out → IsLeaving order out (in_order r) (in_order (tree_without order r)))
+        → IsLeaving order out (in_order l ++ at ∷ in_order r) (in_order (by_order o (balanced_at at l (tree_without order r)) (joined_sides l r) (balanced_at at (tree_without order l) r)))
     by_test Less e is left right = on_right (aligned.0 e) e (right is)
     by_test Equal e is left right =
         let same = some-same at out is in
-        leaving (in_order l) (in_order r) (aligned.4 e) (aligned.5 e) (ap order (sym same) ∙ e) (ap (λ n. in_order l ++ n ∷ in_order r) same) (in_order-merged l r)
+        leaving (in_order l) (in_order r) (aligned.4 e) (aligned.5 e) (ap order (sym same) ∙ e) (ap (λ n. in_order l ++ n ∷ in_order r) same) (in_order-joined_sides l r)
     by_test Greater e is left right = on_left (aligned.1 e) e (left is)

@@ -3,22 +3,22 @@ use Rattle.std.proofs.Common.{◌≡◌, ◌≢◌, ℕ, ◌+◌, ◌<◌, ◌�
 use Rattle.tree_shape.specs.declared.Node.{Node}
 use Rattle.tree_shape.specs.declared.removal.Popped.{Popped}
 use Rattle.tree_shape.specs.Shape.{Tree, leaf, fork, Holds, AreSides, AreReady, IsHung, none, blank}
-use Rattle.tree_shape.specs.Turns.{settled}
-use Rattle.tree_shape.specs.Changes.{least, without_least, merged}
+use Rattle.tree_shape.specs.Turns.{balanced_at}
+use Rattle.tree_shape.specs.Changes.{least, without_least, joined_sides}
 use Rattle.tree_shape.specs.Removals.{IsShrinking, AreMerging, IsPopped}
 use Rattle.tree_shape.proofs.Changing.{without_least-shrunk}
 use Rattle.tree_shape.proofs.Opening.{with-node, kept-same}
 use Rattle.tree_shape.proofs.Times.{here, times, times-fork, times-once, apart-times}
-use Rattle.tree_shape.proofs.Places.{times-without, times-merged}
+use Rattle.tree_shape.proofs.Places.{times-without, times-joined_sides}
 use Rattle.tree_shape.proofs.Keeping.{holds-frame, away-within, kept-after}
 
-merged-leaf : (l : Tree) → merged l leaf ≡ l
-unfolding merged
-merged-leaf l = refl
+joined_sides-leaf : (l : Tree) → joined_sides l leaf ≡ l
+unfolding joined_sides
+joined_sides-leaf l = refl
 
-merged-fork : (l : Tree) (top : ℕ) (a b : Tree) → merged l (fork top a b) ≡ settled (least top a) l (without_least top a b)
-unfolding merged
-merged-fork l top a b = refl
+joined_sides-fork : (l : Tree) (top : ℕ) (a b : Tree) → joined_sides l (fork top a b) ≡ balanced_at (least top a) l (without_least top a b)
+unfolding joined_sides
+joined_sides-fork l top a b = refl
 
 -- the first place is a node's
 holds-least : (nodes : List Node) (link at : ℕ) (l r : Tree) → Holds nodes link (fork at l r) → (least at l < length nodes) × (least at l ≢ none)
@@ -27,9 +27,9 @@ holds-least nodes link at leaf r holds = (holds.2, holds.1)
 holds-least nodes link at (fork top a b) r holds = holds-least nodes (slice_index_or nodes at blank).left top a b holds.4
 
 -- where the right side is empty
-pub merge-none : (nodes : List Node) (left right : ℕ) → right ≡ none → (l r : Tree) → AreMerging nodes left right l r → IsHung nodes nodes left (merged l r) (merged l r)
+pub merge-none : (nodes : List Node) (left right : ℕ) → right ≡ none → (l r : Tree) → AreMerging nodes left right l r → IsHung nodes nodes left (joined_sides l r) (joined_sides l r)
 unfolding Holds
-merge-none nodes left right e l leaf is = subst (λ (t : Tree). IsHung nodes nodes left t t) (sym (merged-leaf l)) (record { holds = is.lefts.sound.holds; kept = kept-same nodes l })
+merge-none nodes left right e l leaf is = subst (λ (t : Tree). IsHung nodes nodes left t t) (sym (joined_sides-leaf l)) (record { holds = is.lefts.sound.holds; kept = kept-same nodes l })
 merge-none nodes left right e l (fork top a b) is =
     let same = is.rights.sound.holds.0 in
     let some = is.rights.sound.holds.1 in
@@ -75,15 +75,15 @@ module _ (nodes mid : List Node) (left right : ℕ) (popped : Popped) (inner : (
           once = times-once (fork popped.first l rest) (λ i. let one = both-once i in let most = apart-times l (fork right a b) are.apart are.lefts.once are.rights.once i in omega (arith, one, most));
         }
 
-    pub merge-hung : (last : List Node) (result : ℕ) → IsHung mid last result (settled popped.first l rest) (fork popped.first l rest) → IsHung nodes last result (merged l (fork right a b)) (merged l (fork right a b))
+    pub merge-hung : (last : List Node) (result : ℕ) → IsHung mid last result (balanced_at popped.first l rest) (fork popped.first l rest) → IsHung nodes last result (joined_sides l (fork right a b)) (joined_sides l (fork right a b))
     merge-hung last result turned =
         let was = inner a b are.rights in
-        let held = subst (λ (n : ℕ). Holds last result (settled n l rest)) was.0 turned.holds in
+        let held = subst (λ (n : ℕ). Holds last result (balanced_at n l rest)) was.0 turned.holds in
         record {
-          holds = subst (λ (t : Tree). Holds last result t) (sym (merged-fork l right a b)) held;
-          kept = kept-after nodes mid last (fork right a b) (fork popped.first l rest) (merged l (fork right a b)) was.1.kept turned.kept
-              (λ i. away-within i (merged l (fork right a b)) (fork right a b) (let all = times-merged i l (fork right a b) in omega (arith, all)))
-              (λ i. away-within i (merged l (fork right a b)) (fork popped.first l rest) (let all = times-merged i l (fork right a b) in let one = both-once i in omega (arith, all, one)));
+          holds = subst (λ (t : Tree). Holds last result t) (sym (joined_sides-fork l right a b)) held;
+          kept = kept-after nodes mid last (fork right a b) (fork popped.first l rest) (joined_sides l (fork right a b)) was.1.kept turned.kept
+              (λ i. away-within i (joined_sides l (fork right a b)) (fork right a b) (let all = times-joined_sides i l (fork right a b) in omega (arith, all)))
+              (λ i. away-within i (joined_sides l (fork right a b)) (fork popped.first l rest) (let all = times-joined_sides i l (fork right a b) in let one = both-once i in omega (arith, all, one)));
         }
 
   pub merge-ready : IsMerger nodes left right → AreReady mid left popped.first popped.root
@@ -93,8 +93,8 @@ module _ (nodes mid : List Node) (left right : ℕ) (popped : Popped) (inner : (
       let low = o.are.rights.sound.low in
       record { l = o.l; r = without_least right o.a o.b; are = merge-sides o.l o.a o.b o.are; low_left = o.are.lefts.sound.low; low_right = omega (arith, less, low) }
 
-  pub merge-all : right ≢ none → (last : List Node) (result : ℕ) → ((l r : Tree) → AreSides mid left popped.first popped.root l r → IsHung mid last result (settled popped.first l r) (fork popped.first l r))
-      → (l r : Tree) → AreMerging nodes left right l r → IsHung nodes last result (merged l r) (merged l r)
+  pub merge-all : right ≢ none → (last : List Node) (result : ℕ) → ((l r : Tree) → AreSides mid left popped.first popped.root l r → IsHung mid last result (balanced_at popped.first l r) (fork popped.first l r))
+      → (l r : Tree) → AreMerging nodes left right l r → IsHung nodes last result (joined_sides l r) (joined_sides l r)
   merge-all some last result turn l r are =
-      with-node nodes right r (λ (t : Tree). AreMerging nodes left right l t → IsHung nodes last result (merged l t) (merged l t)) are.rights.sound.holds some
+      with-node nodes right r (λ (t : Tree). AreMerging nodes left right l t → IsHung nodes last result (joined_sides l t) (joined_sides l t)) are.rights.sound.holds some
       (λ a b held. λ now. merge-hung l a b now last result (turn l (without_least right a b) (merge-sides l a b now))) are

@@ -3,7 +3,7 @@ use Rattle.std.proofs.Common.{◌≡◌, ◌≢◌, ℕ, ◌<◌, ◌==◌, true
 use Rattle.std.proofs.lemmas.Bool.Decides.{nat_tests}
 use Rattle.std.proofs.lemmas.List.{get_or-set_other, length-set}
 use Rattle.tree_shape.specs.declared.Node.{Node}
-use Rattle.tree_shape.specs.Shape.{Tree, leaf, fork, levels, Holds, IsAway, IsJoinable, IsKept, none, blank, height_at}
+use Rattle.tree_shape.specs.Shape.{Tree, leaf, fork, levels, Holds, IsAway, IsJoinable, IsShapeKept, none, blank, height_at}
 use Rattle.tree_shape.proofs.Holding.{holds-link, holds-height}
 
 -- what hangs at a node's link is the node with two sides
@@ -24,11 +24,11 @@ joinable nodes left at right l r inside lefts rights low other =
     record { inside = inside; lefts = holds-link nodes left l lefts; rights = holds-link nodes right r rights; low_left = omega (arith, one, low); low_right = omega (arith, two, other) }
 
 -- a place of the tree is written
-pub kept-write : (old new : List Node) (t : Tree) (place : ℕ) (node : Node) → IsKept old new t → ((other : ℕ) → IsAway other t → other ≢ place) → IsKept old (slice_set new place node) t
+pub kept-write : (old new : List Node) (t : Tree) (place : ℕ) (node : Node) → IsShapeKept old new t → ((other : ℕ) → IsAway other t → other ≢ place) → IsShapeKept old (slice_set new place node) t
 kept-write old new t place node kept away =
     let size = length-set new place node in
     let same = kept.size in
     record { size = omega (arith, size, same); others = λ other apart. let ne : other ≢ place = away other apart in get_or-set_other new place other node blank ne ∙ kept.others other apart }
 
-pub kept-same : (nodes : List Node) (t : Tree) → IsKept nodes nodes t
+pub kept-same : (nodes : List Node) (t : Tree) → IsShapeKept nodes nodes t
 kept-same nodes t = record { size = refl; others = λ other apart. refl }

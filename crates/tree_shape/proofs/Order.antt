@@ -6,9 +6,9 @@ use Rattle.std.proofs.lemmas.List.Elements.{All-append, All-cons, All-nil}
 use Rattle.std.specs.declared.cmp.Ordering.{Ordering}
 use Rattle.std.specs.declared.cmp.Ordering.TheVariants.{Less, Equal, Greater}
 use Rattle.tree_shape.specs.Shape.{Tree, leaf, fork, in_order}
-use Rattle.tree_shape.specs.Turns.{settled}
+use Rattle.tree_shape.specs.Turns.{balanced_at}
 use Rattle.tree_shape.specs.Changes.{by_order, found, entered}
-use Rattle.tree_shape.proofs.Turning.{in_order-settled}
+use Rattle.tree_shape.proofs.Turning.{in_order-balanced_at}
 
 abbrev pub IsBefore : (ℕ → Ordering) → ℕ → Type 0
 IsBefore order at = order at ≡ Less
@@ -38,25 +38,25 @@ entered-between order new (fork at l r) aligned lacks =
     by_test (order at) refl lacks (λ e. entered-between order new l aligned.2 e) (λ e. entered-between order new r aligned.3 e)
   where
     on_right : All (IsBefore order) (in_order l) → order at ≡ Less → IsBetween order new (in_order r) (in_order (entered order new r))
-        → IsBetween order new (in_order l ++ at ∷ in_order r) (in_order (settled at l (entered order new r)))
+        → IsBetween order new (in_order l ++ at ∷ in_order r) (in_order (balanced_at at l (entered order new r)))
     on_right lefts less (between earlier later before behind was is) =
         between (in_order l ++ at ∷ earlier) later
         (All-append (IsBefore order) (in_order l) (at ∷ earlier) lefts (All-cons (IsBefore order) at earlier less before)) behind
         (ap (λ xs. in_order l ++ at ∷ xs) was ∙ sym (append_assoc (in_order l) (at ∷ earlier) later))
-        (in_order-settled at l (entered order new r) ∙ ap (λ xs. in_order l ++ at ∷ xs) is ∙ sym (append_assoc (in_order l) (at ∷ earlier) (new ∷ later)))
+        (in_order-balanced_at at l (entered order new r) ∙ ap (λ xs. in_order l ++ at ∷ xs) is ∙ sym (append_assoc (in_order l) (at ∷ earlier) (new ∷ later)))
 
     on_left : All (IsBehind order) (in_order r) → order at ≡ Greater → IsBetween order new (in_order l) (in_order (entered order new l))
-        → IsBetween order new (in_order l ++ at ∷ in_order r) (in_order (settled at (entered order new l) r))
+        → IsBetween order new (in_order l ++ at ∷ in_order r) (in_order (balanced_at at (entered order new l) r))
     on_left rights greater (between earlier later before behind was is) =
         between earlier (later ++ at ∷ in_order r) before
         (All-append (IsBehind order) later (at ∷ in_order r) behind (All-cons (IsBehind order) at (in_order r) greater rights))
         (ap (λ xs. xs ++ at ∷ in_order r) was ∙ append_assoc earlier later (at ∷ in_order r))
-        (in_order-settled at (entered order new l) r ∙ ap (λ xs. xs ++ at ∷ in_order r) is ∙ append_assoc earlier (new ∷ later) (at ∷ in_order r))
+        (in_order-balanced_at at (entered order new l) r ∙ ap (λ xs. xs ++ at ∷ in_order r) is ∙ append_assoc earlier (new ∷ later) (at ∷ in_order r))
 
     by_test : (o : Ordering) → order at ≡ o → by_order o (found order r) (Some at) (found order l) ≡ None
         → (found order l ≡ None → IsBetween order new (in_order l) (in_order (entered order new l)))
         → (found order r ≡ None → IsBetween order new (in_order r) (in_order (entered order new r)))
-        → IsBetween order new (in_order l ++ at ∷ in_order r) (in_order (by_order o (settled at l (entered order new r)) (fork at l r) (settled at (entered order new l) r)))
+        → IsBetween order new (in_order l ++ at ∷ in_order r) (in_order (by_order o (balanced_at at l (entered order new r)) (fork at l r) (balanced_at at (entered order new l) r)))
     by_test Less e lacks left right = on_right (aligned.0 e) e (right lacks)
     by_test Equal e lacks left right = absurd (some-none at (Some at) refl lacks)
     by_test Greater e lacks left right = on_left (aligned.1 e) e (left lacks)

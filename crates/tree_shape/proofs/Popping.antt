@@ -3,7 +3,7 @@ use Rattle.std.proofs.Common.{true, ◌≡◌, ◌≢◌, ℕ, ◌≤◌, List, 
 use Rattle.tree_shape.specs.declared.Node.{Node}
 use Rattle.tree_shape.specs.declared.removal.Popped.{Popped}
 use Rattle.tree_shape.specs.Shape.{Tree, leaf, fork, Holds, AreSides, AreReady, IsHung, none, blank}
-use Rattle.tree_shape.specs.Turns.{settled}
+use Rattle.tree_shape.specs.Turns.{balanced_at}
 use Rattle.tree_shape.specs.Changes.{least, without_least}
 use Rattle.tree_shape.specs.Removals.{IsShrinking, IsPopped}
 use Rattle.tree_shape.proofs.Changing.{without_least-shrunk}
@@ -12,7 +12,7 @@ use Rattle.tree_shape.proofs.Times.{times}
 use Rattle.tree_shape.proofs.Places.{times-without}
 use Rattle.tree_shape.proofs.Shrinking.{shrinking, shrunk-sides, shrunk-ready, shrunk-hung}
 
-without-fork : (at top : ℕ) (a b r : Tree) → without_least at (fork top a b) r ≡ settled at (without_least top a b) r
+without-fork : (at top : ℕ) (a b r : Tree) → without_least at (fork top a b) r ≡ balanced_at at (without_least top a b) r
 unfolding without_least
 without-fork at top a b r = refl
 
@@ -62,7 +62,7 @@ module _ (nodes : List Node) (link : ℕ) where
         let shrunk = without_least-shrunk node.left o.a o.b (popped-inner o).sound.even in
         shrunk-ready true nodes link (fork node.left o.a o.b) o.r o.is mid popped.root (without_least node.left o.a o.b) is.1 (without-few node.left o.a o.b) shrunk.most
 
-    popped-node : (last : List Node) (root : ℕ) → ((l r : Tree) → AreSides mid popped.root link node.right l r → IsHung mid last root (settled link l r) (fork link l r))
+    popped-node : (last : List Node) (root : ℕ) → ((l r : Tree) → AreSides mid popped.root link node.right l r → IsHung mid last root (balanced_at link l r) (fork link l r))
         → (a b r : Tree) → IsShrinking nodes link (fork link (fork node.left a b) r) → IsPopped nodes last link (fork node.left a b) r (record { first = popped.first; root = root })
     popped-node last root turn a b r is =
         let under = shrinking true nodes link (fork node.left a b) r is in
@@ -74,7 +74,7 @@ module _ (nodes : List Node) (link : ℕ) where
         let hung = shrunk-hung true nodes link (fork node.left a b) r is mid popped.root m was.1 few less last root (turn m r sides) in
         (was.0 ∙ sym (least-fork link node.left a b), subst (λ (t : Tree). IsHung nodes last root t (fork link (fork node.left a b) r)) (sym (without-fork link node.left a b r)) hung)
 
-    pub popped-all : node.left ≢ none → (last : List Node) (root : ℕ) → ((l r : Tree) → AreSides mid popped.root link node.right l r → IsHung mid last root (settled link l r) (fork link l r))
+    pub popped-all : node.left ≢ none → (last : List Node) (root : ℕ) → ((l r : Tree) → AreSides mid popped.root link node.right l r → IsHung mid last root (balanced_at link l r) (fork link l r))
         → (l r : Tree) → IsShrinking nodes link (fork link l r) → IsPopped nodes last link l r (record { first = popped.first; root = root })
     unfolding Holds
     popped-all some last root turn l r is =

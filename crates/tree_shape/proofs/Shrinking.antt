@@ -2,7 +2,7 @@
 use Rattle.std.proofs.Common.{◌≢◌, ℕ, ◌+◌, ◌<◌, ◌≤◌, Bool, List, length, slice_index_or, arith}
 use Rattle.tree_shape.specs.declared.Node.{Node}
 use Rattle.tree_shape.specs.Shape.{Tree, fork, levels, Holds, IsHung, none, blank}
-use Rattle.tree_shape.specs.Turns.{settled}
+use Rattle.tree_shape.specs.Turns.{balanced_at}
 use Rattle.tree_shape.specs.Removals.{IsShrinking}
 use Rattle.tree_shape.specs.Sides.{sided, far, near, AreSidesBy, AreReadyBy}
 use Rattle.tree_shape.proofs.Sided.{levels-sided}
@@ -46,7 +46,7 @@ module _ (s : Bool) (nodes : List Node) (link : ℕ) (t u : Tree) (is : IsShrink
         let low = is.sound.low in
         ready-by s mid root link (near s node) m u shrunk-sides (omega (arith, all, low, less)) (omega (arith, all, low))
 
-    pub shrunk-hung : (last : List Node) (result : ℕ) → IsHung mid last result (sided s (settled link) m u) (sided s (fork link) m u) → IsHung nodes last result (sided s (settled link) m u) (sided s (fork link) t u)
+    pub shrunk-hung : (last : List Node) (result : ℕ) → IsHung mid last result (sided s (balanced_at link) m u) (sided s (fork link) m u) → IsHung nodes last result (sided s (balanced_at link) m u) (sided s (fork link) t u)
     shrunk-hung last result turned = record {
       holds = turned.holds;
       kept = kept-after nodes mid last t (sided s (fork link) m u) (sided s (fork link) t u) hung.kept turned.kept

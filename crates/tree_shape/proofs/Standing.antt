@@ -1,7 +1,7 @@
 -- What stands at two links and between them, told of a far and a near side.
 use Rattle.std.proofs.Common.{◌≡◌, ◌≢◌, ℕ, ◌+◌, ◌<◌, ◌≤◌, Bool, true, false, List, length, slice_index_or, slice_set, sym, subst, arith}
 use Rattle.tree_shape.specs.declared.Node.{Node}
-use Rattle.tree_shape.specs.Shape.{Tree, fork, levels, Holds, AreSides, IsKept, none, blank, height_at, with_sides}
+use Rattle.tree_shape.specs.Shape.{Tree, fork, levels, Holds, AreSides, IsShapeKept, none, blank, height_at, with_sides}
 use Rattle.tree_shape.proofs.Holding.{holds-height, holds-kept, holds-joined}
 use Rattle.tree_shape.specs.Sides.{sided, far, near, IsJoinableBy, AreSidesBy, AreReadyBy}
 use Rattle.tree_shape.proofs.Opening.{with-node, height-some, joinable, kept-write}
@@ -84,7 +84,7 @@ joinable-by true nodes x at y t u inside one two low other = joinable nodes x at
 joinable-by false nodes x at y t u inside one two low other = joinable nodes y at x u t inside two one other low
 
 -- a place is written that stands in the tree
-pub wrote : (old new : List Node) (t : Tree) (place : ℕ) (node : Node) → 1 ≤ times place t → IsKept old new t → IsKept old (slice_set new place node) t
+pub wrote : (old new : List Node) (t : Tree) (place : ℕ) (node : Node) → 1 ≤ times place t → IsShapeKept old new t → IsShapeKept old (slice_set new place node) t
 wrote old new t place node stands kept = kept-write old new t place node kept (λ other away e.
     let nought = away-times other t away in
     let is : 1 ≤ times other t = subst (λ (n : ℕ). 1 ≤ times n t) (sym e) stands in

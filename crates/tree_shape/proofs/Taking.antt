@@ -7,30 +7,30 @@ use Rattle.tree_shape.specs.declared.removal.Taken.{Taken}
 use Rattle.tree_shape.specs.declared.removal.Removed.{Removed}
 use Rattle.tree_shape.specs.declared.removal.Removed.TheVariants.{Nowhere, Stays, Out}
 use Rattle.tree_shape.specs.Shape.{Tree, leaf, fork, Holds, IsOnce, IsHung, none, blank}
-use Rattle.tree_shape.specs.Turns.{settled}
-use Rattle.tree_shape.specs.Changes.{merged, taken}
+use Rattle.tree_shape.specs.Turns.{balanced_at}
+use Rattle.tree_shape.specs.Changes.{joined_sides, tree_without}
 use Rattle.tree_shape.specs.Searches.{IsSearched}
-use Rattle.tree_shape.specs.Removals.{IsTaking, AreMerging, IsOut}
+use Rattle.tree_shape.specs.Removals.{IsTaking, AreMerging, IsRemoval}
 use Rattle.tree_shape.specs.Sides.{sided, far, near, AreSidesBy, AreReadyBy}
-use Rattle.tree_shape.proofs.Changing.{taken-shrunk}
+use Rattle.tree_shape.proofs.Changing.{tree_without-shrunk}
 use Rattle.tree_shape.proofs.Opening.{with-node, kept-same}
 use Rattle.tree_shape.proofs.Standing.{with-sided}
 use Rattle.tree_shape.proofs.Times.{times-fork}
-use Rattle.tree_shape.proofs.Places.{times-merged, times-taken}
+use Rattle.tree_shape.proofs.Places.{times-joined_sides, times-tree_without}
 use Rattle.tree_shape.proofs.Keeping.{away-within, kept-after}
 use Rattle.tree_shape.proofs.Searching.{toward, found-leaf, found-side, found-here, framed-side}
 use Rattle.tree_shape.proofs.Shrinking.{shrinking, shrunk-sides, shrunk-ready, shrunk-hung}
 
-taken-side : (s : Bool) (order : ℕ → Ordering) (at : ℕ) (t u : Tree) → order at ≡ toward s → taken order (sided s (fork at) t u) ≡ sided s (settled at) (taken order t) u
-unfolding taken
-taken-side true order at t u e = rw e refl
-taken-side false order at t u e = rw e refl
+tree_without-side : (s : Bool) (order : ℕ → Ordering) (at : ℕ) (t u : Tree) → order at ≡ toward s → tree_without order (sided s (fork at) t u) ≡ sided s (balanced_at at) (tree_without order t) u
+unfolding tree_without
+tree_without-side true order at t u e = rw e refl
+tree_without-side false order at t u e = rw e refl
 
-taken-here : (order : ℕ → Ordering) (at : ℕ) (l r : Tree) → order at ≡ Equal → taken order (fork at l r) ≡ merged l r
-unfolding taken
-taken-here order at l r e = rw e refl
+tree_without-here : (order : ℕ → Ordering) (at : ℕ) (l r : Tree) → order at ≡ Equal → tree_without order (fork at l r) ≡ joined_sides l r
+unfolding tree_without
+tree_without-here order at l r e = rw e refl
 
-pub take-none : (nodes : List Node) (frames : List ℕ) (pages : List (List ℕ)) (link : ℕ) (order : ℕ → Ordering) (alone : ℕ → Bool) → link ≡ none → (t : Tree) → IsTaking nodes frames pages link t → IsOut nodes nodes order alone t Nowhere
+pub take-none : (nodes : List Node) (frames : List ℕ) (pages : List (List ℕ)) (link : ℕ) (order : ℕ → Ordering) (alone : ℕ → Bool) → link ≡ none → (t : Tree) → IsTaking nodes frames pages link t → IsRemoval nodes nodes order alone t Nowhere
 unfolding Holds
 take-none nodes frames pages link order alone e leaf is = (found-leaf order, refl)
 take-none nodes frames pages link order alone e (fork at l r) is =
@@ -71,26 +71,26 @@ module _ (nodes : List Node) (frames : List ℕ) (pages : List (List ℕ)) (link
   node = slice_index_or nodes link blank
 
   abbrev Told : ℕ → List Node → Removed → Type 0
-  Told at now e = (t : Tree) → IsTaking nodes frames pages at t → IsOut nodes now order alone t e
+  Told at now e = (t : Tree) → IsTaking nodes frames pages at t → IsRemoval nodes now order alone t e
 
-  by_side : (s : Bool) (now : List Node) (e : Removed) → ((t u : Tree) → IsTaking nodes frames pages link (sided s (fork link) t u) → IsOut nodes now order alone (sided s (fork link) t u) e) → Told link now e
+  by_side : (s : Bool) (now : List Node) (e : Removed) → ((t u : Tree) → IsTaking nodes frames pages link (sided s (fork link) t u) → IsRemoval nodes now order alone (sided s (fork link) t u) e) → Told link now e
   by_side s now e told t is =
-      with-sided s nodes link t (λ (t : Tree). IsTaking nodes frames pages link t → IsOut nodes now order alone t e) is.shrinks.sound.holds some told is
+      with-sided s nodes link t (λ (t : Tree). IsTaking nodes frames pages link t → IsRemoval nodes now order alone t e) is.shrinks.sound.holds some told is
 
   pub here-stays : order link ≡ Equal → alone link ≡ false → Told link nodes (Stays link)
   here-stays equal other = by_side true nodes (Stays link) (λ l r is. (found-here order link l r equal, other, refl))
 
-  pub here-some : order link ≡ Equal → alone link ≡ true → (last : List Node) (result : ℕ) → ((l r : Tree) → AreMerging nodes node.left node.right l r → IsHung nodes last result (merged l r) (merged l r))
+  pub here-some : order link ≡ Equal → alone link ≡ true → (last : List Node) (result : ℕ) → ((l r : Tree) → AreMerging nodes node.left node.right l r → IsHung nodes last result (joined_sides l r) (joined_sides l r))
       → Told link last (Out (record { place = link; root = result }))
   here-some equal is_alone last result merge = by_side true last (Out (record { place = link; root = result })) (λ l r is.
       let hung = merge l r (taking-both nodes frames pages link l r is) in (
         found-here order link l r equal,
         is_alone,
-        subst (λ (t : Tree). IsHung nodes last result t (fork link l r)) (sym (taken-here order link l r equal)) (record {
+        subst (λ (t : Tree). IsHung nodes last result t (fork link l r)) (sym (tree_without-here order link l r equal)) (record {
           holds = hung.holds;
-          kept = kept-after nodes nodes last (merged l r) (merged l r) (fork link l r) (kept-same nodes (merged l r)) hung.kept
-              (λ i. away-within i (fork link l r) (merged l r) (let one = times-merged i l r in let all = times-fork i link l r in omega (arith, one, all)))
-              (λ i. away-within i (fork link l r) (merged l r) (let one = times-merged i l r in let all = times-fork i link l r in omega (arith, one, all)));
+          kept = kept-after nodes nodes last (joined_sides l r) (joined_sides l r) (fork link l r) (kept-same nodes (joined_sides l r)) hung.kept
+              (λ i. away-within i (fork link l r) (joined_sides l r) (let one = times-joined_sides i l r in let all = times-fork i link l r in omega (arith, one, all)))
+              (λ i. away-within i (fork link l r) (joined_sides l r) (let one = times-joined_sides i l r in let all = times-fork i link l r in omega (arith, one, all)));
         }),
       ))
 
@@ -112,19 +112,19 @@ module _ (nodes : List Node) (frames : List ℕ) (pages : List (List ℕ)) (link
     side-ready t u is out inner =
         let side = taking-side s nodes frames pages link t u is in
         let was = inner t side in
-        shrunk-ready s nodes link t u is.shrinks mid out.root (taken order t) was.2 (λ i. times-taken order i t) (taken-shrunk order t side.shrinks.sound.even).most
+        shrunk-ready s nodes link t u is.shrinks mid out.root (tree_without order t) was.2 (λ i. times-tree_without order i t) (tree_without-shrunk order t side.shrinks.sound.even).most
 
     pub side-some : order link ≡ toward s → (last : List Node) (out : Taken) (result : ℕ) → Told (far s node) mid (Out out)
-        → ((t u : Tree) → AreSidesBy s mid out.root link (near s node) t u → IsHung mid last result (sided s (settled link) t u) (sided s (fork link) t u)) → Told link last (Out (record { place = out.place; root = result }))
+        → ((t u : Tree) → AreSidesBy s mid out.root link (near s node) t u → IsHung mid last result (sided s (balanced_at link) t u) (sided s (fork link) t u)) → Told link last (Out (record { place = out.place; root = result }))
     side-some e last out result inner turn = by_side s last (Out (record { place = out.place; root = result })) (λ t u is.
         let side = taking-side s nodes frames pages link t u is in
         let was = inner t side in
-        let few = λ (i : ℕ). times-taken order i t in
-        let low = (taken-shrunk order t side.shrinks.sound.even).most in
+        let few = λ (i : ℕ). times-tree_without order i t in
+        let low = (tree_without-shrunk order t side.shrinks.sound.even).most in
         let found_is = found-side s order link t u e in (
           rw found_is was.0,
           was.1,
-          subst (λ (w : Tree). IsHung nodes last result w (sided s (fork link) t u)) (sym (taken-side s order link t u e))
-              (shrunk-hung s nodes link t u is.shrinks mid out.root (taken order t) was.2 few low last result
-              (turn (taken order t) u (shrunk-sides s nodes link t u is.shrinks mid out.root (taken order t) was.2 few low))),
+          subst (λ (w : Tree). IsHung nodes last result w (sided s (fork link) t u)) (sym (tree_without-side s order link t u e))
+              (shrunk-hung s nodes link t u is.shrinks mid out.root (tree_without order t) was.2 few low last result
+              (turn (tree_without order t) u (shrunk-sides s nodes link t u is.shrinks mid out.root (tree_without order t) was.2 few low))),
         ))

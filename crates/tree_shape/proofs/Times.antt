@@ -5,9 +5,9 @@ use Rattle.std.proofs.lemmas.Bool.Decides.{nat_tests}
 use Rattle.std.proofs.lemmas.List.Sums.{sum_by-append, sum_by-cons}
 use Rattle.std.specs.declared.cmp.Ordering.{Ordering}
 use Rattle.tree_shape.specs.Shape.{Tree, leaf, fork, in_order, IsAway, AreApart, IsOnce}
-use Rattle.tree_shape.specs.Turns.{settled}
+use Rattle.tree_shape.specs.Turns.{balanced_at}
 use Rattle.tree_shape.specs.Changes.{entered}
-use Rattle.tree_shape.proofs.Turning.{in_order-settled}
+use Rattle.tree_shape.proofs.Turning.{in_order-balanced_at}
 use Rattle.tree_shape.proofs.Changing.{IsEntered, put, there, entered-places}
 
 abbrev pub here : ℕ → ℕ → ℕ

@@ -1,7 +1,7 @@
 -- What is settled has the same places in the same order, is even, and has the levels of its higher side or one more.
 use Rattle.std.proofs.Common.{◌≡◌, ℕ, suc, ◌+◌, ◌<◌, ◌≤◌, nat_lt, Bool, true, false, if◌then◌else◌, List, [], ◌∷◌, ◌++◌, max, refl, sym, ap, ◌∙◌, arith, append_assoc}
 use Rattle.tree_shape.specs.Shape.{Tree, leaf, fork, levels, in_order, IsEven}
-use Rattle.tree_shape.specs.Turns.{left_up, right_up, settled}
+use Rattle.tree_shape.specs.Turns.{left_up, right_up, balanced_at}
 use Rattle.tree_shape.specs.Sides.{sided, up_by}
 use Rattle.tree_shape.proofs.Sided.{levels-sided}
 
@@ -65,9 +65,9 @@ in_order-right_up at l (fork side (fork top b c) d) = by_test (nat_lt (levels d)
     by_test true = turn-back (in_order l) (in_order b) (in_order c) (in_order d) at top side
     by_test false = append_assoc (in_order l) (at ∷ (in_order b ++ top ∷ in_order c)) (side ∷ in_order d)
 
-pub in_order-settled : (at : ℕ) (l r : Tree) → in_order (settled at l r) ≡ in_order l ++ at ∷ in_order r
-unfolding in_order settled
-in_order-settled at l r = by_test (nat_lt (levels r + 1) (levels l)) (nat_lt (levels l + 1) (levels r))
+pub in_order-balanced_at : (at : ℕ) (l r : Tree) → in_order (balanced_at at l r) ≡ in_order l ++ at ∷ in_order r
+unfolding in_order balanced_at
+in_order-balanced_at at l r = by_test (nat_lt (levels r + 1) (levels l)) (nat_lt (levels l + 1) (levels r))
   where
     by_test : (t u : Bool) → in_order (if t then left_up at l r else (if u then right_up at l r else fork at l r)) ≡ in_order l ++ at ∷ in_order r
     by_test true u = in_order-left_up at l r
@@ -152,9 +152,9 @@ up-level s at t o event eveno e =
     by_test side a b false test even e = once-level s at side a o eveno b even e (grind (arith, test))
 
 -- a node between two even sides that differ by two levels at most
-pub settled-level : (at : ℕ) (l r : Tree) → IsEven l → IsEven r → levels l ≤ levels r + 2 → levels r ≤ levels l + 2 → IsLevel (max (levels l) (levels r)) (settled at l r)
-unfolding settled
-settled-level at l r evenl evenr left right = by_test (nat_lt (levels r + 1) (levels l)) (nat_lt (levels l + 1) (levels r)) refl refl
+pub balanced_at-level : (at : ℕ) (l r : Tree) → IsEven l → IsEven r → levels l ≤ levels r + 2 → levels r ≤ levels l + 2 → IsLevel (max (levels l) (levels r)) (balanced_at at l r)
+unfolding balanced_at
+balanced_at-level at l r evenl evenr left right = by_test (nat_lt (levels r + 1) (levels l)) (nat_lt (levels l + 1) (levels r)) refl refl
   where
     by_test : (t u : Bool) → nat_lt (levels r + 1) (levels l) ≡ t → nat_lt (levels l + 1) (levels r) ≡ u → IsLevel (max (levels l) (levels r)) (if t then left_up at l r else (if u then right_up at l r else fork at l r))
     by_test true u test other =
@@ -171,10 +171,10 @@ settled-level at l r evenl evenr left right = by_test (nat_lt (levels r + 1) (le
         sided-level true (max (levels l) (levels r)) at l r few less evenl evenr (omega arith) (omega arith)
 
 -- the same told of either side
-pub settled-sided : (s : Bool) (at : ℕ) (t u : Tree) → IsEven t → IsEven u → levels t ≤ levels u + 2 → levels u ≤ levels t + 2 → IsLevel (max (levels t) (levels u)) (sided s (settled at) t u)
-settled-sided true at t u event evenu few less = settled-level at t u event evenu few less
-settled-sided false at t u event evenu few less =
-    let is = settled-level at u t evenu event less few in
+pub balanced_at-sided : (s : Bool) (at : ℕ) (t u : Tree) → IsEven t → IsEven u → levels t ≤ levels u + 2 → levels u ≤ levels t + 2 → IsLevel (max (levels t) (levels u)) (sided s (balanced_at at) t u)
+balanced_at-sided true at t u event evenu few less = balanced_at-level at t u event evenu few less
+balanced_at-sided false at t u event evenu few less =
+    let is = balanced_at-level at u t evenu event less few in
     let least = is.least in
     let low = is.low in
     record { even = is.even; least = omega (arith, least); low = omega (arith, low) }

@@ -3,7 +3,7 @@ use Rattle.std.specs.Prelude.{ℕ, Option, None, Some}
 use Rattle.std.specs.declared.cmp.Ordering.{Ordering}
 use Rattle.std.specs.declared.cmp.Ordering.TheVariants.{Less, Equal, Greater}
 use Rattle.tree_shape.specs.Shape.{Tree, leaf, fork}
-use Rattle.tree_shape.specs.Turns.{settled}
+use Rattle.tree_shape.specs.Turns.{balanced_at}
 
 abbrev pub by_order : {A : Type 0} → Ordering → A → A → A → A
 by_order Less less equal greater = less
@@ -18,7 +18,7 @@ found order (fork at l r) = by_order (order at) (found order r) (Some at) (found
 -- a place that is put in; the order tells of each place how its content stands to the new one, and where it is equal nothing changes
 unfoldable pub entered : (ℕ → Ordering) → ℕ → Tree → Tree
 entered order new leaf = fork new leaf leaf
-entered order new (fork at l r) = by_order (order at) (settled at l (entered order new r)) (fork at l r) (settled at (entered order new l) r)
+entered order new (fork at l r) = by_order (order at) (balanced_at at l (entered order new r)) (fork at l r) (balanced_at at (entered order new l) r)
 
 -- the first place of a node's tree, by the node and its left side
 unfoldable pub least : ℕ → Tree → ℕ
@@ -28,14 +28,14 @@ least at (fork top l r) = least top l
 -- what is left of a node's tree without its first place
 unfoldable pub without_least : ℕ → Tree → Tree → Tree
 without_least at leaf r = r
-without_least at (fork top a b) r = settled at (without_least top a b) r
+without_least at (fork top a b) r = balanced_at at (without_least top a b) r
 
 -- two sides whose node is taken out
-unfoldable pub merged : Tree → Tree → Tree
-merged l leaf = l
-merged l (fork at a b) = settled (least at a) l (without_least at a b)
+unfoldable pub joined_sides : Tree → Tree → Tree
+joined_sides l leaf = l
+joined_sides l (fork at a b) = balanced_at (least at a) l (without_least at a b)
 
 -- the place of a content that is taken out
-unfoldable pub taken : (ℕ → Ordering) → Tree → Tree
-taken order leaf = leaf
-taken order (fork at l r) = by_order (order at) (settled at l (taken order r)) (merged l r) (settled at (taken order l) r)
+unfoldable pub tree_without : (ℕ → Ordering) → Tree → Tree
+tree_without order leaf = leaf
+tree_without order (fork at l r) = by_order (order at) (balanced_at at l (tree_without order r)) (joined_sides l r) (balanced_at at (tree_without order l) r)

@@ -6,12 +6,12 @@ use Rattle.tree_shape.specs.declared.removal.Popped.{Popped}
 use Rattle.tree_shape.specs.declared.removal.Removed.{Removed}
 use Rattle.tree_shape.specs.declared.removal.Removed.TheVariants.{Nowhere, Stays, Out}
 use Rattle.tree_shape.specs.Shape.{Tree, fork, IsOnce, AreApart, IsHung}
-use Rattle.tree_shape.specs.Changes.{found, least, without_least, taken}
-use Rattle.tree_shape.specs.Searches.{AreFramed, IsSound}
+use Rattle.tree_shape.specs.Changes.{found, least, without_least, tree_without}
+use Rattle.tree_shape.specs.Searches.{AreFramed, IsSearchSound}
 
 -- what hangs at a link has each place once
 pub record IsShrinking (nodes : List Node) (link : ℕ) (t : Tree) : Type 0 where
-  pub sound : IsSound nodes link t
+  pub sound : IsSearchSound nodes link t
   pub once : IsOnce t
 
 -- a content can be looked for, and its place taken out
@@ -34,7 +34,7 @@ abbrev pub is_alone : List ℕ → List ℕ → ℕ → ℕ → Bool
 is_alone frames sizes frame at = (slice_index_or sizes at 0 == 1) && (slice_index_or frames at 0 == frame)
 
 -- no such content was there, or its place stays, and nothing changed; or its place is out, as it had the frame alone
-abbrev pub IsOut : List Node → List Node → (ℕ → Ordering) → (ℕ → Bool) → Tree → Removed → Type 0
-IsOut old now order alone t Nowhere = (found order t ≡ None) × (now ≡ old)
-IsOut old now order alone t (Stays at) = (found order t ≡ Some at) × (alone at ≡ false) × (now ≡ old)
-IsOut old now order alone t (Out out) = (found order t ≡ Some out.place) × (alone out.place ≡ true) × IsHung old now out.root (taken order t) t
+abbrev pub IsRemoval : List Node → List Node → (ℕ → Ordering) → (ℕ → Bool) → Tree → Removed → Type 0
+IsRemoval old now order alone t Nowhere = (found order t ≡ None) × (now ≡ old)
+IsRemoval old now order alone t (Stays at) = (found order t ≡ Some at) × (alone at ≡ false) × (now ≡ old)
+IsRemoval old now order alone t (Out out) = (found order t ≡ Some out.place) × (alone out.place ≡ true) × IsHung old now out.root (tree_without order t) t

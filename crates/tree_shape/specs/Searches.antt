@@ -25,20 +25,20 @@ pub record IsSearched (nodes : List Node) (frames : List ℕ) (pages : List (Lis
   pub framed : AreFramed pages frames t
 
 -- what hangs at a link is even, has each place once, and fewer levels than a link can tell
-pub record IsSound (nodes : List Node) (link : ℕ) (t : Tree) : Type 0 where
+pub record IsSearchSound (nodes : List Node) (link : ℕ) (t : Tree) : Type 0 where
   pub holds : Holds nodes link t
   pub even : IsEven t
   pub low : levels t < none
 
 -- a place can be put into what hangs at a link
 pub record IsGrowing (nodes : List Node) (frames : List ℕ) (pages : List (List ℕ)) (link new : ℕ) (t : Tree) : Type 0 where
-  pub sound : IsSound nodes link t
+  pub sound : IsSearchSound nodes link t
   pub framed : AreFramed pages frames t
   pub once : IsOnce (fork new t leaf)
   pub inside : new < length nodes
   pub some : new ≢ none
 
 -- an equal content was there, and nothing changed; or the place is put in
-abbrev pub IsEntry : List Node → List Node → (ℕ → Ordering) → ℕ → Tree → Entered → Type 0
-IsEntry old now order new t (There at) = (found order t ≡ Some at) × (now ≡ old)
-IsEntry old now order new t (Root root) = (found order t ≡ None) × IsHung old now root (entered order new t) (fork new t leaf)
+abbrev pub IsEnteredAt : List Node → List Node → (ℕ → Ordering) → ℕ → Tree → Entered → Type 0
+IsEnteredAt old now order new t (There at) = (found order t ≡ Some at) × (now ≡ old)
+IsEnteredAt old now order new t (Root root) = (found order t ≡ None) × IsHung old now root (entered order new t) (fork new t leaf)

@@ -87,11 +87,11 @@ pub record IsJoinable (nodes : List Node) (left at right : ℕ) : Type 0 where
   pub low_right : height_at nodes right < none
 
 -- only places of a tree are written, and none comes or goes
-pub record IsKept (old new : List Node) (t : Tree) : Type 0 where
+pub record IsShapeKept (old new : List Node) (t : Tree) : Type 0 where
   pub size : length new ≡ length old
   pub others : (place : ℕ) → IsAway place t → slice_index_or new place blank ≡ slice_index_or old place blank
 
 -- what hangs at a link is a tree, where only places of another were written
 pub record IsHung (old new : List Node) (link : ℕ) (t written : Tree) : Type 0 where
   pub holds : Holds new link t
-  pub kept : IsKept old new written
+  pub kept : IsShapeKept old new written

@@ -17,6 +17,6 @@ right_up at l (fork side (fork top b c) d) =
     if nat_lt (levels d) (levels (fork top b c)) then fork top (fork at l b) (fork side c d) else fork side (fork at l (fork top b c)) d
 
 -- a node between two sides
-unfoldable pub settled : ℕ → Tree → Tree → Tree
-settled at l r =
+unfoldable pub balanced_at : ℕ → Tree → Tree → Tree
+balanced_at at l r =
     if nat_lt (levels r + 1) (levels l) then left_up at l r else (if nat_lt (levels l + 1) (levels r) then right_up at l r else fork at l r)

@@ -3,7 +3,7 @@
 
 ghost use Rattle.std.specs.Prelude.{◌≡◌, ◌<◌, length, slice_set};
 ghost use Rattle.tree_shape.specs.Shape.{Tree, fork, IsLink, AreSides, AreReady, IsJoinable, IsHung, height_at, with_sides};
-ghost use Rattle.tree_shape.specs.Turns.{settled};
+ghost use Rattle.tree_shape.specs.Turns.{balanced_at};
 ghost use Rattle.tree_shape.specs.Sides.{sided, up_by, IsJoinableBy, AreSidesBy, AreReadyBy};
 
 pub mod removal;
@@ -101,7 +101,7 @@ fn side_up(nodes: &mut [Node], left: bool, up: u32, at: u32, other: u32) -> u32
 fn settle(nodes: &mut [Node], left: u32, at: u32, right: u32) -> u32
     requires { AreReady nodes.old left at right }
     ensures { (l r : Tree) → AreSides nodes.old left at right l r
-        → IsHung nodes.old nodes.new result (settled at l r) (fork at l r) }
+        → IsHung nodes.old nodes.new result (balanced_at at l r) (fork at l r) }
 {
     let lefts = height(nodes, left);
     let rights = height(nodes, right);
@@ -119,7 +119,7 @@ fn settle(nodes: &mut [Node], left: u32, at: u32, right: u32) -> u32
 fn settle_by(nodes: &mut [Node], left: bool, far: u32, at: u32, near: u32) -> u32
     requires { AreReadyBy left nodes.old far at near }
     ensures { (t o : Tree) → AreSidesBy left nodes.old far at near t o
-        → IsHung nodes.old nodes.new result (sided left (settled at) t o) (sided left (fork at) t o) }
+        → IsHung nodes.old nodes.new result (sided left (balanced_at at) t o) (sided left (fork at) t o) }
 {
     if left {
         settle(nodes, far, at, near)

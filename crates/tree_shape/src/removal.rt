@@ -1,9 +1,9 @@
 //! Taking a place out of the tree, by one descent with one look at the arena a level.
 ghost use Rattle.std.specs.Prelude.{◌≡◌, ◌+◌, ◌<◌, ◌≤◌, ℕ, length};
 ghost use Rattle.tree_shape.specs.Shape.{Tree, fork, IsHung, height_at};
-ghost use Rattle.tree_shape.specs.Changes.{merged};
+ghost use Rattle.tree_shape.specs.Changes.{joined_sides};
 ghost use Rattle.tree_shape.specs.Searches.{order_to};
-ghost use Rattle.tree_shape.specs.Removals.{IsShrinking, IsTaking, AreMerging, IsPopped, IsOut, is_alone};
+ghost use Rattle.tree_shape.specs.Removals.{IsShrinking, IsTaking, AreMerging, IsPopped, IsRemoval, is_alone};
 
 use crate::search::order_at;
 use crate::{NONE, Node, settle};
@@ -51,7 +51,7 @@ fn pop_least(nodes: &mut [Node], link: u32) -> Popped
 /// Makes one tree of the two sides of a node that is taken out. Tells its link.
 fn merge(nodes: &mut [Node], left: u32, right: u32) -> u32
     requires { (l : Tree) × ((r : Tree) × AreMerging nodes.old left right l r) }
-    ensures { (l r : Tree) → AreMerging nodes.old left right l r → IsHung nodes.old nodes.new result (merged l r) (merged l r) }
+    ensures { (l r : Tree) → AreMerging nodes.old left right l r → IsHung nodes.old nodes.new result (joined_sides l r) (joined_sides l r) }
 {
     if right == NONE {
         return left;
@@ -94,7 +94,7 @@ pub fn take_out(
     requires frame { frame < length arena.old.pages }
     requires sized { length sizes.now ≡ length frames.now }
     ensures out { (t : Tree) → IsTaking nodes.old frames.now arena.old.pages link t
-        → IsOut nodes.old nodes.new (order_to arena.old.pages frames.now frame) (is_alone frames.now sizes.now frame) t result }
+        → IsRemoval nodes.old nodes.new (order_to arena.old.pages frames.now frame) (is_alone frames.now sizes.now frame) t result }
     ensures pages { arena.new.pages ≡ arena.old.pages }
     ensures few { arena.new.steps ≤ arena.old.steps + height_at nodes.old link }
 {

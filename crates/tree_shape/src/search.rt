@@ -2,7 +2,7 @@
 ghost use Rattle.std.specs.Prelude.{◌≡◌, ◌+◌, ◌<◌, ◌≤◌, ℕ, length, slice_index_or};
 ghost use Rattle.tree_shape.specs.Shape.{Tree, height_at};
 ghost use Rattle.tree_shape.specs.Changes.{found};
-ghost use Rattle.tree_shape.specs.Searches.{order_to, IsSearched, IsGrowing, IsEntry};
+ghost use Rattle.tree_shape.specs.Searches.{order_to, IsSearched, IsGrowing, IsEnteredAt};
 
 use crate::{NONE, Node, join, settle_by};
 use frame_arena::Counted;
@@ -73,7 +73,7 @@ pub fn enter(
     requires inside { new < length frames.now }
     requires framed { slice_index_or frames.now new 0 < length arena.old.pages }
     ensures entry { (t : Tree) → IsGrowing nodes.old frames.now arena.old.pages link new t
-        → IsEntry nodes.old nodes.new (order_to arena.old.pages frames.now (slice_index_or frames.now new 0)) new t result }
+        → IsEnteredAt nodes.old nodes.new (order_to arena.old.pages frames.now (slice_index_or frames.now new 0)) new t result }
     ensures pages { arena.new.pages ≡ arena.old.pages }
     ensures few { arena.new.steps ≤ arena.old.steps + height_at nodes.old link }
 {

@@ -38,7 +38,7 @@ use Rattle.verifier_kinds.specs.declared.description.StackSlot.{StackSlot}
 use Rattle.verifier_kinds.specs.declared.description.StackSlot.TheVariants.{Kept, Bytes}
 use Rattle.verifier_kinds.specs.declared.description.Description.{Description}
 use Rattle.verifier_kinds.specs.Kinds.{constant, factor, full, range_in, IsNormal, IsNormalKind, IsWithin}
-use Rattle.verifier_kinds.specs.Descriptions.{register_of, slot_of, settled, number_bytes, with_kind, with_slot, with_unset}
+use Rattle.verifier_kinds.specs.Descriptions.{register_of, slot_of, with_answer_known, number_bytes, with_kind, with_slot, with_unset}
 use Rattle.verifier_kinds.specs.Arithmetic.{arith_by}
 use Rattle.verifier_kinds.specs.Wide.{raised, raised_kind, arith_by_at}
 use Rattle.verifier_kinds.specs.Refinement.{refined}
@@ -560,9 +560,9 @@ told_below extra to dst d e (Some r) (Some s) n h =
     target_below extra to (with_kind d dst (Scalar r)) (with_kind e dst (Scalar s)) (with_kind_below extra d e dst (Scalar r) (Scalar s) (r, refl, h) (alike extra d e n)).below
 told_below extra to dst d e (Some r) None n h = absurd h
 
-checked_below : (extra to call : ℕ) (kind : Kind) (d e : Description) → IsNarrower extra d e → AreTargetsUnder extra (target to (Some (settled call kind d))) (target to (Some (settled call (raised_kind extra kind) e)))
+checked_below : (extra to call : ℕ) (kind : Kind) (d e : Description) → IsNarrower extra d e → AreTargetsUnder extra (target to (Some (with_answer_known call kind d))) (target to (Some (with_answer_known call (raised_kind extra kind) e)))
 checked_below extra to call kind d e n =
-    target_below extra to (settled call kind d) (settled call (raised_kind extra kind) e) (settled_below extra call kind (raised_kind extra kind) d e (kind_under_raised extra kind) (alike extra d e n)).below
+    target_below extra to (with_answer_known call kind d) (with_answer_known call (raised_kind extra kind) e) (settled_below extra call kind (raised_kind extra kind) d e (kind_under_raised extra kind) (alike extra d e n)).below
 
 way_below : (extra : ℕ) (comparison : Comparison) (width : Width) (taken : Bool) (insn : Insn) (to : ℕ) (d e : Description) (x y : Compared) → IsNarrower extra d e → IsComparedBelow x y → AreTargetsUnder extra (target to (on_way comparison width taken insn d x)) (target to (on_way_at extra comparison width taken insn e y))
 way_below extra comparison width taken insn to d e x (Numbers c b) n (a, f, is, within, also, p, q) =

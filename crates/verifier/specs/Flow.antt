@@ -34,7 +34,7 @@ use Rattle.verifier_kinds.specs.declared.description.StackSlot.{StackSlot}
 use Rattle.verifier_kinds.specs.declared.description.StackSlot.TheVariants.{Kept, Bytes}
 use Rattle.verifier_kinds.specs.declared.description.Description.{Description}
 use Rattle.verifier_kinds.specs.Kinds.{constant, factor, full, normal, offsets_in, shape_at}
-use Rattle.verifier_kinds.specs.Descriptions.{register_of, settled, slot_of, with_kind, with_slot, with_unset, number_bytes}
+use Rattle.verifier_kinds.specs.Descriptions.{register_of, with_answer_known, slot_of, with_kind, with_slot, with_unset, number_bytes}
 use Rattle.verifier_kinds.specs.Arithmetic.{arith_by}
 use Rattle.verifier_kinds.specs.Refinement.{refined}
 use Rattle.verifier.specs.declared.jumps.Compared.{Compared}
@@ -307,8 +307,8 @@ checked_kind m false = MapValue m beginning
 abbrev pub on_way : Comparison → Width → Bool → Insn → Description → Compared → Option Description
 on_way comparison width taken insn d (Numbers a b) =
     option_map (λ range. with_kind d insn.dst (Scalar range)) (refined comparison width taken a b)
-on_way comparison width true insn d (Answer m call) = Some (settled call (checked_kind m (holds_of_null comparison)) d)
-on_way comparison width false insn d (Answer m call) = Some (settled call (checked_kind m (not (holds_of_null comparison))) d)
+on_way comparison width true insn d (Answer m call) = Some (with_answer_known call (checked_kind m (holds_of_null comparison)) d)
+on_way comparison width false insn d (Answer m call) = Some (with_answer_known call (checked_kind m (not (holds_of_null comparison))) d)
 
 -- Where a conditional jump leads. Both targets are judged, also where nothing goes one way.
 abbrev pub flow_of_branch : Subject → Comparison → Width → Source → Insn → ℕ → Description → Result (List (ℕ × Description)) ℕ

@@ -4,7 +4,7 @@ use Rattle.std.specs.Prelude.{◌≡◌, ℕ, ◌<◌, ◌≤◌, Bool, not, Lis
 use Rattle.verifier_kinds.specs.declared.kind.Range.{Range}
 use Rattle.verifier_kinds.specs.declared.kind.Kind.TheVariants.{Scalar}
 use Rattle.verifier_kinds.specs.declared.description.Description.{Description}
-use Rattle.verifier_kinds.specs.Descriptions.{settled, with_kind}
+use Rattle.verifier_kinds.specs.Descriptions.{with_answer_known, with_kind}
 use Rattle.verifier_kinds.specs.Kinds.{IsNormal}
 use Rattle.verifier.specs.declared.jumps.Compared.{Compared}
 use Rattle.verifier.specs.declared.jumps.Compared.TheVariants.{Numbers, Answer}
@@ -20,7 +20,7 @@ told fork range d = option_map (λ range. with_kind d fork.dst (Scalar range)) r
 
 -- what is known of a lookup's answer on the way where it is 0, or isn't
 abbrev pub checked : Check → Bool → Description → Description
-checked check null d = settled check.call (checked_kind check.map null) d
+checked check null d = with_answer_known check.call (checked_kind check.map null) d
 
 -- the targets, from what is known after the instruction
 abbrev pub ways_of : Way → Description → List (ℕ × Description)

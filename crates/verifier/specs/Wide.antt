@@ -18,7 +18,7 @@ use Rattle.verifier_kinds.specs.declared.kind.Offsets.{Offsets}
 use Rattle.verifier_kinds.specs.declared.kind.Kind.{Kind}
 use Rattle.verifier_kinds.specs.declared.kind.Kind.TheVariants.{Scalar, MapValue}
 use Rattle.verifier_kinds.specs.declared.description.Description.{Description}
-use Rattle.verifier_kinds.specs.Descriptions.{register_of, settled, start_description}
+use Rattle.verifier_kinds.specs.Descriptions.{register_of, with_answer_known, start_description}
 use Rattle.verifier_kinds.specs.Wide.{raised_kind, raised_description, arith_by_at, IsWideAt}
 use Rattle.verifier.specs.declared.jumps.Compared.{Compared}
 use Rattle.verifier.specs.declared.jumps.Compared.TheVariants.{Numbers, Answer}
@@ -84,8 +84,8 @@ after_store_at extra p size source insn d =
 -- what is known on one way of a conditional jump
 abbrev pub on_way_at : ℕ → Comparison → Width → Bool → Insn → Description → Compared → Option Description
 on_way_at extra comparison width taken insn d (Numbers a b) = on_way comparison width taken insn d (Numbers a b)
-on_way_at extra comparison width true insn d (Answer m call) = Some (settled call (raised_kind extra (checked_kind m (holds_of_null comparison))) d)
-on_way_at extra comparison width false insn d (Answer m call) = Some (settled call (raised_kind extra (checked_kind m (not (holds_of_null comparison)))) d)
+on_way_at extra comparison width true insn d (Answer m call) = Some (with_answer_known call (raised_kind extra (checked_kind m (holds_of_null comparison))) d)
+on_way_at extra comparison width false insn d (Answer m call) = Some (with_answer_known call (raised_kind extra (checked_kind m (not (holds_of_null comparison)))) d)
 
 -- where a conditional jump leads
 abbrev pub flow_of_branch_at : ℕ → Subject → Comparison → Width → Source → Insn → ℕ → Description → Result (List (ℕ × Description)) ℕ

@@ -15,9 +15,9 @@ use Rattle.verifier_kinds.specs.declared.description.StackSlot.{StackSlot}
 use Rattle.verifier_kinds.specs.declared.description.StackSlot.TheVariants.{Kept, Bytes}
 use Rattle.verifier_kinds.specs.declared.description.Description.{Description}
 use Rattle.verifier_kinds.specs.Kinds.{Setting, Describes, IsAnswer, IsByElement, IsKind, IsNormalKind, IsOfCallBelow, IsOfKind, join_of_kinds, shape_at}
-use Rattle.verifier_kinds.specs.Descriptions.{DescribesRegisters, DescribesSlot, DescribesStack, IsDescription, IsLawfulAt, IsNormalSlot, IsOfCallsBelow, IsSlot, IsSlotOfCallBelow, join_of, join_of_registers, join_of_slots, kept_or_bytes, register_of, settled, settled_kind, settled_slot, slot_of, start_description, with_kind, with_slot, with_unset}
+use Rattle.verifier_kinds.specs.Descriptions.{DescribesRegisters, DescribesSlot, DescribesStack, IsDescription, IsLawfulAt, IsNormalSlot, IsOfCallsBelow, IsSlot, IsSlotOfCallBelow, join_of, join_of_registers, join_of_slots, kept_or_bytes, register_of, with_answer_known, settled_kind, settled_slot, slot_of, start_description, with_kind, with_slot, with_unset}
 use Rattle.verifier_kinds.specs.Arithmetic.{arith_by, copied, displaced, displaced_value, kind_of, kind_with_dst, moved_number}
-use Rattle.verifier_kinds.proofs.Descriptions.{get_or-one, start_registers, register_of-settled, settled_kind_has, set_has, settled_register_has, slot_of-settled}
+use Rattle.verifier_kinds.proofs.Descriptions.{get_or-one, start_registers, register_of-with_answer_known, settled_kind_has, set_has, settled_register_has, slot_of-with_answer_known}
 use Rattle.verifier_kinds.proofs.Joins.{register_of-join, slot_of-join}
 use Rattle.verifier_kinds.proofs.Moves.{moved_back_is, moved_is}
 use Rattle.verifier_kinds.proofs.Values.{move_is}
@@ -38,11 +38,11 @@ settled_describes_slot setting call to (Kept kind) bytes p h = (h.0, h.1, settle
 settled_describes_slot setting call to (Bytes set) bytes p h = h
 
 -- where the answer of a call is of a kind, what is described stays so once that is known
-pub settled_describes_registers : (setting : Setting) (call : ℕ) (to : Kind) (d : Description) (registers : List (Option ℕ)) → IsOfKind setting to (setting.answers call) → DescribesRegisters setting d registers → DescribesRegisters setting (settled call to d) registers
-settled_describes_registers setting call to d registers p h = λ i. rw (register_of-settled call to d i) (settled_describes setting call to (register_of d i) (get_or registers i None) p (h i))
+pub settled_describes_registers : (setting : Setting) (call : ℕ) (to : Kind) (d : Description) (registers : List (Option ℕ)) → IsOfKind setting to (setting.answers call) → DescribesRegisters setting d registers → DescribesRegisters setting (with_answer_known call to d) registers
+settled_describes_registers setting call to d registers p h = λ i. rw (register_of-with_answer_known call to d i) (settled_describes setting call to (register_of d i) (get_or registers i None) p (h i))
 
-pub settled_describes_stack : (setting : Setting) (call : ℕ) (to : Kind) (d : Description) (stack : List (Option ℕ)) → IsOfKind setting to (setting.answers call) → DescribesStack setting d stack → DescribesStack setting (settled call to d) stack
-settled_describes_stack setting call to d stack p h = λ k. rw (slot_of-settled call to d k) (settled_describes_slot setting call to (slot_of d k) (part_of stack (8 * k) 8) p (h k))
+pub settled_describes_stack : (setting : Setting) (call : ℕ) (to : Kind) (d : Description) (stack : List (Option ℕ)) → IsOfKind setting to (setting.answers call) → DescribesStack setting d stack → DescribesStack setting (with_answer_known call to d) stack
+settled_describes_stack setting call to d stack p h = λ k. rw (slot_of-with_answer_known call to d k) (settled_describes_slot setting call to (slot_of d k) (part_of stack (8 * k) 8) p (h k))
 
 -- ---- other answers
 
@@ -129,8 +129,8 @@ settled_slot_names : (slot call : ℕ) (to : Kind) (kept : StackSlot) → IsOfCa
 settled_slot_names slot call to (Kept kind) p h = settled_kind_has (IsOfCallBelow slot) call to kind p h
 settled_slot_names slot call to (Bytes set) p h = tt
 
-pub settled_names : (slot call : ℕ) (to : Kind) (d : Description) → IsOfCallBelow slot to → IsOfCallsBelow slot d → IsOfCallsBelow slot (settled call to d)
-settled_names slot call to d p below = grind (arith, register_of-settled, settled_register_has, slot_of-settled, settled_slot_names)
+pub settled_names : (slot call : ℕ) (to : Kind) (d : Description) → IsOfCallBelow slot to → IsOfCallsBelow slot d → IsOfCallsBelow slot (with_answer_known call to d)
+settled_names slot call to d p below = grind (arith, register_of-with_answer_known, settled_register_has, slot_of-with_answer_known, settled_slot_names)
 
 -- ---- joins
 

@@ -13,8 +13,8 @@ use Rattle.insn_alu.proofs.Small.{low_fits, width_small, alu_small, alu_in_width
 use Rattle.verifier_kinds.specs.declared.kind.Align.{Align}
 use Rattle.verifier_kinds.specs.declared.kind.Align.TheVariants.{One}
 use Rattle.verifier_kinds.specs.declared.kind.Range.{Range}
-use Rattle.verifier_kinds.specs.Kinds.{factor, rank, least_align, raised, is_constant, IsIn, IsNormal}
-use Rattle.verifier_kinds.specs.Arithmetic.{all, normal_of, taken, unless_wrapped, swapped_range, row, computed_range, range_of}
+use Rattle.verifier_kinds.specs.Kinds.{factor, rank, least_align, times_power, is_constant, IsIn, IsNormal}
+use Rattle.verifier_kinds.specs.Arithmetic.{all, normal_of, range_taken, unless_wrapped, swapped_range, row, computed_range, range_of}
 use Rattle.verifier_kinds.proofs.Ranges.{in_constant}
 use Rattle.verifier_kinds.proofs.Operands.{IsTaken, all_high, in_all, in_normal_of, normal_of_is_normal, is_taken, end_is_taken, constant_number}
 use Rattle.verifier_kinds.proofs.RowLaws.{in_sum, in_difference, in_product, in_quotient, in_remainder, in_and, in_or, in_xor, in_left_shift, in_right_shift, in_move, ones_small}
@@ -96,7 +96,7 @@ unfolding row
 row_high Add width offset a b p q = unless_wrapped_high width (a.low + b.low) (a.high + b.high) (least_align a.align b.align)
 row_high Sub width offset a b p q =
     cond_both (nat_le b.high a.low) _ _ (λ (r : Range). r.high < 2 ^ 64) (λ _. omega arith) (λ _. all_high width (least_align a.align b.align))
-row_high Mul width offset a b p q = unless_wrapped_high width (a.low * b.low) (a.high * b.high) (raised a.align (rank b.align))
+row_high Mul width offset a b p q = unless_wrapped_high width (a.low * b.low) (a.high * b.high) (times_power a.align (rank b.align))
 row_high Div width offset a b p q = grind (arith, cond_both, div-le_self, all_high)
 row_high Or width offset a b p q = ones_small (max a.high b.high)
 row_high And width offset a b p q = omega arith
@@ -148,4 +148,4 @@ in_computed code width offset a b x y p q xs ys =
 -- what arithmetic makes of ranges has what the machine computes of their numbers
 pub in_range_of : (code : AluCode) (width : Width) (offset : ℤ) (a b : Range) (x y : ℕ) → IsIn a x → IsIn b y → x < 2 ^ 64 → y < 2 ^ 64 → IsIn (range_of code width offset a b) (alu code width offset x y)
 in_range_of code width offset a b x y p q xs ys =
-    in_computed code width offset (taken width a) (taken width b) x y (is_taken width a x p) (is_taken width b y q) xs ys
+    in_computed code width offset (range_taken width a) (range_taken width b) x y (is_taken width a x p) (is_taken width b y q) xs ys

@@ -10,7 +10,7 @@ use Rattle.verifier_kinds.specs.declared.description.StackSlot.{StackSlot}
 use Rattle.verifier_kinds.specs.declared.description.Description.{Description}
 use Rattle.verifier_kinds.specs.declared.description.StackSlot.TheVariants.{Kept, Bytes}
 use Rattle.verifier_kinds.specs.Kinds.{IsKind, IsOffset}
-use Rattle.verifier_kinds.specs.Descriptions.{IsDescription, IsSlot, register_of, slot_of, settled, settled_kind, settled_slot, start_description, with_kind, with_slot, with_unset}
+use Rattle.verifier_kinds.specs.Descriptions.{IsDescription, IsSlot, register_of, slot_of, with_answer_known, settled_kind, settled_slot, start_description, with_kind, with_slot, with_unset}
 
 -- a list of one value has that value at each place
 pub get_or-one : {X : Type 0} (n k : ℕ) (x : X) → get_or (replicate n x) k x ≡ x
@@ -95,13 +95,13 @@ pub mapped_by_index : {X : Type 0} (f : X → X) (d : X) → f d ≡ d → (xs z
 mapped_by_index f d same xs zs n each =
     ext_get_or d zs (map f xs) (n ∙ sym (length-map xs f)) (λ k h. each k h ∙ sym (get_or-mapped f d same xs k))
 
-pub register_of-settled : (call : ℕ) (to : Kind) (d : Description) (i : ℕ) → register_of (settled call to d) i ≡ option_map (settled_kind call to) (register_of d i)
-unfolding settled
-register_of-settled call to d i = get_or-mapped (option_map (settled_kind call to)) None refl d.registers i
+pub register_of-with_answer_known : (call : ℕ) (to : Kind) (d : Description) (i : ℕ) → register_of (with_answer_known call to d) i ≡ option_map (settled_kind call to) (register_of d i)
+unfolding with_answer_known
+register_of-with_answer_known call to d i = get_or-mapped (option_map (settled_kind call to)) None refl d.registers i
 
-pub slot_of-settled : (call : ℕ) (to : Kind) (d : Description) (k : ℕ) → slot_of (settled call to d) k ≡ settled_slot call to (slot_of d k)
-unfolding settled
-slot_of-settled call to d k = get_or-mapped (settled_slot call to) (Bytes 0) refl d.stack k
+pub slot_of-with_answer_known : (call : ℕ) (to : Kind) (d : Description) (k : ℕ) → slot_of (with_answer_known call to d) k ≡ settled_slot call to (slot_of d k)
+unfolding with_answer_known
+slot_of-with_answer_known call to d k = get_or-mapped (settled_slot call to) (Bytes 0) refl d.stack k
 
 -- what is said of a kind, and of that of the answer, is said of the settled kind
 pub settled_kind_has : (P : Kind → Type 0) (call : ℕ) (to kind : Kind) → P to → P kind → P (settled_kind call to kind)
@@ -116,6 +116,6 @@ settled_is_slot : (call : ℕ) (to : Kind) (slot : StackSlot) → IsKind to → 
 settled_is_slot call to (Kept kind) p q = settled_kind_has IsKind call to kind p q
 settled_is_slot call to (Bytes set) p q = q
 
-pub settled_is_description : (call : ℕ) (to : Kind) (d : Description) → IsKind to → IsDescription d → IsDescription (settled call to d)
-unfolding settled
+pub settled_is_description : (call : ℕ) (to : Kind) (d : Description) → IsKind to → IsDescription d → IsDescription (with_answer_known call to d)
+unfolding with_answer_known
 settled_is_description call to d p q = grind (arith, length-map, get_or-mapped, settled_register_has, settled_is_slot)

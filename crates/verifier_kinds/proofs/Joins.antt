@@ -16,7 +16,7 @@ use Rattle.verifier_kinds.specs.declared.description.StackSlot.{StackSlot}
 use Rattle.verifier_kinds.specs.declared.description.StackSlot.TheVariants.{Kept, Bytes}
 use Rattle.verifier_kinds.specs.declared.description.Description.{Description}
 use Rattle.verifier_kinds.specs.Kinds.{IsWithin, IsBelow, IsKind, IsNormal, AreOffsets, factor, rank, least_align, is_same, range_in, offsets_in, join_of_ranges, join_of_kinds}
-use Rattle.verifier_kinds.specs.Descriptions.{IsDescription, IsSlot, IsSlotBelow, IsDescriptionBelow, number_bytes, register_of, slot_of, merged, kept_or_bytes, join_of_registers, join_of_slots, join_of}
+use Rattle.verifier_kinds.specs.Descriptions.{IsDescription, IsSlot, IsSlotBelow, IsDescriptionBelow, number_bytes, register_of, slot_of, joined_with, kept_or_bytes, join_of_registers, join_of_slots, join_of}
 use Rattle.verifier_kinds.proofs.Moves.{true_int_le}
 use Rattle.verifier_kinds.proofs.Ranges.{divided_by_least_left, divided_by_least_right, least_align_comm}
 
@@ -171,30 +171,30 @@ join_is_slot (Bytes set) (Bytes more) p q = joined_places_fit (Bytes set) (Bytes
 
 -- ---- descriptions
 
-pub length-merged : {X : Type 0} (f : X → X → X) (xs ys : List X) → length xs ≡ length ys → length (merged f xs ys) ≡ length xs
-length-merged f [] ys e = refl
-length-merged f (x ∷ xs) [] e = absurd (omega arith)
-length-merged f (x ∷ xs) (y ∷ ys) e = ap suc (length-merged f xs ys (omega arith))
+pub length-joined_with : {X : Type 0} (f : X → X → X) (xs ys : List X) → length xs ≡ length ys → length (joined_with f xs ys) ≡ length xs
+length-joined_with f [] ys e = refl
+length-joined_with f (x ∷ xs) [] e = absurd (omega arith)
+length-joined_with f (x ∷ xs) (y ∷ ys) e = ap suc (length-joined_with f xs ys (omega arith))
 
 -- a merged list has at each place what the two merge to there
-pub get_or-merged : {X : Type 0} (f : X → X → X) (d : X) → f d d ≡ d → (xs ys : List X) (i : ℕ) → length xs ≡ length ys → get_or (merged f xs ys) i d ≡ f (get_or xs i d) (get_or ys i d)
-get_or-merged f d same [] [] i e = sym same
-get_or-merged f d same [] (y ∷ ys) i e = absurd (omega arith)
-get_or-merged f d same (x ∷ xs) [] i e = absurd (omega arith)
-get_or-merged f d same (x ∷ xs) (y ∷ ys) zero e = refl
-get_or-merged f d same (x ∷ xs) (y ∷ ys) (suc i) e = get_or-merged f d same xs ys i (omega arith)
+pub get_or-joined_with : {X : Type 0} (f : X → X → X) (d : X) → f d d ≡ d → (xs ys : List X) (i : ℕ) → length xs ≡ length ys → get_or (joined_with f xs ys) i d ≡ f (get_or xs i d) (get_or ys i d)
+get_or-joined_with f d same [] [] i e = sym same
+get_or-joined_with f d same [] (y ∷ ys) i e = absurd (omega arith)
+get_or-joined_with f d same (x ∷ xs) [] i e = absurd (omega arith)
+get_or-joined_with f d same (x ∷ xs) (y ∷ ys) zero e = refl
+get_or-joined_with f d same (x ∷ xs) (y ∷ ys) (suc i) e = get_or-joined_with f d same xs ys i (omega arith)
 
 -- a list that has that at each place is the merged list
-pub merged_by_index : {X : Type 0} (f : X → X → X) (d : X) → f d d ≡ d → (xs ys zs : List X) → length xs ≡ length ys → length zs ≡ length xs → ((k : ℕ) → k < length zs → get_or zs k d ≡ f (get_or xs k d) (get_or ys k d)) → zs ≡ merged f xs ys
+pub merged_by_index : {X : Type 0} (f : X → X → X) (d : X) → f d d ≡ d → (xs ys zs : List X) → length xs ≡ length ys → length zs ≡ length xs → ((k : ℕ) → k < length zs → get_or zs k d ≡ f (get_or xs k d) (get_or ys k d)) → zs ≡ joined_with f xs ys
 merged_by_index f d same xs ys zs e n each =
-    ext_get_or d zs (merged f xs ys) (n ∙ sym (length-merged f xs ys e))
-    (λ k h. each k h ∙ sym (get_or-merged f d same xs ys k e))
+    ext_get_or d zs (joined_with f xs ys) (n ∙ sym (length-joined_with f xs ys e))
+    (λ k h. each k h ∙ sym (get_or-joined_with f d same xs ys k e))
 
 pub register_of-join : (d e : Description) → IsDescription d → IsDescription e → (i : ℕ) → register_of (join_of d e) i ≡ join_of_registers (register_of d i) (register_of e i)
-register_of-join d e p q i = get_or-merged join_of_registers None refl d.registers e.registers i (p.registers ∙ sym q.registers)
+register_of-join d e p q i = get_or-joined_with join_of_registers None refl d.registers e.registers i (p.registers ∙ sym q.registers)
 
 pub slot_of-join : (d e : Description) → IsDescription d → IsDescription e → (k : ℕ) → slot_of (join_of d e) k ≡ join_of_slots (slot_of d k) (slot_of e k)
-slot_of-join d e p q k = get_or-merged join_of_slots (Bytes 0) refl d.stack e.stack k (p.stack ∙ sym q.stack)
+slot_of-join d e p q k = get_or-joined_with join_of_slots (Bytes 0) refl d.stack e.stack k (p.stack ∙ sym q.stack)
 
 -- both descriptions are below their join
 pub below_join_left : (d e : Description) → IsDescription d → IsDescription e → IsDescriptionBelow d (join_of d e)
@@ -205,4 +205,4 @@ below_join_right d e p q = grind (arith, register_of-join, register_below_join_r
 
 -- the join of two descriptions is one
 pub join_is_description : (d e : Description) → IsDescription d → IsDescription e → IsDescription (join_of d e)
-join_is_description d e p q = grind (arith, length-merged, register_of-join, join_of_registers_is_kind, slot_of-join, join_is_slot)
+join_is_description d e p q = grind (arith, length-joined_with, register_of-join, join_of_registers_is_kind, slot_of-join, join_is_slot)

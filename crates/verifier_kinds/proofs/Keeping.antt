@@ -16,7 +16,7 @@ use Rattle.verifier_kinds.specs.declared.kind.Offsets.{Offsets}
 use Rattle.verifier_kinds.specs.declared.kind.Kind.{Kind}
 use Rattle.verifier_kinds.specs.declared.kind.Kind.TheVariants.{Scalar, Context, Stack, MapValue, MaybeValue, MapName}
 use Rattle.verifier_kinds.specs.Kinds.{factor, is_constant, least_align, range_in, IsKind, IsNormal, IsOffset}
-use Rattle.verifier_kinds.specs.Arithmetic.{taken, computed_range, range_of, within_offsets, displaced, signed_offset, within_value, displaced_value, kind_of, kind_with_dst, moved_number, copied, arith_by}
+use Rattle.verifier_kinds.specs.Arithmetic.{range_taken, computed_range, range_of, within_offsets, displaced, signed_offset, within_value, displaced_value, kind_of, kind_with_dst, moved_number, copied, arith_by}
 use Rattle.verifier_kinds.proofs.Ranges.{constant_is_normal}
 use Rattle.verifier_kinds.proofs.Operands.{taken_below}
 use Rattle.verifier_kinds.proofs.Computed.{row_is_normal}
@@ -35,7 +35,7 @@ computed_is_normal code width offset a b p q left right =
 
 range_is_normal : (code : AluCode) (width : Width) (offset : ℤ) (a b : Range) → IsNormal a → IsNormal b → IsNormal (range_of code width offset a b)
 range_is_normal code width offset a b p q =
-    computed_is_normal code width offset (taken width a) (taken width b) (taken_is_normal width a p) (taken_is_normal width b q) (taken_below width a) (taken_below width b)
+    computed_is_normal code width offset (range_taken width a) (range_taken width b) (taken_is_normal width a p) (taken_is_normal width b q) (taken_below width a) (taken_below width b)
 
 -- ---- pointers
 

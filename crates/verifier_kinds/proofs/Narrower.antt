@@ -16,8 +16,8 @@ use Rattle.insn_alu.proofs.Small.{bits_small}
 use Rattle.verifier_kinds.specs.declared.kind.Align.{Align}
 use Rattle.verifier_kinds.specs.declared.kind.Align.TheVariants.{One, Two, Four, Eight}
 use Rattle.verifier_kinds.specs.declared.kind.Range.{Range}
-use Rattle.verifier_kinds.specs.Kinds.{factor, rank, of_rank, raised, least_align, greatest_align, align_of, is_constant, constant, IsIn, IsNormal, IsWithin}
-use Rattle.verifier_kinds.specs.Arithmetic.{between, all, normal_of, taken, unless_wrapped, sum_of, difference_of, product_of, quotient_of, remainder_of, and_of, ones_from, or_of, xor_of, shifted_left, left_shift_of, right_by, right_shift_of, greatest_of_bits, swapped_range, row, computed_range, range_of}
+use Rattle.verifier_kinds.specs.Kinds.{factor, rank, of_rank, times_power, least_align, greatest_align, align_of, is_constant, constant, IsIn, IsNormal, IsWithin}
+use Rattle.verifier_kinds.specs.Arithmetic.{between, all, normal_of, range_taken, unless_wrapped, sum_of, difference_of, product_of, quotient_of, remainder_of, and_of, ones_from, or_of, xor_of, shifted_left, left_shift_of, right_by, right_shift_of, greatest_of_bits, swapped_range, row, computed_range, range_of}
 use Rattle.verifier_kinds.proofs.Ranges.{first_below, first_divided, last_above, last_below, last_divided, divided_less}
 use Rattle.verifier_kinds.proofs.Meaning.{in_above}
 use Rattle.verifier_kinds.proofs.Operands.{in_all, in_normal_of, all_is_normal, taken_below, modulus_positive, zero_divided}
@@ -60,10 +60,10 @@ rank_greatest a b c d p q = grind (arith, cond_both, nat_le, le_trans, below_gre
 rank_of_exponent : (n : ℕ) → rank (of_rank n) ≡ min n 3
 rank_of_exponent n = grind (arith, cond_both, min, eqb-true, eqb-false)
 
-rank_raised : (a b : Align) (m n : ℕ) → rank a ≤ rank b → m ≤ n → rank (raised a m) ≤ rank (raised b n)
+rank_raised : (a b : Align) (m n : ℕ) → rank a ≤ rank b → m ≤ n → rank (times_power a m) ≤ rank (times_power b n)
 rank_raised a b m n p q = grind (arith, min, rank_of_exponent)
 
-raised_more : (a : Align) (m : ℕ) → rank a ≤ rank (raised a m)
+raised_more : (a : Align) (m : ℕ) → rank a ≤ rank (times_power a m)
 raised_more a m = grind (arith, rank_most, min, rank_of_exponent)
 
 -- ---- ranges within others
@@ -104,13 +104,13 @@ pub record IsRangeNarrower (width : Width) (a b : Range) : Type 0 where
 all_narrows : (width : Width) (d e : Align) → rank e ≤ rank d → IsWithin (all width d) (all width e)
 all_narrows width d e h = record { low = omega arith; high = omega arith; aligned = h }
 
-pub taken_is_normal : (width : Width) (r : Range) → IsNormal r → IsNormal (taken width r)
+pub taken_is_normal : (width : Width) (r : Range) → IsNormal r → IsNormal (range_taken width r)
 taken_is_normal width r p = cond_both (nat_lt r.high (modulus width)) r _ IsNormal (λ _. p) (λ _. all_is_normal width r.align)
 
-taken_within : (width : Width) (a b : Range) → IsNormal a → IsWithin a b → IsWithin (taken width a) (taken width b)
+taken_within : (width : Width) (a b : Range) → IsNormal a → IsWithin a b → IsWithin (range_taken width a) (range_taken width b)
 taken_within width a b p w =
     let high = w.high in
-    cond_both (nat_lt b.high (modulus width)) b _ (λ r. IsWithin (taken width a) r)
+    cond_both (nat_lt b.high (modulus width)) b _ (λ r. IsWithin (range_taken width a) r)
     (λ t.
     let below : b.high < modulus width = ltb-true b.high (modulus width) t in
     rw (cond-true (nat_lt a.high (modulus width)) a (normal_of (all width a.align)) (lt-ltb a.high (modulus width) (omega arith))) w)
@@ -121,7 +121,7 @@ taken_within width a b p w =
     normal_keeps a (all width b.align) p (record { low = omega arith; high = omega arith; aligned = w.aligned }))
     (λ _. normal_narrows (all width a.align) (all width b.align) 0 (in_all width a.align 0 (modulus_positive width) (zero_divided a.align)) (all_narrows width a.align b.align w.aligned)))
 
-pub taken_narrows : (width : Width) (a b : Range) → IsNormal a → IsNormal b → IsWithin a b → IsRangeNarrower width (taken width a) (taken width b)
+pub taken_narrows : (width : Width) (a b : Range) → IsNormal a → IsNormal b → IsWithin a b → IsRangeNarrower width (range_taken width a) (range_taken width b)
 taken_narrows width a b p q w = grind (arith, taken_within, taken_is_normal, taken_below)
 
 -- ---- the rows of arithmetic
@@ -158,7 +158,7 @@ difference_narrows width a b c d p q =
 
 product_narrows : (width : Width) (a b c d : Range) → IsRangeNarrower width a c → IsRangeNarrower width b d → IsWithin (product_of width a b) (product_of width c d)
 product_narrows width a b c d p q =
-    unless_narrows width (a.low * b.low) (a.high * b.high) (c.low * d.low) (c.high * d.high) (raised a.align (rank b.align)) (raised c.align (rank d.align))
+    unless_narrows width (a.low * b.low) (a.high * b.high) (c.low * d.low) (c.high * d.high) (times_power a.align (rank b.align)) (times_power c.align (rank d.align))
     (mul-le c.low d.low a.low b.low p.within.low q.within.low) (mul-le a.high b.high c.high d.high p.within.high q.within.high)
     (rank_raised c.align a.align (rank d.align) (rank b.align) p.within.aligned q.within.aligned)
 
@@ -240,7 +240,7 @@ left_shift_narrows width a b c d p q =
     (left_by_narrows width (count width d.low) a c p.within))
     (λ _.
     cond_both (is_constant b) _ _ (λ r. IsWithin r (all width c.align))
-    (λ _. unless_within_all width (a.low * 2 ^ count width b.low) (a.high * 2 ^ count width b.low) (raised a.align (count width b.low)) c.align
+    (λ _. unless_within_all width (a.low * 2 ^ count width b.low) (a.high * 2 ^ count width b.low) (times_power a.align (count width b.low)) c.align
     (le_trans p.within.aligned (raised_more a.align (count width b.low))))
     (λ _. all_narrows width a.align c.align p.within.aligned))
 

@@ -14,10 +14,10 @@ use Rattle.verifier_kinds.specs.declared.description.StackSlot.{StackSlot}
 use Rattle.verifier_kinds.specs.declared.description.StackSlot.TheVariants.{Kept, Bytes}
 use Rattle.verifier_kinds.specs.declared.description.Description.{Description}
 use Rattle.verifier_kinds.specs.Kinds.{IsNormalKind}
-use Rattle.verifier_kinds.specs.Descriptions.{IsDescription, IsNormalSlot, number_bytes, register_of, slot_of, settled, settled_kind, settled_slot, with_kind, with_slot, with_unset}
+use Rattle.verifier_kinds.specs.Descriptions.{IsDescription, IsNormalSlot, number_bytes, register_of, slot_of, with_answer_known, settled_kind, settled_slot, with_kind, with_slot, with_unset}
 use Rattle.verifier_kinds.specs.Wide.{IsWideKind, IsWideAt}
 use Rattle.verifier_kinds.proofs.Calls.{register_is_normal, slot_is_normal}
-use Rattle.verifier_kinds.proofs.Descriptions.{register_of-settled, slot_of-settled}
+use Rattle.verifier_kinds.proofs.Descriptions.{register_of-with_answer_known, slot_of-with_answer_known}
 use Rattle.verifier_kinds.proofs.Under.{IsKindUnder, IsKnownUnder, IsSlotUnder, IsDescriptionUnder, under_places}
 use Rattle.verifier_kinds.proofs.NarrowerKinds.{IsKnownNarrower}
 
@@ -171,12 +171,12 @@ settled_slots_below extra call to wide a (Kept b) u (x, is, below) = rw is (sett
 settled_slots_below extra call to wide (Kept kind) (Bytes set) u p = settled_bytes call to kind set p
 settled_slots_below extra call to wide (Bytes more) (Bytes set) u p = p
 
-pub settled_below : (extra call : ℕ) (to wide : Kind) (d e : Description) → IsKindUnder extra to wide → IsAlikeBelow extra d e → IsAlikeBelow extra (settled call to d) (settled call wide e)
-unfolding settled
+pub settled_below : (extra call : ℕ) (to wide : Kind) (d e : Description) → IsKindUnder extra to wide → IsAlikeBelow extra d e → IsAlikeBelow extra (with_answer_known call to d) (with_answer_known call wide e)
+unfolding with_answer_known
 settled_below extra call to wide d e u n = record {
   below = record {
-    registers = λ i. rw (register_of-settled call to d i, register_of-settled call wide e i) (settled_registers_below extra call to wide (register_of d i) (register_of e i) u (n.below.registers i));
-    slots = λ k. rw (slot_of-settled call to d k, slot_of-settled call wide e k) (settled_slots_below extra call to wide (slot_of d k) (slot_of e k) u (n.below.slots k));
+    registers = λ i. rw (register_of-with_answer_known call to d i, register_of-with_answer_known call wide e i) (settled_registers_below extra call to wide (register_of d i) (register_of e i) u (n.below.registers i));
+    slots = λ k. rw (slot_of-with_answer_known call to d k, slot_of-with_answer_known call wide e k) (settled_slots_below extra call to wide (slot_of d k) (slot_of e k) u (n.below.slots k));
   };
   registers = length-map d.registers (option_map (settled_kind call to)) ∙ n.registers ∙ sym (length-map e.registers (option_map (settled_kind call wide)));
   stack = length-map d.stack (settled_slot call to) ∙ n.stack ∙ sym (length-map e.stack (settled_slot call wide));

@@ -10,7 +10,7 @@ use Rattle.verifier_kinds.specs.declared.kind.Align.{Align}
 use Rattle.verifier_kinds.specs.declared.kind.Align.TheVariants.{One, Two, Four, Eight}
 use Rattle.verifier_kinds.specs.declared.kind.Range.{Range}
 use Rattle.verifier_kinds.specs.Kinds.{factor, is_constant, IsIn, IsNormal}
-use Rattle.verifier_kinds.specs.Arithmetic.{all, normal_of, taken}
+use Rattle.verifier_kinds.specs.Arithmetic.{all, normal_of, range_taken}
 use Rattle.verifier_kinds.proofs.Ranges.{in_normal, normal_is_normal}
 
 -- ---- operands
@@ -83,14 +83,14 @@ normal_below width Two = let some = modulus_positive width in omega (arith, some
 normal_below width Four = let some = modulus_positive width in omega (arith, some)
 normal_below width Eight = let some = modulus_positive width in omega (arith, some)
 
-pub taken_below : (width : Width) (r : Range) → (taken width r).high < modulus width
+pub taken_below : (width : Width) (r : Range) → (range_taken width r).high < modulus width
 taken_below width r = grind (arith, cond_both, nat_lt, ltb-true, normal_below)
 
 -- the one number of a constant
 pub constant_number : (by : Range) (y : ℕ) → is_constant by ≡ true → IsIn by y → by.low ≡ y
 constant_number by y one within = grind (arith, eqb-true)
 
-pub is_taken : (width : Width) (r : Range) (n : ℕ) → IsIn r n → IsTaken width (taken width r) n
+pub is_taken : (width : Width) (r : Range) (n : ℕ) → IsIn r n → IsTaken width (range_taken width r) n
 is_taken width r n h = grind (arith, cond_both, nat_lt, ltb-true, low_of_small, constant_number, in_normal_of, in_all, low_fits, low_divided, normal_below, false, all_open)
 
 -- the lower end of a range of the width is one of its numbers

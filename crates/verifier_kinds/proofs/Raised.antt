@@ -22,7 +22,7 @@ use Rattle.verifier_kinds.specs.declared.description.StackSlot.{StackSlot}
 use Rattle.verifier_kinds.specs.declared.description.StackSlot.TheVariants.{Kept, Bytes}
 use Rattle.verifier_kinds.specs.declared.description.Description.{Description}
 use Rattle.verifier_kinds.specs.Kinds.{is_constant, least_align, IsKindBelow, IsBelow}
-use Rattle.verifier_kinds.specs.Descriptions.{IsSlotBelow, IsDescriptionBelow, number_bytes, register_of, slot_of, settled, settled_kind, settled_slot, with_kind, with_slot, with_unset}
+use Rattle.verifier_kinds.specs.Descriptions.{IsSlotBelow, IsDescriptionBelow, number_bytes, register_of, slot_of, with_answer_known, settled_kind, settled_slot, with_kind, with_slot, with_unset}
 use Rattle.verifier_kinds.specs.Arithmetic.{signed_offset, within_value, displaced_value, kind_of, kind_with_dst, moved_number, copied, arith_by}
 use Rattle.verifier_kinds.specs.Wide.{raised, raised_kind, raised_slot, raised_description, within_value_at, displaced_value_at, kind_of_at, kind_with_dst_at, arith_by_at}
 use Rattle.verifier_kinds.proofs.Descriptions.{get_or-mapped}
@@ -129,9 +129,9 @@ maps_alike : {X : Type 0} (f g h k : X → X) (xs : List X) → ((x : X) → f (
 maps_alike f g h k [] same = refl
 maps_alike f g h k (x ∷ xs) same = ap (λ y. y ∷ map f (map g xs)) (same x) ∙ ap (λ ys. h (k x) ∷ ys) (maps_alike f g h k xs same)
 
-pub settled-raised : (extra call : ℕ) (to : Kind) (d : Description) → settled call (raised_kind extra to) (raised_description extra d) ≡ raised_description extra (settled call to d)
-unfolding settled
-settled-raised extra call to d = grind (arith, map, maps_alike, settled_register-raised, settled_slot-raised)
+pub with_answer_known-raised : (extra call : ℕ) (to : Kind) (d : Description) → with_answer_known call (raised_kind extra to) (raised_description extra d) ≡ raised_description extra (with_answer_known call to d)
+unfolding with_answer_known
+with_answer_known-raised extra call to d = grind (arith, map, maps_alike, settled_register-raised, settled_slot-raised)
 
 -- ---- the order
 

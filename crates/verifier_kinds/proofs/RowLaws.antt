@@ -17,7 +17,7 @@ use Rattle.insn_alu.proofs.Small.{low_fits}
 use Rattle.verifier_kinds.specs.declared.kind.Align.{Align}
 use Rattle.verifier_kinds.specs.declared.kind.Align.TheVariants.{One, Two, Four, Eight}
 use Rattle.verifier_kinds.specs.declared.kind.Range.{Range}
-use Rattle.verifier_kinds.specs.Kinds.{factor, rank, of_rank, raised, least_align, is_constant, IsIn}
+use Rattle.verifier_kinds.specs.Kinds.{factor, rank, of_rank, times_power, least_align, is_constant, IsIn}
 use Rattle.verifier_kinds.specs.Arithmetic.{unless_wrapped, sum_of, difference_of, product_of, quotient_of, remainder_of, and_of, ones_from, or_of, xor_of, shifted_left, left_shift_of, right_by, right_shift_of}
 use Rattle.verifier_kinds.proofs.Ranges.{divided_by_least_left, divided_by_least_right, sum_divided}
 use Rattle.verifier_kinds.proofs.Joins.{same_offset}
@@ -118,19 +118,19 @@ rank_of_rank n = grind (arith, nat_tests, cond_both, eqb-true, eqb-false)
 product_of_multiples : (i j x y u v : ℕ) → x ≡ 2 ^ i * u → y ≡ 2 ^ j * v → x * y ≡ 2 ^ (i + j) * (u * v)
 product_of_multiples i j x y u v p q = rw (p, q, pow-add 2 i j) (omega arith)
 
-product_divided : (a b : Align) (x y : ℕ) → x % factor a ≡ 0 → y % factor b ≡ 0 → (x * y) % factor (raised a (rank b)) ≡ 0
+product_divided : (a b : Align) (x y : ℕ) → x % factor a ≡ 0 → y % factor b ≡ 0 → (x * y) % factor (times_power a (rank b)) ≡ 0
 product_divided a b x y p q =
     let (u, left) = multiple a x p in
     let (v, right) = multiple b y q in
-    rw (product_of_multiples (rank a) (rank b) x y u v left right) (power_divided (raised a (rank b)) (rank a + rank b) (u * v) (rank_of_rank (rank a + rank b)))
+    rw (product_of_multiples (rank a) (rank b) x y u v left right) (power_divided (times_power a (rank b)) (rank a + rank b) (u * v) (rank_of_rank (rank a + rank b)))
 
 shift_of_multiple : (i k x u : ℕ) → x ≡ 2 ^ i * u → x * 2 ^ k ≡ 2 ^ (i + k) * u
 shift_of_multiple i k x u p = rw (p, pow-add 2 i k) (omega arith)
 
-shift_divided : (a : Align) (k x : ℕ) → x % factor a ≡ 0 → (x * 2 ^ k) % factor (raised a k) ≡ 0
+shift_divided : (a : Align) (k x : ℕ) → x % factor a ≡ 0 → (x * 2 ^ k) % factor (times_power a k) ≡ 0
 shift_divided a k x p =
     let (u, left) = multiple a x p in
-    rw (shift_of_multiple (rank a) k x u left) (power_divided (raised a k) (rank a + k) u (rank_of_rank (rank a + k)))
+    rw (shift_of_multiple (rank a) k x u left) (power_divided (times_power a k) (rank a + k) u (rank_of_rank (rank a + k)))
 
 still_divided : (a : Align) (k x : ℕ) → x % factor a ≡ 0 → (x * 2 ^ k) % factor a ≡ 0
 still_divided a k x p =
@@ -140,12 +140,12 @@ still_divided a k x p =
 pub in_product : (width : Width) (offset : ℤ) (a b : Range) (x y : ℕ) → IsIn a x → IsIn b y → IsIn (product_of width a b) (alu Mul width offset x y)
 unfolding alu
 in_product width offset a b x y p q =
-    in_unless_wrapped width (a.low * b.low) (a.high * b.high) (raised a.align (rank b.align)) (x * y)
+    in_unless_wrapped width (a.low * b.low) (a.high * b.high) (times_power a.align (rank b.align)) (x * y)
     (mul-le a.low b.low x y p.low q.low) (mul-le x y a.high b.high p.high q.high) (product_divided a.align b.align x y p.aligned q.aligned)
 
 in_left_by : (width : Width) (bits : ℕ) (a : Range) (x : ℕ) → IsIn a x → IsIn (shifted_left width bits a) (low width (x * 2 ^ bits))
 in_left_by width bits a x p =
-    in_unless_wrapped width (a.low * 2 ^ bits) (a.high * 2 ^ bits) (raised a.align bits) (x * 2 ^ bits)
+    in_unless_wrapped width (a.low * 2 ^ bits) (a.high * 2 ^ bits) (times_power a.align bits) (x * 2 ^ bits)
     (mul-le a.low (2 ^ bits) x (2 ^ bits) p.low (omega arith)) (mul-le x (2 ^ bits) a.high (2 ^ bits) p.high (omega arith)) (shift_divided a.align bits x p.aligned)
 
 pub in_left_shift : (width : Width) (offset : ℤ) (a b : Range) (x y : ℕ) → IsIn a x → (is_constant b ≡ true → b.low ≡ y) → IsIn (left_shift_of width a b) (alu Lsh width offset x y)

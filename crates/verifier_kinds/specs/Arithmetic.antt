@@ -17,7 +17,7 @@ use Rattle.verifier_kinds.specs.declared.kind.Range.{Range}
 use Rattle.verifier_kinds.specs.declared.kind.Offsets.{Offsets}
 use Rattle.verifier_kinds.specs.declared.kind.Kind.{Kind}
 use Rattle.verifier_kinds.specs.declared.kind.Kind.TheVariants.{Scalar, Context, Stack, MapValue, MaybeValue}
-use Rattle.verifier_kinds.specs.Kinds.{rank, constant, is_constant, least_align, greatest_align, raised, normal, offsets_in}
+use Rattle.verifier_kinds.specs.Kinds.{rank, constant, is_constant, least_align, greatest_align, times_power, normal, offsets_in}
 
 -- the numbers between two ends that an alignment divides
 abbrev pub between : ℕ → ℕ → Align → Range
@@ -32,8 +32,8 @@ abbrev pub normal_of : Range → Range
 normal_of r = normal r.low r.high r.align
 
 -- What a width takes of an operand: with 32 bits, of a range with larger numbers the alignment alone.
-abbrev pub taken : Width → Range → Range
-taken width r = if nat_lt r.high (modulus width) then r else normal_of (all width r.align)
+abbrev pub range_taken : Width → Range → Range
+range_taken width r = if nat_lt r.high (modulus width) then r else normal_of (all width r.align)
 
 -- the numbers between two ends where those fit a width, and else all of it
 abbrev pub unless_wrapped : Width → ℕ → ℕ → Align → Range
@@ -49,7 +49,7 @@ difference_of width a b =
     if nat_le b.high a.low then between (a.low - b.high) (a.high - b.low) align else all width align
 
 abbrev pub product_of : Width → Range → Range → Range
-product_of width a b = unless_wrapped width (a.low * b.low) (a.high * b.high) (raised a.align (rank b.align))
+product_of width a b = unless_wrapped width (a.low * b.low) (a.high * b.high) (times_power a.align (rank b.align))
 
 -- a division by zero gives 0
 abbrev pub quotient_of : Range → Range → Range
@@ -75,7 +75,7 @@ xor_of a b = between 0 (ones_from (max a.high b.high)) (least_align a.align b.al
 
 -- a shift by a number, of which the low bits count, multiplies by its power of 2
 abbrev pub shifted_left : Width → ℕ → Range → Range
-shifted_left width bits a = unless_wrapped width (a.low * 2 ^ bits) (a.high * 2 ^ bits) (raised a.align bits)
+shifted_left width bits a = unless_wrapped width (a.low * 2 ^ bits) (a.high * 2 ^ bits) (times_power a.align bits)
 
 abbrev pub left_shift_of : Width → Range → Range → Range
 left_shift_of width a b = if is_constant b then shifted_left width (count width b.low) a else all width a.align
@@ -124,7 +124,7 @@ computed_range code width offset a b =
 
 -- what an operation makes of two ranges
 abbrev pub range_of : AluCode → Width → ℤ → Range → Range → Range
-range_of code width offset a b = computed_range code width offset (taken width a) (taken width b)
+range_of code width offset a b = computed_range code width offset (range_taken width a) (range_taken width b)
 
 -- the kind with an offset that a pointer may have; outside of that the rule is broken
 abbrev pub within_offsets : (ℤ → Kind) → ℕ → ℤ → Result Kind ℕ

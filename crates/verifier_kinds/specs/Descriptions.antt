@@ -41,8 +41,8 @@ settled_slot call to (Bytes set) = Bytes set
 
 -- the description once it is known what kind the answer of a call is of: of each register and each slot
 -- that keeps it
-unfoldable pub settled : ℕ → Kind → Description → Description
-settled call to d =
+unfoldable pub with_answer_known : ℕ → Kind → Description → Description
+with_answer_known call to d =
     record { registers = map (option_map (settled_kind call to)) d.registers; stack = map (settled_slot call to) d.stack }
 
 -- at the start R1 is the context's address and R10 the stack's end, and nothing else is known
@@ -133,10 +133,10 @@ join_of_slots (Kept a) (Kept b) = kept_or_bytes (join_of_kinds a b) 0
 join_of_slots a b = Bytes (bit_and (number_bytes a) (number_bytes b))
 
 -- two lists, merged place by place
-abbrev pub merged : {X : Type 0} → (X → X → X) → List X → List X → List X
-merged f (x ∷ xs) (y ∷ ys) = f x y ∷ merged f xs ys
-merged f xs ys = []
+abbrev pub joined_with : {X : Type 0} → (X → X → X) → List X → List X → List X
+joined_with f (x ∷ xs) (y ∷ ys) = f x y ∷ joined_with f xs ys
+joined_with f xs ys = []
 
 -- the least description above two
 abbrev pub join_of : Description → Description → Description
-join_of d e = record { registers = merged join_of_registers d.registers e.registers; stack = merged join_of_slots d.stack e.stack }
+join_of d e = record { registers = joined_with join_of_registers d.registers e.registers; stack = joined_with join_of_slots d.stack e.stack }

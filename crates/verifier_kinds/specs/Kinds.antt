@@ -42,8 +42,8 @@ of_rank n =
     if n == 2 then Four else Eight))
 
 -- the alignment of a number's products with a power of 2
-abbrev pub raised : Align → ℕ → Align
-raised align exponent = of_rank (rank align + exponent)
+abbrev pub times_power : Align → ℕ → Align
+times_power align exponent = of_rank (rank align + exponent)
 
 -- the greatest alignment that divides a number
 abbrev pub align_of : ℕ → Align

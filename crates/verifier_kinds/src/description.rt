@@ -1,6 +1,6 @@
 ghost use Rattle.std.specs.Prelude.{◌≡◌, ◌↔◌, ℕ, IsTrue, map, option_map, slice_index_or};
 ghost use Rattle.verifier_kinds.specs.Kinds.{IsBelow};
-ghost use Rattle.verifier_kinds.specs.Descriptions.{IsDescriptionBelow, IsSlotBelow, join_of, join_of_registers, join_of_slots, merged, settled_kind, settled_slot};
+ghost use Rattle.verifier_kinds.specs.Descriptions.{IsDescriptionBelow, IsSlotBelow, join_of, join_of_registers, join_of_slots, joined_with, settled_kind, settled_slot};
 
 use crate::kind::Kind;
 
@@ -65,7 +65,7 @@ pub struct Description {
 impl Description {
     ghost use Rattle.std.specs.Prelude.{◌<◌, ◌≤◌};
     ghost use Rattle.verifier_kinds.specs.Kinds.{IsKind};
-    ghost use Rattle.verifier_kinds.specs.Descriptions.{IsDescription, IsSlot, register_of, settled, slot_of, start_description, with_kind, with_slot, with_unset};
+    ghost use Rattle.verifier_kinds.specs.Descriptions.{IsDescription, IsSlot, register_of, with_answer_known, slot_of, start_description, with_kind, with_slot, with_unset};
 
     /// What is known where a program begins: R1 is the context's address, R10 the stack's end.
     pub fn start() -> Description
@@ -110,7 +110,7 @@ impl Description {
     /// Makes it known of what kind the answer of a call is: of each register and each slot of the
     /// stack that keeps it.
     pub fn settle(&mut self, call: u32, kind: Kind)
-        ensures settled { self.new ≡ settled call kind self.old }
+        ensures with_answer_known { self.new ≡ with_answer_known call kind self.old }
         ensures description { IsDescription self.old → IsKind kind → IsDescription self.new }
     {
         self.registers = settled_registers(&self.registers, call, kind);
@@ -213,7 +213,7 @@ fn joined(a: Option<Kind>, b: Option<Kind>) -> Option<Kind>
 }
 
 fn joined_registers(a: &[Option<Kind>; 11], b: &[Option<Kind>; 11]) -> [Option<Kind>; 11]
-    ensures { result ≡ merged join_of_registers a.now b.now }
+    ensures { result ≡ joined_with join_of_registers a.now b.now }
 {
     let mut registers = [None; 11];
     for i in 0..11 {
@@ -223,7 +223,7 @@ fn joined_registers(a: &[Option<Kind>; 11], b: &[Option<Kind>; 11]) -> [Option<K
 }
 
 fn joined_stack(a: &[StackSlot; 64], b: &[StackSlot; 64]) -> [StackSlot; 64]
-    ensures { result ≡ merged join_of_slots a.now b.now }
+    ensures { result ≡ joined_with join_of_slots a.now b.now }
 {
     let mut stack = [StackSlot::Bytes(0); 64];
     for k in 0..64 {

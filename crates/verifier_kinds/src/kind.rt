@@ -9,7 +9,7 @@ pub enum Align {
 
 impl Align {
     ghost use Rattle.std.specs.Prelude.{◌≡◌, ◌<◌, ◌≤◌};
-    ghost use Rattle.verifier_kinds.specs.Kinds.{factor, rank, of_rank, raised, least_align, greatest_align, align_of};
+    ghost use Rattle.verifier_kinds.specs.Kinds.{factor, rank, of_rank, times_power, least_align, greatest_align, align_of};
 
     /// The power of 2 itself.
     pub const fn factor(self) -> u64
@@ -51,7 +51,7 @@ impl Align {
     /// The alignment of a number's products with a power of 2.
     pub(crate) fn raised(self, exponent: u32) -> Align
         requires { exponent < 64 }
-        ensures { result ≡ raised self exponent }
+        ensures { result ≡ times_power self exponent }
     {
         Align::of_rank(self.rank() + exponent)
     }

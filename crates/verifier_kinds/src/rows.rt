@@ -3,7 +3,7 @@
 ghost use Rattle.std.specs.Prelude.{◌≡◌, ◌-◌, ◌<◌, ◌≤◌};
 ghost use Rattle.insn_alu.specs.Arithmetic.{count, modulus};
 ghost use Rattle.verifier_kinds.specs.Kinds.{IsNormal};
-ghost use Rattle.verifier_kinds.specs.Arithmetic.{all, and_of, computed_range, difference_of, greatest_of_bits, shifted_left, left_shift_of, ones_from, or_of, product_of, quotient_of, range_of, remainder_of, right_shift_of, row, sum_of, swapped_range, taken, xor_of};
+ghost use Rattle.verifier_kinds.specs.Arithmetic.{all, and_of, computed_range, difference_of, greatest_of_bits, shifted_left, left_shift_of, ones_from, or_of, product_of, quotient_of, range_of, remainder_of, right_shift_of, row, sum_of, swapped_range, range_taken, xor_of};
 
 use crate::kind::{Align, Range};
 use bpf_decode::{AluCode, Width};
@@ -42,7 +42,7 @@ fn computed_range(code: AluCode, width: Width, offset: i16, a: Range, b: Range) 
 #[tactic(auto, using(crate::proofs::Operands::all_starts))]
 fn taken(width: Width, range: Range) -> Range
     requires { IsNormal range }
-    ensures taken { result ≡ taken width range }
+    ensures range_taken { result ≡ range_taken width range }
     ensures normal { IsNormal result }
 {
     if range.high <= greatest(width) {

@@ -1,7 +1,7 @@
 use Rattle.std.proofs.Common.{◌≡◌, ◌+◌, ℕ, ◌∙◌, arith}
 use Rattle.interp.specs.Machine.{MachineState}
 use Rattle.interp.proofs.OnMaps.{never_private_on}
-use Rattle.tenant_runs.specs.Storing.{maps_of, HasFrames, HasStored}
+use Rattle.tenant_runs.specs.Storing.{maps_of_part, HasStoreFrames, HasStored}
 use Rattle.tenant_runs.specs.UnderWay.{IsUnderWay, part_with_have}
 use Rattle.tenant_runs.proofs.Rooms.{record_keeps, keeps_twice}
 use Rattle.tenant_runs.proofs.Finishing.{steps_below, followed_on}
@@ -67,7 +67,7 @@ asked c s start =
       n,
       more,
       asked_later v c.args.tenant followed.state n c.advance_on.result c.advance_on.new.self c.record.new.self c.advance_on.new.memory
-          (λ e. never_private_on (maps_of c.args.tenant) (HasFrames c.args.tenant) (HasStored c.args.tenant) v followed.state c.record.new.self c.advance_on.new.memory c.advance_on.new.self n finishing.verified (rw e at follows) (omega (arith, many e, all)))
+          (λ e. never_private_on (maps_of_part c.args.tenant) (HasStoreFrames c.args.tenant) (HasStored c.args.tenant) v followed.state c.record.new.self c.advance_on.new.memory c.advance_on.new.self n finishing.verified (rw e at follows) (omega (arith, many e, all)))
           c.in_default.not-Ended follows eight,
     )
 

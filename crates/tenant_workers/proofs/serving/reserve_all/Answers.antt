@@ -1,7 +1,7 @@
 use Rattle.std.proofs.Common.{◌≤◌, ◌<◌, ◌∙◌, length, get_or, take, arith}
 use Rattle.std.proofs.lemmas.List.{take_all, take_more_set}
 use Rattle.std.proofs.lemmas.List.Elements.{All-push}
-use Rattle.tenant_workers.specs.Plans.{HasRoom, planned_by}
+use Rattle.tenant_workers.specs.Plans.{HasReplyRoom, planned_by}
 use Rattle.tenant_workers.proofs.Kept.{map-set_same, same_replies}
 use Rattle.tenant_workers.proofs.serving.reserve_all.Goals as goal
 
@@ -19,7 +19,7 @@ loop-tenant-preserved c =
     let more : length was.runs.items ≤ c.reserve.new.self.cap =
     omega (arith, c.in_ok-reserve.ensures.ok, c.reserve.ensures.len, c.saturating_sub-more.ensures, c.len.ensures, c.len-in-loop-tenant.ensures, was.runs.ok.0) in (
       rw (take_more_set c.loop-tenant.tenants c.loop-tenant.tenant-index _ within)
-          (All-push HasRoom (take c.loop-tenant.tenant-index c.loop-tenant.tenants) _ room record { room = more }),
+          (All-push HasReplyRoom (take c.loop-tenant.tenant-index c.loop-tenant.tenants) _ room record { room = more }),
       map-set_same planned_by c.loop-tenant.tenants c.loop-tenant.tenant-index c.tenant-item.result _ (same_replies was c.reserve.new.self.items c.reserve.ensures.items) ∙ same,
     )
 

@@ -10,7 +10,7 @@ use Rattle.interp.specs.OnMaps.{FollowsOn}
 use Rattle.page_table.specs.Changes.{IsKeptBut}
 use Rattle.page_table.specs.State.{MemoryState, part}
 use Rattle.tenant_runs.specs.Meeting.{KeepsSizes}
-use Rattle.tenant_runs.specs.Storing.{maps_of, HasFrames, HasStored}
+use Rattle.tenant_runs.specs.Storing.{maps_of_part, HasStoreFrames, HasStored}
 use Rattle.tenant_runs.proofs.OnMaps.{Keeps}
 use Rattle.tenant_runs.proofs.Rooms.{record_keeps, ended_keeps, keeps_twice}
 use Rattle.host_core.specs.Stretches.{IsUnderWayAt, HasAdvanced}
@@ -32,11 +32,11 @@ module _ (c : After-advance_on) where
 
     -- so its steps are those of the standard's machine from there
     followed : (need : Need) → c.advance_on.result ≡ need
-        → (n : ℕ) × FollowsOn (maps_of c.args.number) (HasFrames c.args.number) (HasStored c.args.number) c.in-Some.program s c.record.new.self n need c.advance_on.new.self c.advance_on.new.memory
+        → (n : ℕ) × FollowsOn (maps_of_part c.args.number) (HasStoreFrames c.args.number) (HasStored c.args.number) c.in-Some.program s c.record.new.self n need c.advance_on.new.self c.advance_on.new.memory
         × (c.advance_on.new.self.steps ≡ c.args.self.now.run.steps + n)
     followed need is =
         let (n, follows, made) = c.advance_on.ensures.follows s (stands_at c.args.programs.now c.args.self.now c.in-Some.program s c.args.number c.args.memory.now c.record.new.self here start) in
-        (n, subst (λ (need : Need). FollowsOn (maps_of c.args.number) (HasFrames c.args.number) (HasStored c.args.number) c.in-Some.program s c.record.new.self n need c.advance_on.new.self c.advance_on.new.memory) is follows, made)
+        (n, subst (λ (need : Need). FollowsOn (maps_of_part c.args.number) (HasStoreFrames c.args.number) (HasStored c.args.number) c.in-Some.program s c.record.new.self n need c.advance_on.new.self c.advance_on.new.memory) is follows, made)
 
   -- what they keep of the memory
   kept : Keeps c.args.number c.record.new.self c.advance_on.new.memory × (length (part c.advance_on.new.memory c.args.number).maps ≡ 8)

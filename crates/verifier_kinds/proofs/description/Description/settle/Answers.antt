@@ -1,11 +1,11 @@
 use Rattle.std.proofs.Common.{refl, sym, subst}
-use Rattle.verifier_kinds.specs.Descriptions.{IsDescription, settled}
+use Rattle.verifier_kinds.specs.Descriptions.{IsDescription, with_answer_known}
 use Rattle.verifier_kinds.proofs.Descriptions.{settled_is_description}
 use Rattle.verifier_kinds.proofs.description.Description.settle.Goals as goal
 
-pub returns-clause-settled : goal.returns-clause-settled
-unfolding settled
-returns-clause-settled c = rw (c.settled_registers-self.ensures, c.settled_stack-self.ensures) refl
+pub returns-clause-with_answer_known : goal.returns-clause-with_answer_known
+unfolding with_answer_known
+returns-clause-with_answer_known c = rw (c.settled_registers-self.ensures, c.settled_stack-self.ensures) refl
 
 pub returns-clause-description : goal.returns-clause-description
-returns-clause-description c = λ p q. subst IsDescription (sym (returns-clause-settled c)) (settled_is_description c.args.call c.args.kind c.args.self.now q p)
+returns-clause-description c = λ p q. subst IsDescription (sym (returns-clause-with_answer_known c)) (settled_is_description c.args.call c.args.kind c.args.self.now q p)

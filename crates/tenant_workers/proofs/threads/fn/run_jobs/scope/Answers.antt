@@ -1,11 +1,11 @@
 use Rattle.std.proofs.Common.{arith}
-use Rattle.tenant_workers.specs.Jobs.{IsBegun}
+use Rattle.tenant_workers.specs.Jobs.{IsJobBegun}
 use Rattle.tenant_workers.proofs.Jobs.{each-length, each-ended}
 use Rattle.tenant_workers.proofs.threads.fn.run_jobs.scope.Goals as goal
 
 pub end_all-requires : goal.end_all-requires
 end_all-requires g c =
-    let same = each-length (IsBegun g.T.Job.becomes) c.captures.jobs.items c.begin_all.new.begun.items c.begin_all.ensures.begun in
+    let same = each-length (IsJobBegun g.T.Job.becomes) c.captures.jobs.items c.begin_all.new.begun.items c.begin_all.ensures.begun in
     record { none = c.requires.none_done; room = omega (arith, same, c.requires.room_done) }
 
 pub returns : goal.returns
