@@ -10,15 +10,15 @@ use Rattle.tree_shape.specs.Shape.{Tree, leaf, fork, in_order, Holds, IsEven, Is
 use Rattle.tree_shape.specs.Changes.{found}
 use Rattle.tree_shape.specs.Searches.{order_to, IsGrowing}
 use Rattle.tree_shape.specs.Removals.{IsTaking}
-use Rattle.tree_shape.proofs.Times.{here, times_among-fork, times_among-leaf, times_among-once}
+use Rattle.tree_shape.proofs.Times.{here, occurrences_of-fork, occurrences_of-leaf, occurrences_of-once}
 use Rattle.stable_tree.specs.declared.store.Store.{Store}
 use Rattle.stable_tree.specs.Groups.{IsSorted}
 use Rattle.stable_tree.specs.Edits.{IsSearchAnswer}
-use Rattle.stable_tree.specs.Places.{walk, hanging, used, times_among, AreHung, HasReservedRoom, IsWholeStore, IsHead, tree_in, heads_in, chains_in}
+use Rattle.stable_tree.specs.Places.{walk, hanging, used, occurrences_of, AreHung, HasReservedRoom, IsWholeStore, IsHead, tree_in, heads_in, chains_in}
 use Rattle.stable_tree.proofs.Counting.{written}
-use Rattle.stable_tree.proofs.Walks.{times_among-cons}
+use Rattle.stable_tree.proofs.Walks.{occurrences_of-cons}
 use Rattle.stable_tree.proofs.Trees.{all-front, all-back, read-tree}
-use Rattle.stable_tree.proofs.Hanging.{shared-again, times_among-cut, times_among-both, length-cut, length-both, heads-used}
+use Rattle.stable_tree.proofs.Hanging.{shared-again, occurrences_of-cut, occurrences_of-both, length-cut, length-both, heads-used}
 use Rattle.stable_tree.proofs.Placing.{spare-inside}
 use Rattle.stable_tree.proofs.Contents.{whole-sound, whole-framed, found-here, missing-here}
 
@@ -122,12 +122,12 @@ hanging-alone nexts sizes at e = rw e refl
 
 -- a head comes between two
 module _ (frames nexts sizes earlier later free : List ℕ) (new bound : ℕ) (alone : slice_index_or sizes new 0 ≡ 1) where
-  times_among-alone : (i : ℕ) → times_among i (used nexts sizes (earlier ++ new ∷ later)) ≡ times_among i (used nexts sizes (earlier ++ later)) + here i new
-  times_among-alone i =
-      let a = times_among-cut i nexts sizes earlier new later in
-      let b = times_among-both i nexts sizes earlier later in
-      let c = ap (times_among i) (hanging-alone nexts sizes new alone) in
-      let d = times_among-cons i new [] in
+  occurrences_of-alone : (i : ℕ) → occurrences_of i (used nexts sizes (earlier ++ new ∷ later)) ≡ occurrences_of i (used nexts sizes (earlier ++ later)) + here i new
+  occurrences_of-alone i =
+      let a = occurrences_of-cut i nexts sizes earlier new later in
+      let b = occurrences_of-both i nexts sizes earlier later in
+      let c = ap (occurrences_of i) (hanging-alone nexts sizes new alone) in
+      let d = occurrences_of-cons i new [] in
       omega (arith, a, b, c, d)
 
   length-alone : length (used nexts sizes (earlier ++ new ∷ later)) ≡ length (used nexts sizes (earlier ++ later)) + 1
@@ -139,7 +139,7 @@ module _ (frames nexts sizes earlier later free : List ℕ) (new bound : ℕ) (a
       record {
         filled = All-append P earlier (new ∷ later) (all-front P earlier later hung.filled) (All-cons P new later (omega (arith, alone)) (all-back P earlier later hung.filled));
         shared = shared-again (used nexts sizes (earlier ++ later)) (new ∷ free) (used nexts sizes (earlier ++ new ∷ later)) free bound hung.shared
-            (λ i. let a = times_among-alone i in let b = times_among-cons i new free in omega (arith, a, b))
+            (λ i. let a = occurrences_of-alone i in let b = occurrences_of-cons i new free in omega (arith, a, b))
             (let a = length-alone in omega (arith, a));
         framed = hung.framed;
         linked = hung.linked;
@@ -152,7 +152,7 @@ module _ (frames nexts sizes earlier later free : List ℕ) (new bound : ℕ) (a
       record {
         filled = All-append P earlier later (all-front P earlier (new ∷ later) hung.filled) (All-tail P new later (all-back P earlier (new ∷ later) hung.filled));
         shared = shared-again (used nexts sizes (earlier ++ new ∷ later)) free (used nexts sizes (earlier ++ later)) (new ∷ free) bound hung.shared
-            (λ i. let a = times_among-alone i in let b = times_among-cons i new free in omega (arith, a, b))
+            (λ i. let a = occurrences_of-alone i in let b = occurrences_of-cons i new free in omega (arith, a, b))
             (let a = length-alone in omega (arith, a));
         framed = hung.framed;
         linked = hung.linked;
@@ -178,18 +178,18 @@ remove-between g earlier out later =
 
 -- the places of a tree's nodes stand once
 module _ (store : Store) (free : List ℕ) (whole : IsWholeStore store free) where
-  tree-times_among : (i : ℕ) (t : Tree) → Rattle.tree_shape.proofs.Times.times i t ≡ times_among i (in_order t)
+  tree-occurrences_of : (i : ℕ) (t : Tree) → Rattle.tree_shape.proofs.Times.times i t ≡ occurrences_of i (in_order t)
   unfolding Rattle.tree_shape.proofs.Times.times
-  tree-times_among i t = refl
+  tree-occurrences_of i t = refl
 
-  heads-once : (i : ℕ) → times_among i (heads_in store) + times_among i free ≤ 1
+  heads-once : (i : ℕ) → occurrences_of i (heads_in store) + occurrences_of i free ≤ 1
   heads-once i =
       let a = heads-used i store.nexts.items store.sizes.items (heads_in store) whole.hung.filled in
       let b = whole.hung.shared.once i in
       omega (arith, a, b)
 
   pub tree-once : IsOnce (tree_in store)
-  tree-once = times_among-once (tree_in store) (λ i. let a = tree-times_among i (tree_in store) in let b = heads-once i in omega (arith, a, b))
+  tree-once = occurrences_of-once (tree_in store) (λ i. let a = tree-occurrences_of i (tree_in store) in let b = heads-once i in omega (arith, a, b))
 
   pub whole-taking : (pages : List (List ℕ)) → IsSorted pages (chains_in store) → IsTaking store.nodes.items store.frames.items pages store.root (tree_in store)
   whole-taking pages sorted = record {
@@ -206,12 +206,12 @@ whole-growing store place free whole pages sorted =
     record {
       sound = whole-sound store (place ∷ free) whole;
       framed = whole-framed pages store (place ∷ free) whole sorted;
-      once = times_among-once (fork place (tree_in store) leaf) (λ i.
-          let a = times_among-fork i place (tree_in store) leaf in
-          let b = times_among-leaf i in
-          let c = tree-times_among store (place ∷ free) whole i (tree_in store) in
+      once = occurrences_of-once (fork place (tree_in store) leaf) (λ i.
+          let a = occurrences_of-fork i place (tree_in store) leaf in
+          let b = occurrences_of-leaf i in
+          let c = tree-occurrences_of store (place ∷ free) whole i (tree_in store) in
           let d = heads-once store (place ∷ free) whole i in
-          let e = times_among-cons i place free in
+          let e = occurrences_of-cons i place free in
           omega (arith, a, b, c, d, e));
       inside = inside;
       some = λ same. omega (arith, same, inside, few, low);

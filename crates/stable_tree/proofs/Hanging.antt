@@ -6,29 +6,29 @@ use Rattle.std.proofs.lemmas.List.Concat.{flat_map-cons}
 use Rattle.std.proofs.lemmas.Grind.{flat_map-append}
 use Rattle.std.proofs.lemmas.List.Elements.{All-head, All-tail, All-cons, All-nil}
 use Rattle.tree_shape.proofs.Times.{here}
-use Rattle.stable_tree.specs.Places.{walk, hanging, chain_at, used, times_among, AreShared}
-use Rattle.stable_tree.proofs.Walks.{times_among-cons, times_among-append, times_among-first, times_among-walk, length-walk, Agree, Once, walk-agree, frames-agree}
+use Rattle.stable_tree.specs.Places.{walk, hanging, chain_at, used, occurrences_of, AreShared}
+use Rattle.stable_tree.proofs.Walks.{occurrences_of-cons, occurrences_of-append, occurrences_of-first, occurrences_of-walk, length-walk, Agree, Once, walk-agree, frames-agree}
 
 abbrev Filled : List ℕ → List ℕ → Type 0
 Filled sizes heads = All (λ at. 1 ≤ slice_index_or sizes at 0) heads
 
-pub times_among-used : (i : ℕ) (nexts sizes : List ℕ) (at : ℕ) (heads : List ℕ) → times_among i (used nexts sizes (at ∷ heads)) ≡ times_among i (hanging nexts sizes at) + times_among i (used nexts sizes heads)
-times_among-used i nexts sizes at heads =
-    let e = ap (times_among i) (flat_map-cons (hanging nexts sizes) at heads) in
-    let f = times_among-append i (hanging nexts sizes at) (used nexts sizes heads) in
+pub occurrences_of-used : (i : ℕ) (nexts sizes : List ℕ) (at : ℕ) (heads : List ℕ) → occurrences_of i (used nexts sizes (at ∷ heads)) ≡ occurrences_of i (hanging nexts sizes at) + occurrences_of i (used nexts sizes heads)
+occurrences_of-used i nexts sizes at heads =
+    let e = ap (occurrences_of i) (flat_map-cons (hanging nexts sizes) at heads) in
+    let f = occurrences_of-append i (hanging nexts sizes at) (used nexts sizes heads) in
     e ∙ f
 
-pub times_among-cut : (i : ℕ) (nexts sizes earlier : List ℕ) (at : ℕ) (later : List ℕ)
-    → times_among i (used nexts sizes (earlier ++ at ∷ later)) ≡ times_among i (used nexts sizes earlier) + times_among i (hanging nexts sizes at) + times_among i (used nexts sizes later)
-times_among-cut i nexts sizes earlier at later =
-    let e = ap (times_among i) (flat_map-append (hanging nexts sizes) earlier (at ∷ later)) in
-    let f = times_among-append i (used nexts sizes earlier) (used nexts sizes (at ∷ later)) in
-    let g = times_among-used i nexts sizes at later in
+pub occurrences_of-cut : (i : ℕ) (nexts sizes earlier : List ℕ) (at : ℕ) (later : List ℕ)
+    → occurrences_of i (used nexts sizes (earlier ++ at ∷ later)) ≡ occurrences_of i (used nexts sizes earlier) + occurrences_of i (hanging nexts sizes at) + occurrences_of i (used nexts sizes later)
+occurrences_of-cut i nexts sizes earlier at later =
+    let e = ap (occurrences_of i) (flat_map-append (hanging nexts sizes) earlier (at ∷ later)) in
+    let f = occurrences_of-append i (used nexts sizes earlier) (used nexts sizes (at ∷ later)) in
+    let g = occurrences_of-used i nexts sizes at later in
     omega (arith, e, f, g)
 
-pub times_among-both : (i : ℕ) (nexts sizes earlier later : List ℕ) → times_among i (used nexts sizes (earlier ++ later)) ≡ times_among i (used nexts sizes earlier) + times_among i (used nexts sizes later)
-times_among-both i nexts sizes earlier later =
-    ap (times_among i) (flat_map-append (hanging nexts sizes) earlier later) ∙ times_among-append i (used nexts sizes earlier) (used nexts sizes later)
+pub occurrences_of-both : (i : ℕ) (nexts sizes earlier later : List ℕ) → occurrences_of i (used nexts sizes (earlier ++ later)) ≡ occurrences_of i (used nexts sizes earlier) + occurrences_of i (used nexts sizes later)
+occurrences_of-both i nexts sizes earlier later =
+    ap (occurrences_of i) (flat_map-append (hanging nexts sizes) earlier later) ∙ occurrences_of-append i (used nexts sizes earlier) (used nexts sizes later)
 
 pub length-used : (nexts sizes : List ℕ) (at : ℕ) (heads : List ℕ) → length (used nexts sizes (at ∷ heads)) ≡ slice_index_or sizes at 0 + length (used nexts sizes heads)
 length-used nexts sizes at heads =
@@ -60,17 +60,17 @@ length-chains frames nexts sizes (at ∷ heads) =
     let all = length-used nexts sizes at heads in
     omega (arith, rest, long, one, size, all)
 
-hangs-first : (n i : ℕ) (nexts : List ℕ) (at : ℕ) → 1 ≤ n → here i at ≤ times_among i (walk n nexts at)
+hangs-first : (n i : ℕ) (nexts : List ℕ) (at : ℕ) → 1 ≤ n → here i at ≤ occurrences_of i (walk n nexts at)
 hangs-first zero i nexts at more = absurd (omega (arith, more))
-hangs-first (suc n) i nexts at more = let e = times_among-walk n i nexts at in omega (arith, e)
+hangs-first (suc n) i nexts at more = let e = occurrences_of-walk n i nexts at in omega (arith, e)
 
 -- a place at which groups hang is used
-pub heads-used : (i : ℕ) (nexts sizes heads : List ℕ) → Filled sizes heads → times_among i heads ≤ times_among i (used nexts sizes heads)
+pub heads-used : (i : ℕ) (nexts sizes heads : List ℕ) → Filled sizes heads → occurrences_of i heads ≤ occurrences_of i (used nexts sizes heads)
 heads-used i nexts sizes [] filled = omega arith
 heads-used i nexts sizes (at ∷ heads) filled =
     let rest = heads-used i nexts sizes heads (All-tail (λ (at : ℕ). 1 ≤ slice_index_or sizes at 0) at heads filled) in
-    let all = times_among-used i nexts sizes at heads in
-    let one = times_among-cons i at heads in
+    let all = occurrences_of-used i nexts sizes at heads in
+    let one = occurrences_of-cons i at heads in
     let first = hangs-first (slice_index_or sizes at 0) i nexts at (All-head (λ (at : ℕ). 1 ≤ slice_index_or sizes at 0) at heads filled) in
     omega (arith, rest, all, one, first)
 
@@ -86,7 +86,7 @@ heads-few nexts sizes (at ∷ heads) filled =
 pub hanging-agree : (nexts sizes newer sized : List ℕ) (at : ℕ) → 1 ≤ slice_index_or sizes at 0 → Agree (hanging nexts sizes at) nexts newer → Agree (hanging nexts sizes at) sizes sized
     → hanging newer sized at ≡ hanging nexts sizes at
 hanging-agree nexts sizes newer sized at some linked told =
-    let e = told at (times_among-first (slice_index_or sizes at 0) nexts at some) in
+    let e = told at (occurrences_of-first (slice_index_or sizes at 0) nexts at some) in
     rw e (walk-agree (slice_index_or sizes at 0) nexts newer at linked)
 
 -- nothing is written at the places of some heads
@@ -105,18 +105,18 @@ chains-agree frames nexts sizes given newer sized (at ∷ heads) filled f n s =
     record {
       used = flat_map-cons (hanging newer sized) at heads ∙ (rw (hangs, rest.used) (sym (flat_map-cons (hanging nexts sizes) at heads)));
       chains = rw (hangs, frames-agree (hanging nexts sizes at) frames given (front frames given f)) (ap (λ l. chain_at frames nexts sizes at ∷ l) rest.chains);
-      filled = All-cons (λ at. 1 ≤ slice_index_or sized at 0) at heads (let e = s at (let all = times_among-used at nexts sizes at heads in let one = times_among-first (slice_index_or sizes at 0) nexts at some in omega (arith, all, one)) in omega (arith, e, some)) rest.filled;
+      filled = All-cons (λ at. 1 ≤ slice_index_or sized at 0) at heads (let e = s at (let all = occurrences_of-used at nexts sizes at heads in let one = occurrences_of-first (slice_index_or sizes at 0) nexts at some in omega (arith, all, one)) in omega (arith, e, some)) rest.filled;
     }
   where
     front : (old new : List ℕ) → Agree (used nexts sizes (at ∷ heads)) old new → Agree (hanging nexts sizes at) old new
-    front old new agree = λ i some. agree i (let all = times_among-used i nexts sizes at heads in omega (arith, all, some))
+    front old new agree = λ i some. agree i (let all = occurrences_of-used i nexts sizes at heads in omega (arith, all, some))
 
     behind : (old new : List ℕ) → Agree (used nexts sizes (at ∷ heads)) old new → Agree (used nexts sizes heads) old new
-    behind old new agree = λ i some. agree i (let all = times_among-used i nexts sizes at heads in omega (arith, all, some))
+    behind old new agree = λ i some. agree i (let all = occurrences_of-used i nexts sizes at heads in omega (arith, all, some))
 
 -- only what hangs at one head is written
 abbrev pub Apart : List ℕ → List ℕ → List ℕ → Type 0
-Apart places old new = (i : ℕ) → times_among i places ≡ 0 → slice_index_or new i 0 ≡ slice_index_or old i 0
+Apart places old new = (i : ℕ) → occurrences_of i places ≡ 0 → slice_index_or new i 0 ≡ slice_index_or old i 0
 
 pub record IsChanged (frames nexts sizes given newer sized earlier : List ℕ) (at : ℕ) (later : List ℕ) : Type 0 where
   pub before : AreSame frames nexts sizes given newer sized earlier
@@ -136,10 +136,10 @@ one-changed frames nexts sizes given newer sized earlier at later filled once f 
     }
   where
     early : (old new : List ℕ) → Apart (hanging nexts sizes at) old new → Agree (used nexts sizes earlier) old new
-    early old new apart = λ i some. apart i (let all = times_among-cut i nexts sizes earlier at later in let most = once i in omega (arith, all, most, some))
+    early old new apart = λ i some. apart i (let all = occurrences_of-cut i nexts sizes earlier at later in let most = once i in omega (arith, all, most, some))
 
     late : (old new : List ℕ) → Apart (hanging nexts sizes at) old new → Agree (used nexts sizes later) old new
-    late old new apart = λ i some. apart i (let all = times_among-cut i nexts sizes earlier at later in let most = once i in omega (arith, all, most, some))
+    late old new apart = λ i some. apart i (let all = occurrences_of-cut i nexts sizes earlier at later in let most = once i in omega (arith, all, most, some))
 
     fronts : (earlier : List ℕ) → Filled sizes (earlier ++ at ∷ later) → Filled sizes earlier
     fronts [] all = All-nil (λ at. 1 ≤ slice_index_or sizes at 0)
@@ -150,7 +150,7 @@ one-changed frames nexts sizes given newer sized earlier at later filled once f 
     backs (x ∷ xs) all = backs xs (All-tail (λ (at : ℕ). 1 ≤ slice_index_or sizes at 0) x (xs ++ at ∷ later) all)
 
 -- places are shared as before, where each stands as often
-pub shared-again : (held free other spare : List ℕ) (bound : ℕ) → AreShared held free bound → ((i : ℕ) → times_among i other + times_among i spare ≡ times_among i held + times_among i free) → length other + length spare ≡ length held + length free → AreShared other spare bound
+pub shared-again : (held free other spare : List ℕ) (bound : ℕ) → AreShared held free bound → ((i : ℕ) → occurrences_of i other + occurrences_of i spare ≡ occurrences_of i held + occurrences_of i free) → length other + length spare ≡ length held + length free → AreShared other spare bound
 shared-again held free other spare bound shared same long = record {
   once = λ i. let e = same i in let most = shared.once i in omega (arith, e, most);
   inside = λ i far. let e = same i in let none = shared.inside i far in omega (arith, e, none);

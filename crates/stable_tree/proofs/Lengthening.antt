@@ -3,9 +3,9 @@ use Rattle.std.proofs.Common.{◌≡◌, ℕ, ◌+◌, ◌-◌, ◌<◌, ◌≤�
 use Rattle.std.proofs.lemmas.List.{map-append, length-map, get_or-set_same, length-set}
 use Rattle.std.proofs.lemmas.List.Elements.{All-cons, All-append}
 use Rattle.std.proofs.Math.Seq.{set-append_seam, get_or-append_seam}
-use Rattle.stable_tree.specs.Places.{end, hanging, frames_at, chain_at, used, times_among, AreShared, AreHung}
-use Rattle.stable_tree.proofs.Walks.{times_among-cons, times_among-append, times_among-first, end-stands, walk-grown, apart-set, stands, Once}
-use Rattle.stable_tree.proofs.Hanging.{IsChanged, one-changed, shared-again, times_among-cut, length-cut}
+use Rattle.stable_tree.specs.Places.{end, hanging, frames_at, chain_at, used, occurrences_of, AreShared, AreHung}
+use Rattle.stable_tree.proofs.Walks.{occurrences_of-cons, occurrences_of-append, occurrences_of-first, end-stands, walk-grown, apart-set, stands, Once}
+use Rattle.stable_tree.proofs.Hanging.{IsChanged, one-changed, shared-again, occurrences_of-cut, length-cut}
 use Rattle.stable_tree.proofs.Placing.{place-inside}
 
 -- what is known of groups that hang at a head
@@ -23,13 +23,13 @@ module _ (frames nexts sizes heads free earlier : List ℕ) (at : ℕ) (later : 
   head-some = let long = length-append earlier (at ∷ later) in subst (λ (n : ℕ). 1 ≤ slice_index_or sizes n 0) (get_or-append_seam earlier at later 0) (cut-filled (length earlier) 0 (omega (arith, long)))
 
   pub hanging-once : Once (hanging nexts sizes at)
-  hanging-once i = let most = cut-shared.once i in let all = times_among-cut i nexts sizes earlier at later in omega (arith, most, all)
+  hanging-once i = let most = cut-shared.once i in let all = occurrences_of-cut i nexts sizes earlier at later in omega (arith, most, all)
 
-  pub hanging-inside : (i : ℕ) → 1 ≤ times_among i (hanging nexts sizes at) → i < bound
-  hanging-inside i some = place-inside (used nexts sizes (earlier ++ at ∷ later)) free bound i cut-shared (let all = times_among-cut i nexts sizes earlier at later in omega (arith, some, all))
+  pub hanging-inside : (i : ℕ) → 1 ≤ occurrences_of i (hanging nexts sizes at) → i < bound
+  hanging-inside i some = place-inside (used nexts sizes (earlier ++ at ∷ later)) free bound i cut-shared (let all = occurrences_of-cut i nexts sizes earlier at later in omega (arith, some, all))
 
   pub head-inside : at < bound
-  head-inside = hanging-inside at (times_among-first (slice_index_or sizes at 0) nexts at head-some)
+  head-inside = hanging-inside at (occurrences_of-first (slice_index_or sizes at 0) nexts at head-some)
 
   pub groups-few : slice_index_or sizes at 0 ≤ bound
   groups-few = let all = length-cut nexts sizes earlier at later in let long = cut-shared.all in omega (arith, all, long)
@@ -53,11 +53,11 @@ module _ (g : ℕ → List ℕ) (earlier : List ℕ) (at : ℕ) (later : List �
 
 -- where what hangs at one head changes
 module _ (frames nexts sizes given newer sized earlier : List ℕ) (at : ℕ) (later : List ℕ) (is : IsChanged frames nexts sizes given newer sized earlier at later) where
-  pub changed-times_among : (i : ℕ) → times_among i (used newer sized (earlier ++ at ∷ later)) ≡ times_among i (used nexts sizes earlier) + times_among i (hanging newer sized at) + times_among i (used nexts sizes later)
-  changed-times_among i =
-      let all = times_among-cut i newer sized earlier at later in
-      let one = ap (times_among i) is.before.used in
-      let two = ap (times_among i) is.behind.used in
+  pub changed-occurrences_of : (i : ℕ) → occurrences_of i (used newer sized (earlier ++ at ∷ later)) ≡ occurrences_of i (used nexts sizes earlier) + occurrences_of i (hanging newer sized at) + occurrences_of i (used nexts sizes later)
+  changed-occurrences_of i =
+      let all = occurrences_of-cut i newer sized earlier at later in
+      let one = ap (occurrences_of i) is.before.used in
+      let two = ap (occurrences_of i) is.behind.used in
       omega (arith, all, one, two)
 
   pub changed-length : length (used newer sized (earlier ++ at ∷ later)) ≡ length (used nexts sizes earlier) + slice_index_or sized at 0 + length (used nexts sizes later)
@@ -89,7 +89,7 @@ module _ (frames nexts sizes heads free earlier : List ℕ) (at : ℕ) (later : 
   some : 1 ≤ slice_index_or sizes at 0
   some = head-some frames nexts sizes heads (place ∷ free) earlier at later bound hung is
 
-  last-stands : 1 ≤ times_among last (hanging nexts sizes at)
+  last-stands : 1 ≤ occurrences_of last (hanging nexts sizes at)
   last-stands = end-stands (slice_index_or sizes at 0) nexts at some
 
   size : slice_index_or sized at 0 ≡ slice_index_or sizes at 0 + 1
@@ -106,7 +106,7 @@ module _ (frames nexts sizes heads free earlier : List ℕ) (at : ℕ) (later : 
       (λ i. let most = (cut-shared frames nexts sizes heads (place ∷ free) earlier at later bound hung is).once i in omega (arith, most))
       (λ i none. refl)
       (apart-set (hanging nexts sizes at) nexts last place last-stands)
-      (apart-set (hanging nexts sizes at) sizes at (slice_index_or sizes at 0 + 1) (times_among-first (slice_index_or sizes at 0) nexts at some))
+      (apart-set (hanging nexts sizes at) sizes at (slice_index_or sizes at 0 + 1) (occurrences_of-first (slice_index_or sizes at 0) nexts at some))
 
   pub grown-chains : map (chain_at frames newer sized) (earlier ++ at ∷ later)
       ≡ slice_set (map (chain_at frames nexts sizes) (earlier ++ at ∷ later)) (length earlier) (chain_at frames nexts sizes at ++ slice_index_or frames place 0 ∷ [])
@@ -120,8 +120,8 @@ module _ (frames nexts sizes heads free earlier : List ℕ) (at : ℕ) (later : 
     filled = changed-filled frames nexts sizes frames newer sized earlier at later changed (omega (arith, size));
     shared = shared-again (used nexts sizes (earlier ++ at ∷ later)) (place ∷ free) (used newer sized (earlier ++ at ∷ later)) free bound
         (cut-shared frames nexts sizes heads (place ∷ free) earlier at later bound hung is)
-        (λ i. let a = changed-times_among frames nexts sizes frames newer sized earlier at later changed i in let b = times_among-cut i nexts sizes earlier at later in
-        let c = ap (times_among i) longer in let d = times_among-append i (hanging nexts sizes at) (place ∷ []) in let e = times_among-cons i place [] in let f = times_among-cons i place free in omega (arith, a, b, c, d, e, f))
+        (λ i. let a = changed-occurrences_of frames nexts sizes frames newer sized earlier at later changed i in let b = occurrences_of-cut i nexts sizes earlier at later in
+        let c = ap (occurrences_of i) longer in let d = occurrences_of-append i (hanging nexts sizes at) (place ∷ []) in let e = occurrences_of-cons i place [] in let f = occurrences_of-cons i place free in omega (arith, a, b, c, d, e, f))
         (let a = changed-length frames nexts sizes frames newer sized earlier at later changed in let b = length-cut nexts sizes earlier at later in omega (arith, a, b, size));
     framed = hung.framed;
     linked = let e = length-set nexts last place in let long = hung.linked in omega (arith, e, long);

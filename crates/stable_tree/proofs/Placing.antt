@@ -6,8 +6,8 @@ use Rattle.std.proofs.lemmas.List.{get_or_append_left}
 use Rattle.tree_shape.specs.Shape.{in_order, Tree, Holds, none, blank, IsEven}
 use Rattle.tree_shape.proofs.Times.{here, here-same, here-other}
 use Rattle.stable_tree.specs.declared.store.Store.{Store}
-use Rattle.stable_tree.specs.Places.{chain_at, used, times_among, AreShared, AreHung, HasReservedRoom, IsWholeStore, IsStore, IsPlaced, tree_in, heads_in, chains_in}
-use Rattle.stable_tree.proofs.Walks.{here-few, times_among-cons, times_among-append, Agree}
+use Rattle.stable_tree.specs.Places.{chain_at, used, occurrences_of, AreShared, AreHung, HasReservedRoom, IsWholeStore, IsStore, IsPlaced, tree_in, heads_in, chains_in}
+use Rattle.stable_tree.proofs.Walks.{here-few, occurrences_of-cons, occurrences_of-append, Agree}
 use Rattle.stable_tree.proofs.Trees.{read-tree, holds-same}
 use Rattle.stable_tree.proofs.Hanging.{chains-agree, shared-again, length-chains}
 
@@ -64,38 +64,38 @@ placed old new frame place whole ready =
     }
 
 -- a used or a free place is one
-pub place-inside : (held free : List ℕ) (bound i : ℕ) → AreShared held free bound → 1 ≤ times_among i held + times_among i free → i < bound
+pub place-inside : (held free : List ℕ) (bound i : ℕ) → AreShared held free bound → 1 ≤ occurrences_of i held + occurrences_of i free → i < bound
 place-inside held free bound i shared some =
     ⊎_elim (λ (less : i < bound). less) (λ (far : bound ≤ i). let none = shared.inside i far in absurd (omega (arith, none, some))) (cases_lt i bound)
 
 -- the last of the free places
 module _ (held rest free : List ℕ) (place bound : ℕ) (shared : AreShared held free bound) (is : free ≡ rest ++ place ∷ []) where
-  last-times_among : (i : ℕ) → times_among i free ≡ times_among i rest + here i place
-  last-times_among i = let e = ap (times_among i) is in let f = times_among-append i rest (place ∷ []) in let g = times_among-cons i place [] in omega (arith, e, f, g)
+  last-occurrences_of : (i : ℕ) → occurrences_of i free ≡ occurrences_of i rest + here i place
+  last-occurrences_of i = let e = ap (occurrences_of i) is in let f = occurrences_of-append i rest (place ∷ []) in let g = occurrences_of-cons i place [] in omega (arith, e, f, g)
 
   pub last-inside : place < bound
-  last-inside = place-inside held free bound place shared (let e = last-times_among place in let f = here-same place in omega (arith, e, f))
+  last-inside = place-inside held free bound place shared (let e = last-occurrences_of place in let f = here-same place in omega (arith, e, f))
 
-  pub last-away : times_among place held ≡ 0
-  last-away = let e = last-times_among place in let f = here-same place in let most = shared.once place in omega (arith, e, f, most)
+  pub last-away : occurrences_of place held ≡ 0
+  last-away = let e = last-occurrences_of place in let f = here-same place in let most = shared.once place in omega (arith, e, f, most)
 
   pub last-shared : AreShared held (place ∷ rest) bound
   last-shared = shared-again held free held (place ∷ rest) bound shared
-      (λ i. let e = last-times_among i in let f = times_among-cons i place rest in omega (arith, e, f))
+      (λ i. let e = last-occurrences_of i in let f = occurrences_of-cons i place rest in omega (arith, e, f))
       (let e = ap length is in let f = length-append rest (place ∷ []) in omega (arith, e, f))
 
 -- where all places are used, one more
 module _ (held free : List ℕ) (bound : ℕ) (shared : AreShared held free bound) (is : free ≡ []) where
   pub more-shared : (rest : List ℕ) → rest ≡ [] → AreShared held (bound ∷ rest) (bound + 1)
   more-shared rest e =
-      let none : times_among bound held ≡ 0 = let all = shared.inside bound (omega arith) in omega (arith, all) in
+      let none : occurrences_of bound held ≡ 0 = let all = shared.inside bound (omega arith) in omega (arith, all) in
       rw e (record {
-        once = λ i. let f = times_among-cons i bound [] in once i f;
-        inside = λ i far. let f = times_among-cons i bound [] in let g = here-other i bound (λ same. omega (arith, same, far)) in let h = shared.inside i (omega (arith, far)) in omega (arith, f, g, h);
+        once = λ i. let f = occurrences_of-cons i bound [] in once i f;
+        inside = λ i far. let f = occurrences_of-cons i bound [] in let g = here-other i bound (λ same. omega (arith, same, far)) in let h = shared.inside i (omega (arith, far)) in omega (arith, f, g, h);
         all = let all = shared.all in let long = ap length is in omega (arith, all, long);
       })
     where
-      once : (i : ℕ) → times_among i (bound ∷ []) ≡ here i bound + 0 → times_among i held + times_among i (bound ∷ []) ≤ 1
+      once : (i : ℕ) → occurrences_of i (bound ∷ []) ≡ here i bound + 0 → occurrences_of i held + occurrences_of i (bound ∷ []) ≤ 1
       once i f =
           ⊎_elim
           (λ (less : i < bound). let g = here-other i bound (λ same. omega (arith, same, less)) in let most = shared.once i in omega (arith, f, g, most))
@@ -142,6 +142,6 @@ room-left {store} whole less none =
 -- a spare place is one of the store's
 pub spare-inside : (store : Store) (place : ℕ) (free : List ℕ) → IsWholeStore store (place ∷ free) → place < length store.nodes.items
 spare-inside store place free whole =
-    let all = times_among-cons place place free in
+    let all = occurrences_of-cons place place free in
     let one = here-same place in
     place-inside (used_in store) (place ∷ free) (length store.nodes.items) place whole.hung.shared (omega (arith, all, one))

@@ -5,10 +5,10 @@ use Rattle.std.specs.Vec.{with_item}
 use Rattle.std.proofs.lemmas.List.{get_or-set_same, get_or_read, length-set}
 use Rattle.tree_shape.proofs.Times.{here}
 use Rattle.stable_tree.specs.declared.store.Store.{Store}
-use Rattle.stable_tree.specs.Places.{walk, hanging, frames_at, chain_at, used, times_among, AreHung, IsWholeStore, IsHead, IsWithout, heads_in}
-use Rattle.stable_tree.proofs.Walks.{times_among-cons, times_among-first, apart-set, walk-there, walk-next, IsShorter, walk-shortened, walk-cut, Once}
-use Rattle.stable_tree.proofs.Hanging.{IsChanged, Apart, one-changed, shared-again, times_among-cut, length-cut}
-use Rattle.stable_tree.proofs.Lengthening.{cut-filled, cut-shared, head-inside, hanging-once, hanging-inside, changed-times_among, changed-length, changed-filled, changed-chains}
+use Rattle.stable_tree.specs.Places.{walk, hanging, frames_at, chain_at, used, occurrences_of, AreHung, IsWholeStore, IsHead, IsWithout, heads_in}
+use Rattle.stable_tree.proofs.Walks.{occurrences_of-cons, occurrences_of-first, apart-set, walk-there, walk-next, IsShorter, walk-shortened, walk-cut, Once}
+use Rattle.stable_tree.proofs.Hanging.{IsChanged, Apart, one-changed, shared-again, occurrences_of-cut, length-cut}
+use Rattle.stable_tree.proofs.Lengthening.{cut-filled, cut-shared, head-inside, hanging-once, hanging-inside, changed-occurrences_of, changed-length, changed-filled, changed-chains}
 use Rattle.stable_tree.proofs.Heads.{head-chain, head-facts}
 
 module _ (frames nexts sizes heads free earlier : List ℕ) (at : ℕ) (later : List ℕ) (bound gone j : ℕ) (given newer : List ℕ) (hung : AreHung frames nexts sizes heads free bound) (is : heads ≡ earlier ++ at ∷ later)
@@ -31,13 +31,13 @@ module _ (frames nexts sizes heads free earlier : List ℕ) (at : ℕ) (later : 
   changed = one-changed frames nexts sizes given newer sized earlier at later
       (cut-filled frames nexts sizes heads free earlier at later bound hung is)
       (λ i. let most = (cut-shared frames nexts sizes heads free earlier at later bound hung is).once i in omega (arith, most))
-      f n (apart-set (hanging nexts sizes at) sizes at (groups - 1) (times_among-first groups nexts at (omega (arith, more))))
+      f n (apart-set (hanging nexts sizes at) sizes at (groups - 1) (occurrences_of-first groups nexts at (omega (arith, more))))
 
   shorter-chain : chain_at given newer sized at ≡ remove (chain_at frames nexts sizes at) j
   shorter-chain = rw size (short.chain ∙ ap (λ (m : ℕ). remove (frames_at frames (walk m nexts at)) j) one-more)
 
-  shorter-places : (i : ℕ) → times_among i (hanging newer sized at) + here i gone ≡ times_among i (hanging nexts sizes at)
-  shorter-places i = rw size (short.places i ∙ ap (λ (m : ℕ). times_among i (walk m nexts at)) one-more)
+  shorter-places : (i : ℕ) → occurrences_of i (hanging newer sized at) + here i gone ≡ occurrences_of i (hanging nexts sizes at)
+  shorter-places i = rw size (short.places i ∙ ap (λ (m : ℕ). occurrences_of i (walk m nexts at)) one-more)
 
   pub less-chains : map (chain_at given newer sized) (earlier ++ at ∷ later) ≡ slice_set (map (chain_at frames nexts sizes) (earlier ++ at ∷ later)) (length earlier) (remove (chain_at frames nexts sizes at) j)
   less-chains =
@@ -49,8 +49,8 @@ module _ (frames nexts sizes heads free earlier : List ℕ) (at : ℕ) (later : 
     filled = changed-filled frames nexts sizes given newer sized earlier at later changed (omega (arith, size, more));
     shared = shared-again (used nexts sizes (earlier ++ at ∷ later)) free (used newer sized (earlier ++ at ∷ later)) (gone ∷ free) bound
         (cut-shared frames nexts sizes heads free earlier at later bound hung is)
-        (λ i. let a = changed-times_among frames nexts sizes given newer sized earlier at later changed i in let b = times_among-cut i nexts sizes earlier at later in
-        let c = shorter-places i in let d = times_among-cons i gone free in omega (arith, a, b, c, d))
+        (λ i. let a = changed-occurrences_of frames nexts sizes given newer sized earlier at later changed i in let b = occurrences_of-cut i nexts sizes earlier at later in
+        let c = shorter-places i in let d = occurrences_of-cons i gone free in omega (arith, a, b, c, d))
         (let a = changed-length frames nexts sizes given newer sized earlier at later changed in let b = length-cut nexts sizes earlier at later in omega (arith, a, b, size, more));
     framed = all_given;
     linked = all_newer;
@@ -118,7 +118,7 @@ module _ (store : Store) (at place j : ℕ) (whole : IsWholeStore store store.fr
   abbrev bound_all : ℕ
   bound_all = length store.nodes.items
 
-  place-stands : 1 ≤ times_among place (hanging store.nexts.items store.sizes.items at)
+  place-stands : 1 ≤ occurrences_of place (hanging store.nexts.items store.sizes.items at)
   place-stands = rw stands (walk-there size_all j store.nexts.items at (omega (arith, more)))
 
   pub pulled-inside : place < bound_all
@@ -130,7 +130,7 @@ module _ (store : Store) (at place j : ℕ) (whole : IsWholeStore store store.fr
       let there = walk-there size_all (suc j) store.nexts.items at (omega (arith, more)) in
       let f : slice_index_or (walk size_all store.nexts.items at) (suc j) 0 ≡ slice_index_or store.nexts.items place 0 = e ∙ ap (λ (p : ℕ). slice_index_or store.nexts.items p 0) (sym stands) in
       hanging-inside store.frames.items store.nexts.items store.sizes.items (heads_in store) store.free.items head.earlier at head.later bound_all whole.hung head.is (slice_index_or store.nexts.items place 0)
-      (subst (λ (p : ℕ). 1 ≤ times_among p (hanging store.nexts.items store.sizes.items at)) f there)
+      (subst (λ (p : ℕ). 1 ≤ occurrences_of p (hanging store.nexts.items store.sizes.items at)) f there)
 
   pulled-short : IsShorter (size_all - 1) j store.nexts.items store.frames.items at (slice_set store.nexts.items place (slice_index_or store.nexts.items (slice_index_or store.nexts.items place 0) 0))
       (slice_set store.frames.items place (slice_index_or store.frames.items (slice_index_or store.nexts.items place 0) 0)) (slice_index_or store.nexts.items place 0)

@@ -6,7 +6,7 @@ use Rattle.std.proofs.lemmas.List.{get_or-set_same, get_or-set_other}
 use Rattle.std.proofs.lemmas.List.Sums.{sum_by-append, sum_by-cons}
 use Rattle.std.proofs.lemmas.List.Elements.{All-head, All-tail}
 use Rattle.tree_shape.proofs.Times.{here, here-same}
-use Rattle.stable_tree.specs.Places.{walk, end, frames_at, times_among}
+use Rattle.stable_tree.specs.Places.{walk, end, frames_at, occurrences_of}
 
 pub here-few : (i at : ℕ) → here i at ≤ 1
 here-few i at = by_test (i == at)
@@ -15,29 +15,29 @@ here-few i at = by_test (i == at)
     by_test true = omega arith
     by_test false = omega arith
 
-pub times_among-cons : (i x : ℕ) (xs : List ℕ) → times_among i (x ∷ xs) ≡ here i x + times_among i xs
-times_among-cons i x xs = sum_by-cons (here i) x xs
+pub occurrences_of-cons : (i x : ℕ) (xs : List ℕ) → occurrences_of i (x ∷ xs) ≡ here i x + occurrences_of i xs
+occurrences_of-cons i x xs = sum_by-cons (here i) x xs
 
-pub times_among-append : (i : ℕ) (xs ys : List ℕ) → times_among i (xs ++ ys) ≡ times_among i xs + times_among i ys
-times_among-append i xs ys = sum_by-append (here i) xs ys
+pub occurrences_of-append : (i : ℕ) (xs ys : List ℕ) → occurrences_of i (xs ++ ys) ≡ occurrences_of i xs + occurrences_of i ys
+occurrences_of-append i xs ys = sum_by-append (here i) xs ys
 
 -- a place that stands nowhere in a list is none of it
-pub times_among-apart : (p i : ℕ) (xs : List ℕ) → times_among p xs ≡ 0 → 1 ≤ times_among i xs → i ≢ p
-times_among-apart p i xs none some same = let e : times_among p xs ≡ times_among i xs = ap (λ (n : ℕ). times_among n xs) (sym same) in omega (arith, none, some, e)
+pub occurrences_of-apart : (p i : ℕ) (xs : List ℕ) → occurrences_of p xs ≡ 0 → 1 ≤ occurrences_of i xs → i ≢ p
+occurrences_of-apart p i xs none some same = let e : occurrences_of p xs ≡ occurrences_of i xs = ap (λ (n : ℕ). occurrences_of n xs) (sym same) in omega (arith, none, some, e)
 
 -- the same is told of each place of a list
 abbrev pub Agree : List ℕ → List ℕ → List ℕ → Type 0
-Agree places old new = (i : ℕ) → 1 ≤ times_among i places → slice_index_or new i 0 ≡ slice_index_or old i 0
+Agree places old new = (i : ℕ) → 1 ≤ occurrences_of i places → slice_index_or new i 0 ≡ slice_index_or old i 0
 
 pub agree-head : (x : ℕ) (xs old new : List ℕ) → Agree (x ∷ xs) old new → slice_index_or new x 0 ≡ slice_index_or old x 0
-agree-head x xs old new agree = agree x (let all = times_among-cons x x xs in let same = here-same x in omega (arith, all, same))
+agree-head x xs old new agree = agree x (let all = occurrences_of-cons x x xs in let same = here-same x in omega (arith, all, same))
 
 pub agree-tail : (x : ℕ) (xs old new : List ℕ) → Agree (x ∷ xs) old new → Agree xs old new
-agree-tail x xs old new agree = λ i some. agree i (let all = times_among-cons i x xs in omega (arith, all, some))
+agree-tail x xs old new agree = λ i some. agree i (let all = occurrences_of-cons i x xs in omega (arith, all, some))
 
 -- where none of the places is written
-pub agree-set : (places old : List ℕ) (p v : ℕ) → times_among p places ≡ 0 → Agree places old (slice_set old p v)
-agree-set places old p v none = λ i some. get_or-set_other old p i v 0 (times_among-apart p i places none some)
+pub agree-set : (places old : List ℕ) (p v : ℕ) → occurrences_of p places ≡ 0 → Agree places old (slice_set old p v)
+agree-set places old p v none = λ i some. get_or-set_other old p i v 0 (occurrences_of-apart p i places none some)
 
 pub walk-agree : (n : ℕ) (old new : List ℕ) (at : ℕ) → Agree (walk n old at) old new → walk n new at ≡ walk n old at
 unfolding walk
@@ -56,14 +56,14 @@ pub walk-more : (n : ℕ) (nexts : List ℕ) (at : ℕ) → walk (suc n) nexts a
 unfolding walk
 walk-more n nexts at = refl
 
-pub times_among-walk : (n i : ℕ) (nexts : List ℕ) (at : ℕ) → times_among i (walk (suc n) nexts at) ≡ here i at + times_among i (walk n nexts (slice_index_or nexts at 0))
+pub occurrences_of-walk : (n i : ℕ) (nexts : List ℕ) (at : ℕ) → occurrences_of i (walk (suc n) nexts at) ≡ here i at + occurrences_of i (walk n nexts (slice_index_or nexts at 0))
 unfolding walk
-times_among-walk n i nexts at = times_among-cons i at (walk n nexts (slice_index_or nexts at 0))
+occurrences_of-walk n i nexts at = occurrences_of-cons i at (walk n nexts (slice_index_or nexts at 0))
 
 -- a walk begins where it begins
-pub times_among-first : (n : ℕ) (nexts : List ℕ) (at : ℕ) → 1 ≤ n → 1 ≤ times_among at (walk n nexts at)
-times_among-first zero nexts at some = absurd (omega (arith, some))
-times_among-first (suc n) nexts at some = let all = times_among-walk n at nexts at in let same = here-same at in omega (arith, all, same)
+pub occurrences_of-first : (n : ℕ) (nexts : List ℕ) (at : ℕ) → 1 ≤ n → 1 ≤ occurrences_of at (walk n nexts at)
+occurrences_of-first zero nexts at some = absurd (omega (arith, some))
+occurrences_of-first (suc n) nexts at some = let all = occurrences_of-walk n at nexts at in let same = here-same at in omega (arith, all, same)
 
 pub length-walk : (n : ℕ) (nexts : List ℕ) (at : ℕ) → length (walk n nexts at) ≡ n
 unfolding walk
@@ -78,31 +78,31 @@ pub end-more : (n : ℕ) (nexts : List ℕ) (at : ℕ) → end (suc n) nexts at 
 unfolding end
 end-more n nexts at = refl
 
-pub end-there : (n : ℕ) (nexts : List ℕ) (at : ℕ) → 1 ≤ times_among (end n nexts at) (walk (suc n) nexts at)
+pub end-there : (n : ℕ) (nexts : List ℕ) (at : ℕ) → 1 ≤ occurrences_of (end n nexts at) (walk (suc n) nexts at)
 unfolding end
-end-there zero nexts at = let all = times_among-walk 0 at nexts at in let same = here-same at in omega (arith, all, same)
+end-there zero nexts at = let all = occurrences_of-walk 0 at nexts at in let same = here-same at in omega (arith, all, same)
 end-there (suc n) nexts at =
     let rest = end-there n nexts (slice_index_or nexts at 0) in
-    let all = times_among-walk (suc n) (end n nexts (slice_index_or nexts at 0)) nexts at in
+    let all = occurrences_of-walk (suc n) (end n nexts (slice_index_or nexts at 0)) nexts at in
     omega (arith, rest, all)
 
 abbrev pub Once : List ℕ → Type 0
-Once places = (i : ℕ) → times_among i places ≤ 1
+Once places = (i : ℕ) → occurrences_of i places ≤ 1
 
 once-next : (n : ℕ) (nexts : List ℕ) (at : ℕ) → Once (walk (suc n) nexts at) → Once (walk n nexts (slice_index_or nexts at 0))
-once-next n nexts at once i = let all = times_among-walk n i nexts at in let most = once i in omega (arith, all, most)
+once-next n nexts at once i = let all = occurrences_of-walk n i nexts at in let most = once i in omega (arith, all, most)
 
 -- what stands further on isn't the first place
-once-later : (n : ℕ) (nexts : List ℕ) (at p : ℕ) → Once (walk (suc n) nexts at) → 1 ≤ times_among p (walk n nexts (slice_index_or nexts at 0)) → at ≢ p
+once-later : (n : ℕ) (nexts : List ℕ) (at p : ℕ) → Once (walk (suc n) nexts at) → 1 ≤ occurrences_of p (walk n nexts (slice_index_or nexts at 0)) → at ≢ p
 once-later n nexts at p once some same =
-    let all = times_among-walk n at nexts at in
+    let all = occurrences_of-walk n at nexts at in
     let most = once at in
     let one = here-same at in
-    let e : times_among at (walk n nexts (slice_index_or nexts at 0)) ≡ times_among p (walk n nexts (slice_index_or nexts at 0)) = ap (λ (i : ℕ). times_among i (walk n nexts (slice_index_or nexts at 0))) same in
+    let e : occurrences_of at (walk n nexts (slice_index_or nexts at 0)) ≡ occurrences_of p (walk n nexts (slice_index_or nexts at 0)) = ap (λ (i : ℕ). occurrences_of i (walk n nexts (slice_index_or nexts at 0))) same in
     omega (arith, all, most, one, e, some)
 
-once-none : (n : ℕ) (nexts : List ℕ) (at : ℕ) → Once (walk (suc n) nexts at) → times_among at (walk n nexts (slice_index_or nexts at 0)) ≡ 0
-once-none n nexts at once = let all = times_among-walk n at nexts at in let most = once at in let one = here-same at in omega (arith, all, most, one)
+once-none : (n : ℕ) (nexts : List ℕ) (at : ℕ) → Once (walk (suc n) nexts at) → occurrences_of at (walk n nexts (slice_index_or nexts at 0)) ≡ 0
+once-none n nexts at once = let all = occurrences_of-walk n at nexts at in let most = once at in let one = here-same at in omega (arith, all, most, one)
 
 -- one place more behind the last
 pub walk-lengthened : (n : ℕ) (nexts : List ℕ) (at new : ℕ) → Once (walk (suc n) nexts at) → end n nexts at < length nexts
@@ -116,13 +116,13 @@ walk-lengthened (suc n) nexts at new once inside =
     rw e (ap (λ xs. at ∷ xs) (walk-lengthened n nexts next new (once-next (suc n) nexts at once) inside))
 
 -- which place is the j-th
-pub walk-there : (n j : ℕ) (nexts : List ℕ) (at : ℕ) → j < n → 1 ≤ times_among (slice_index_or (walk n nexts at) j 0) (walk n nexts at)
+pub walk-there : (n j : ℕ) (nexts : List ℕ) (at : ℕ) → j < n → 1 ≤ occurrences_of (slice_index_or (walk n nexts at) j 0) (walk n nexts at)
 unfolding walk
 walk-there zero j nexts at less = absurd (omega (arith, less))
-walk-there (suc n) zero nexts at less = times_among-first (suc n) nexts at (omega arith)
+walk-there (suc n) zero nexts at less = occurrences_of-first (suc n) nexts at (omega arith)
 walk-there (suc n) (suc j) nexts at less =
     let rest = walk-there n j nexts (slice_index_or nexts at 0) (omega (arith, less)) in
-    let all = times_among-walk n (slice_index_or (walk n nexts (slice_index_or nexts at 0)) j 0) nexts at in
+    let all = occurrences_of-walk n (slice_index_or (walk n nexts (slice_index_or nexts at 0)) j 0) nexts at in
     omega (arith, rest, all)
 
 -- the next place of one that isn't the last stands behind it
@@ -136,7 +136,7 @@ walk-next (suc (suc n)) (suc j) nexts at less = walk-next (suc n) j nexts (slice
 -- the j-th place takes over what stands at the next one, which goes
 pub record IsShorter (n j : ℕ) (nexts frames : List ℕ) (at : ℕ) (newer : List ℕ) (given : List ℕ) (gone : ℕ) : Type 0 where
   pub chain : frames_at given (walk n newer at) ≡ remove (frames_at frames (walk (suc n) nexts at)) j
-  pub places : (i : ℕ) → times_among i (walk n newer at) + here i gone ≡ times_among i (walk (suc n) nexts at)
+  pub places : (i : ℕ) → occurrences_of i (walk n newer at) + here i gone ≡ occurrences_of i (walk (suc n) nexts at)
 
 pub walk-shortened : (n j : ℕ) (nexts frames : List ℕ) (at p : ℕ) → j ≤ n → p ≡ slice_index_or (walk (suc (suc n)) nexts at) j 0 → Once (walk (suc (suc n)) nexts at)
     → p < length nexts → p < length frames
@@ -147,7 +147,7 @@ walk-shortened n zero nexts frames at p le e once inside framed =
     (record {
       chain = rw (first, rest) (rw front (ap (λ l. slice_index_or frames next 0 ∷ l) (frames-agree tail frames given (agree-set tail frames at (slice_index_or frames next 0) none))));
       places = λ i. rw (first, rest)
-          (let a = times_among-cons i at tail in let b = times_among-cons i at (next ∷ tail) in let c = times_among-cons i next tail in omega (arith, a, b, c));
+          (let a = occurrences_of-cons i at tail in let b = occurrences_of-cons i at (next ∷ tail) in let c = occurrences_of-cons i next tail in omega (arith, a, b, c));
     })
   where
     next : ℕ
@@ -162,8 +162,8 @@ walk-shortened n zero nexts frames at p le e once inside framed =
     tail : List ℕ
     tail = walk n nexts (slice_index_or nexts next 0)
 
-    none : times_among at tail ≡ 0
-    none = let no = once-none (suc n) nexts at once in let all = times_among-walk n at nexts next in omega (arith, no, all)
+    none : occurrences_of at tail ≡ 0
+    none = let no = once-none (suc n) nexts at once in let all = occurrences_of-walk n at nexts next in omega (arith, no, all)
 
     first : slice_index_or newer at 0 ≡ slice_index_or nexts next 0
     first = get_or-set_same nexts at (slice_index_or nexts next 0) 0 (rw e at inside)
@@ -176,7 +176,7 @@ walk-shortened n zero nexts frames at p le e once inside framed =
 walk-shortened zero (suc j) nexts frames at p le e once inside framed = absurd (omega (arith, le))
 walk-shortened (suc n) (suc j) nexts frames at p le e once inside framed =
     let next : ℕ = slice_index_or nexts at 0 in
-    let later : 1 ≤ times_among p (walk (suc (suc n)) nexts next) = rw e (walk-there (suc (suc n)) j nexts next (omega (arith, le))) in
+    let later : 1 ≤ occurrences_of p (walk (suc (suc n)) nexts next) = rw e (walk-there (suc (suc n)) j nexts next (omega (arith, le))) in
     let apart : at ≢ p = once-later (suc (suc n)) nexts at p once later in
     let behind = walk-shortened n j nexts frames next p (omega (arith, le)) e (once-next (suc (suc n)) nexts at once) inside framed in
     let first = get_or-set_other nexts p at (slice_index_or nexts (slice_index_or nexts p 0) 0) 0 apart in
@@ -184,19 +184,19 @@ walk-shortened (suc n) (suc j) nexts frames at p le e once inside framed =
     record {
       chain = rw (first, front) (ap (λ l. slice_index_or frames at 0 ∷ l) behind.chain);
       places = λ i. rw first
-          (let a = times_among-cons i at (walk (suc n) (slice_set nexts p (slice_index_or nexts (slice_index_or nexts p 0) 0)) next) in let b = times_among-cons i at (walk (suc (suc n)) nexts next) in let c = behind.places i in omega (arith, a, b, c));
+          (let a = occurrences_of-cons i at (walk (suc n) (slice_set nexts p (slice_index_or nexts (slice_index_or nexts p 0) 0)) next) in let b = occurrences_of-cons i at (walk (suc (suc n)) nexts next) in let c = behind.places i in omega (arith, a, b, c));
     }
 
 -- the last place goes
 pub walk-cut : (n : ℕ) (nexts frames : List ℕ) (at : ℕ) → IsShorter n n nexts frames at nexts frames (slice_index_or (walk (suc n) nexts at) n 0)
 unfolding walk
-walk-cut zero nexts frames at = record { chain = refl; places = λ i. let a = times_among-cons i at [] in omega (arith, a) }
+walk-cut zero nexts frames at = record { chain = refl; places = λ i. let a = occurrences_of-cons i at [] in omega (arith, a) }
 walk-cut (suc n) nexts frames at =
     let next = slice_index_or nexts at 0 in
     let behind = walk-cut n nexts frames next in
     record {
       chain = ap (λ l. slice_index_or frames at 0 ∷ l) behind.chain;
-      places = λ i. let a = times_among-cons i at (walk n nexts next) in let b = times_among-cons i at (walk (suc n) nexts next) in let c = behind.places i in omega (arith, a, b, c);
+      places = λ i. let a = occurrences_of-cons i at (walk n nexts next) in let b = occurrences_of-cons i at (walk (suc n) nexts next) in let c = behind.places i in omega (arith, a, b, c);
     }
 
 -- one place further on
@@ -216,17 +216,17 @@ within-step g k bound nexts at less all =
     All-tail (λ (place : ℕ). place < bound) at (walk (g - (k + 1) + 1) nexts (slice_index_or nexts at 0)) (subst (λ (m : ℕ). All (λ place. place < bound) (walk m nexts at)) e all)
 
 -- an element of a list stands in it
-pub stands : (xs : List ℕ) (i d : ℕ) → i < length xs → 1 ≤ times_among (slice_index_or xs i d) xs
+pub stands : (xs : List ℕ) (i d : ℕ) → i < length xs → 1 ≤ occurrences_of (slice_index_or xs i d) xs
 stands [] i d less = absurd (omega (arith, less))
-stands (x ∷ xs) zero d less = let all = times_among-cons x x xs in let one = here-same x in omega (arith, all, one)
+stands (x ∷ xs) zero d less = let all = occurrences_of-cons x x xs in let one = here-same x in omega (arith, all, one)
 stands (x ∷ xs) (suc i) d less =
     let rest = stands xs i d (omega (arith, less)) in
-    let all = times_among-cons (slice_index_or xs i d) x xs in
+    let all = occurrences_of-cons (slice_index_or xs i d) x xs in
     omega (arith, rest, all)
 
 -- one of the places of a list is written
-pub apart-set : (places old : List ℕ) (p v : ℕ) → 1 ≤ times_among p places → (i : ℕ) → times_among i places ≡ 0 → slice_index_or (slice_set old p v) i 0 ≡ slice_index_or old i 0
-apart-set places old p v some i none = get_or-set_other old p i v 0 (λ same. times_among-apart i p places none some (sym same))
+pub apart-set : (places old : List ℕ) (p v : ℕ) → 1 ≤ occurrences_of p places → (i : ℕ) → occurrences_of i places ≡ 0 → slice_index_or (slice_set old p v) i 0 ≡ slice_index_or old i 0
+apart-set places old p v some i none = get_or-set_other old p i v 0 (λ same. occurrences_of-apart i p places none some (sym same))
 
 -- one more of some groups
 pub walk-grown : (g : ℕ) (nexts : List ℕ) (at new : ℕ) → 1 ≤ g → Once (walk g nexts at) → end (g - 1) nexts at < length nexts
@@ -238,7 +238,7 @@ walk-grown (suc m) nexts at new some once inside =
     rw (e, f) (walk-lengthened m nexts at new once (rw e at inside))
 
 -- the last of some groups is one of them
-pub end-stands : (g : ℕ) (nexts : List ℕ) (at : ℕ) → 1 ≤ g → 1 ≤ times_among (end (g - 1) nexts at) (walk g nexts at)
+pub end-stands : (g : ℕ) (nexts : List ℕ) (at : ℕ) → 1 ≤ g → 1 ≤ occurrences_of (end (g - 1) nexts at) (walk g nexts at)
 end-stands zero nexts at some = absurd (omega (arith, some))
 end-stands (suc m) nexts at some = let e : suc m - 1 ≡ m = omega arith in rw e (end-there m nexts at)
 

@@ -41,13 +41,13 @@ abbrev pub tree_at : List Node → ℕ → Tree
 tree_at nodes link = tree_within (height_at nodes link) nodes link
 
 -- how often a place stands in a list
-abbrev pub times_among : ℕ → List ℕ → ℕ
-times_among i places = sum_by (λ at. if i == at then 1 else 0) places
+abbrev pub occurrences_of : ℕ → List ℕ → ℕ
+occurrences_of i places = sum_by (λ at. if i == at then 1 else 0) places
 
 -- each place below a bound is used once or free once
 pub record AreShared (held free : List ℕ) (bound : ℕ) : Type 0 where
-  pub once : (i : ℕ) → times_among i held + times_among i free ≤ 1
-  pub inside : (i : ℕ) → bound ≤ i → times_among i held + times_among i free ≡ 0
+  pub once : (i : ℕ) → occurrences_of i held + occurrences_of i free ≤ 1
+  pub inside : (i : ℕ) → bound ≤ i → occurrences_of i held + occurrences_of i free ≡ 0
   pub all : length held + length free ≡ bound
 
 -- at each of some places a group hangs at least, and each place has one group or is free
