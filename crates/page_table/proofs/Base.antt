@@ -58,7 +58,7 @@ pub use Rattle.stable_tree.specs.Groups.{Groups, IsChain, has, content, order, m
 pub use Rattle.unstable_tree.specs.WaitingList.{is_match, WaitingList}
 pub use Rattle.unstable_tree.specs.declared.tree.Waiter.{Waiter}
 unfoldable pub use Rattle.host_types.specs.Bytes.{part_of, with_part}
-unfoldable pub use Rattle.host_types.specs.Counters.{occurrences_of, repeated_among, seconds_behind, group_contents}
+unfoldable pub use Rattle.host_types.specs.Counters.{times_among, repeated_among, seconds_behind, group_contents}
 unfoldable pub use Rattle.host_types.specs.Pages.{page_bytes}
 unfoldable pub use Rattle.host_types.specs.Pins.{broken_by, unpinned_from}
 unfoldable pub use Rattle.host_types.specs.Sharing.{broken, broken_from, paired, zeroed, break_cost, cost_from, gone, gone_from, frames_free, joined_by}

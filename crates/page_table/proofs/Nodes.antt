@@ -1,6 +1,6 @@
 -- How many contents have more than one group, told by the chains of the tree: of all contents one is taken out
 -- after another, and how often it occurs is the length of its chain.
-use Rattle.page_table.proofs.Base.{◌≡◌, ◌≢◌, ◌⊎◌, ⊎_elim, ℕ, suc, ◌+◌, nat_lt, not, bytes_eq, true, false, if◌then◌else◌, List, [], ◌∷◌, ◌++◌, length, map, filter, slice_index_or, All, AllPairs, refl, ap, arith, concat, Less, length-append, append-nil, All-tail, filter-append, sum_by-cons, sum_by-append, is_eq-slice_cmp, bytes_eq-Decides, nat_tests, All-head, occurrences_of, repeated_among, seconds_behind, page_at, Groups, IsChain, has, content, order, many_in, dups_in, chains_among, dups_among, filter-chain, filter-no_chain, IsTreeOf}
+use Rattle.page_table.proofs.Base.{◌≡◌, ◌≢◌, ◌⊎◌, ⊎_elim, ℕ, suc, ◌+◌, nat_lt, not, bytes_eq, true, false, if◌then◌else◌, List, [], ◌∷◌, ◌++◌, length, map, filter, slice_index_or, All, AllPairs, refl, ap, arith, concat, Less, length-append, append-nil, All-tail, filter-append, sum_by-cons, sum_by-append, is_eq-slice_cmp, bytes_eq-Decides, nat_tests, All-head, times_among, repeated_among, seconds_behind, page_at, Groups, IsChain, has, content, order, many_in, dups_in, chains_among, dups_among, filter-chain, filter-no_chain, IsTreeOf}
 use Rattle.page_table.proofs.Entries.{one_when}
 
 -- all contents but one
@@ -13,19 +13,19 @@ tells x c = grind (arith, nat_tests, bytes_eq-Decides)
 differ : (x c : List ℕ) → x ≢ c → bytes_eq x c ≡ false
 differ x c ne = ⊎_elim (λ is. absurd (ne is.1)) (λ is. is.0) (tells x c)
 
-times-cons : (b x : List ℕ) (xs : List (List ℕ)) → occurrences_of b (x ∷ xs) ≡ one_when (bytes_eq x b) + occurrences_of b xs
-unfolding occurrences_of
+times-cons : (b x : List ℕ) (xs : List (List ℕ)) → times_among b (x ∷ xs) ≡ one_when (bytes_eq x b) + times_among b xs
+unfolding times_among
 times-cons b x xs = sum_by-cons (λ (other : List ℕ). if bytes_eq other b then 1 else 0) x xs
 
-times-none : (b : List ℕ) → occurrences_of b [] ≡ 0
-unfolding occurrences_of
+times-none : (b : List ℕ) → times_among b [] ≡ 0
+unfolding times_among
 times-none b = refl
 
-times-gone : (c : List ℕ) (xs : List (List ℕ)) → occurrences_of c (out c xs) ≡ 0
+times-gone : (c : List ℕ) (xs : List (List ℕ)) → times_among c (out c xs) ≡ 0
 times-gone c [] = times-none c
 times-gone c (x ∷ xs) = grind (arith, times-cons c x (out c xs), times-gone c xs)
 
-times-other : (b c : List ℕ) (xs : List (List ℕ)) → b ≢ c → occurrences_of b (out c xs) ≡ occurrences_of b xs
+times-other : (b c : List ℕ) (xs : List (List ℕ)) → b ≢ c → times_among b (out c xs) ≡ times_among b xs
 times-other b c [] ne = refl
 times-other b c (x ∷ xs) ne = grind (arith, times-cons b x xs, times-cons b x (out c xs), (bytes_eq-Decides x c).0, (bytes_eq-Decides x b).0, times-other b c xs)
 
@@ -34,8 +34,8 @@ unfolding seconds_behind
 seconds-none before = refl
 
 -- the second one of a content, and those of all others
-seconds-split : (c : List ℕ) (before xs : List (List ℕ)) → seconds_behind before xs + many_in (occurrences_of c before) ≡ many_in (occurrences_of c before + occurrences_of c xs) + seconds_behind (out c before) (out c xs)
-unfolding occurrences_of seconds_behind
+seconds-split : (c : List ℕ) (before xs : List (List ℕ)) → seconds_behind before xs + many_in (times_among c before) ≡ many_in (times_among c before + times_among c xs) + seconds_behind (out c before) (out c xs)
+unfolding times_among seconds_behind
 seconds-split c before [] = grind (arith, times-none c, seconds-none before, seconds-none (out c before))
 seconds-split c before (x ∷ xs) = grind (arith, nat_tests, filter-append, append-nil, bytes_eq-Decides, sum_by-append, times-cons, times-none, times-other, seconds-split c (before ++ x ∷ []) xs)
 
@@ -43,23 +43,23 @@ seconds-split c before (x ∷ xs) = grind (arith, nat_tests, filter-append, appe
 abbrev share : ℕ → ℕ → ℕ
 share n m = if nat_lt 1 n then m else 0
 
-repeated-cons : (all : List (List ℕ)) (x : List ℕ) (xs : List (List ℕ)) → repeated_among all (x ∷ xs) ≡ many_in (occurrences_of x all) + repeated_among all xs
+repeated-cons : (all : List (List ℕ)) (x : List ℕ) (xs : List (List ℕ)) → repeated_among all (x ∷ xs) ≡ many_in (times_among x all) + repeated_among all xs
 unfolding repeated_among
-repeated-cons all x xs = sum_by-cons (λ (bytes : List ℕ). if nat_lt 1 (occurrences_of bytes all) then 1 else 0) x xs
+repeated-cons all x xs = sum_by-cons (λ (bytes : List ℕ). if nat_lt 1 (times_among bytes all) then 1 else 0) x xs
 
 repeated-none : (all : List (List ℕ)) → repeated_among all [] ≡ 0
 unfolding repeated_among
 repeated-none all = refl
 
 -- those of a content, and those of all others
-repeated-split : (c : List ℕ) (all xs : List (List ℕ)) → repeated_among all xs ≡ share (occurrences_of c all) (occurrences_of c xs) + repeated_among (out c all) (out c xs)
+repeated-split : (c : List ℕ) (all xs : List (List ℕ)) → repeated_among all xs ≡ share (times_among c all) (times_among c xs) + repeated_among (out c all) (out c xs)
 repeated-split c all [] = grind (arith, times-none c, repeated-none all, repeated-none (out c all))
 repeated-split c all (x ∷ xs) =
     grind (arith, nat_tests, times-cons c x xs, (bytes_eq-Decides x c).0, (bytes_eq-Decides x c).1, repeated-cons all x xs, repeated-cons (out c all) x (out c xs), times-other x c all, repeated-split c all xs)
 
 module _ (arena : List (List ℕ)) where
   -- as many frames have the bytes
-  pub times-has : (b : List ℕ) (frames : List ℕ) → occurrences_of b (map (page_at arena) frames) ≡ length (filter (has arena b) frames)
+  pub times-has : (b : List ℕ) (frames : List ℕ) → times_among b (map (page_at arena) frames) ≡ length (filter (has arena b) frames)
   times-has b [] = times-none b
   times-has b (f ∷ fs) = grind (arith, times-cons b (page_at arena f) (map (page_at arena) fs), times-has b fs)
 
@@ -71,16 +71,16 @@ module _ (arena : List (List ℕ)) where
 
   -- as often as the first chain is long, its content occurs, and without it all others are those of the other chains
   module _ (chain : List ℕ) (chains all : List (List ℕ)) (is : IsChain arena chain) (none : filter (has arena (content arena chain)) (concat chains) ≡ [])
-      (same : (b : List ℕ) → occurrences_of b all ≡ length (filter (has arena b) (concat (chain ∷ chains)))) where
-    whole : occurrences_of (content arena chain) all ≡ length chain
+      (same : (b : List ℕ) → times_among b all ≡ length (filter (has arena b) (concat (chain ∷ chains)))) where
+    whole : times_among (content arena chain) all ≡ length chain
     whole = grind (arith, nat_tests, filter-append, filter-chain, length-append, (bytes_eq-Decides (content arena chain) (content arena chain)).1, same (content arena chain))
 
-    less : (b : List ℕ) → occurrences_of b (out (content arena chain) all) ≡ length (filter (has arena b) (concat chains))
+    less : (b : List ℕ) → times_among b (out (content arena chain) all) ≡ length (filter (has arena b) (concat chains))
     less b = grind (arith, nat_tests, filter-append, filter-chain, length-append, tells b (content arena chain), differ, times-gone (content arena chain) all, times-other b (content arena chain) all, same b)
 
   -- the numbers of contents that occur twice or more are those of the chains
   pub nodes-told : (chains all : List (List ℕ)) → All (IsChain arena) chains → AllPairs (λ c d. order (content arena c) (content arena d) ≡ Less) chains
-      → ((b : List ℕ) → occurrences_of b all ≡ length (filter (has arena b) (concat chains)))
+      → ((b : List ℕ) → times_among b all ≡ length (filter (has arena b) (concat chains)))
       → (seconds_behind [] all ≡ chains_among chains) × (repeated_among all all ≡ dups_among chains)
   unfolding chains_among dups_among
   nodes-told [] [] are ascending same = (seconds-none [], repeated-none [])
