@@ -10,7 +10,7 @@ use Rattle.tree_shape.specs.Shape.{Tree, leaf, fork, in_order, Holds, IsEven, Is
 use Rattle.tree_shape.specs.Changes.{found}
 use Rattle.tree_shape.specs.Searches.{order_to, IsGrowing}
 use Rattle.tree_shape.specs.Removals.{IsTaking}
-use Rattle.tree_shape.proofs.Times.{here, occurrences_of-fork, occurrences_of-leaf, occurrences_of-once}
+use Rattle.tree_shape.proofs.Times.{here, times-fork, times-leaf, times-once}
 use Rattle.stable_tree.specs.declared.store.Store.{Store}
 use Rattle.stable_tree.specs.Groups.{IsSorted}
 use Rattle.stable_tree.specs.Edits.{IsSearchAnswer}
@@ -189,7 +189,7 @@ module _ (store : Store) (free : List ℕ) (whole : IsWholeStore store free) whe
       omega (arith, a, b)
 
   pub tree-once : IsOnce (tree_in store)
-  tree-once = occurrences_of-once (tree_in store) (λ i. let a = tree-occurrences_of i (tree_in store) in let b = heads-once i in omega (arith, a, b))
+  tree-once = times-once (tree_in store) (λ i. let a = tree-occurrences_of i (tree_in store) in let b = heads-once i in omega (arith, a, b))
 
   pub whole-taking : (pages : List (List ℕ)) → IsSorted pages (chains_in store) → IsTaking store.nodes.items store.frames.items pages store.root (tree_in store)
   whole-taking pages sorted = record {
@@ -206,9 +206,9 @@ whole-growing store place free whole pages sorted =
     record {
       sound = whole-sound store (place ∷ free) whole;
       framed = whole-framed pages store (place ∷ free) whole sorted;
-      once = occurrences_of-once (fork place (tree_in store) leaf) (λ i.
-          let a = occurrences_of-fork i place (tree_in store) leaf in
-          let b = occurrences_of-leaf i in
+      once = times-once (fork place (tree_in store) leaf) (λ i.
+          let a = times-fork i place (tree_in store) leaf in
+          let b = times-leaf i in
           let c = tree-occurrences_of store (place ∷ free) whole i (tree_in store) in
           let d = heads-once store (place ∷ free) whole i in
           let e = occurrences_of-cons i place free in

@@ -41,7 +41,7 @@ use Rattle.verifier_kinds.specs.Wide.{raised, raised_kind, raised_slot, raised_d
 use Rattle.verifier_kinds.proofs.Descriptions.{get_or-mapped}
 use Rattle.verifier_kinds.proofs.Moves.{int_le_true, true_int_le}
 use Rattle.verifier_kinds.proofs.NarrowerKinds.{IsResultBelow, result_below_self}
-use Rattle.verifier_kinds.proofs.Raised.{IsRaisedKind, arithmetic_raised, register_of-raised, slot_of-raised, with_kind-raised, with_unset-raised, with_slot-raised, raised_bytes, settled-raised, description_raised_below}
+use Rattle.verifier_kinds.proofs.Raised.{IsRaisedKind, arithmetic_raised, register_of-raised, slot_of-raised, with_kind-raised, with_unset-raised, with_slot-raised, raised_bytes, with_answer_known-raised, description_raised_below}
 use Rattle.verifier.specs.declared.jumps.Compared.{Compared}
 use Rattle.verifier.specs.declared.jumps.Compared.TheVariants.{Numbers, Answer}
 use Rattle.verifier.specs.Subject.{Subject}
@@ -387,8 +387,8 @@ told_raised extra dst d (Some range) = ap Some (with_kind-raised extra d dst (Sc
 
 way_raised : (extra : ℕ) (comparison : Comparison) (width : Width) (taken : Bool) (insn : Insn) (d : Description) (x : Compared) → on_way_at extra comparison width taken insn (raised_description extra d) x ≡ option_map (raised_description extra) (on_way comparison width taken insn d x)
 way_raised extra comparison width taken insn d (Numbers a b) = told_raised extra insn.dst d (refined comparison width taken a b)
-way_raised extra comparison width true insn d (Answer m call) = ap Some (settled-raised extra call (checked_kind m (holds_of_null comparison)) d)
-way_raised extra comparison width false insn d (Answer m call) = ap Some (settled-raised extra call (checked_kind m (not (holds_of_null comparison))) d)
+way_raised extra comparison width true insn d (Answer m call) = ap Some (with_answer_known-raised extra call (checked_kind m (holds_of_null comparison)) d)
+way_raised extra comparison width false insn d (Answer m call) = ap Some (with_answer_known-raised extra call (checked_kind m (not (holds_of_null comparison))) d)
 
 branch_raised : (extra : ℕ) (p : Subject) (comparison : Comparison) (width : Width) (source : Source) (insn : Insn) (slot : ℕ) (d : Description) → IsResultBelow (AreRaised extra) (flow_of_branch_at extra p comparison width source insn slot (raised_description extra d)) (flow_of_branch p comparison width source insn slot d)
 branch_raised extra p comparison width source insn slot d =

@@ -3,7 +3,7 @@ use Rattle.stable_tree.specs.Digits.{digits}
 use Rattle.stable_tree.specs.Places.{tree_in, chains_in}
 use Rattle.stable_tree.proofs.Contents.{whole-few}
 use Rattle.stable_tree.proofs.Entering.{renoded_store, whole-taking}
-use Rattle.stable_tree.proofs.Taking.{take-stays, out-nowhere, out-stays, out-taken}
+use Rattle.stable_tree.proofs.Taking.{take-stays, out-nowhere, out-stays, out-tree_without}
 use Rattle.stable_tree.proofs.store.take.Goals as goal
 use Rattle.stable_tree.proofs.store.take.Goals.{After-take_out}
 
@@ -28,7 +28,7 @@ pub shorten-requires-clause-shared : goal.shorten-requires-clause-shared
 shorten-requires-clause-shared c = (out-stays c.requires.whole c.requires.sorted (rw (c.deref_mut.ensures.value, c.deref.ensures.value, c.deref-2.ensures.value) at c.in-Stays.ensures.out)).shared
 
 pub give_back-requires : goal.give_back-requires
-give_back-requires c = (out-taken c.requires.whole c.requires.sorted (rw (c.deref_mut.ensures.value, c.deref.ensures.value, c.deref-2.ensures.value) at c.in-Out.ensures.out)).0
+give_back-requires c = (out-tree_without c.requires.whole c.requires.sorted (rw (c.deref_mut.ensures.value, c.deref.ensures.value, c.deref-2.ensures.value) at c.in-Out.ensures.out)).0
 
 pub returns-in-Nowhere-clause-whole : goal.returns-in-Nowhere-clause-whole
 returns-in-Nowhere-clause-whole c = (out-nowhere c.requires.whole c.requires.sorted (rw (c.deref_mut.ensures.value, c.deref.ensures.value) at c.in-Nowhere.ensures.out)).0
@@ -49,7 +49,7 @@ pub returns-in-Stays-clause-few : goal.returns-in-Stays-clause-few
 returns-in-Stays-clause-few c = few (goal.at.returns-in-Stays-clause-few c).After-take_out
 
 pub returns-in-Out-clause-taken : goal.returns-in-Out-clause-taken
-returns-in-Out-clause-taken c = (out-taken c.requires.whole c.requires.sorted (rw (c.deref_mut.ensures.value, c.deref.ensures.value, c.deref-2.ensures.value) at c.in-Out.ensures.out)).1 (chains_in c.give_back.new.store) c.give_back.ensures.chains
+returns-in-Out-clause-taken c = (out-tree_without c.requires.whole c.requires.sorted (rw (c.deref_mut.ensures.value, c.deref.ensures.value, c.deref-2.ensures.value) at c.in-Out.ensures.out)).1 (chains_in c.give_back.new.store) c.give_back.ensures.chains
 
 pub returns-in-Out-clause-few : goal.returns-in-Out-clause-few
 returns-in-Out-clause-few c = few (goal.at.returns-in-Out-clause-few c).After-take_out
