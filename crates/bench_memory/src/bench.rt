@@ -32,22 +32,28 @@ pub(crate) struct Bench {
 }
 
 impl Bench {
-    /// A memory with so many pages, which the tenants share.
-    pub(crate) fn new(alloc: Global, pages: u32) -> Result<Bench>
+    /// A memory without pages.
+    pub(crate) fn new(alloc: Global) -> Result<Bench> {
+        match Memory::new(alloc, FRAMES, TENANTS, Options::standard()) {
+            Ok(memory) => Ok(Bench {
+                memory,
+                pages: Vec::new(alloc),
+                fills: 0,
+                loaded: 0,
+            }),
+            Err(fault) => Err(refusal(fault)),
+        }
+    }
+
+    /// So many pages, which the tenants share.
+    pub(crate) fn add_maps(&mut self, pages: u32) -> Result<()>
         requires { pages ≤ 4000 }
     {
-        let memory = Memory::new(alloc, FRAMES, TENANTS, Options::standard()).map_err(refusal)?;
-        let mut bench = Bench {
-            memory,
-            pages: Vec::new(alloc),
-            fills: 0,
-            loaded: 0,
-        };
         for tenant in 0..TENANTS {
             let more = u32::from(tenant < pages % TENANTS);
-            bench.add_map(tenant, pages / TENANTS + more)?;
+            self.add_map(tenant, pages / TENANTS + more)?;
         }
-        Ok(bench)
+        Ok(())
     }
 
     /// A tenant's map of so many pages.
@@ -193,8 +199,8 @@ impl Bench {
     }
 
     /// Makes a step: the nanoseconds that it took for each page or access.
-    pub(crate) fn time(&mut self, rt: &impl Clock, step: Step) -> Result<f64> {
-        let (name, part, work) = step;
+    pub(crate) fn time(&mut self, rt: &impl Clock, step: Step<'_>) -> Result<f64> {
+        let Step { name, part, work } = step;
         let start = Instant::now(rt)?;
         let done = self.make(part, work);
         let spent = start.elapsed(rt)?.as_secs_f64();

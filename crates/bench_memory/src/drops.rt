@@ -7,7 +7,6 @@ use anyhow::Result;
 use host_types::{Fault, Options};
 use page_table::Memory;
 use scanner::visit;
-use std::alloc::Global;
 use std::rt::Clock;
 use std::time::Instant;
 
@@ -36,14 +35,13 @@ struct Spent {
     dropped: f64,
 }
 
-/// A memory after so many visits that the other tenants' pages are in groups.
-fn merged(alloc: Global) -> Result<Memory, Fault> {
-    let mut memory = Memory::new(alloc, 4096, OTHERS + 1, Options::standard())?;
+/// Makes the other tenants' maps, and visits their pages until they are in groups.
+fn merge(memory: &mut Memory) -> Result<(), Fault> {
     for tenant in 0..OTHERS {
         memory.create_map(tenant + 1, 4096, PAGES, true)?;
     }
-    visits(&mut memory, 2 * OTHERS * PAGES);
-    Ok(memory)
+    visits(memory, 2 * OTHERS * PAGES);
+    Ok(())
 }
 
 fn visits(memory: &mut Memory, count: u32) {
@@ -94,11 +92,18 @@ fn thousand(rt: &impl Clock, memory: &mut Memory) -> Result<Spent> {
 
 /// Prints what a map takes in the nanoseconds of the first thousand and of the last.
 pub(crate) fn print_drops(rt: &(impl Clock + Print + AllocGlobal)) -> Result<()> {
-    let mut memory = merged(rt.alloc()).map_err(refusal)?;
-    let first = thousand(rt, &mut memory)?;
+    match Memory::new(rt.alloc(), 4096, OTHERS + 1, Options::standard()) {
+        Ok(mut memory) => print_table(rt, &mut memory),
+        Err(fault) => Err(refusal(fault)),
+    }
+}
+
+fn print_table(rt: &(impl Clock + Print), memory: &mut Memory) -> Result<()> {
+    merge(memory).map_err(refusal)?;
+    let first = thousand(rt, memory)?;
     let mut last = first;
     for _thousand in 1..THOUSANDS {
-        last = thousand(rt, &mut memory)?;
+        last = thousand(rt, memory)?;
     }
     println!(rt; "| ns a map | the first thousand | the hundredth |")?;
     println!(rt; "|---|---|---|")?;

@@ -1,7 +1,13 @@
-//! What is done in a round, and which of it is a row of the table.
+//! What is done in a round. A line says a step of it, in words between spaces, and behind `: ` its row in the table, if
+//! it has one:
+//!
+//!     PART load, PART ask, PART store-own, PART lookup      ten thousand accesses
+//!     PART fill thirds|pairs|none                           new bytes for each page
+//!     PART merge                                            the same, and the visits that put them into groups of three
+//!     PART visit DID                                        visits, each of which does this
+//!     PART store, PART update, PART unmerge                 stores of zero, updates to zeros, everything unmerged
+//!     PART set OPTION VALUE                                 an option gets a value
 
-use Part::{All, First, Last, Second};
-use host_types::Visited::{Already, Changed, Joined, Paired, Waiting, Zeroed};
 use host_types::{Opt, Visited};
 
 /// Which pages have the same bytes.
@@ -51,71 +57,70 @@ pub(crate) enum Work {
     Unmerge,
 }
 
-/// What is done to some of the pages, and its row in the table, if it has one.
-pub(crate) type Step = (&'static str, Part, Work);
-
-/// How many steps a round has.
-pub(crate) const COUNT: usize = 38;
-
-/// The steps of a round. Those without a name are no row.
-pub(crate) fn steps() -> &'static [Step; COUNT] {
-    &STEPS
+/// What is done to some of the pages, and its row in the table; a step without a name is none.
+#[derive(Clone, Copy)]
+pub(crate) struct Step<'a> {
+    pub(crate) name: &'a str,
+    pub(crate) part: Part,
+    pub(crate) work: Work,
 }
 
-/// The steps, behind a call: else each proof that takes one of them reads them all.
-const STEPS: [Step; COUNT] = [
-    ("load of eight bytes", All, Work::Load),
-    ("`needs` of a store", All, Work::Ask),
-    ("store to an own page", All, Work::StoreOwn),
-    ("`lookup`", All, Work::Lookup),
-    ("`update` of an own page", All, Work::Update),
-    ("", All, Work::Fill(Likeness::Thirds)),
-    ("visit of a changed page", All, Work::Visit(Changed)),
-    ("", First, Work::Visit(Waiting)),
-    ("visit that pairs", Second, Work::Visit(Paired)),
-    ("visit that joins", Last, Work::Visit(Joined)),
-    ("visit of a merged page", All, Work::Visit(Already)),
-    ("break of a group of three by a store", First, Work::Store),
-    ("", Second, Work::Store),
-    ("break of the last page of a group", Last, Work::Store),
-    ("", All, Work::Merge),
-    (
-        "`update` of a page of a group of three",
-        First,
-        Work::Update,
-    ),
-    ("", Second, Work::Update),
-    ("`update` of the last page of a group", Last, Work::Update),
-    ("", All, Work::Merge),
-    ("unmerging of everything, for each page", All, Work::Unmerge),
-    ("", All, Work::Set(Opt::Run, 1)),
-    ("", All, Work::Set(Opt::UseZeroPages, 1)),
-    ("", All, Work::Store),
-    ("", All, Work::Visit(Changed)),
-    (
-        "visit that puts a page on the zero frame",
-        All,
-        Work::Visit(Zeroed),
-    ),
-    ("break of a page on the zero frame", First, Work::Store),
-    ("`update` of a page on the zero frame", Second, Work::Update),
-    ("", Last, Work::Store),
-    ("", All, Work::Set(Opt::UseZeroPages, 0)),
-    ("", All, Work::Fill(Likeness::None)),
-    ("", All, Work::Visit(Changed)),
-    (
-        "visit of a page that differs from all, no groups",
-        All,
-        Work::Visit(Waiting),
-    ),
-    ("", All, Work::Fill(Likeness::Pairs)),
-    ("", All, Work::Visit(Changed)),
-    ("", First, Work::Visit(Waiting)),
-    ("", Second, Work::Visit(Paired)),
-    (
-        "the same, beside groups of a third of the pages",
-        Last,
-        Work::Visit(Waiting),
-    ),
-    ("", All, Work::Store),
-];
+impl<'a> Step<'a> {
+    /// The step that a line says.
+    pub(crate) fn of(line: &'a str) -> Option<Step<'a>> {
+        let (said, name) = line.split_once(": ").unwrap_or((line, ""));
+        let mut words = said.split(' ');
+        let part = part_of(words.next()?)?;
+        let verb = words.next()?;
+        let work = work_of(verb, words.next().unwrap_or(""), words.next().unwrap_or(""))?;
+        Some(Step { name, part, work })
+    }
+}
+
+fn part_of(word: &str) -> Option<Part> {
+    match word {
+        "first" => Some(Part::First),
+        "second" => Some(Part::Second),
+        "last" => Some(Part::Last),
+        "all" => Some(Part::All),
+        _ => None,
+    }
+}
+
+fn work_of(verb: &str, how: &str, value: &str) -> Option<Work> {
+    match verb {
+        "load" => Some(Work::Load),
+        "ask" => Some(Work::Ask),
+        "store-own" => Some(Work::StoreOwn),
+        "lookup" => Some(Work::Lookup),
+        "merge" => Some(Work::Merge),
+        "store" => Some(Work::Store),
+        "update" => Some(Work::Update),
+        "unmerge" => Some(Work::Unmerge),
+        "fill" => Some(Work::Fill(likeness_of(how)?)),
+        "visit" => Some(Work::Visit(visited_of(how)?)),
+        "set" => Some(Work::Set(Opt::named(how)?, value.parse().ok()?)),
+        _ => None,
+    }
+}
+
+fn likeness_of(word: &str) -> Option<Likeness> {
+    match word {
+        "thirds" => Some(Likeness::Thirds),
+        "pairs" => Some(Likeness::Pairs),
+        "none" => Some(Likeness::None),
+        _ => None,
+    }
+}
+
+fn visited_of(word: &str) -> Option<Visited> {
+    match word {
+        "already" => Some(Visited::Already),
+        "changed" => Some(Visited::Changed),
+        "joined" => Some(Visited::Joined),
+        "paired" => Some(Visited::Paired),
+        "waiting" => Some(Visited::Waiting),
+        "zeroed" => Some(Visited::Zeroed),
+        _ => None,
+    }
+}
