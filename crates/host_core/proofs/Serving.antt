@@ -262,9 +262,11 @@ pub create-busy : (t : ℕ) (old : TenantView) (memory : MemoryState) (value_siz
     → IsServed t old memory (CreateMap t value_size entries mergeable) (Refused Busy) old memory
 create-busy t old memory value_size entries mergeable busy =
     served-same t old memory (CreateMap t value_size entries mergeable) (Refused Busy) (λ x tenant there stands holds.
-    let run : IsSome tenant.run = is_some-run old.programs old.run tenant.run stands.run ∙ busy in
-    (OfTenant-there x t (Refused Busy) x _ tenant there (refused-some x Busy (create_refusal x t tenant (shape_of value_size entries)) (CreateHappens x t tenant (shape_of value_size entries) mergeable (Refused Busy) x)
-    (while-busy tenant (new_map_refusal (owned_by x.sharing t tenant) (shape_of value_size entries) (have_in x)) run)), tt))
+    let run : IsSome tenant.run = is_some-run old.programs old.run tenant.run stands.run ∙ busy in (
+      OfTenant-there x t (Refused Busy) x _ tenant there (refused-some x Busy (create_refusal x t tenant (shape_of value_size entries)) (CreateHappens x t tenant (shape_of value_size entries) mergeable (Refused Busy) x)
+          (while-busy tenant (new_map_refusal (owned_by x.sharing t tenant) (shape_of value_size entries) (have_in x)) run)),
+      tt,
+    ))
 
 -- what is known once a value was written
 pub record HasUpdated (t : ℕ) (before after : MemoryState) (m key : ℕ) (value : List ℕ) : Type 0 where
@@ -327,9 +329,11 @@ update-refused t old memory m key value f idle refuses =
 pub update-busy : (t : ℕ) (old : TenantView) (memory : MemoryState) (m key : ℕ) (value : List ℕ) → is_some old.run ≡ true → IsServed t old memory (HostUpdate t m key value) (Refused Busy) old memory
 update-busy t old memory m key value busy =
     served-same t old memory (HostUpdate t m key value) (Refused Busy) (λ x tenant there stands holds.
-    let run : IsSome tenant.run = is_some-run old.programs old.run tenant.run stands.run ∙ busy in
-    (OfTenant-there x t (Refused Busy) x _ tenant there (refused-some x Busy (host_update_refusal x t tenant m key value) (UpdateHappens x t tenant m key value (Refused Busy) x)
-    (while-busy tenant (update_refusal (owned_by x.sharing t tenant) m key value (have_in x)) run)), tt))
+    let run : IsSome tenant.run = is_some-run old.programs old.run tenant.run stands.run ∙ busy in (
+      OfTenant-there x t (Refused Busy) x _ tenant there (refused-some x Busy (host_update_refusal x t tenant m key value) (UpdateHappens x t tenant m key value (Refused Busy) x)
+          (while-busy tenant (update_refusal (owned_by x.sharing t tenant) m key value (have_in x)) run)),
+      tt,
+    ))
 
 -- a value that is read
 pub lookup-told : (t : ℕ) (old : TenantView) (memory : MemoryState) (m key : ℕ) (bytes : List ℕ) → refused_lookup memory t m key ≡ None → IsValue (part memory t) m key bytes
