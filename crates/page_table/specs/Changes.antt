@@ -150,7 +150,6 @@ RefusesMap memory tenant shape TooManyMaps =
 RefusesMap memory tenant shape BadShape = IsSome (free_number (part memory tenant)) × ¬ (IsShape shape)
 RefusesMap memory tenant shape (NoFrames need have) =
     IsSome (free_number (part memory tenant)) × IsShape shape × (need ≡ page_count shape) × (have ≡ have_of memory) × (have < need)
-RefusesMap memory tenant shape OutOfMemory = FitsMap memory tenant shape
 RefusesMap memory tenant shape _ = ⊥
 
 -- when a map isn't dropped: the first refusal, in this order, whose condition holds

@@ -252,8 +252,8 @@ impl Memory {
     /// Makes a map of zeros for a tenant, at its first free number.
     ///
     /// Refusals in their order: 42 where there is no such tenant, 32 where it has eight maps, 33
-    /// where the shape is out of limits, 31 where the map's pages are more than `have`, 41 where
-    /// memory ran out. A refusal changes nothing.
+    /// where the shape is out of limits, 31 where the map's pages are more than `have`. A refusal
+    /// changes nothing. The call takes no memory.
     pub fn create_map(
         &mut self,
         tenant: u32,
