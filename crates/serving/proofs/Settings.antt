@@ -135,7 +135,7 @@ set-more commands index command old half new within is upto set (options, some) 
   all = some ∙ ap (λ (m : MemoryState). with_options m options) upto.all;
   set = λ settable.
       let (before, here) = All-pop IsSettable (take (index + 1) commands) (take index commands) (Some command)
-          (take_more commands index command within ∙ ap (λ c. take index commands ++ c ∷ []) (sym is)) settable in
+      (take_more commands index command within ∙ ap (λ c. take index commands ++ c ∷ []) (sym is)) settable in
       let now : options ≡ options_after half.sharing.options command = ap (λ (m : MemoryState). m.sharing.options) (sym some ∙ set here) in
       let was : half.sharing.options ≡ options_set old.sharing.options (take index commands) = ap (λ (m : MemoryState). m.sharing.options) upto.all ∙ upto.set before in
       now ∙ ap (λ first. options_after first command) was

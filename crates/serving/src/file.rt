@@ -109,9 +109,7 @@ fn serve_house<T: Threads + Wait + Sync, W: Write, E: Write, G: Gate + Sync>(
             visits: visits_of(file.commands.as_slice(), file.options.pages_to_scan),
         },
     };
-    serve_plan(
-        rt, alloc, &shared, &mut plan, file, writer, words, gate,
-    )
+    serve_plan(rt, alloc, &shared, &mut plan, file, writer, words, gate)
 }
 
 /// Serves a host file by the plans of its tenants.

@@ -65,7 +65,7 @@ pub record HasMap (tenant m : ℕ) (shape : Shape) (mergeable : Bool) (old new :
 -- update. The pages that it wrote left their groups and the frame of zeros, and nothing else changed of which pages
 -- share frames, nor another tenant's part.
 pub record HasUpdated (owned : TenantPart) (tenant m key : ℕ) (value : List ℕ) (old new : MemoryState) : Type 0 where
-  pub part : part new tenant ≡ pinned_as new.sharing tenant (part_updated owned m key value 0)
+  pub written : part new tenant ≡ pinned_as new.sharing tenant (part_updated owned m key value 0)
   pub sharing : new.sharing ≡ updated_sharing owned old.sharing tenant m key 0
   pub others : IsKeptBut tenant old new
   pub settings : KeepsSettings old new

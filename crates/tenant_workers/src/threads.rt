@@ -6,8 +6,8 @@ ghost use Rattle.tenant_workers.specs.Jobs.{AreEach, HasRoomForJobs, IsJobBegun,
 use crate::gate::Gate;
 use std::alloc::{AllocError, Global};
 use std::snapshot::Snapshot;
-use std::sync::atomic::{AtomicUsize, Ordering};
 use std::sync::Wait;
+use std::sync::atomic::{AtomicUsize, Ordering};
 use std::thread;
 use std::thread::{Promise, PromisedHandle, Scope, Threads};
 
@@ -105,7 +105,11 @@ where
             let mut done = done;
             begin_all(scope, rt, alloc, jobs, &mut begun, gate, refused);
             end_all(rt, begun, &mut done);
-            (done, end(rt, scanner))
+            let scanned = match scanner {
+                Ok(thread) => thread.join(rt),
+                Err(refused) => refused,
+            };
+            (done, scanned)
         },
     )
 }
@@ -174,17 +178,10 @@ fn end_all<R: Threads, T: Job + Drop>(rt: &R, begun: Vec<Begun<T>>, done: &mut V
     ensures { AreEach (IsJobDone (MayBecome T.is_done T.is_refused)) begun.items done.new.items }
 {
     for one in begun {
-        done.push_reserved(end(rt, one));
-    }
-}
-
-/// Joins the thread of a job, where it has one.
-#[tactic(auto, using(crate::proofs::Jobs::kept_ended, crate::proofs::Jobs::refused_ended))]
-fn end<R: Threads, T: Job + Drop>(rt: &R, begun: Begun<T>) -> T
-    ensures { IsJobDone (MayBecome T.is_done T.is_refused) begun result }
-{
-    match begun {
-        Ok(thread) => thread.join(rt),
-        Err(refused) => refused,
+        let job = match one {
+            Ok(thread) => thread.join(rt),
+            Err(refused) => refused,
+        };
+        done.push_reserved(job);
     }
 }
