@@ -38,14 +38,14 @@ part-new frames tenants options t within =
     ∙ ap (part-by (replicate 8 None) unreserved_tenant) (places-of false tenants t within)
 
 -- the seat of a tenant of such a memory
-at-first : (frames tenants : ℕ) (options : Options) (memory : MemoryState) → memory ≡ new_memory frames tenants options
+at-first : (frames tenants : ℕ) (options : Options) (memory : MemoryState) → ((t : ℕ) → part memory t ≡ part (new_memory frames tenants options) t)
     → (turn lent : TableId) → lent ≡ turn → (t : ℕ) (seat : SeatState) → t < tenants → IsNewSeat turn t (t + 1) memory seat → IsAtFirst lent seat
 at-first frames tenants options memory as_new turn lent same t seat within new = record {
   idle = new_idle turn lent t (t + 1) memory seat same new;
-  first = ap (λ (v : View). part v.seen v.first) new.1 ∙ ap (λ m. part m t) as_new ∙ part-new frames tenants options t within;
+  first = ap (λ (v : View). part v.seen v.first) new.1 ∙ as_new t ∙ part-new frames tenants options t within;
 }
 
-pub all_at_first : (frames tenants : ℕ) (options : Options) (memory : MemoryState) → memory ≡ new_memory frames tenants options
+pub all_at_first : (frames tenants : ℕ) (options : Options) (memory : MemoryState) → ((t : ℕ) → part memory t ≡ part (new_memory frames tenants options) t)
     → (turn lent : TableId) → lent ≡ turn
     → (seats : List SeatState) → length seats ≡ tenants → ((t : ℕ) → IfSome (slice_get seats t) (IsNewSeat turn t (t + 1) memory)) → All (IsAtFirst lent) seats
 all_at_first frames tenants options memory as_new turn lent same seats many each t seat within =

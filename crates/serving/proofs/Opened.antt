@@ -1,5 +1,5 @@
 -- What is opened, one command after the other.
-use Rattle.std.proofs.Common.{◌≡◌, ◌≢◌, ◌⊎◌, inl, inr, ◌∙◌, ◌<◌, ◌≤◌, ◌+◌, ℕ, zero, suc, List, [], ◌∷◌, ◌++◌, length, get_or, take, drop, map, All, ap, refl, subst, subst₂, sym, Some, None, Result, Ok, Err, IfErr, unwrap_or, arith}
+use Rattle.std.proofs.Common.{◌≡◌, ◌≢◌, ◌⊎◌, inl, inr, ◌∙◌, ◌<◌, ◌≤◌, ◌+◌, ℕ, zero, suc, List, [], ◌∷◌, ◌++◌, length, get_or, take, drop, map, All, ap, refl, subst, subst₂, sym, Some, None, Result, Ok, Err, IfErr, OnErr, Bool, unwrap_or, arith}
 use Rattle.std.specs.Prelude.{IfSome, slice_get}
 use Rattle.std.proofs.Math.ListN.{set}
 use Rattle.std.proofs.lemmas.List.{get_or-set_other, length-map, length-set, take_all, take_more}
@@ -7,16 +7,18 @@ use Rattle.std.proofs.lemmas.Grind.{get_or-set_at}
 use Rattle.std.proofs.lemmas.Bool.Decides.{eqb_tells}
 use Rattle.std.proofs.lemmas.List.Elements.{All-push}
 use Rattle.host_types.specs.declared.fault.Fault.{Fault}
-use Rattle.host_types.specs.declared.fault.Fault.TheVariants.{BadTenant}
+use Rattle.host_types.specs.declared.fault.Fault.TheVariants.{BadOption, BadTenant}
 use Rattle.host_types.specs.declared.options.Opt.{Opt}
-use Rattle.host_types.specs.Sharing.{Sharing}
-use Rattle.host_types.specs.Unmerging.{RefusesSet}
+use Rattle.host_types.specs.OptionTable.{MayBe}
+use Rattle.page_table.specs.Limits.{shape_of}
+use Rattle.host_calls.specs.Calls.{RefusesNewMap, RefusesUpdate, TellsHave}
+use Rattle.tenant_workers.specs.Calls.{memory_left}
 use Rattle.host_types.specs.Tenant.{TenantPart}
 use Rattle.verifier.specs.Verified.{Accepted}
-use Rattle.turn.specs.Seats.{own_part}
+use Rattle.turn.specs.Seats.{SeatState, own_part}
 use Rattle.tenant_workers.specs.declared.plans.TenantPlan.{TenantPlan}
 use Rattle.host_core.specs.declared.event.Event.{Event}
-use Rattle.host_core.specs.declared.event.Event.TheVariants.{Set}
+use Rattle.host_core.specs.declared.event.Event.TheVariants.{CreateMap, HostUpdate, Set}
 use Rattle.host_core.specs.HostView.{tenant_of}
 use Rattle.host_file.specs.declared.command.Command.TheVariants.{Apply, Finish, Run, Step, Visit}
 use Rattle.host_file.specs.declared.command.Command.{Command}
@@ -143,10 +145,25 @@ stopped-at commands place command event fault old half within is names fresh ope
 }
 
 -- why an option isn't set
-pub refused_set : {A : Type 0} (result : Result A Fault) (homes : List Home) (opt : Opt) (value : ℕ) (sharing : Sharing) → IfErr result (RefusesSet sharing opt value)
+pub refused_set : {A : Type 0} (result : Result A Fault) (homes : List Home) (opt : Opt) (value : ℕ) → IfErr result (λ fault. (fault ≡ BadOption) × ¬ (MayBe opt value))
     → IfErr result (RefusesOpening homes (Set opt value))
-refused_set (Ok a) homes opt value sharing refuses = tt
-refused_set (Err fault) homes opt value sharing refuses = (sharing, refuses)
+refused_set (Ok a) homes opt value refuses = tt
+refused_set (Err fault) homes opt value refuses = refuses
+
+-- why a map isn't made for a tenant, by what its seat found
+pub refused_map : {A : Type 0} (result : Result A Fault) (old : Home) (seat : SeatState) (tenant value_size entries : ℕ) (mergeable : Bool) → IfErr result (RefusesNewMap old.part (shape_of value_size entries))
+    → IfErr result (TellsHave (memory_left seat)) → OnErr result (own_part seat ≡ old.part)
+    → IfErr result (RefusesGift (CreateMap tenant value_size entries mergeable) old)
+refused_map (Ok a) old seat tenant value_size entries mergeable refuses told kept = tt
+refused_map (Err fault) old seat tenant value_size entries mergeable refuses told kept =
+    (refuses, (memory_left seat, record { tenant = seat.view.first; known = kept; told = told }))
+
+-- why a value isn't written for it
+pub refused_update : {A : Type 0} (result : Result A Fault) (old : Home) (seat : SeatState) (tenant map key : ℕ) (value : List ℕ) → IfErr result (RefusesUpdate old.part map key value)
+    → IfErr result (TellsHave (memory_left seat)) → OnErr result (own_part seat ≡ old.part) → IfErr result (RefusesGift (HostUpdate tenant map key value) old)
+refused_update (Ok a) old seat tenant map key value refuses told kept = tt
+refused_update (Err fault) old seat tenant map key value refuses told kept =
+    (refuses, (memory_left seat, record { tenant = seat.view.first; known = kept; told = told }))
 
 -- why an event isn't done for its tenant
 pub refused_gift : {A : Type 0} (result : Result A Fault) (event : Event) (plans : List TenantPlan) (place : ℕ) (plan : TenantPlan) → place < length plans → tenant_of event ≡ Some place

@@ -15,10 +15,11 @@ use Rattle.turn.specs.Seats.{own_part}
 use Rattle.tenant_workers.specs.declared.plans.TenantPlan.{TenantPlan}
 use Rattle.tenant_workers.specs.Jobs.{AreEach}
 use Rattle.tenant_workers.specs.Plans.{AreAnswered, AreServed, IsPlanServed, Planned, planned_by}
+use Rattle.tenant_workers.proofs.Kept.{answers-of}
 use Rattle.engines.specs.Input.{AreNoFile}
 use Rattle.engines.specs.Lines.{reply_lines}
 use Rattle.serving.specs.Lookups.{AreLookedUp, lookup_tellings, lookups_in}
-use Rattle.serving.specs.Opened.{AreOpenedFor, HaveOpened, IsNewPlan, IsStopped, home_of}
+use Rattle.serving.specs.Opened.{AreOpenedFor, HaveOpened, IsNewPlan, IsSettable, IsStopped, home_of}
 use Rattle.serving.specs.Prepared.{HaveRuns, runs_for, with_runs}
 use Rattle.serving.specs.RunLines.{all_run_tellings}
 use Rattle.serving.specs.Served.{AreNotServed, AreTold, IsServedSo, IsServedTenant, outcome_of, served, stopped, tellings_of, unserved}
@@ -48,10 +49,10 @@ served-many old new each = each-many planned_by IsPlanServed old new each
 
 -- the answers are those of a plan with the file's runs
 answered-of : (opened planned new : Planned) (runs : List (ℕ × List ℕ)) → opened.runs ≡ [] → planned ≡ with_runs opened runs → IsPlanServed planned new
-    → AreAnswered opened.programs runs (own_part opened.seat) new.replies (own_part new.seat)
+    → AreAnswered opened.programs runs opened.seat new.replies new.seat
 answered-of opened planned new runs none same is =
-    subst (λ asked. AreAnswered opened.programs asked (own_part opened.seat) new.replies (own_part new.seat)) (ap (λ before. before ++ runs) none)
-    (subst (λ plan. AreAnswered plan.programs plan.runs (own_part plan.seat) new.replies (own_part new.seat)) same is.replies)
+    subst (λ asked. AreAnswered opened.programs asked opened.seat new.replies new.seat) (ap (λ before. before ++ runs) none)
+    (subst (λ plan. AreAnswered plan.programs plan.runs plan.seat new.replies new.seat) same (answers-of planned new is))
 
 no-runs : (plan : TenantPlan) → plan.runs.items ≡ [] → (planned_by plan).runs ≡ []
 no-runs plan none = ap (λ runs. map (λ run. (run.0, run.1.items)) runs) none
@@ -68,6 +69,10 @@ served-each commands first opened planned new fresh open_so run_so each =
     record {
       home = home_of (get_or opened t plan);
       opened = subst (λ home. AreOpenedFor t commands home (home_of (get_or opened t plan))) (new-home (get_or first t plan) new_plan) (open_so.homes t plan before);
+      first = (get_or opened t plan).seat;
+      begins = refl;
+      last = (get_or new t plan).seat;
+      ends = refl;
       answered = answered-of (planned_by (get_or opened t plan)) (planned_by (get_or planned t plan)) (planned_by (get_or new t plan)) (runs_for t commands)
           (no-runs (get_or opened t plan) (open_so.runs t plan before ∙ new_plan.runs)) (run_so.each t plan behind) both.1;
     })
@@ -97,7 +102,7 @@ one-most false = omega arith
 pub status_few : (file : HostFile) (status : ℕ) (was is : Option (List ℕ)) → IsServedSo file status was is → status ≤ 1
 status_few file status was is (unserved fault refuses one written) = omega (arith, one)
 status_few file status was is (stopped event fault why one written) = omega (arith, one)
-status_few file status was is (served outcomes many each told) = subst (λ s. s ≤ 1) (sym told.noted) (one-most (tell_refusal (tellings_of file.commands outcomes told.answers)))
+status_few file status was is (served outcomes settable many each told) = subst (λ s. s ≤ 1) (sym told.noted) (one-most (tell_refusal (tellings_of file.commands outcomes told.answers)))
 
 -- the opening stopped, and that was told
 pub stopped-so : {E : Type 0} (result : Result ℕ E) (file : HostFile) (event : Event) (fault : Fault) (was is : Option (List ℕ)) → IsStopped file.tenants file.commands event fault
@@ -106,24 +111,24 @@ stopped-so (Ok status) file event fault was is why one written = stopped event f
 stopped-so (Err e) file event fault was is why one written = tt
 
 -- all were served, and what came of them was told
-pub served-so : {E : Type 0} (result : Result ℕ E) (file : HostFile) (first opened planned new : List TenantPlan) (was is : Option (List ℕ)) → length first ≡ file.tenants
+pub served-so : {E : Type 0} (result : Result ℕ E) (file : HostFile) (first opened planned new : List TenantPlan) (was is : Option (List ℕ)) → length first ≡ file.tenants → All IsSettable file.commands
     → All IsNewPlan first → HaveOpened file.commands first opened → HaveRuns file.commands opened planned → AreServed planned new
     → IfOk result (λ status. AreTold file.commands (map outcome_of new) status was is) → IfOk result (λ status. IsServedSo file status was is)
-served-so (Ok status) file first opened planned new was is many fresh open_so run_so each told =
-    served (map outcome_of new) (length-map new outcome_of ∙ served-many planned new each ∙ run_so.as_many ∙ open_so.as_many ∙ many)
+served-so (Ok status) file first opened planned new was is many settable fresh open_so run_so each told =
+    served (map outcome_of new) settable (length-map new outcome_of ∙ served-many planned new each ∙ run_so.as_many ∙ open_so.as_many ∙ many)
     (served-each file.commands first opened planned new fresh open_so run_so each) told
-served-so (Err e) file first opened planned new was is many fresh open_so run_so each told = tt
+served-so (Err e) file first opened planned new was is many settable fresh open_so run_so each told = tt
 
 -- the same, by the lists as they stand in the plan
 pub served-through : {E : Type 0} (result : Result ℕ E) (file : HostFile) (commands : List Command) (items first opened half planned new last beyond further : List TenantPlan) (count : ℕ) (was is : Option (List ℕ))
-    → commands ≡ file.commands → length items ≡ file.tenants → All IsNewPlan items → first ≡ items → length first ≡ count
+    → commands ≡ file.commands → length items ≡ file.tenants → All IsSettable commands → All IsNewPlan items → first ≡ items → length first ≡ count
     → HaveOpened commands first opened → half ≡ take count (opened ++ beyond) → HaveRuns commands half planned → AreServed (take count (planned ++ further)) new → last ≡ new
     → IfOk result (λ status. AreTold commands (map outcome_of last) status was is) → IfOk result (λ status. IsServedSo file status was is)
-served-through result file commands items first opened half planned new last beyond further count was is same many fresh first_is counted open_so half_is run_so each last_is told =
+served-through result file commands items first opened half planned new last beyond further count was is same many settable fresh first_is counted open_so half_is run_so each last_is told =
     let opened_many : length opened ≡ count = open_so.as_many ∙ counted in
     let half_same = half_is ∙ take_at opened beyond count opened_many in
     let planned_many : length planned ≡ count = run_so.as_many ∙ ap length half_same ∙ opened_many in
-    served-so result file items opened planned new was is many fresh
+    served-so result file items opened planned new was is many (subst (All IsSettable) same settable) fresh
     (subst₂ (λ cs plans. HaveOpened cs plans opened) same first_is open_so)
     (subst₂ (λ cs plans. HaveRuns cs plans planned) same half_same run_so)
     (subst (λ plans. AreServed plans new) (take_at planned further count planned_many) each)
@@ -144,8 +149,8 @@ appends-kept (Some known) (Some more) (Some all) xs kept appended = kept ∙ app
 served-kept : (file : HostFile) (was half is : Option (List ℕ)) (status : ℕ) → Keeps half is → IsServedSo file status was half → IsServedSo file status was is
 served-kept file was half is status kept (unserved fault refuses one written) = unserved fault refuses one (appends-kept was half is _ kept written)
 served-kept file was half is status kept (stopped event fault why one written) = stopped event fault why one (appends-kept was half is _ kept written)
-served-kept file was half is status kept (served outcomes many each told) =
-    served outcomes many each record { answers = told.answers; looked_up = told.looked_up; noted = told.noted; written = appends-kept was half is _ kept told.written }
+served-kept file was half is status kept (served outcomes settable many each told) =
+    served outcomes settable many each record { answers = told.answers; looked_up = told.looked_up; noted = told.noted; written = appends-kept was half is _ kept told.written }
 
 -- the file that was read was served
 pub served-read : (read : Option (List ℕ)) (file : HostFile) (was half is : Option (List ℕ)) (status : ℕ)

@@ -1,21 +1,22 @@
 -- What each tenant has when no thread has started yet (docs/HOST.md): a function of the file's commands, but for the
 -- programs, which are those that were accepted.
-use Rattle.std.specs.Prelude.{◌≡◌, ◌≢◌, ◌++◌, ◌<◌, ℕ, List, [], ◌∷◌, length, get_or, slice_get, IfSome, IsSomeAnd, MatchOption, Some}
+use Rattle.std.specs.Prelude.{◌≡◌, ◌≢◌, ◌++◌, ◌<◌, ℕ, List, [], ◌∷◌, length, get_or, slice_get, fold, IfSome, IsSomeAnd, MatchOption, Some}
 use Rattle.host_types.specs.declared.fault.Fault.{Fault}
-use Rattle.host_types.specs.declared.fault.Fault.TheVariants.{BadTenant}
-use Rattle.host_types.specs.Sharing.{Sharing}
+use Rattle.host_types.specs.declared.fault.Fault.TheVariants.{BadOption, BadTenant}
 use Rattle.host_types.specs.Tenant.{TenantPart}
-use Rattle.host_types.specs.Unmerging.{RefusesSet}
+use Rattle.host_types.specs.Unmerging.{with_option}
+use Rattle.host_types.specs.OptionTable.{MayBe}
+use Rattle.host_types.specs.declared.options.Options.{Options}
 use Rattle.bpf_decode.specs.Text.{IsWellFormed}
 use Rattle.verifier.specs.Verified.{Accepted, IsVerified}
 use Rattle.page_table.specs.Changes.{part_created}
 use Rattle.page_table.specs.Limits.{shape_of}
-use Rattle.page_table.specs.State.{free_number}
+use Rattle.page_table.specs.State.{MemoryState, free_number, part}
 use Rattle.map_helpers.specs.Updates.{part_updated}
-use Rattle.host_calls.specs.Calls.{FitsNewMap, FitsValue, RefusesNewMap, RefusesUpdate}
+use Rattle.host_calls.specs.Calls.{FitsNewMap, FitsValue, RefusesNewMap, RefusesUpdate, TellsHave}
 use Rattle.host_calls.specs.Programs.{RefusesProgram, subject_of}
 use Rattle.turn.specs.Seats.{SeatState, own_part}
-use Rattle.tenant_workers.specs.Calls.{HasChanged, HasMap, HasSet}
+use Rattle.tenant_workers.specs.Calls.{HasChanged, HasMap}
 use Rattle.tenant_workers.specs.declared.plans.TenantPlan.{TenantPlan}
 use Rattle.host_core.specs.declared.event.Event.{Event}
 use Rattle.host_core.specs.declared.event.Event.TheVariants.{CreateMap, Load, HostUpdate, Set}
@@ -71,17 +72,39 @@ pub record HaveOpened (commands : List Command) (old new : List TenantPlan) : Ty
   pub homes : (t : ℕ) (plan : TenantPlan) → t < length old → AreOpenedFor t commands (home_of (get_or old t plan)) (home_of (get_or new t plan))
   pub runs : (t : ℕ) (plan : TenantPlan) → t < length old → (get_or new t plan).runs.items ≡ (get_or old t plan).runs.items
 
+-- The memory in which a tenant was refused, where it had this part: missing frames are told by what could be had of it.
+pub record IsFoundIn (owned : TenantPart) (fault : Fault) (memory : MemoryState) : Type 0 where
+  pub tenant : ℕ
+  pub known : part memory tenant ≡ owned
+  pub told : TellsHave memory fault
+
 -- why an event isn't done for its tenant
 abbrev pub RefusesGift : Event → Home → Fault → Type 0
-RefusesGift (CreateMap tenant value_size entries mergeable) old fault = RefusesNewMap old.part (shape_of value_size entries) fault
+RefusesGift (CreateMap tenant value_size entries mergeable) old fault =
+    RefusesNewMap old.part (shape_of value_size entries) fault × ((found : MemoryState) × IsFoundIn old.part fault found)
 RefusesGift (Load tenant text context_size) old fault = RefusesProgram (subject_of old.part text context_size) fault
-RefusesGift (HostUpdate tenant map key value) old fault = RefusesUpdate old.part map key value fault
+RefusesGift (HostUpdate tenant map key value) old fault =
+    RefusesUpdate old.part map key value fault × ((found : MemoryState) × IsFoundIn old.part fault found)
 RefusesGift event old fault = ⊥
 
--- why an option isn't set, whatever pages share frames
+-- Why an option isn't set: it can't have the value. No page shares a frame before the threads start, so that is all.
 abbrev pub RefusesSetting : Event → Fault → Type 0
-RefusesSetting (Set option value) fault = (sharing : Sharing) × RefusesSet sharing option value fault
+RefusesSetting (Set option value) fault = (fault ≡ BadOption) × ¬ (MayBe option value)
 RefusesSetting event fault = ⊥
+
+-- a command that sets an option sets it to a value that it may have
+abbrev pub IsSettable : Command → Type 0
+IsSettable (Apply (Set option value)) = MayBe option value
+IsSettable command = Unit {0}
+
+-- the options after a command, which sets one if it may
+abbrev pub options_after : Options → Command → Options
+options_after options (Apply (Set option value)) = with_option options option value
+options_after options command = options
+
+-- the options that are set when all commands were opened
+abbrev pub options_set : Options → List Command → Options
+options_set options commands = fold options_after options commands
 
 -- why an event isn't done, where the tenants have this
 abbrev pub RefusesOpening : List Home → Event → Fault → Type 0
@@ -98,16 +121,9 @@ pub record IsStopped (tenants : ℕ) (commands : List Command) (event : Event) (
   pub opened : (t : ℕ) → IfSome (slice_get homes t) (AreOpenedFor t front first_home)
   pub refused : RefusesOpening homes event fault
 
--- What a command sets: the host's seat made one turn for it, which set the option and changed nothing else. Other
--- commands take no turn of that seat.
-abbrev pub IsSetBy : Command → SeatState → SeatState → Type 0
-IsSetBy (Apply (Set option value)) old new = HasChanged (HasSet option value) old new
-IsSetBy command old new = new ≡ old
-
--- what all of them set, in the file's order
-abbrev pub AreSetBy : List Command → SeatState → SeatState → Type 0
-AreSetBy [] old new = new ≡ old
-AreSetBy (command ∷ commands) old new = (between : SeatState) × IsSetBy command old between × AreSetBy commands between new
+-- the memory with other options
+abbrev pub with_options : MemoryState → Options → MemoryState
+with_options memory options = record memory { sharing = record memory.sharing { options = options } }
 
 -- the map that an event makes may be merged, or not, as the event says: its tenant's seat made one turn for it
 abbrev pub IsMadeBy : Event → SeatState → SeatState → Type 0

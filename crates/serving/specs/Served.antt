@@ -1,11 +1,11 @@
 -- What `serve` does with a host file, and prints of it (docs/HOST.md).
-use Rattle.std.specs.Prelude.{◌≡◌, ◌⊎◌, ℕ, List, Any, ◌++◌, length, map, slice_get, IfSome, Option, Result, if◌then◌else◌}
+use Rattle.std.specs.Prelude.{◌≡◌, ◌⊎◌, ℕ, List, All, Any, ◌++◌, length, map, slice_get, IfSome, Option, Result, if◌then◌else◌}
 use Rattle.std.specs.Io.KnownBytes.{Appends}
 use Rattle.host_types.specs.declared.fault.Fault.{Fault}
 use Rattle.host_types.specs.Refusals.{refusal_text}
 use Rattle.host_types.specs.Tenant.{TenantPart}
 use Rattle.page_table.specs.Changes.{RefusesMemory}
-use Rattle.turn.specs.Seats.{own_part}
+use Rattle.turn.specs.Seats.{SeatState, own_part}
 use Rattle.tenant_runs.specs.declared.driving.RunReply.{RunReply}
 use Rattle.tenant_workers.specs.Plans.{AreAnswered}
 use Rattle.tenant_workers.specs.declared.plans.TenantPlan.{TenantPlan}
@@ -19,7 +19,7 @@ use Rattle.host_file.specs.Served.{IsServedCommand}
 use Rattle.engines.specs.Input.{AreNoFile}
 use Rattle.engines.specs.Lines.{line_of, reply_lines}
 use Rattle.serving.specs.Lookups.{AreLookedUp, lookup_tellings, lookups_in}
-use Rattle.serving.specs.Opened.{AreOpenedFor, Home, IsStopped, first_home}
+use Rattle.serving.specs.Opened.{AreOpenedFor, Home, IsSettable, IsStopped, first_home}
 use Rattle.serving.specs.Prepared.{runs_for}
 use Rattle.serving.specs.RunLines.{all_run_tellings}
 use Rattle.serving.specs.Told.{Telling, all_told, tell_refusal}
@@ -37,11 +37,15 @@ abbrev pub outcome_of : TenantPlan → TenantOutcome
 outcome_of plan = record { replies = plan.replies.items; part = own_part plan.seat }
 
 -- The runs that the file asks of a tenant were answered, in the file's order, from what the file gave the tenant
--- before a thread started.
+-- before a thread started; or its thread couldn't be started.
 pub record IsServedTenant (commands : List Command) (t : ℕ) (outcome : TenantOutcome) : Type 0 where
   pub home : Home
   pub opened : AreOpenedFor t commands first_home home
-  pub answered : AreAnswered home.programs (runs_for t commands) home.part outcome.replies outcome.part
+  pub first : SeatState
+  pub begins : own_part first ≡ home.part
+  pub last : SeatState
+  pub ends : own_part last ≡ outcome.part
+  pub answered : AreAnswered home.programs (runs_for t commands) first outcome.replies last
 
 -- what is told of them: of each run by tenant and in order, then of each lookup in the file's order
 abbrev pub tellings_of : List Command → List TenantOutcome → List Reply → List Telling
@@ -57,11 +61,11 @@ pub record AreTold (commands : List Command) (outcomes : List TenantOutcome) (st
   pub written : Appends old new (all_told (tellings_of commands outcomes answers))
 
 -- A status and what an output took tell how a file was served: the refusal of the memory, or of its threads where
--- memory ran out; the first refusal before a thread starts; or what came of each tenant.
+-- memory ran out; the first refusal before a thread starts; or, where none was refused, what came of each tenant.
 pub data IsServedSo (file : HostFile) (status : ℕ) (old new : Option (List ℕ)) : Type 0 where
   unserved : (fault : Fault) → RefusesMemory file.frames file.tenants file.options fault → status ≡ 1
       → Appends old new (line_of (refusal_text fault)) → IsServedSo file status old new
   stopped : (event : Event) (fault : Fault) → IsStopped file.tenants file.commands event fault → status ≡ 1
       → Appends old new (reply_lines event 0 (Refused fault)) → IsServedSo file status old new
-  served : (outcomes : List TenantOutcome) → length outcomes ≡ file.tenants → ((t : ℕ) → IfSome (slice_get outcomes t) (IsServedTenant file.commands t))
+  served : (outcomes : List TenantOutcome) → All IsSettable file.commands → length outcomes ≡ file.tenants → ((t : ℕ) → IfSome (slice_get outcomes t) (IsServedTenant file.commands t))
       → AreTold file.commands outcomes status old new → IsServedSo file status old new

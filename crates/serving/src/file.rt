@@ -7,7 +7,6 @@ ghost use Rattle.host_file.specs.Faults.{IsBad};
 ghost use Rattle.host_file.specs.HostFile.{IsFileText, max_bytes};
 ghost use Rattle.host_file.specs.Served.{IsServedCommand};
 ghost use Rattle.host_file.specs.declared.file.HostFile.{HostFile};
-ghost use Rattle.turn.specs.Seats.{IsIdle};
 ghost use Rattle.tenant_workers.specs.Plans.{IsFor};
 ghost use Rattle.serving.specs.Prepared.{visits_in};
 ghost use Rattle.serving.specs.Opened.{IsNewPlan};
@@ -25,10 +24,10 @@ use std::io::{Read, Write};
 use std::sync::Wait;
 use std::thread::Threads;
 use tenant_workers::{Gate, Plan, ScanPlan, Shared, serve};
-use turn::HostSeat;
 
 /// Serves the host file that the reader gives. Its maps, programs, values and options are made, loaded,
-/// written and set in the file's order, and the first refusal among them is written and ends it. Then a
+/// written and set in the file's order, and the first refusal among them is written and ends it: of an option only 40,
+/// since no page shares a frame yet. Then a
 /// thread a tenant makes the tenant's runs in the file's order, while one for the scanner makes all visits.
 /// When they have ended each run or its refusal is one line, by tenant and in order, and then each value
 /// that is looked up. What a refusal means goes to `words`, and how far the threads are to the gate (`Open`:
@@ -98,7 +97,6 @@ fn serve_house<T: Threads + Wait + Sync, W: Write, E: Write, G: Gate + Sync>(
         shared,
         seats,
         scanner,
-        mut host,
     } = house;
     let Ok(tenants) = plans_of(alloc, &shared, seats) else {
         return Err(FileFault::OutOfMemory(AllocError));
@@ -111,9 +109,7 @@ fn serve_house<T: Threads + Wait + Sync, W: Write, E: Write, G: Gate + Sync>(
             visits: visits_of(file.commands.as_slice(), file.options.pages_to_scan),
         },
     };
-    serve_plan(
-        rt, alloc, &shared, &mut host, &mut plan, file, writer, words, gate,
-    )
+    serve_plan(rt, alloc, &shared, &mut plan, file, writer, words, gate)
 }
 
 /// Serves a host file by the plans of its tenants.
@@ -121,14 +117,12 @@ fn serve_plan<T: Threads + Wait + Sync, W: Write, E: Write, G: Gate + Sync>(
     rt: &T,
     alloc: Global,
     shared: &Shared,
-    host: &mut HostSeat,
     plan: &mut Plan<'_>,
     file: &HostFile,
     writer: &mut W,
     words: &mut E,
     gate: &G,
 ) -> Result<u8, FileFault>
-    requires host { IsIdle shared.now host.old }
     requires own { All (IsFor shared.now) plan.old.tenants.items }
     requires new { All IsNewPlan plan.old.tenants.items }
     requires count { length plan.old.tenants.items ≡ file.now.tenants }
@@ -139,7 +133,7 @@ fn serve_plan<T: Threads + Wait + Sync, W: Write, E: Write, G: Gate + Sync>(
     ensures bad { IfErr result (λ fault. ¬ IsBad fault) }
 {
     let commands = file.commands.as_slice();
-    if let Err(stop) = open_all(rt, alloc, shared, host, &mut plan.tenants, commands) {
+    if let Err(stop) = open_all(rt, alloc, shared, &mut plan.tenants, commands) {
         return tell_stop(alloc, &stop, commands, writer, words);
     }
     if add_runs(alloc, shared, &mut plan.tenants, commands).is_err() {

@@ -1,21 +1,22 @@
 //! What is done before a thread starts, in the file's order.
 
 ghost use Rattle.std.specs.Prelude.{◌≡◌, ◌++◌, [], ◌∷◌, All, IfErr, OnOk, length, map};
+ghost use Rattle.host_types.specs.declared.fault.Fault.TheVariants.{BadOption};
+ghost use Rattle.host_types.specs.OptionTable.{MayBe};
 ghost use Rattle.bpf_decode.specs.Text.{IsWellFormed};
 ghost use Rattle.verifier.specs.Verified.{Accepted, IsVerified};
 ghost use Rattle.host_calls.specs.Programs.{RefusesProgram, subject_of};
-ghost use Rattle.turn.specs.Seats.{IsIdle, own_part};
+ghost use Rattle.turn.specs.Seats.{own_part};
 ghost use Rattle.tenant_workers.specs.Plans.{IsFor};
 ghost use Rattle.host_file.specs.declared.command.Command.TheVariants.{Apply};
-ghost use Rattle.serving.specs.Opened.{AreSetBy, HaveOpened, IsGiven, IsMadeBy, IsNewPlan, IsSetBy, IsStopped, RefusesGift, RefusesOpening, home_of};
+ghost use Rattle.serving.specs.Opened.{HaveOpened, IsGiven, IsMadeBy, IsNewPlan, IsSettable, IsStopped, RefusesGift, RefusesOpening, home_of};
 
 use host_core::Event;
 use host_file::Command;
-use host_types::Fault;
+use host_types::{Fault, Opt};
 use std::alloc::Global;
 use std::sync::Wait;
 use tenant_workers::{Shared, TenantPlan};
-use turn::HostSeat;
 
 /// Where the opening of a file stopped: the event with this number among its commands was refused.
 #[derive(Drop)]
@@ -25,29 +26,27 @@ pub(crate) struct Stop<'c> {
     pub(crate) fault: Fault,
 }
 
-/// Makes the maps, loads the programs, writes the values and sets the options, up to the first refusal.
+/// Makes the maps, loads the programs and writes the values, up to the first refusal. The memory has the options
+/// already: one that it can't have is refused here.
 pub(crate) fn open_all<'c>(
     rt: &impl Wait,
     alloc: Global,
     shared: &Shared,
-    host: &mut HostSeat,
     plans: &mut [TenantPlan<'_>],
     commands: &'c [Command],
 ) -> Result<(), Stop<'c>>
-    requires host { IsIdle shared.now host.old }
     requires own { All (IsFor shared.now) plans.old }
     requires new { All IsNewPlan plans.old }
-    ensures host { IsIdle shared.now host.new }
     ensures own { All (IsFor shared.now) plans.new }
     ensures opened { OnOk result (HaveOpened commands.now plans.old plans.new) }
-    ensures set { OnOk result (AreSetBy commands.now host.old host.new) }
+    ensures settable { OnOk result (All IsSettable commands.now) }
     ensures stopped { IfErr result (λ stop. IsStopped (length plans.old) commands.now stop.event.now stop.fault) }
 {
     for (number, command) in commands.iter().enumerate() {
         let Command::Apply(event) = command else {
             continue;
         };
-        if let Err(fault) = apply(rt, alloc, shared, host, plans, event) {
+        if let Err(fault) = apply(rt, alloc, shared, plans, event) {
             return Err(Stop {
                 number,
                 event,
@@ -59,25 +58,22 @@ pub(crate) fn open_all<'c>(
 }
 
 /// Does what an event asks for before a thread starts.
-#[tactic(auto, using(crate::proofs::Kept::own_set, crate::proofs::Opened::opened_given, crate::proofs::Opened::opened_nobody, crate::proofs::Settings::set_done, crate::proofs::Settings::set_none, crate::proofs::Settings::set_for, crate::proofs::Opened::refused_set, crate::proofs::Opened::refused_gift, crate::proofs::Opened::refused_nobody))]
+#[tactic(auto, using(crate::proofs::Kept::own_set, crate::proofs::Opened::opened_given, crate::proofs::Opened::opened_nobody, crate::proofs::Settings::settable_set, crate::proofs::Settings::settable_none, crate::proofs::Settings::settable_for, crate::proofs::Opened::refused_set, crate::proofs::Opened::refused_gift, crate::proofs::Opened::refused_nobody))]
 fn apply(
     rt: &impl Wait,
     alloc: Global,
     shared: &Shared,
-    host: &mut HostSeat,
     plans: &mut [TenantPlan<'_>],
     event: &Event,
 ) -> Result<(), Fault>
-    requires host { IsIdle shared.now host.old }
     requires own { All (IsFor shared.now) plans.old }
-    ensures host { IsIdle shared.now host.new }
     ensures own { All (IsFor shared.now) plans.new }
     ensures opened { OnOk result (HaveOpened (Apply event.now ∷ []) plans.old plans.new) }
-    ensures set { OnOk result (IsSetBy (Apply event.now) host.old host.new) }
+    ensures settable { OnOk result (IsSettable (Apply event.now)) }
     ensures refused { IfErr result (RefusesOpening (map home_of plans.old) event.now) }
 {
     if let Event::Set { option, value } = event {
-        return shared.set(rt, host, *option, *value);
+        return may_set(*option, *value);
     }
     let Some(tenant) = event.tenant() else {
         return Ok(());
@@ -89,7 +85,19 @@ fn apply(
     apply_for(rt, alloc, &mut plans[place], event)
 }
 
+/// Whether an option may be set before a thread starts: whenever it can have the value.
+fn may_set(option: Opt, value: u32) -> Result<(), Fault>
+    ensures settable { OnOk result (MayBe option value) }
+    ensures refused { IfErr result (λ fault. (fault ≡ BadOption) × ¬ (MayBe option value)) }
+{
+    if !option.allows(value) {
+        return Err(Fault::BadOption);
+    }
+    Ok(())
+}
+
 /// Does what an event asks for a tenant before a thread starts.
+#[tactic(auto, using(crate::proofs::Opened::refused_map, crate::proofs::Opened::refused_update))]
 fn apply_for(
     rt: &impl Wait,
     alloc: Global,

@@ -40,12 +40,12 @@ each-ended becomes (x ∷ xs) (y ∷ ys) [] first second = absurd second
 each-ended becomes (x ∷ xs) (y ∷ ys) (z ∷ zs) (one, rest) (two, more) = (two x one, each-ended becomes xs ys zs rest more)
 
 -- a thread kept its promise
-pub kept-ended : {T : Type 0} (becomes : T → T → Type 0) (thread : PromisedHandle T (Becomes T)) (done : T) → becomes thread.promise.0.value done → IsJobDone becomes (Ok thread) done
-kept-ended becomes thread done kept job is = subst (λ was. becomes was done) is kept
+pub kept_ended : {T : Type 0} (becomes : T → T → Type 0) (thread : PromisedHandle T (Becomes T)) (done : T) → becomes thread.promise.0.value done → IsJobDone becomes (Ok thread) done
+kept_ended becomes thread done kept job is = subst (λ was. becomes was done) is kept
 
 -- a job that was refused
-pub refused-ended : {T : Type 0} (becomes : T → T → Type 0) (done : T) → IsJobDone becomes (Err done) done
-refused-ended becomes done job is = is
+pub refused_ended : {T : Type 0} (becomes : T → T → Type 0) (done : T) → IsJobDone becomes (Err done) done
+refused_ended becomes done job is = is
 
 -- what is told of what elements are mapped to
 pub each-mapped : {X Y : Type 0} (f : X → Y) (R : Y → Y → Type 0) (xs ys : List X) → AreEach (λ x y. R (f x) (f y)) xs ys → AreEach R (map f xs) (map f ys)

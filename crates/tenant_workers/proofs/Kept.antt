@@ -1,11 +1,11 @@
 -- Plans that stay as they were.
-use Rattle.std.proofs.Common.{◌≡◌, ℕ, zero, suc, List, [], ◌∷◌, map, get_or, length, take, ◌++◌, refl, sym, ap, subst, ◌∙◌, Result}
+use Rattle.std.proofs.Common.{◌≡◌, ℕ, zero, suc, List, [], ◌∷◌, map, get_or, length, take, ◌++◌, refl, sym, ap, subst, ◌∙◌, inl, inr, Result}
 use Rattle.std.proofs.Math.ListN.{set}
 use Rattle.std.proofs.lemmas.List.{length-map, take_at}
 use Rattle.host_types.specs.declared.fault.Fault.{Fault}
 use Rattle.tenant_runs.specs.declared.driving.RunReply.{RunReply}
 use Rattle.tenant_workers.specs.declared.plans.TenantPlan.{TenantPlan}
-use Rattle.tenant_workers.specs.Plans.{AreSamePlans, AreServed, IsPlanServed, Planned, planned_by}
+use Rattle.tenant_workers.specs.Plans.{AreAnswered, AreSamePlans, AreServed, IsPlanServed, Planned, planned_by}
 use Rattle.tenant_workers.specs.Jobs.{AreEach}
 use Rattle.tenant_workers.proofs.Jobs.{each-mapped}
 
@@ -33,3 +33,8 @@ served-from old reserved beyond new count same many each =
     let whole = take_at reserved beyond count (same_many old reserved same ∙ many) in
     subst (λ plans. AreEach IsPlanServed plans (map planned_by new)) (ap (map planned_by) whole ∙ same)
     (each-mapped planned_by IsPlanServed (take count (reserved ++ beyond)) new each)
+
+-- what the runs of a plan that was served were answered
+pub answers-of : (old new : Planned) → IsPlanServed old new → AreAnswered old.programs old.runs old.seat new.replies new.seat
+answers-of old new (inl made) = inl made.replies
+answers-of old new (inr refused) = inr (refused.replies, refused.untouched)

@@ -5,3 +5,4 @@ pub mod Jobs
 pub mod Kept
 pub mod Options
 pub mod Resting
+pub mod Turns

@@ -27,62 +27,27 @@ pub new_resting : (turn : TableId) (t : ℕ) (memory : MemoryState) (seat : Seat
     → IsResting (own_part seat)
 new_resting turn t memory seat rests new = subst IsResting (sym (ap (λ (v : SeatView). part v.seen v.first) new.1)) rests
 
--- a run that was opened and ended at once leaves the part
-pub rests_again : (owned : TenantPart) (need : ℕ) → IsResting owned → without_run (with_run need owned) ≡ owned
-rests_again owned need resting = rw (← resting.unpinned, ← resting.reserve, ← resting.running) refl
-
 -- ---- calls between runs leave the tenant at rest
 
 pub created_rests : (result : Result ℕ Fault) (old new : TenantPart) (shape : Shape) → IsResting old → IfOk result (λ m. new ≡ part_created old m shape) → OnErr result (new ≡ old) → IsResting new
-created_rests (Ok m) old new shape resting created kept =
-    rw created (record { running = resting.running; reserve = resting.reserve; unpinned = resting.unpinned })
+created_rests (Ok m) old new shape resting created kept = rw created (record { running = resting.running; reserve = resting.reserve })
 created_rests (Err fault) old new shape resting created kept = rw kept resting
 
-pub updated_rests : (result : Result Unit Fault) (old new : TenantPart) (m key : ℕ) (value : List ℕ) → IsResting old → OnOk result (new ≡ part_updated old m key value 0) → OnErr result (new ≡ old) → IsResting new
-updated_rests (Ok done) old new m key value resting updated kept =
-    rw updated (record { running = resting.running; reserve = resting.reserve; unpinned = resting.unpinned })
-updated_rests (Err fault) old new m key value resting updated kept = rw kept resting
+pub updated_rests : (result : Result Unit Fault) (old new : TenantPart) (m key : ℕ) (value : List ℕ) → OnOk result (old.running ≡ false → new ≡ part_updated old m key value 0) → OnErr result (new ≡ old) → IsResting old → IsResting new
+updated_rests (Ok done) old new m key value updated kept resting = rw (updated resting.running) (record { running = resting.running; reserve = resting.reserve })
+updated_rests (Err fault) old new m key value updated kept resting = rw kept resting
 
--- of pages of which none is pinned, those of a map are unpinned
-unpinned_still : (m : ℕ) → m < 8 → with_part (replicate 2048 false) (m * 256) (replicate 256 false) ≡ replicate 2048 false
-unfolding with_part
-unpinned_still m small =
-    let n = m * 256 in
-    let rest = 2048 - (n + 256) in
-    let before : n ≤ 2048 = omega (arith, small) in
-    let all : n + 256 + rest ≡ 2048 = omega (arith, small) in
-    let first : take n (replicate 2048 false) ≡ replicate n false = take-replicate n 2048 false before in
-    let last : drop (n + length (replicate 256 false)) (replicate 2048 false) ≡ replicate rest false =
-    ap (λ (k : ℕ). drop (n + k) (replicate 2048 false)) (length-replicate 256 false) ∙ drop-replicate (n + 256) 2048 false in
-    ap (λ (l : List Bool). l ++ replicate 256 false ++ drop (n + length (replicate 256 false)) (replicate 2048 false)) first
-    ∙ ap (λ (l : List Bool). replicate n false ++ replicate 256 false ++ l) last
-    ∙ ap (λ (l : List Bool). l ++ replicate rest false) (replicate-append-replicate n 256 false)
-    ∙ replicate-append-replicate (n + 256) rest false
-    ∙ ap (λ (k : ℕ). replicate k false) all
-
-there_small : (maps : FlatMaps) (m : ℕ) → length maps ≡ 8 → IsSome (map_at maps m) → m < 8
-there_small maps m eight there = by_order (nat_lt m 8) refl
-  where
-    by_order : (b : Bool) → nat_lt m 8 ≡ b → m < 8
-    by_order true inside = grind (arith, nat_tests)
-    by_order false past = let least : length maps ≤ m = grind (arith, nat_tests) in let none : map_at maps m ≡ None = get_or_past maps m None least in absurd (true≢false (sym (rw none at there)))
-
-pub dropped_rests : (result : Result Unit Fault) (old new : TenantPart) (m : ℕ) → AreFlatMaps old.maps → IsResting old → OnOk result (IsSome (map_at old.maps m)) → OnOk result (new ≡ part_dropped old m)
-    → OnErr result (new ≡ old) → IsResting new
-dropped_rests (Ok done) old new m flat resting there dropped kept =
-    let pins : with_part old.pins (m * 256) (replicate 256 false) ≡ replicate 2048 false =
-    ap (λ (l : List Bool). with_part l (m * 256) (replicate 256 false)) resting.unpinned ∙ unpinned_still m (there_small old.maps m flat.eight there) in
-    rw dropped (record { running = resting.running; reserve = resting.reserve; unpinned = pins })
-dropped_rests (Err fault) old new m flat resting there dropped kept = rw kept resting
+pub dropped_rests : (result : Result Unit Fault) (old new : TenantPart) (m : ℕ) → IsResting old → OnOk result (new ≡ part_dropped old m) → OnErr result (new ≡ old) → IsResting new
+dropped_rests (Ok done) old new m resting dropped kept = rw dropped (record { running = resting.running; reserve = resting.reserve })
+dropped_rests (Err fault) old new m resting dropped kept = rw kept resting
 
 -- ---- memories whose tenants all are at rest
 
 pub new_rests : (frames tenants : ℕ) (options : Options) (t : ℕ) → t < tenants → IsResting (part (new_memory frames tenants options) t)
-unfolding part new_memory part_of
+unfolding part new_memory
 new_rests frames tenants options t inside = record {
   running = ap (λ (tenant : Tenant). tenant.running) (get_or-one tenants t unreserved_tenant);
   reserve = ap (λ (tenant : Tenant). tenant.reserve) (get_or-one tenants t unreserved_tenant);
-  unpinned = rw (drop-replicate (t * 2048) (tenants * 2048) false) (take-replicate 2048 (tenants * 2048 - t * 2048) false (omega (arith, inside)));
 }
 
 -- a map that is made leaves them so
@@ -94,7 +59,7 @@ made_rests old new tenants tenant m shape rest created others t inside = by_numb
     by_number true same =
         let here : t ≡ tenant = grind (arith, nat_tests) in
         let resting = rest t inside in
-        rw (here, created) (record { running = rw here at resting.running; reserve = rw here at resting.reserve; unpinned = rw here at resting.unpinned })
+        rw (here, created) (record { running = rw here at resting.running; reserve = rw here at resting.reserve })
     by_number false other =
         let apart : t ≢ tenant = grind (arith, nat_tests) in
         rw (others t apart) (rest t inside)

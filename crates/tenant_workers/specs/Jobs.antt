@@ -1,5 +1,5 @@
 -- Jobs that threads do.
-use Rattle.std.specs.Prelude.{◌≡◌, ◌≤◌, ℕ, List, [], ◌∷◌, MatchResult, Result, vec_capacity}
+use Rattle.std.specs.Prelude.{◌≡◌, ◌⊎◌, ◌≤◌, ℕ, List, [], ◌∷◌, MatchResult, Result, vec_capacity}
 use Rattle.std.specs.declared.thread.PromisedHandle.{PromisedHandle}
 use Rattle.tenant_workers.specs.declared.threads.Becomes.{Becomes}
 use Rattle.tenant_workers.specs.declared.threads.Room.{Room}
@@ -9,6 +9,10 @@ abbrev pub AreEach : {X Y : Type 0} → (X → Y → Type 0) → List X → List
 AreEach R [] [] = Unit {0}
 AreEach R (x ∷ xs) (y ∷ ys) = R x y × AreEach R xs ys
 AreEach R xs ys = ⊥
+
+-- what may come of a job: it was done, or it was refused
+abbrev pub MayBecome : {T : Type 0} → (T → T → Type 0) → (T → T → Type 0) → T → T → Type 0
+MayBecome done refused old new = done old new ⊎ refused old new
 
 -- a job was begun: its thread promises what may come of it, or that came of it at once
 abbrev pub IsJobBegun : {T : Type 0} → (T → T → Type 0) → T → Result (PromisedHandle T (Becomes T)) T → Type 0

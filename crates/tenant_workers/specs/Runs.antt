@@ -1,5 +1,5 @@
 -- Runs of a seat's tenant: how they are handed over, and when they aren't made.
-use Rattle.std.specs.Prelude.{◌≡◌, ◌≢◌, ◌⊎◌, ℕ, ◌≤◌, false, List, length, replicate}
+use Rattle.std.specs.Prelude.{◌≡◌, ◌≢◌, ◌⊎◌, ℕ, ◌≤◌, false, List, length}
 use Rattle.host_types.specs.declared.fault.Fault.{Fault}
 use Rattle.host_types.specs.declared.fault.Fault.TheVariants.{NoProgram, BadContext, OutOfMemory}
 use Rattle.host_types.specs.Tenant.{TenantPart}
@@ -10,17 +10,18 @@ use Rattle.verifier.specs.Verified.{Accepted}
 use Rattle.interp.specs.Fits.{HaveShapes}
 use Rattle.interp.specs.StandsFor.{Running, IsBegun}
 use Rattle.host_calls.specs.Programs.{RefusesBegin}
+use Rattle.turn.specs.Seats.{SeatState}
+use Rattle.tenant_workers.specs.Calls.{HasChanged, IsUnchanged}
 
 -- a run as it began with a program, before its first step
 pub record IsFresh (v : Accepted) (run : Running) : Type 0 where
   pub begun : IsBegun v run.context run
   pub steps : run.steps ≡ 0
 
--- the tenant has no open run: nothing is reserved, and none of its pages is pinned
+-- the tenant has no open run, and nothing is reserved for it
 pub record IsResting (owned : TenantPart) : Type 0 where
   pub running : owned.running ≡ false
   pub reserve : owned.reserve ≡ 0
-  pub unpinned : owned.pins ≡ replicate 2048 false
 
 -- when a run isn't made: a map that the program names and has a shape for isn't the tenant's with that shape, or
 -- else there aren't the frames for it
@@ -38,6 +39,10 @@ abbrev pub RefusesRunOnContext : Accepted → List ℕ → TenantPart → Fault 
 RefusesRunOnContext v context owned fault =
     ((fault ≡ BadContext) × (length context ≢ v.subject.context_size))
     ⊎ ((length context ≡ v.subject.context_size) × (RefusesRunOfTenant v owned fault ⊎ LacksMemory v owned fault))
+
+-- The turn in which a run was refused left the memory as it found it. A context of another size takes no turn.
+abbrev pub HasRefusedRun : SeatState → SeatState → Fault → Type 0
+HasRefusedRun old new fault = ((fault ≡ BadContext) × (new ≡ old)) ⊎ HasChanged IsUnchanged old new
 
 -- where memory ran out, frames were not missing
 abbrev pub HasFramesForRun : Accepted → TenantPart → MemoryState → Fault → Type 0

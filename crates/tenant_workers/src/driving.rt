@@ -4,7 +4,7 @@ ghost use Rattle.interp.specs.Machine.{MachineState, Next, Exits, step};
 ghost use Rattle.interp.specs.Runs.{Reaches};
 ghost use Rattle.tenant_runs.specs.UnderWay.{IsUnderWay, IsAsking};
 ghost use Rattle.turn.specs.Seats.{IsIdle, own_part};
-ghost use Rattle.tenant_workers.specs.Calls.{IsSameSeat};
+ghost use Rattle.tenant_workers.specs.Calls.{HasGoneOn, IsSameSeat};
 
 use crate::gate::Gate;
 use crate::shared::Shared;
@@ -17,6 +17,7 @@ use verifier::Verified;
 /// Makes all steps that are left of a run of the seat's tenant. Registers, context and stack are the
 /// worker's own; what else the run asks is done in one turn, and the gate is called before each step,
 /// between the turns.
+#[tactic(auto, using(crate::proofs::Turns::gone_nowhere))]
 pub(crate) fn drive(
     shared: &Shared,
     rt: &impl Wait,
@@ -29,6 +30,7 @@ pub(crate) fn drive(
     requires under_way { (s : MachineState) × IsUnderWay program.now run.old s (own_part seat.old) }
     ensures idle { IsIdle shared.now seat.new }
     ensures same { IsSameSeat seat.old seat.new }
+    ensures turns { HasGoneOn seat.old seat.new }
     ensures ended { (s : MachineState) → IsUnderWay program.now run.old s (own_part seat.old)
         → (n : ℕ) × Reaches program.now.subject.text s n (Exits result.ret (own_part seat.new).maps) × (result.steps ≡ run.old.steps + n) }
     ensures few { result.steps ≤ instructions_of program.now.subject.text }
@@ -63,6 +65,7 @@ fn meet(
     requires asks { (s : MachineState) × IsAsking program.now s need run.old (own_part seat.old) }
     ensures idle { IsIdle shared.now seat.new }
     ensures same { IsSameSeat seat.old seat.new }
+    ensures turns { HasGoneOn seat.old seat.new }
     ensures goes_on { (s : MachineState) → IsAsking program.now s need run.old (own_part seat.old)
         → (next : MachineState) × (step program.now.subject.text s ≡ Some (Next next)) × IsUnderWay program.now run.new next (own_part seat.new) }
     ensures steps { run.new.steps ≡ run.old.steps }

@@ -1,13 +1,14 @@
-ghost use Rattle.std.specs.Prelude.{◌≡◌, Some, OnOk, IfOk, IfErr, OnErr, IsSome};
+ghost use Rattle.std.specs.Prelude.{◌≡◌, Some, false, OnOk, IfOk, IfErr, OnErr, IsSome};
 ghost use Rattle.host_types.specs.Memory.{map_at};
 ghost use Rattle.host_types.specs.Tenant.{part_dropped};
 ghost use Rattle.page_table.specs.Changes.{part_created};
 ghost use Rattle.page_table.specs.Limits.{shape_of};
 ghost use Rattle.page_table.specs.State.{free_number};
+ghost use Rattle.host_types.specs.Helpers.{maps_updated};
 ghost use Rattle.map_helpers.specs.Updates.{part_updated};
 ghost use Rattle.host_calls.specs.Calls.{FitsNewMap, FitsValue, IsValue, RefusesNewMap, RefusesUpdate, RefusesLookup, TellsHave};
 ghost use Rattle.turn.specs.Seats.{IsIdle, own_part};
-ghost use Rattle.tenant_workers.specs.Calls.{IsSameSeat, memory_left, HasChanged, HasDropped, HasMap, IsUnchanged, LacksMap};
+ghost use Rattle.tenant_workers.specs.Calls.{IsSameSeat, memory_left, HasChanged, HasDropped, HasMap, HasUpdated, IsUnchanged, LacksMap};
 ghost use Rattle.tenant_workers.specs.Runs.{IsResting};
 
 use crate::shared::Shared;
@@ -84,12 +85,13 @@ impl Shared {
         answer
     }
 
-    /// Writes a value to an element of a map of the seat's tenant.
+    /// Writes a value to an element of a map of the seat's tenant. The pages that it writes leave their groups and
+    /// the zero frame, and are pinned where the tenant has an open run; nothing else changes.
     ///
     /// Refusals in their order: 34 where the tenant has no such map, 35 where the map has no such element, 33
     /// where the value has another size than the map's, 31 just where what is charged for an update of the
     /// map is above the frames that may be had; it tells both numbers. 42 never comes, as a seat's tenant is
-    /// there. A refusal leaves the seat's part.
+    /// there. A refusal changes nothing.
     #[tactic(auto, using(crate::proofs::Resting::updated_rests), unfolding(host_types::specs::Helpers::maps_updated))]
     pub fn update(
         &self,
@@ -100,16 +102,20 @@ impl Shared {
         value: &[u8],
     ) -> Result<(), Fault>
         requires idle { IsIdle self.now seat.old }
-        requires resting { IsResting (own_part seat.old) }
         ensures idle { IsIdle self.now seat.new }
         ensures same { IsSameSeat seat.old seat.new }
-        ensures resting { IsResting (own_part seat.new) }
+        ensures resting { IsResting (own_part seat.old) → IsResting (own_part seat.new) }
         ensures fits { OnOk result (FitsValue (own_part seat.old) map key value.now) }
-        ensures updated { OnOk result
-            (own_part seat.new ≡ part_updated (own_part seat.old) map key value.now 0) }
+        ensures maps { OnOk result
+            ((own_part seat.new).maps ≡ maps_updated (own_part seat.old).maps map key value.now 0) }
+        ensures updated { OnOk result ((own_part seat.old).running ≡ false
+            → own_part seat.new ≡ part_updated (own_part seat.old) map key value.now 0) }
+        ensures made { OnOk result
+            (HasChanged (HasUpdated (own_part seat.old) seat.old.view.first map key value.now) seat.old seat.new) }
         ensures refused { IfErr result (RefusesUpdate (own_part seat.old) map key value.now) }
         ensures told { IfErr result (TellsHave (memory_left seat.new)) }
         ensures kept { OnErr result (own_part seat.new ≡ own_part seat.old) }
+        ensures unchanged { OnErr result (HasChanged IsUnchanged seat.old seat.new) }
     {
         let tenant = seat.tenant();
         let mut held = self.turn.take(rt, seat);

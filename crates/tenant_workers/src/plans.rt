@@ -14,7 +14,7 @@ use verifier::Verified;
 /// What one tenant's thread does: its runs in order, each named by its program's number and its context.
 ///
 /// The type keeps that the seat is one of this turn, that it holds nothing and that the tenant has no open
-/// run: so reads after the threads go through the plan's own `shared`.
+/// run, nor anything reserved: so reads after the threads go through the plan's own `shared`.
 #[derive(Drop)]
 pub struct TenantPlan<'a> {
     pub shared: &'a Shared,

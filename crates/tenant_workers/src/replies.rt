@@ -17,7 +17,7 @@ use verifier::Verified;
 impl Shared {
     /// Makes one tenant's runs in order, and writes what each was answered over the plan's replies, of which
     /// there are as many as runs. A run of a program that isn't there is answered 38; each other one is
-    /// answered as by `run_program`, with the maps that the one before left.
+    /// answered as by `run_program`, from what the one before left.
     pub fn run_all(&self, rt: &impl Wait, alloc: Global, plan: &mut TenantPlan, gate: &impl Gate)
         requires own { plan.old.shared.now ≡ self.now }
         requires count { length plan.old.replies.items ≡ length plan.old.runs.items }
@@ -27,7 +27,7 @@ impl Shared {
         ensures same { IsSameSeat plan.old.seat plan.new.seat }
         ensures count { length plan.new.replies.items ≡ length plan.new.runs.items }
         ensures replies { AllReply plan.old.programs.items (map (λ run. (run.0, run.1.items)) plan.old.runs.items)
-            (own_part plan.old.seat) plan.new.replies.items (own_part plan.new.seat) }
+            plan.old.seat plan.new.replies.items plan.new.seat }
     {
         for place in 0..plan.runs.len() {
             let (number, context) = &plan.runs[place];
@@ -46,6 +46,7 @@ impl Shared {
     }
 
     /// Makes a run of the program of a number.
+    #[tactic(auto, using(crate::proofs::Answered::replies_to))]
     fn run_numbered(
         &self,
         rt: &impl Wait,
@@ -61,7 +62,7 @@ impl Shared {
         ensures idle { IsIdle self.now seat.new }
         ensures same { IsSameSeat seat.old seat.new }
         ensures resting { IsResting (own_part seat.new) }
-        ensures reply { RepliesBy programs.now number context.now (own_part seat.old) result (own_part seat.new) }
+        ensures reply { RepliesBy programs.now number context.now seat.old result seat.new }
     {
         match programs.get(number as usize) {
             Some(program) => self.run_program(rt, alloc, seat, program, context, gate),

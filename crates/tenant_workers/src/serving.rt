@@ -1,24 +1,24 @@
 ghost use Rattle.std.specs.Prelude.{◌≡◌, ◌≤◌, IfErr, OnErr, OnOk, All, length, replicate, vec_capacity, Err};
 ghost use Rattle.host_types.specs.declared.fault.Fault.TheVariants.{OutOfMemory};
-ghost use Rattle.tenant_workers.specs.Plans.{AreSamePlans, AreServed, HasReplyRoom, IsFor, IsPlanServed, planned_by};
+ghost use Rattle.tenant_workers.specs.Plans.{AreSamePlans, AreServed, HasReplyRoom, HasScanned, IsFor, IsPlanMade, IsPlanRefused, IsScanServed, planned_by};
 
 use crate::gate::{Gate, Passed};
 use crate::plans::{Plan, ScanPlan, TenantPlan};
 use crate::shared::Shared;
-use crate::threads::{Job, Room, Scan, run_jobs};
+use crate::threads::{Job, Room, run_jobs};
 use host_types::Fault;
 use std::alloc::{AllocError, Global};
 use std::mem;
-use std::sync::{Mutex, Wait};
+use std::sync::Wait;
 use std::thread::Threads;
 
 /// Serves each tenant of a plan by a thread, which makes its runs in order, beside a thread of the scanner
 /// which makes its visits. Returns when all have ended.
 ///
 /// Afterwards each tenant has as many replies as runs: those of its runs in order, from its part as it was, each
-/// with the maps that the one before left, however the threads met. Where its thread can't be started they
-/// are all `Err(OutOfMemory)`, its part stays, and the others go on; without the scanner's thread no page is
-/// visited.
+/// with what the one before left, whatever the other threads did. Where its thread can't be started they
+/// are all `Err(OutOfMemory)`, its seat stays, and the others go on. The scanner made as many visits as are
+/// planned, or none where its thread can't be started.
 ///
 /// The one refusal is 41, where the room for the replies or for the threads can't be had. Then no thread was
 /// started, and the plan is as it was.
@@ -32,6 +32,7 @@ pub fn serve<R: Threads + Wait + Sync, G: Gate + Sync>(
     requires tenants { All (IsFor shared.now) plan.old.tenants.items }
     requires scan { plan.old.scan.shared.now ≡ shared.now }
     ensures served { OnOk result (AreServed plan.old.tenants.items plan.new.tenants.items) }
+    ensures scanned { OnOk result (IsScanServed plan.old.scan plan.new.scan) }
     ensures refused { IfErr result (λ fault. fault ≡ OutOfMemory) }
     ensures tenants_kept { OnErr result (AreSamePlans plan.old.tenants.items plan.new.tenants.items) }
     ensures scan_kept { OnErr result (plan.new.scan ≡ plan.old.scan) }
@@ -48,10 +49,12 @@ pub fn serve<R: Threads + Wait + Sync, G: Gate + Sync>(
     };
     gate.pass(rt, start);
     let tenants = mem::replace(&mut plan.tenants, Vec::new(alloc));
-    let scanning = Mutex::new(Scanning {
+    let scanning = Scanning {
         plan: &mut plan.scan,
-    });
-    plan.tenants = run_jobs(rt, alloc, tenants, room, &scanning, gate);
+    };
+    let (tenants, scanned) = run_jobs(rt, alloc, tenants, room, scanning, gate);
+    take_back(scanned.plan);
+    plan.tenants = tenants;
     gate.pass(rt, Passed::End);
     Ok(())
 }
@@ -98,7 +101,9 @@ impl<'a> TenantPlan<'a> {
 impl<'a> Job for TenantPlan<'a> {
     ghost is_ready = { HasReplyRoom };
 
-    ghost becomes = { λ old new. IsPlanServed (planned_by old) (planned_by new) };
+    ghost is_done = { λ old new. IsPlanMade (planned_by old) (planned_by new) };
+
+    ghost is_refused = { λ old new. IsPlanRefused (planned_by old) (planned_by new) };
 
     fn run<R: Wait>(self, rt: &R, alloc: Global, gate: &impl Gate) -> TenantPlan<'a> {
         let mut plan = self;
@@ -115,14 +120,31 @@ impl<'a> Job for TenantPlan<'a> {
     }
 }
 
-/// The scanner's plan.
+/// The scanner's plan, lent to its thread.
 #[derive(Drop)]
 struct Scanning<'x, 'a> {
     plan: &'x mut ScanPlan<'a>,
 }
 
-impl<'x, 'a> Scan for Scanning<'x, 'a> {
-    fn scan<R: Wait>(&mut self, rt: &R, gate: &impl Gate) {
-        self.plan.scan(rt, gate);
+impl<'x, 'a> Job for Scanning<'x, 'a> {
+    ghost is_ready = { λ _. Unit {0} };
+
+    ghost is_done = { λ old new. (new.plan.ghost_name ≡ old.plan.ghost_name) × HasScanned old.plan.now new.plan.now };
+
+    ghost is_refused = { λ old new. (new.plan.ghost_name ≡ old.plan.ghost_name) × (new.plan.now ≡ old.plan.now) };
+
+    fn run<R: Wait>(self, rt: &R, _alloc: Global, gate: &impl Gate) -> Scanning<'x, 'a> {
+        let Scanning { plan } = self;
+        plan.scan(rt, gate);
+        Scanning { plan }
+    }
+
+    fn refuse(self) -> Scanning<'x, 'a> {
+        self
     }
 }
+
+/// Ends a loan that came back from a thread: what is known of it is known of what was lent.
+fn take_back<T>(lent: &mut T)
+    ensures { lent.new ≡ lent.old }
+{}

@@ -1,13 +1,13 @@
 //! Threads that do a job each, beside one that scans.
 
 ghost use Rattle.std.specs.Prelude.{◌≡◌, ◌≤◌, [], All, IfOk, vec_len, vec_capacity};
-ghost use Rattle.tenant_workers.specs.Jobs.{AreEach, HasRoomForJobs, IsJobBegun, IsJobDone};
+ghost use Rattle.tenant_workers.specs.Jobs.{AreEach, HasRoomForJobs, IsJobBegun, IsJobDone, MayBecome};
 
 use crate::gate::Gate;
 use std::alloc::{AllocError, Global};
 use std::snapshot::Snapshot;
+use std::sync::Wait;
 use std::sync::atomic::{AtomicUsize, Ordering};
-use std::sync::{Mutex, Wait};
 use std::thread;
 use std::thread::{Promise, PromisedHandle, Scope, Threads};
 
@@ -16,23 +16,21 @@ pub(crate) trait Job {
     /// When it may be done.
     ghost is_ready: { Self → Type 0 };
 
-    /// What may come of it.
-    ghost becomes: { Self → Self → Type 0 };
+    /// What comes of it when it is done.
+    ghost is_done: { Self → Self → Type 0 };
+
+    /// What comes of it where no thread can be started.
+    ghost is_refused: { Self → Self → Type 0 };
 
     /// Does it.
     fn run<R: Wait>(self, rt: &R, alloc: Global, gate: &impl Gate) -> Self
         requires { is_ready self }
-        ensures { becomes self result };
+        ensures { is_done self result };
 
-    /// What comes of it where no thread can be started.
+    /// Gives it back where no thread can be started.
     fn refuse(self) -> Self
         requires { is_ready self }
-        ensures { becomes self result };
-}
-
-/// What is done beside the jobs.
-pub(crate) trait Scan {
-    fn scan<R: Wait>(&mut self, rt: &R, gate: &impl Gate);
+        ensures { is_refused self result };
 }
 
 /// A thread's promise, that it gives back what may come of its job.
@@ -40,7 +38,7 @@ pub(crate) trait Scan {
 pub(crate) struct Becomes<T: Drop>(Snapshot<T>);
 
 impl<T: Job + Drop> Promise<T> for Becomes<T> {
-    ghost kept_by = { λ promise done. T.becomes promise.0.value done };
+    ghost kept_by = { λ promise done. MayBecome T.is_done T.is_refused promise.0.value done };
 }
 
 /// A job that was begun: its thread, or the job as it was refused.
@@ -65,24 +63,26 @@ impl<T: Job + Drop> Room<T> {
     }
 }
 
-/// Has each job done by a thread of its own, beside one that scans, and waits until all have ended. What came
+/// Has each job done by a thread of its own, beside a thread that scans, and waits until all have ended. What came
 /// of the jobs stands in their order.
 pub(crate) fn run_jobs<R, G, T, S>(
     rt: &R,
     alloc: Global,
     jobs: Vec<T>,
     room: Room<T>,
-    scanning: &Mutex<S>,
+    scan: S,
     gate: &G,
-) -> Vec<T>
+) -> (Vec<T>, S)
 where
     R: Threads + Wait + Sync,
     G: Gate + Sync,
     T: Job + Send + Drop,
-    S: Scan + Send,
+    S: Job + Send + Drop,
     requires ready { All T.is_ready jobs.items }
+    requires scan { S.is_ready scan }
     requires room { HasRoomForJobs (vec_len jobs) room }
-    ensures { AreEach T.becomes jobs.items result.items }
+    ensures jobs { AreEach (MayBecome T.is_done T.is_refused) jobs.items result.0.items }
+    ensures scan { MayBecome S.is_done S.is_refused scan result.1 }
 {
     let Room { begun, done } = room;
     let none_refused = AtomicUsize::new(usize::MAX);
@@ -90,20 +90,26 @@ where
     thread::scope(
         thread::scope_env(),
         rt,
-        move |scope| -> Vec<T>
+        move |scope| -> (Vec<T>, S)
             requires ready { All T.is_ready jobs.items }
+            requires scan { S.is_ready scan }
             requires none_begun { begun.items ≡ [] }
             requires room_begun { vec_len jobs ≤ vec_capacity begun }
             requires none_done { done.items ≡ [] }
             requires room_done { vec_len jobs ≤ vec_capacity done }
-            ensures { AreEach T.becomes jobs.items result.items }
+            ensures jobs { AreEach (MayBecome T.is_done T.is_refused) jobs.items result.0.items }
+            ensures scan { MayBecome S.is_done S.is_refused scan result.1 }
         {
-            let _scanner = scope.spawn(move || scanning.lock(rt).scan(rt, gate));
+            let scanner = begin(scope, rt, alloc, jobs.len(), scan, gate, refused);
             let mut begun = begun;
             let mut done = done;
             begin_all(scope, rt, alloc, jobs, &mut begun, gate, refused);
             end_all(rt, begun, &mut done);
-            done
+            let scanned = match scanner {
+                Ok(thread) => thread.join(rt),
+                Err(refused) => refused,
+            };
+            (done, scanned)
         },
     )
 }
@@ -121,7 +127,7 @@ fn begin_all<'s, E, R: Threads + Wait + Sync, G: Gate + Sync, T: Job + Send + Dr
     requires ready { All T.is_ready jobs.items }
     requires none { begun.old.items ≡ [] }
     requires room { vec_len jobs ≤ vec_capacity begun.old }
-    ensures begun { AreEach (IsJobBegun T.becomes) jobs.items begun.new.items }
+    ensures begun { AreEach (IsJobBegun (MayBecome T.is_done T.is_refused)) jobs.items begun.new.items }
 {
     for job in jobs {
         let number = begun.len();
@@ -141,14 +147,14 @@ fn begin<'s, E, R: Threads + Wait + Sync, G: Gate + Sync, T: Job + Send + Drop +
     refused: &'s AtomicUsize,
 ) -> Begun<T>
     requires { T.is_ready job }
-    ensures { IsJobBegun T.becomes job result }
+    ensures { IsJobBegun (MayBecome T.is_done T.is_refused) job result }
 {
     let promise = Becomes(Snapshot::of(&job));
     let started = scope.spawn_with(
         promise,
         move || -> T
             requires { T.is_ready job }
-            ensures { T.becomes job result }
+            ensures { MayBecome T.is_done T.is_refused job result }
         {
             if refused.load(Ordering::SeqCst) == number {
                 return job.refuse();
@@ -169,7 +175,7 @@ fn begin<'s, E, R: Threads + Wait + Sync, G: Gate + Sync, T: Job + Send + Drop +
 fn end_all<R: Threads, T: Job + Drop>(rt: &R, begun: Vec<Begun<T>>, done: &mut Vec<T>)
     requires none { done.old.items ≡ [] }
     requires room { vec_len begun ≤ vec_capacity done.old }
-    ensures { AreEach (IsJobDone T.becomes) begun.items done.new.items }
+    ensures { AreEach (IsJobDone (MayBecome T.is_done T.is_refused)) begun.items done.new.items }
 {
     for one in begun {
         let job = match one {

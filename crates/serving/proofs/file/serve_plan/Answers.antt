@@ -22,7 +22,7 @@ returns-clause-served g c =
     served-through c.tell_served.result c.args.file.now c.as_slice-commands.result.now c.args.plan.now.tenants.items c.deref_mut.result.now c.open_all.new.plans c.deref_mut-2.result.now
     c.add_runs.new.plans c.serve.new.plan.tenants.items c.deref_mut-3.result.now _ _ c.args.plan.now.tenants.len
     (g.W.Write.contents c.args.writer.now) (g.W.Write.contents c.tell_served.new.writer)
-    c.as_slice-commands.ensures c.requires.count c.requires.new c.deref_mut.ensures.value c.deref_mut.ensures.len
+    c.as_slice-commands.ensures c.requires.count c.in_default.ensures.settable c.requires.new c.deref_mut.ensures.value c.deref_mut.ensures.len
     c.in_default.ensures.opened c.deref_mut-2.ensures.value
     (of-no_err c.add_runs.result (sym c.is_err.ensures.value ∙ c.if-is_err.false) c.add_runs.ensures.planned)
     c.in_default-serve.ensures.served c.deref_mut-3.ensures.value c.tell_served.ensures.told

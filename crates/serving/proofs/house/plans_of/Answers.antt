@@ -12,7 +12,7 @@ invariant_of-push c =
     let left = into_iter_items c.next.new.self in
     let all = All-same (IsAtFirst c.args.shared.now) (c.in-Some.seat ∷ left) (into_iter_items c.loop-seat.seat-iterator) (sym c.in-Some.ensures.steps.0) c.loop-seat.invariant.first in
     let one = All-head (IsAtFirst c.args.shared.now) c.in-Some.seat left all in
-    record { idle = one.idle; resting = rw one.first (record { running = refl; reserve = refl; unpinned = refl }) }
+    record { idle = one.idle; resting = rw one.first (record { running = refl; reserve = refl }) }
 
 pub loop-seat-preserved : goal.loop-seat-preserved
 loop-seat-preserved c =

@@ -7,6 +7,7 @@ use Rattle.interp.specs.Fits.{HaveShapes}
 use Rattle.interp.specs.Machine.{start_state}
 use Rattle.tenant_runs.specs.UnderWay.{IsUnderWay}
 use Rattle.turn.specs.Seats.{own_part}
+use Rattle.tenant_workers.proofs.Turns.{gone_further}
 use Rattle.tenant_workers.proofs.shared.Shared.run.Goals as goal
 
 -- the run begins at the standard's start on the maps of the seat, and its end leaves the maps
@@ -31,3 +32,8 @@ returns-clause-ran g c =
       ended = search rules;
       unpinned = search rules;
     }
+
+-- the turns of its beginning, of its steps and of its end
+pub returns-clause-turns : goal.returns-clause-turns
+returns-clause-turns g c =
+    gone_further c.args.seat.now c.drive-reply.new.seat c.end.new.seat (gone_further c.args.seat.now c.begin.new.seat c.drive-reply.new.seat c.begin.ensures.turns c.drive-reply.ensures.turns) c.end.ensures.turns

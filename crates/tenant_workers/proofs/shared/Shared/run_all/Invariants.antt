@@ -1,5 +1,4 @@
 use Rattle.std.proofs.Common.{◌≡◌, length, map, take}
-use Rattle.turn.specs.Seats.{own_part}
 use Rattle.tenant_workers.specs.Calls.{IsSameSeat}
 use Rattle.tenant_workers.specs.Replies.{AllReply}
 use Rattle.tenant_workers.proofs.shared.Shared.run_all.Given as goal
@@ -12,5 +11,5 @@ invariant-loop-place g l = record {
   same : IsSameSeat l.fn.plan.seat l.plan.seat;
   count : length l.plan.replies.items ≡ length l.plan.runs.items;
   replies : AllReply l.fn.plan.programs.items (take l.place (map (λ run. (run.0, run.1.items)) l.fn.plan.runs.items))
-      (own_part l.fn.plan.seat) (take l.place l.plan.replies.items) (own_part l.plan.seat);
+      l.fn.plan.seat (take l.place l.plan.replies.items) l.plan.seat;
 }
