@@ -2,7 +2,7 @@
 
 use crate::events::Source;
 use host_core::Event;
-use host_types::Options;
+use host_types::{Opt, Options};
 use std::alloc::{AllocError, Global};
 use tests_inputs::Draws;
 
@@ -12,16 +12,24 @@ pub(crate) const EVENTS: u32 = 20;
 /// How many tenants a host has.
 pub(crate) const TENANTS: u32 = 3;
 
-/// Draws what happens beside a tenant: events of two others, visits, options, unmergings and counters.
+/// One more than the most visits that are drawn together.
+const VISITS: u32 = 8;
+
+/// One more than the most that happens between two events of the tenant.
+const BETWEEN: u32 = 7;
+
+/// Draws what happens beside a tenant: events of two others, visits, options, unmergings and counters. Some visits may be
+/// left of those that are drawn together.
 #[derive(Drop)]
 struct Others {
     draws: Draws,
     first: Source,
     second: Source,
+    visits: u32,
 }
 
 impl Others {
-    /// The others of a tenant. Where there are only two tenants, one of them isn't there.
+    /// What happens beside a tenant.
     fn new(seed: u64, tenant: u32) -> Others {
         let mut draws = Draws::new(seed);
         let shape = draws.below(3);
@@ -32,21 +40,29 @@ impl Others {
             draws,
             first: Source::new(first, after(tenant, 1), shape),
             second: Source::new(second, after(tenant, 2), other),
+            visits: 0,
         }
     }
 
     fn next(&mut self, alloc: Global) -> Result<Event, AllocError> {
+        if self.visits > 0 {
+            self.visits -= 1;
+            return Ok(Event::Visit);
+        }
         match self.draws.below(32) {
-            0..=7 => self.first.next(alloc),
-            8..=13 => self.second.next(alloc),
-            14 => Ok(self.set()),
-            15 => Ok(Event::Unmerge),
-            16 => Ok(Event::Counters),
-            17..=18 => Ok(Event::Set {
-                option: host_types::Opt::Run,
+            0..=8 => self.first.next(alloc),
+            9..=15 => self.second.next(alloc),
+            16 => Ok(self.set()),
+            17 => Ok(Event::Unmerge),
+            18 => Ok(Event::Counters),
+            19..=20 => Ok(Event::Set {
+                option: Opt::Run,
                 value: 1,
             }),
-            _ => Ok(Event::Visit),
+            _ => {
+                self.visits = self.draws.below(VISITS);
+                Ok(Event::Visit)
+            }
         }
     }
 
@@ -57,7 +73,7 @@ impl Others {
 
     /// Adds some events to a list.
     fn push_some(&mut self, alloc: Global, events: &mut Vec<Event>) -> Result<(), AllocError> {
-        for _ in 0..self.draws.below(3) {
+        for _ in 0..self.draws.below(BETWEEN) {
             let event = self.next(alloc)?;
             events.push(event)?;
         }

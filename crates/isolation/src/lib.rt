@@ -2,8 +2,8 @@
 //! own events, whatever happens between them, but for refusals where frames or memory are scarce.
 #![tactic(auto)]
 
-mod both;
+mod hosts;
 mod laws;
 
-pub use both::both;
+pub use hosts::both;
 pub use laws::{scarce_changes_nothing, tenants_are_isolated};
