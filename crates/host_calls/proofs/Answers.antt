@@ -12,7 +12,7 @@ use Rattle.page_table.specs.Changes.{with_pins}
 use Rattle.page_table.specs.State.{MemoryState, part}
 use Rattle.write_break.specs.Stores.{touched, place_of_byte, pinned_as, stored_sharing}
 use Rattle.write_break.proofs.Stores.{pins-none}
-use Rattle.map_helpers.specs.Updates.{part_updated, sharing_in, updated_sharing}
+use Rattle.map_helpers.specs.Updates.{part_updated, sharing_in, updated_sharing_as}
 use Rattle.host_calls.specs.Calls.{FitsValue}
 
 -- it is 0 where the element is there
@@ -40,21 +40,21 @@ helps owned m key value answer after fits helped = by_map (map_at owned.maps m) 
         let same : answer ≡ 0 = ap answer-in (sym helped ∙ is) ∙ zero in
         helped ∙ ap (λ (n : ℕ). Some (n, after)) same
 
--- an update by no open run pins nothing
-pins-none_open : (found : Option FlatMap) (running : Bool) (s : Sharing) (t m key flags : ℕ) → running ≡ false → (sharing_in found running s t m key flags).pins ≡ s.pins
+-- an update that no run makes pins nothing
+pins-none_open : (found : Option FlatMap) (s : Sharing) (t m key flags : ℕ) → (sharing_in found false s t m key flags).pins ≡ s.pins
 unfolding sharing_in
-pins-none_open None running s t m key flags none = refl
-pins-none_open (Some flat) running s t m key flags none = either (update_answer flat.shape key flags == 0)
+pins-none_open None s t m key flags = refl
+pins-none_open (Some flat) s t m key flags = either (update_answer flat.shape key flags == 0)
   where
-    either : (b : Bool) → (if b then stored_sharing running s t m (element_at flat.shape key) flat.shape.value_size else s).pins ≡ s.pins
-    either true = rw none (pins-none s (place_of_byte t m (element_at flat.shape key)) (touched (element_at flat.shape key) flat.shape.value_size))
+    either : (b : Bool) → (if b then stored_sharing false s t m (element_at flat.shape key) flat.shape.value_size else s).pins ≡ s.pins
+    either true = pins-none s (place_of_byte t m (element_at flat.shape key)) (touched (element_at flat.shape key) flat.shape.value_size)
     either false = refl
 
 -- so the tenant's part is what the update makes of it
-pub unpinned : (old new : MemoryState) (t m key flags : ℕ) (value : List ℕ) → new.sharing ≡ updated_sharing (part old t) old.sharing t m key flags
-    → (part old t).running ≡ false → pinned_as new.sharing t (part_updated (part old t) m key value flags) ≡ part_updated (part old t) m key value flags
+pub unpinned : (old new : MemoryState) (t m key flags : ℕ) (value : List ℕ) → new.sharing ≡ updated_sharing_as false (part old t) old.sharing t m key flags
+    → pinned_as new.sharing t (part_updated (part old t) m key value flags) ≡ part_updated (part old t) m key value flags
 unfolding part
-unpinned old new t m key flags value shares none =
+unpinned old new t m key flags value shares =
     let pins : new.sharing.pins ≡ old.sharing.pins =
-    ap (λ (s : Sharing). s.pins) shares ∙ pins-none_open (map_at (part old t).maps m) (part old t).running old.sharing t m key flags none in
+    ap (λ (s : Sharing). s.pins) shares ∙ pins-none_open (map_at (part old t).maps m) old.sharing t m key flags in
     ap (λ (pins : List Bool). with_pins (part_of pins (t * 2048) 2048) (part_updated (part old t) m key value flags)) pins

@@ -1,10 +1,10 @@
-ghost use Rattle.std.specs.Prelude.{◌≡◌, ◌+◌, ◌*◌, ◌≤◌, Some, IfOk, OnOk, IfErr, OnErr};
+ghost use Rattle.std.specs.Prelude.{◌≡◌, ◌+◌, ◌*◌, ◌≤◌, Some, None, IfOk, OnOk, IfErr, OnErr};
 ghost use Rattle.host_types.specs.Memory.{map_at};
 ghost use Rattle.host_types.specs.Pages.{map_place};
 ghost use Rattle.page_table.specs.Limits.{page_count, shape_of};
 ghost use Rattle.page_table.specs.State.{part, free_number, have_of};
 ghost use Rattle.page_table.specs.Changes.{IsKeptBut, AreMapsKeptBut, KeepsSettings, part_created, with_new_pages, zero_map};
-ghost use Rattle.host_calls.specs.Calls.{FitsNewMap, HasFrames, RefusesNewMap, TellsHave};
+ghost use Rattle.host_calls.specs.Calls.{FitsNewMap, RefusesNewMap, TellsHave, refused_new_map};
 
 use host_types::{Fault, MapNo};
 use page_table::Memory;
@@ -12,9 +12,9 @@ use page_table::Memory;
 /// Makes a map of zeros for a tenant, at its first free number. Its pages were never visited.
 ///
 /// Refusals in their order: 42 where there is no such tenant, 32 where it has eight maps, 33 where the
-/// shape is out of limits, 31 just where the map's pages are more than `have()`, 41 where memory ran out.
-/// A missing frame tells both numbers. A refusal changes nothing.
-#[tactic(auto, using(crate::proofs::NewMaps::new_map_refused, crate::proofs::NewMaps::new_map_told, crate::proofs::NewMaps::new_map_framed))]
+/// shape is out of limits, 31 just where the map's pages are more than `have()`; it tells both numbers. A
+/// refusal changes nothing. The call takes no memory.
+#[tactic(auto, using(crate::proofs::NewMaps::new_map_first, crate::proofs::NewMaps::new_map_refused, crate::proofs::NewMaps::new_map_told))]
 pub fn host_create_map(
     memory: &mut Memory,
     tenant: u32,
@@ -22,6 +22,7 @@ pub fn host_create_map(
     entries: u32,
     mergeable: bool,
 ) -> Result<MapNo, Fault>
+    ensures allowed { OnOk result (refused_new_map memory.old tenant (shape_of value_size entries) ≡ None) }
     ensures fits { OnOk result (FitsNewMap (part memory.old tenant) (shape_of value_size entries)) }
     ensures enough { OnOk result (page_count (shape_of value_size entries) ≤ have_of memory.old) }
     ensures number { IfOk result (λ m. free_number (part memory.old tenant) ≡ Some m) }
@@ -37,9 +38,9 @@ pub fn host_create_map(
     ensures have { OnOk result
         (have_of memory.new + page_count (shape_of value_size entries) ≡ have_of memory.old) }
     ensures settings { KeepsSettings memory.old memory.new }
+    ensures first { IfErr result (λ fault. refused_new_map memory.old tenant (shape_of value_size entries) ≡ Some fault) }
     ensures refused { IfErr result (RefusesNewMap (part memory.old tenant) (shape_of value_size entries)) }
     ensures told { IfErr result (TellsHave memory.old) }
-    ensures framed { IfErr result (HasFrames memory.old (shape_of value_size entries)) }
     ensures unchanged { OnErr result (memory.new ≡ memory.old) }
 {
     memory.facts();

@@ -1,9 +1,9 @@
-ghost use Rattle.std.specs.Prelude.{◌≡◌, ◌+◌, ◌<◌, ◌≤◌, [], ◌∷◌, length, Some, option_map, IfOk, IfErr, IfSome, OnOk};
+ghost use Rattle.std.specs.Prelude.{◌≡◌, ◌+◌, ◌<◌, ◌≤◌, [], ◌∷◌, length, Some, None, option_map, IfOk, IfErr, IfSome, OnOk};
 ghost use Rattle.host_types.specs.Bytes.{part_of};
 ghost use Rattle.host_types.specs.Memory.{FlatMap, map_at};
 ghost use Rattle.host_types.specs.Tenant.{IsFlatMap};
 ghost use Rattle.page_table.specs.State.{part, map_bytes};
-ghost use Rattle.host_calls.specs.Calls.{IsValue, RefusesElement, RefusesLookup};
+ghost use Rattle.host_calls.specs.Calls.{IsValue, RefusesLookup, refused_lookup};
 
 use host_types::{Fault, MapNo, Shape};
 use page_table::Memory;
@@ -14,6 +14,7 @@ use write_break::load;
 ///
 /// Refusals in their order: 42 where there is no such tenant, 34 where it has no such map, 35 where the map
 /// has no such element, 41 where memory ran out.
+#[tactic(auto, using(crate::proofs::Elements::lookup_refuses, crate::proofs::Elements::lookup_lacks))]
 pub fn host_lookup(
     alloc: Global,
     memory: &Memory,
@@ -21,6 +22,7 @@ pub fn host_lookup(
     map: MapNo,
     key: u32,
 ) -> Result<Vec<u8>, Fault>
+    ensures allowed { OnOk result (refused_lookup memory.now tenant map key ≡ None) }
     ensures value { IfOk result (λ bytes. IsValue (part memory.now tenant) map key bytes.items) }
     ensures refused { IfErr result (RefusesLookup (part memory.now tenant) map key) }
 {
@@ -46,7 +48,8 @@ pub(crate) fn shape_with_element(
         option_map (λ (flat : FlatMap). flat.shape) (map_at (part memory.now tenant).maps map) ≡ Some shape) }
     ensures valid { OnOk result (IfSome (map_at (part memory.now tenant).maps map) IsFlatMap) }
     ensures element { IfOk result (λ shape. key < shape.entries) }
-    ensures refused { IfErr result (RefusesElement (part memory.now tenant) map key) }
+    ensures allowed { OnOk result (refused_lookup memory.now tenant map key ≡ None) }
+    ensures first { IfErr result (λ fault. refused_lookup memory.now tenant map key ≡ Some fault) }
 {
     memory.facts();
     if tenant >= memory.tenants() {

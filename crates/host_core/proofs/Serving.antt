@@ -1,5 +1,5 @@
 -- What a tenant's events on its maps do to it and to each system that it stands in.
-use Rattle.std.proofs.Common.{◌≡◌, ◌≢◌, ℕ, zero, suc, ◌*◌, ◌≤◌, ◌==◌, if◌then◌else◌, Bool, true, false, List, [], ◌∷◌, length, slice_index_or, slice_set, inl, inr, Option, Some, None, is_some, is_none, option_map, Result, IsErrAnd, IsNone, IsSome, IfSome, IsSomeAnd, sym, ap, refl, ◌∙◌, subst}
+use Rattle.std.proofs.Common.{◌≡◌, ◌≢◌, ℕ, zero, suc, ◌*◌, ◌==◌, if◌then◌else◌, Bool, true, false, List, [], ◌∷◌, length, slice_index_or, slice_set, ◌⊎◌, inl, inr, Option, Some, None, is_some, is_none, option_map, Result, IsErrAnd, IsNone, IsSome, IfSome, IsSomeAnd, sym, ap, refl, ◌∙◌, subst}
 use Rattle.std.specs.List.{slice_get}
 use Rattle.std.proofs.lemmas.Bool.Decides.{eqb_tells}
 use Rattle.std.proofs.lemmas.List.{length-set}
@@ -7,7 +7,7 @@ use Rattle.std.proofs.lemmas.List.Quantifiers.{position-Some}
 use Rattle.std.proofs.lemmas.Option.{IfSome_then}
 use Rattle.std.proofs.lemmas.Result.{err_from_is_err_and}
 use Rattle.host_types.specs.declared.fault.Fault.{Fault}
-use Rattle.host_types.specs.declared.fault.Fault.TheVariants.{NoFrames, TooManyMaps, BadShape, NoMap, NoElement, Busy, OutOfMemory, BadTenant}
+use Rattle.host_types.specs.declared.fault.Fault.TheVariants.{Busy, OutOfMemory, BadTenant}
 use Rattle.host_types.specs.declared.helper.MapHelper.TheVariants.{Update}
 use Rattle.host_types.specs.declared.shape.Shape.{Shape}
 use Rattle.host_types.specs.Bytes.{with_part}
@@ -20,19 +20,18 @@ use Rattle.page_table.specs.Changes.{IsKeptBut, AreMapsKeptBut, KeepsSettings, p
 use Rattle.page_table.specs.Limits.{page_count, shape_of}
 use Rattle.page_table.specs.Reads.{ReadsAs}
 use Rattle.page_table.specs.State.{MemoryState, part, free_number, have_of}
-use Rattle.write_break.specs.Stores.{pinned_as}
-use Rattle.map_helpers.specs.Updates.{part_updated, updated_sharing}
+use Rattle.map_helpers.specs.Updates.{part_updated, updated_sharing_as}
 use Rattle.verifier.specs.Named.{named_shapes}
 use Rattle.verifier.specs.Verified.{Accepted}
 use Rattle.interp.specs.Fits.{HaveShapes}
-use Rattle.host_calls.specs.Calls.{FitsNewMap, FitsValue, IsCharged, IsValue, RefusesNewMap, RefusesUpdate, RefusesLookup, IsThere, TellsHave, HasFrames}
+use Rattle.host_calls.specs.Calls.{IsThere, IsValue, lookup_refusal, new_map_refusal, or_bad_tenant, refused_lookup, refused_new_map, refused_update, update_refusal}
 use Rattle.host_core.specs.declared.event.Event.{Event}
 use Rattle.host_core.specs.declared.event.Event.TheVariants.{CreateMap, HostUpdate, HostLookup}
 use Rattle.host_core.specs.declared.event.Reply.{Reply}
 use Rattle.host_core.specs.declared.event.Reply.TheVariants.{Map, Done, Value, Refused}
 use Rattle.host_core.specs.declared.tenant.OpenRun.{OpenRun as KeptRun}
 use Rattle.host_core.specs.World.{OpenRun, Tenant, System, pins_of, owned_by, have_in}
-use Rattle.host_core.specs.Happens.{Happens, IsPromised, RefusesCreate, RefusesHostUpdate, changed_system}
+use Rattle.host_core.specs.Happens.{CreateHappens, Happens, IsPromised, LookupHappens, RefusedOr, UpdateHappens, changed_system, create_refusal, host_update_refusal, unless_busy}
 use Rattle.host_core.specs.HostView.{TenantView, reply_of, EachProgram, StandsForAnyRun, StandsForTenant, StandsForMemory, IsKept, IsServed}
 use Rattle.host_core.proofs.Worlds.{changed_system-same, OfTenant-there}
 use Rattle.host_core.proofs.Memories.{reserve-idle, owned-idle}
@@ -170,10 +169,50 @@ pub has_kept : (t : ℕ) (before after : MemoryState) (m : ℕ) → AreMapsKeptB
     → (length (part after t).maps ≡ 8 → AreFlatMaps (part after t).maps) → HasKept t before after m
 has_kept t before after m other_maps others settings reads flat = record { other_maps = other_maps; others = others; settings = settings; reads = reads; flat = flat }
 
+-- ---- Refusals of a call: what the memory told of the tenant, in each system that both stand for
+
+-- the event is refused, or it happens
+refused-some : (x : System) (f : Fault) (refusal : Option Fault) (Happening : Type 0) → refusal ≡ Some f → RefusedOr refusal x (Refused f) x Happening
+refused-some x f refusal Happening is = subst (λ r. RefusedOr r x (Refused f) x Happening) (sym is) (refl, refl)
+
+refused-none : (x x' : System) (reply : Reply) (refusal : Option Fault) (Happening : Type 0) → refusal ≡ None → Happening → RefusedOr refusal x reply x' Happening
+refused-none x x' reply refusal Happening is happens = subst (λ r. RefusedOr r x reply x' Happening) (sym is) happens
+
+-- a tenant with an open run, and one without
+while-busy : (tenant : Tenant) (refusal : Option Fault) → IsSome tenant.run → unless_busy tenant refusal ≡ Some Busy
+while-busy tenant refusal busy = ap (λ b. if b then Some Busy else refusal) busy
+
+while-idle : (tenant : Tenant) (refusal first : Option Fault) → IsNone tenant.run → refusal ≡ first → unless_busy tenant refusal ≡ first
+while-idle tenant refusal first idle is = ap (λ b. if b then Some Busy else refusal) idle ∙ is
+
+-- a tenant that is there is no bad one
+not-bad : (owned : TenantPart) (refusal first : Option Fault) → length owned.maps ≡ 8 → or_bad_tenant owned refusal ≡ first → refusal ≡ first
+not-bad owned refusal first eight is = let here : (length owned.maps == 8) ≡ true = rw eight refl in sym (ap (λ b. if b then refusal else Some BadTenant) here) ∙ is
+
+module _ (old : TenantView) (memory : MemoryState) (x : System) (t : ℕ) (tenant : Tenant) (there : slice_get x.world t ≡ Some tenant) (stands : StandsForTenant old tenant) (holds : StandsForMemory memory x) where
+  eight_there : length (owned_by x.sharing t tenant).maps ≡ 8
+  eight_there = stands.meets.maps.eight
+
+  map-refusal : (shape : Shape) (first : Option Fault) → refused_new_map memory t shape ≡ first → new_map_refusal (owned_by x.sharing t tenant) shape (have_in x) ≡ first
+  map-refusal shape first is =
+      not-bad (owned_by x.sharing t tenant) (new_map_refusal (owned_by x.sharing t tenant) shape (have_in x)) first eight_there
+      (subst (λ n. or_bad_tenant (owned_by x.sharing t tenant) (new_map_refusal (owned_by x.sharing t tenant) shape n) ≡ first) (have_stands memory x holds)
+      (subst (λ o. or_bad_tenant o (new_map_refusal o shape (have_of memory)) ≡ first) (part_stands memory x t tenant holds there) is))
+
+  value-refusal : (m key : ℕ) (value : List ℕ) (first : Option Fault) → refused_update memory t m key value ≡ first → update_refusal (owned_by x.sharing t tenant) m key value (have_in x) ≡ first
+  value-refusal m key value first is =
+      not-bad (owned_by x.sharing t tenant) (update_refusal (owned_by x.sharing t tenant) m key value (have_in x)) first eight_there
+      (subst (λ n. or_bad_tenant (owned_by x.sharing t tenant) (update_refusal (owned_by x.sharing t tenant) m key value n) ≡ first) (have_stands memory x holds)
+      (subst (λ o. or_bad_tenant o (update_refusal o m key value (have_of memory)) ≡ first) (part_stands memory x t tenant holds there) is))
+
+  element-refusal : (m key : ℕ) (first : Option Fault) → refused_lookup memory t m key ≡ first → lookup_refusal (owned_by x.sharing t tenant) m key ≡ first
+  element-refusal m key first is =
+      not-bad (owned_by x.sharing t tenant) (lookup_refusal (owned_by x.sharing t tenant) m key) first eight_there
+      (subst (λ o. or_bad_tenant o (lookup_refusal o m key) ≡ first) (part_stands memory x t tenant holds there) is)
+
 -- what is known once a map was made
 pub record HasCreated (t : ℕ) (before after : MemoryState) (shape : Shape) (mergeable : Bool) (m : ℕ) : Type 0 where
-  pub fits : FitsNewMap (part before t) shape
-  pub enough : page_count shape ≤ have_of before
+  pub allowed : refused_new_map before t shape ≡ None
   pub number : free_number (part before t) ≡ Some m
   pub created : part after t ≡ part_created (part before t) m shape
   pub sharing : after.sharing ≡ with_new_pages before.sharing (map_place t m * 256) (page_count shape) mergeable
@@ -197,51 +236,44 @@ create-made t old before after value_size entries mergeable m idle made x tenant
     λ shapes. shapes_kept shapes tenant.maps next.maps m others (λ s had. absurd (free_shapeless (owned_by x.sharing t tenant) m s free had)) in
     let sharing : Sharing = with_new_pages x.sharing (map_place t m * 256) (page_count shape) mergeable in
     let shares : after.sharing ≡ sharing = made.sharing ∙ ap (λ s. with_new_pages s (map_place t m * 256) (page_count shape) mergeable) holds.sharing in
-    let enough : page_count shape ≤ have_in x = subst (λ n. page_count shape ≤ n) (have_stands before x holds) made.enough in
-    let fits : FitsNewMap (owned_by x.sharing t tenant) shape = subst (λ o. FitsNewMap o shape) owned made.fits in (
+    let allowed : create_refusal x t tenant shape ≡ None =
+    while-idle tenant (new_map_refusal (owned_by x.sharing t tenant) shape (have_in x)) None none (map-refusal old before x t tenant there stands holds shape None made.allowed) in (
       next,
       sharing,
       with_maps old tenant next.maps none stands flat have,
       changed_stands before after x t tenant next sharing after.sharing holds there (ap length made.kept.settings.tenants) made.kept.settings.frames made.kept.reads eight is made.kept.others shares,
-      OfTenant-there x t (Map m) (changed_system x t next sharing) _ tenant there (inr (none, fits, enough, (m, free, (refl, refl)))),
+      OfTenant-there x t (Map m) (changed_system x t next sharing) _ tenant there (refused-none x (changed_system x t next sharing) (Map m) (create_refusal x t tenant shape) (CreateHappens x t tenant shape mergeable (Map m) (changed_system x t next sharing)) allowed (m, free, (refl, refl))),
       tt,
     )
 
-module _ (memory : MemoryState) (x : System) (t : ℕ) (tenant : Tenant) (shape : Shape) (idle : IsNone tenant.run) (have : have_of memory ≡ have_in x) where
-  refuses_create : (f : Fault) → RefusesNewMap (owned_by x.sharing t tenant) shape f → TellsHave memory f → HasFrames memory shape f → RefusesCreate x t tenant shape f
-  refuses_create (NoFrames need most) refuses tells framed = (idle, refuses, tells ∙ have)
-  refuses_create TooManyMaps refuses tells framed = (idle, refuses, tt)
-  refuses_create BadShape refuses tells framed = (idle, refuses, tt)
-  refuses_create OutOfMemory refuses tells framed = (idle, refuses, subst (λ n. page_count shape ≤ n) have framed)
-  refuses_create BadTenant refuses tells framed = (idle, refuses, tt)
-  refuses_create fault refuses tells framed = absurd refuses
-
 -- a map that isn't made
 pub create-refused : (t : ℕ) (old : TenantView) (memory : MemoryState) (value_size entries : ℕ) (mergeable : Bool) (f : Fault) → is_some old.run ≡ false
-    → RefusesNewMap (part memory t) (shape_of value_size entries) f → TellsHave memory f → HasFrames memory (shape_of value_size entries) f
-    → IsServed t old memory (CreateMap t value_size entries mergeable) (Refused f) old memory
-create-refused t old memory value_size entries mergeable f idle refuses tells framed =
+    → refused_new_map memory t (shape_of value_size entries) ≡ Some f → IsServed t old memory (CreateMap t value_size entries mergeable) (Refused f) old memory
+create-refused t old memory value_size entries mergeable f idle refuses =
     served-same t old memory (CreateMap t value_size entries mergeable) (Refused f) (λ x tenant there stands holds.
     let none : IsNone tenant.run = is_some-run old.programs old.run tenant.run stands.run ∙ idle in
-    let here = subst (λ o. RefusesNewMap o (shape_of value_size entries) f) (part_stands memory x t tenant holds there) refuses in
-    let why = refuses_create memory x t tenant (shape_of value_size entries) none (have_stands memory x holds) f here tells framed in
-    (OfTenant-there x t (Refused f) x _ tenant there (inl (f, why, (refl, refl))), tt))
+    let shape : Shape = shape_of value_size entries in
+    let first : create_refusal x t tenant shape ≡ Some f =
+    while-idle tenant (new_map_refusal (owned_by x.sharing t tenant) shape (have_in x)) (Some f) none (map-refusal old memory x t tenant there stands holds shape (Some f) refuses) in
+    (OfTenant-there x t (Refused f) x _ tenant there (refused-some x f (create_refusal x t tenant shape) (CreateHappens x t tenant shape mergeable (Refused f) x) first), tt))
 
 -- a map that isn't made while a run is open
 pub create-busy : (t : ℕ) (old : TenantView) (memory : MemoryState) (value_size entries : ℕ) (mergeable : Bool) → is_some old.run ≡ true
     → IsServed t old memory (CreateMap t value_size entries mergeable) (Refused Busy) old memory
 create-busy t old memory value_size entries mergeable busy =
     served-same t old memory (CreateMap t value_size entries mergeable) (Refused Busy) (λ x tenant there stands holds.
-    let run : IsSome tenant.run = is_some-run old.programs old.run tenant.run stands.run ∙ busy in
-    (OfTenant-there x t (Refused Busy) x _ tenant there (inl (Busy, run, (refl, refl))), tt))
+    let run : IsSome tenant.run = is_some-run old.programs old.run tenant.run stands.run ∙ busy in (
+      OfTenant-there x t (Refused Busy) x _ tenant there (refused-some x Busy (create_refusal x t tenant (shape_of value_size entries)) (CreateHappens x t tenant (shape_of value_size entries) mergeable (Refused Busy) x)
+          (while-busy tenant (new_map_refusal (owned_by x.sharing t tenant) (shape_of value_size entries) (have_in x)) run)),
+      tt,
+    ))
 
 -- what is known once a value was written
 pub record HasUpdated (t : ℕ) (before after : MemoryState) (m key : ℕ) (value : List ℕ) : Type 0 where
-  pub fits : FitsValue (part before t) m key value
-  pub charged : IsCharged (part before t) m (have_of before)
-  pub updated : part after t ≡ pinned_as after.sharing t (part_updated (part before t) m key value 0)
+  pub allowed : refused_update before t m key value ≡ None
+  pub updated : part after t ≡ part_updated (part before t) m key value 0
   pub helped : helper Update (part before t).maps m key value 0 ≡ Some (0, (part after t).maps)
-  pub sharing : after.sharing ≡ updated_sharing (part before t) before.sharing t m key 0
+  pub sharing : after.sharing ≡ updated_sharing_as false (part before t) before.sharing t m key 0
   pub kept : HasKept t before after m
 
 -- an update keeps the number of maps
@@ -261,64 +293,65 @@ update-done t old before after m key value idle made x tenant there stands holds
     let none : IsNone tenant.run = is_some-run old.programs old.run tenant.run stands.run ∙ idle in
     let owned : part before t ≡ owned_by x.sharing t tenant = part_stands before x t tenant holds there in
     let next : Tenant = record tenant { maps = maps_updated tenant.maps m key value 0 } in
-    let became = made.updated ∙ ap (λ o. pinned_as after.sharing t (part_updated o m key value 0)) owned in
+    let became = made.updated ∙ ap (λ o. part_updated o m key value 0) owned in
     let is : part after t ≡ owned_by after.sharing t next = still_idle after t x.sharing tenant next.maps none (ap (λ (o : TenantPart). o.maps) became) (ap (λ (o : TenantPart). o.reserve) became) (ap (λ (o : TenantPart). o.running) became) in
     let eight : length next.maps ≡ 8 = length-updated tenant.maps m key value ∙ stands.meets.maps.eight in
     let flat : AreFlatMaps next.maps = subst (λ (o : TenantPart). AreFlatMaps o.maps) is (made.kept.flat (ap (λ (o : TenantPart). length o.maps) is ∙ eight)) in
     let others : (j : ℕ) → j ≢ m → map_at next.maps j ≡ map_at tenant.maps j = subst (λ o. AreMapsKeptBut m o (owned_by after.sharing t next)) owned (subst (λ o. AreMapsKeptBut m (part before t) o) is made.kept.other_maps) in
     let have : (shapes : List (Option Shape)) → HaveShapes shapes tenant.maps → HaveShapes shapes next.maps =
     λ shapes. shapes_kept shapes tenant.maps next.maps m others (λ s had. updated_shapes tenant.maps m key value s had) in
-    let sharing : Sharing = updated_sharing (owned_by x.sharing t tenant) x.sharing t m key 0 in
+    let sharing : Sharing = updated_sharing_as false (owned_by x.sharing t tenant) x.sharing t m key 0 in
     let shares : after.sharing ≡ sharing =
-    made.sharing ∙ ap (λ o. updated_sharing o before.sharing t m key 0) owned ∙ ap (λ s. updated_sharing (owned_by x.sharing t tenant) s t m key 0) holds.sharing in
-    let fits : FitsValue (owned_by x.sharing t tenant) m key value = subst (λ o. FitsValue o m key value) owned made.fits in
-    let charged : IsCharged (owned_by x.sharing t tenant) m (have_in x) = subst (λ n. IsCharged (owned_by x.sharing t tenant) m n) (have_stands before x holds) (subst (λ o. IsCharged o m (have_of before)) owned made.charged) in
+    made.sharing ∙ ap (λ o. updated_sharing_as false o before.sharing t m key 0) owned ∙ ap (λ s. updated_sharing_as false (owned_by x.sharing t tenant) s t m key 0) holds.sharing in
+    let allowed : host_update_refusal x t tenant m key value ≡ None =
+    while-idle tenant (update_refusal (owned_by x.sharing t tenant) m key value (have_in x)) None none (value-refusal old before x t tenant there stands holds m key value None made.allowed) in
     let helped : helper Update tenant.maps m key value 0 ≡ Some (0, next.maps) =
     subst (λ (o : TenantPart). helper Update o.maps m key value 0 ≡ Some (0, next.maps)) owned (subst (λ (o : TenantPart). helper Update (part before t).maps m key value 0 ≡ Some (0, o.maps)) is made.helped) in (
       next,
       sharing,
       with_maps old tenant next.maps none stands flat have,
       changed_stands before after x t tenant next sharing after.sharing holds there (ap length made.kept.settings.tenants) made.kept.settings.frames made.kept.reads eight is made.kept.others shares,
-      OfTenant-there x t Done (changed_system x t next sharing) _ tenant there (inr (none, fits, charged, (next.maps, helped, (refl, refl)))),
+      OfTenant-there x t Done (changed_system x t next sharing) _ tenant there (refused-none x (changed_system x t next sharing) Done (host_update_refusal x t tenant m key value) (UpdateHappens x t tenant m key value Done (changed_system x t next sharing)) allowed (next.maps, helped, (refl, refl))),
       tt,
     )
 
-module _ (memory : MemoryState) (x : System) (t : ℕ) (tenant : Tenant) (m key : ℕ) (value : List ℕ) (idle : IsNone tenant.run) (have : have_of memory ≡ have_in x) where
-  refuses_update : (f : Fault) → RefusesUpdate (owned_by x.sharing t tenant) m key value f → TellsHave memory f → RefusesHostUpdate x t tenant m key value f
-  refuses_update (NoFrames need most) refuses tells = (idle, refuses, tells ∙ have)
-  refuses_update BadShape refuses tells = (idle, refuses, tt)
-  refuses_update NoMap refuses tells = (idle, refuses, tt)
-  refuses_update NoElement refuses tells = (idle, refuses, tt)
-  refuses_update BadTenant refuses tells = (idle, refuses, tt)
-  refuses_update fault refuses tells = absurd refuses
-
 -- a value that isn't written
 pub update-refused : (t : ℕ) (old : TenantView) (memory : MemoryState) (m key : ℕ) (value : List ℕ) (f : Fault) → is_some old.run ≡ false
-    → RefusesUpdate (part memory t) m key value f → TellsHave memory f → IsServed t old memory (HostUpdate t m key value) (Refused f) old memory
-update-refused t old memory m key value f idle refuses tells =
+    → refused_update memory t m key value ≡ Some f → IsServed t old memory (HostUpdate t m key value) (Refused f) old memory
+update-refused t old memory m key value f idle refuses =
     served-same t old memory (HostUpdate t m key value) (Refused f) (λ x tenant there stands holds.
     let none : IsNone tenant.run = is_some-run old.programs old.run tenant.run stands.run ∙ idle in
-    let here = subst (λ o. RefusesUpdate o m key value f) (part_stands memory x t tenant holds there) refuses in
-    let why = refuses_update memory x t tenant m key value none (have_stands memory x holds) f here tells in
-    (OfTenant-there x t (Refused f) x _ tenant there (inl (f, why, (refl, refl))), tt))
+    let first : host_update_refusal x t tenant m key value ≡ Some f =
+    while-idle tenant (update_refusal (owned_by x.sharing t tenant) m key value (have_in x)) (Some f) none (value-refusal old memory x t tenant there stands holds m key value (Some f) refuses) in
+    (OfTenant-there x t (Refused f) x _ tenant there (refused-some x f (host_update_refusal x t tenant m key value) (UpdateHappens x t tenant m key value (Refused f) x) first), tt))
 
 -- a value that isn't written while a run is open
 pub update-busy : (t : ℕ) (old : TenantView) (memory : MemoryState) (m key : ℕ) (value : List ℕ) → is_some old.run ≡ true → IsServed t old memory (HostUpdate t m key value) (Refused Busy) old memory
 update-busy t old memory m key value busy =
     served-same t old memory (HostUpdate t m key value) (Refused Busy) (λ x tenant there stands holds.
-    let run : IsSome tenant.run = is_some-run old.programs old.run tenant.run stands.run ∙ busy in
-    (OfTenant-there x t (Refused Busy) x _ tenant there (inl (Busy, run, (refl, refl))), tt))
+    let run : IsSome tenant.run = is_some-run old.programs old.run tenant.run stands.run ∙ busy in (
+      OfTenant-there x t (Refused Busy) x _ tenant there (refused-some x Busy (host_update_refusal x t tenant m key value) (UpdateHappens x t tenant m key value (Refused Busy) x)
+          (while-busy tenant (update_refusal (owned_by x.sharing t tenant) m key value (have_in x)) run)),
+      tt,
+    ))
 
 -- a value that is read
-pub lookup-told : (t : ℕ) (old : TenantView) (memory : MemoryState) (m key : ℕ) (bytes : List ℕ) → IsValue (part memory t) m key bytes → IsServed t old memory (HostLookup t m key) (Value bytes) old memory
-lookup-told t old memory m key bytes value =
+pub lookup-told : (t : ℕ) (old : TenantView) (memory : MemoryState) (m key : ℕ) (bytes : List ℕ) → refused_lookup memory t m key ≡ None → IsValue (part memory t) m key bytes
+    → IsServed t old memory (HostLookup t m key) (Value bytes) old memory
+lookup-told t old memory m key bytes allowed value =
     served-same t old memory (HostLookup t m key) (Value bytes) (λ x tenant there stands holds.
+    let none = element-refusal old memory x t tenant there stands holds m key None allowed in
     let here = subst (λ o. IsValue o m key bytes) (part_stands memory x t tenant holds there) value in
-    (OfTenant-there x t (Value bytes) x _ tenant there (inr (bytes, here, (refl, refl))), tt))
+    (OfTenant-there x t (Value bytes) x _ tenant there (refused-none x x (Value bytes) (lookup_refusal (owned_by x.sharing t tenant) m key) (LookupHappens x t tenant m key (Value bytes) x) none (inr (bytes, here, (refl, refl)))), tt))
 
 -- a value that isn't read
-pub lookup-refused : (t : ℕ) (old : TenantView) (memory : MemoryState) (m key : ℕ) (f : Fault) → RefusesLookup (part memory t) m key f → IsServed t old memory (HostLookup t m key) (Refused f) old memory
-lookup-refused t old memory m key f refuses =
+pub lookup-refused : (t : ℕ) (old : TenantView) (memory : MemoryState) (m key : ℕ) (f : Fault) → (refused_lookup memory t m key ≡ Some f) ⊎ ((f ≡ OutOfMemory) × (refused_lookup memory t m key ≡ None))
+    → IsServed t old memory (HostLookup t m key) (Refused f) old memory
+lookup-refused t old memory m key f (inl refuses) =
     served-same t old memory (HostLookup t m key) (Refused f) (λ x tenant there stands holds.
-    let here = subst (λ o. RefusesLookup o m key f) (part_stands memory x t tenant holds there) refuses in
-    (OfTenant-there x t (Refused f) x _ tenant there (inl (f, here, (refl, refl))), tt))
+    let first = element-refusal old memory x t tenant there stands holds m key (Some f) refuses in
+    (OfTenant-there x t (Refused f) x _ tenant there (refused-some x f (lookup_refusal (owned_by x.sharing t tenant) m key) (LookupHappens x t tenant m key (Refused f) x) first), tt))
+lookup-refused t old memory m key f (inr (lacks, allowed)) =
+    served-same t old memory (HostLookup t m key) (Refused f) (λ x tenant there stands holds.
+    let none = element-refusal old memory x t tenant there stands holds m key None allowed in
+    (OfTenant-there x t (Refused f) x _ tenant there (refused-none x x (Refused f) (lookup_refusal (owned_by x.sharing t tenant) m key) (LookupHappens x t tenant m key (Refused f) x) none (inl (ap Refused lacks, refl))), tt))

@@ -1,5 +1,5 @@
 -- What events do (this project's own rules, docs/HOST.md).
-use Rattle.std.specs.Prelude.{◌≡◌, ◌≢◌, ℕ, ◌*◌, ◌%◌, ◌<◌, ◌≤◌, nat_le, ◌==◌, ◌&&◌, Bool, not, is_some, is_none, List, [], ◌∷◌, ◌++◌, length, replicate, slice_get, slice_set, ◌⊎◌, if◌then◌else◌, MatchOption, IfSome, IsSome, IsNone, IsSomeAnd, Option, Some, None, suc, true, false}
+use Rattle.std.specs.Prelude.{◌≡◌, ◌≢◌, ℕ, ◌*◌, ◌%◌, ◌<◌, ◌≤◌, nat_le, ◌==◌, ◌&&◌, Bool, not, is_some, is_none, List, [], ◌∷◌, ◌++◌, length, replicate, slice_get, slice_set, ◌⊎◌, if◌then◌else◌, MatchOption, IfSome, IsSomeAnd, Option, Some, None, suc, true, false}
 use Rattle.host_types.specs.declared.fault.Fault.{Fault}
 use Rattle.host_types.specs.declared.fault.Fault.TheVariants as fault
 use Rattle.host_types.specs.declared.fault.Refused.{Refused as Refusal}
@@ -20,14 +20,14 @@ use Rattle.page_table.specs.Changes.{pages_of_map, zero_map, with_new_pages}
 use Rattle.page_table.specs.Limits.{page_count, shape_of}
 use Rattle.page_table.specs.State.{free_number}
 use Rattle.write_break.specs.Stores.{stored_sharing}
-use Rattle.map_helpers.specs.Updates.{updated_sharing}
+use Rattle.map_helpers.specs.Updates.{updated_sharing_as}
 use Rattle.ksm_counters.specs.Counters.{counters_of}
 use Rattle.verifier.specs.Subject.{Subject}
 use Rattle.verifier.specs.Table.{Table, IsTightTable, IsRefusal}
 use Rattle.admission.specs.Reserve.{needed_from}
 use Rattle.interp.specs.Machine.{MachineState, Outcome, Next, Exits, step}
 use Rattle.interp.specs.Written.{Written, written}
-use Rattle.host_calls.specs.Calls.{FitsNewMap, FitsValue, IsCharged, IsValue, RefusesNewMap, RefusesUpdate, RefusesLookup}
+use Rattle.host_calls.specs.Calls.{IsValue, first_refusal, lookup_refusal, new_map_refusal, update_refusal}
 use Rattle.host_calls.specs.Programs.{subject_of}
 use Rattle.host_core.specs.declared.event.Event.{Event}
 use Rattle.host_core.specs.declared.event.Event.TheVariants.{CreateMap, Load, Begin, Step, Visit, HostUpdate, HostLookup, Set, Unmerge, Counters, Unload, DropMap}
@@ -51,11 +51,6 @@ Leaves x t tenant sharing answer reply x' = (reply ≡ answer) × (x' ≡ change
 abbrev pub Shares : System → Sharing → Reply → Reply → System → Type 0
 Shares x sharing answer reply x' = (reply ≡ answer) × (x' ≡ record x { sharing = sharing })
 
--- the first refusal whose condition holds
-abbrev pub first_refusal : List (Bool × Fault) → Option Fault
-first_refusal [] = None
-first_refusal (condition ∷ conditions) = if condition.0 then Some condition.1 else first_refusal conditions
-
 -- the event is refused where there is a refusal, and else it happens
 abbrev pub RefusedOr : Option Fault → System → Reply → System → Type 0 → Type 0
 RefusedOr (Some refusal) x reply x' Happening = Answers x (Refused refusal) reply x'
@@ -77,11 +72,6 @@ MayLackMemory x reply x' Happening = Answers x (Refused fault.OutOfMemory) reply
 abbrev pub MayLackFrames : System → ℕ → Reply → System → Type 0 → Type 0
 MayLackFrames x need reply x' Happening =
     ((have_in x < need) × Answers x (Refused (fault.NoFrames need (have_in x))) reply x') ⊎ ((need ≤ have_in x) × Happening)
-
--- where frames are missing, the frames that may be had are told
-abbrev pub Tells : System → Fault → Type 0
-Tells x (fault.NoFrames need have) = have ≡ have_in x
-Tells x other = Unit {0}
 
 -- a size that a context may have
 abbrev pub is_context_size : ℕ → Bool
@@ -141,35 +131,35 @@ StepHappens x t tenant r reply x' =
     (outcome : Outcome) × (step r.program.text r.state ≡ Some outcome)
     × StepLeads x t tenant r (sharing_after x.sharing t (written r.program.text r.state)) outcome reply x'
 
--- when a map isn't made: the first refusal, in this order, whose condition holds
-abbrev pub RefusesCreate : System → ℕ → Tenant → Shape → Fault → Type 0
-RefusesCreate x t tenant shape fault.Busy = IsSome tenant.run
-RefusesCreate x t tenant shape fault.OutOfMemory = IsNone tenant.run × FitsNewMap (owned_by x.sharing t tenant) shape × (page_count shape ≤ have_in x)
-RefusesCreate x t tenant shape refusal = IsNone tenant.run × RefusesNewMap (owned_by x.sharing t tenant) shape refusal × Tells x refusal
+-- what is refused while a tenant's run is open, and else what is refused of a call
+abbrev pub unless_busy : Tenant → Option Fault → Option Fault
+unless_busy tenant refusal = if is_some tenant.run then Some fault.Busy else refusal
+
+-- what is refused of a new map
+abbrev pub create_refusal : System → ℕ → Tenant → Shape → Option Fault
+create_refusal x t tenant shape = unless_busy tenant (new_map_refusal (owned_by x.sharing t tenant) shape (have_in x))
 
 -- a map of zeros is made at the tenant's first free number, its pages never visited
 abbrev pub CreateHappens : System → ℕ → Tenant → Shape → Bool → Reply → System → Type 0
 CreateHappens x t tenant shape mergeable reply x' =
-    IsNone tenant.run × FitsNewMap (owned_by x.sharing t tenant) shape × (page_count shape ≤ have_in x)
-    × ((m : ℕ) × (free_number (owned_by x.sharing t tenant) ≡ Some m)
+    (m : ℕ) × (free_number (owned_by x.sharing t tenant) ≡ Some m)
     × Leaves x t (record tenant { maps = slice_set tenant.maps m (Some (zero_map shape)) })
-    (with_new_pages x.sharing (map_place t m * 256) (page_count shape) mergeable) (Map m) reply x')
+    (with_new_pages x.sharing (map_place t m * 256) (page_count shape) mergeable) (Map m) reply x'
 
--- when a value isn't written: the first refusal, in this order, whose condition holds
-abbrev pub RefusesHostUpdate : System → ℕ → Tenant → ℕ → ℕ → List ℕ → Fault → Type 0
-RefusesHostUpdate x t tenant m key value fault.Busy = IsSome tenant.run
-RefusesHostUpdate x t tenant m key value refusal = IsNone tenant.run × RefusesUpdate (owned_by x.sharing t tenant) m key value refusal × Tells x refusal
+-- what is refused of a value that is to be written
+abbrev pub host_update_refusal : System → ℕ → Tenant → ℕ → ℕ → List ℕ → Option Fault
+host_update_refusal x t tenant m key value = unless_busy tenant (update_refusal (owned_by x.sharing t tenant) m key value (have_in x))
 
--- a value is written as the helper does it without a flag
+-- a value is written as the helper does it without a flag; no page is pinned
 abbrev pub UpdateHappens : System → ℕ → Tenant → ℕ → ℕ → List ℕ → Reply → System → Type 0
 UpdateHappens x t tenant m key value reply x' =
-    IsNone tenant.run × FitsValue (owned_by x.sharing t tenant) m key value × IsCharged (owned_by x.sharing t tenant) m (have_in x)
-    × ((maps : FlatMaps) × (helper Update tenant.maps m key value 0 ≡ Some (0, maps))
-    × Leaves x t (record tenant { maps = maps }) (updated_sharing (owned_by x.sharing t tenant) x.sharing t m key 0) Done reply x')
+    (maps : FlatMaps) × (helper Update tenant.maps m key value 0 ≡ Some (0, maps))
+    × Leaves x t (record tenant { maps = maps }) (updated_sharing_as false (owned_by x.sharing t tenant) x.sharing t m key 0) Done reply x'
 
--- a value is read
+-- a value is read; memory may run out
 abbrev pub LookupHappens : System → ℕ → Tenant → ℕ → ℕ → Reply → System → Type 0
-LookupHappens x t tenant m key reply x' = (bytes : List ℕ) × IsValue (owned_by x.sharing t tenant) m key bytes × Answers x (Value bytes) reply x'
+LookupHappens x t tenant m key reply x' = MayLackMemory x reply x' (
+    (bytes : List ℕ) × IsValue (owned_by x.sharing t tenant) m key bytes × Answers x (Value bytes) reply x')
 
 -- what is refused of a program that is to be unloaded
 abbrev pub unload_refusal : Tenant → ℕ → Option Fault
@@ -213,7 +203,7 @@ UnmergeHappens x reply x' = MayLackFrames x (unmerge_need x.sharing) reply x' (S
 -- An event in a system, its reply, and the system afterwards.
 abbrev pub Happens : System → Event → Reply → System → Type 0
 Happens x (CreateMap t value_size entries mergeable) reply x' = OfTenant x t reply x' (λ tenant.
-    RefusesOr (RefusesCreate x t tenant (shape_of value_size entries)) x reply x' (
+    RefusedOr (create_refusal x t tenant (shape_of value_size entries)) x reply x' (
     CreateHappens x t tenant (shape_of value_size entries) mergeable reply x'))
 Happens x (Load t text size) reply x' = OfTenant x t reply x' (λ tenant.
     RefusedOr (load_refusal tenant size) x reply x' (LoadHappens x t tenant (subject_of (owned_by x.sharing t tenant) text size) reply x'))
@@ -223,9 +213,9 @@ Happens x (Step t) reply x' = OfTenant x t reply x' (λ tenant.
     MatchOption tenant.run (Answers x (Refused fault.NoRun) reply x') (λ r. StepHappens x t tenant r reply x'))
 Happens x Visit reply x' = VisitHappens x reply x'
 Happens x (HostUpdate t m key value) reply x' = OfTenant x t reply x' (λ tenant.
-    RefusesOr (RefusesHostUpdate x t tenant m key value) x reply x' (UpdateHappens x t tenant m key value reply x'))
+    RefusedOr (host_update_refusal x t tenant m key value) x reply x' (UpdateHappens x t tenant m key value reply x'))
 Happens x (HostLookup t m key) reply x' = OfTenant x t reply x' (λ tenant.
-    RefusesOr (RefusesLookup (owned_by x.sharing t tenant) m key) x reply x' (LookupHappens x t tenant m key reply x'))
+    RefusedOr (lookup_refusal (owned_by x.sharing t tenant) m key) x reply x' (LookupHappens x t tenant m key reply x'))
 Happens x (Unload t k) reply x' = OfTenant x t reply x' (λ tenant.
     RefusedOr (unload_refusal tenant k) x reply x' (UnloadHappens x t tenant k reply x'))
 Happens x (DropMap t m) reply x' = OfTenant x t reply x' (λ tenant.

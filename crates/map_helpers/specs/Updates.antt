@@ -22,16 +22,20 @@ cost_in (Some flat) sharing tenant m key flags =
 abbrev pub update_frames : TenantPart → Sharing → ℕ → ℕ → ℕ → ℕ → ℕ
 update_frames owned sharing tenant m key flags = cost_in (map_at owned.maps m) sharing tenant m key flags
 
--- which pages share frames after an update: the pages of its store are broken, if it makes one
+-- which pages share frames after an update: the pages of its store are broken, if it makes one, and pinned, if that is asked
 unfoldable pub sharing_in : Option FlatMap → Bool → Sharing → ℕ → ℕ → ℕ → ℕ → Sharing
-sharing_in None running sharing tenant m key flags = sharing
-sharing_in (Some flat) running sharing tenant m key flags =
+sharing_in None is_pinned sharing tenant m key flags = sharing
+sharing_in (Some flat) is_pinned sharing tenant m key flags =
     if update_answer flat.shape key flags == 0
-    then stored_sharing running sharing tenant m (element_at flat.shape key) flat.shape.value_size
+    then stored_sharing is_pinned sharing tenant m (element_at flat.shape key) flat.shape.value_size
     else sharing
 
+abbrev pub updated_sharing_as : Bool → TenantPart → Sharing → ℕ → ℕ → ℕ → ℕ → Sharing
+updated_sharing_as is_pinned owned sharing tenant m key flags = sharing_in (map_at owned.maps m) is_pinned sharing tenant m key flags
+
+-- the same for an update that pins where the tenant has an open run
 abbrev pub updated_sharing : TenantPart → Sharing → ℕ → ℕ → ℕ → ℕ → Sharing
-updated_sharing owned sharing tenant m key flags = sharing_in (map_at owned.maps m) owned.running sharing tenant m key flags
+updated_sharing owned sharing tenant m key flags = updated_sharing_as owned.running owned sharing tenant m key flags
 
 -- An update of a map of this shape, where there is one, takes so many frames at most, whichever pages
 -- share frames.

@@ -1,4 +1,4 @@
-ghost use Rattle.std.specs.Prelude.{◌≡◌, ◌≢◌, ◌+◌, ◌<◌, ◌≤◌, length, Some, IfSome, IsSomeAnd};
+ghost use Rattle.std.specs.Prelude.{◌≡◌, ◌≢◌, ◌+◌, ◌<◌, ◌≤◌, length, true, Some, IfSome, IsSomeAnd};
 ghost use Rattle.host_types.specs.declared.helper.MapHelper.TheVariants.{Update};
 ghost use Rattle.host_types.specs.Helpers.{helper, lookup_answer, delete_answer, update_charge};
 ghost use Rattle.host_types.specs.Memory.{map_at};
@@ -6,13 +6,13 @@ ghost use Rattle.host_types.specs.Shapes.{IsShape};
 ghost use Rattle.page_table.specs.State.{part, have_of};
 ghost use Rattle.page_table.specs.Changes.{IsKeptBut, AreMapsKeptBut, KeepsSettings};
 ghost use Rattle.write_break.specs.Stores.{pinned_as};
-ghost use Rattle.map_helpers.specs.Updates.{part_updated, update_frames, updated_sharing, LeadsToElement, IsEnough};
+ghost use Rattle.map_helpers.specs.Updates.{part_updated, update_frames, updated_sharing, updated_sharing_as, LeadsToElement, IsEnough};
 
 use crate::answer::{HelperError, update_error};
 use host_types::layout::{MAP_VALUES, REGION};
 use host_types::{MapNo, Shape};
 use page_table::Memory;
-use write_break::{needs, store_bytes};
+use write_break::{needs, store_bytes_as};
 
 /// What the helper `lookup` answers for a map of this shape: the address of the key's element, at which
 /// a program finds just the bytes of its value; or 0 past the end.
@@ -89,12 +89,43 @@ pub fn update(
     ensures settings { KeepsSettings memory.old memory.new }
     ensures refused { result ≢ 0 → memory.new ≡ memory.old }
 {
+    let by_run = memory.is_running(tenant);
+    update_as(memory, tenant, map, key, value, flags, by_run)
+}
+
+/// Answers and does what `update` does, and pins the pages that it takes out only where that is asked: an update
+/// that no run makes pins nothing. Only for a tenant that has an open run a pin may be asked.
+pub fn update_as(
+    memory: &mut Memory,
+    tenant: u32,
+    map: MapNo,
+    key: u32,
+    value: &[u8],
+    flags: u64,
+    is_pinned: bool,
+) -> u64
+    requires value { IsSomeAnd (map_at (part memory.old tenant).maps map) (λ flat. flat.shape.value_size ≡ length value.now) }
+    requires room { update_frames (part memory.old tenant) memory.old.sharing tenant map key flags ≤ have_of memory.old }
+    requires run { is_pinned ≡ true → (part memory.old tenant).running ≡ true }
+    ensures helped { helper Update (part memory.old tenant).maps map key value.now flags
+        ≡ Some (result, (part memory.new tenant).maps) }
+    ensures part { part memory.new tenant
+        ≡ pinned_as memory.new.sharing tenant (part_updated (part memory.old tenant) map key value.now flags) }
+    ensures other_maps { AreMapsKeptBut map (part memory.old tenant) (part memory.new tenant) }
+    ensures others { IsKeptBut tenant memory.old memory.new }
+    ensures sharing { memory.new.sharing
+        ≡ updated_sharing_as is_pinned (part memory.old tenant) memory.old.sharing tenant map key flags }
+    ensures have { have_of memory.new + update_frames (part memory.old tenant) memory.old.sharing tenant map key flags
+        ≡ have_of memory.old }
+    ensures settings { KeepsSettings memory.old memory.new }
+    ensures refused { result ≢ 0 → memory.new ≡ memory.old }
+{
     let Some(shape) = memory.shape(tenant, map) else {
         unreachable!()
     };
     if let Some(error) = update_error(shape, key, flags) {
         return error.answer();
     }
-    store_bytes(memory, tenant, map, shape.element_at(key), value);
+    store_bytes_as(memory, tenant, map, shape.element_at(key), value, is_pinned);
     0
 }

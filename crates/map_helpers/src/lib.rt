@@ -5,4 +5,4 @@
 mod answer;
 mod helpers;
 
-pub use helpers::{delete, lookup, update, update_charge, update_needs};
+pub use helpers::{delete, lookup, update, update_as, update_charge, update_needs};

@@ -40,14 +40,14 @@ pub use Rattle.host_types.specs.declared.shape.Page.{Page}
 pub use Rattle.host_types.specs.declared.shape.Shape.{Shape}
 pub use Rattle.host_types.specs.declared.status.Status.{Status}
 pub use Rattle.host_types.specs.declared.status.Status.TheVariants.{New, Grouped, Zero, Volatile, Waiting}
-pub use Rattle.page_table.specs.Changes.{zero_map, part_created, IsKeptBut, AreMapsKeptBut, KeepsSettings, IsPageOf, IsOwn, MayMerge, AreKept, with_pins, IsNotWaiting, frame_of_group, open_frame, contents_now, pages_of_map, map_written, part_written, partner_place, HadFingerprint}
+pub use Rattle.page_table.specs.Changes.{zero_map, part_created, IsKeptBut, AreMapsKeptBut, KeepsSettings, IsPageOf, IsOwn, MayChange, MayMerge, AreKept, with_pins, IsNotWaiting, frame_of_group, open_frame, contents_now, pages_of_map, map_written, part_written, partner_place, HadFingerprint}
 pub use Rattle.page_table.specs.Limits.{page_count, AreLimits}
 pub use Rattle.page_table.specs.Pins.{pinned_among, ArePinsOf}
 pub use Rattle.page_table.specs.Reads.{is_frame, ReadsAs, AreGroups, AreMerged, HasPage, status_at, has_both, free_frames}
 pub use Rattle.page_table.specs.State.{MemoryState, free_of, have_of, unreserved_tenant, bytes_of_map, frame_at, free_number}
 pub use Rattle.page_table.specs.Table.{TableState, CountsState, IsTable, IsGroup, IsSound, AreCountsOf, times, one_if_zero, entry_at, state_of, states_of, is_on, used_by, sharing_of, marked, IsEntry, IsAlone, LiesRight, IsOwnAt, AreCounts, frames_of, flat_of, ArePages, ArePagesOf, entry_content, AreOwnKeptOutside, IsPageAt, waiting_of, new_pass, joined_on, AreMaps, IsTreeOf, forgets, AreOthersKept, is_open_frame, ArePlaced, groups_in, AreOwnKept, GroupsState}
 pub use Rattle.page_table.specs.Tallies.{IsTally, shared_at}
-pub use Rattle.page_table.specs.View.{IsAhead, IsMemory, is_listed, AreWaiters, IsPass, IsWaiter, is_behind}
+pub use Rattle.page_table.specs.View.{IsAhead, IsMemory, is_listed, AreWaiters, IsPass, IsWaiter, is_behind, OnlyRunsPin}
 pub use Rattle.page_table.specs.declared.entry.Entry.{Entry}
 pub use Rattle.page_table.specs.declared.pass.Pass.{Pass}
 pub use Rattle.page_table.specs.declared.tenant.Tenant.{Tenant}

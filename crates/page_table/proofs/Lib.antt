@@ -19,3 +19,4 @@ pub mod Nodes
 pub mod Vacating
 pub mod Dropping
 pub mod Unpinning
+pub mod Pinning

@@ -1,5 +1,5 @@
 -- Waiting pages as callers see them.
-use Rattle.page_table.proofs.Base.{◌≡◌, ◌∙◌, ℕ, ◌+◌, ◌<◌, Bool, true, false, All, is_some, drop, slice_index_or, List, [], ◌∷◌, length, map, find, Option, Some, None, option_map, refl, sym, arith, All-nil, All-cons, nat_tests, zero, suc, ◌-◌, ◌≤◌, get_or-drop, length-drop, ordered, slice_set, IsSome, IfSome, get_or-set_other, get_or-set_same, set_past, get_or_past, Page, Shape, page_place, is_pinned, PageState, state_at, is_shared, contents_in, is_partner, is_mergeable, first_mergeable, look_from, moved_on, one_more, Waiter, is_match, Entry, Pass, Tenant, IsNotWaiting, MayMerge, TableState, IsTable, entry_at, waiting_of, states_of, sharing_of, view_of, IsMemory, IsPass, IsWaiter, AreWaiters, is_listed, next-after, next-none, page_at, page_bytes, MemoryState, bytes_of_map, frame_at, IsPageOf, IsOwn, contents_now, IsPageAt, IsOwnAt, contents_of, IsEntry, state_of, Status, Sharing, broken_page, broken, broken_from, with_page, marked, IsAhead}
+use Rattle.page_table.proofs.Base.{◌≡◌, ◌∙◌, ℕ, ◌+◌, ◌<◌, Bool, true, false, All, is_some, drop, slice_index_or, List, [], ◌∷◌, length, map, find, Option, Some, None, option_map, refl, sym, arith, All-nil, All-cons, nat_tests, zero, suc, ◌-◌, ◌≤◌, get_or-drop, length-drop, ordered, slice_set, IsSome, IfSome, get_or-set_other, get_or-set_same, set_past, get_or_past, Page, Shape, page_place, is_pinned, PageState, state_at, is_shared, contents_in, is_partner, is_mergeable, first_mergeable, look_from, moved_on, one_more, Waiter, is_match, Entry, Pass, Tenant, IsNotWaiting, MayChange, MayMerge, TableState, IsTable, entry_at, waiting_of, states_of, sharing_of, view_of, IsMemory, IsPass, IsWaiter, AreWaiters, is_listed, next-after, next-none, page_at, page_bytes, MemoryState, bytes_of_map, frame_at, IsPageOf, IsOwn, contents_now, IsPageAt, IsOwnAt, contents_of, IsEntry, state_of, Status, Sharing, broken_page, broken, broken_from, with_page, marked, IsAhead}
 use Rattle.page_table.proofs.Scanning.{frame_told, bytes_here}
 use Rattle.page_table.proofs.Entries.{entry_fits, state-at, content_at, told_at}
 use Rattle.page_table.proofs.Waiters.{waiters-kept, ahead-free, listed-told, not-pinned}
@@ -122,7 +122,7 @@ pub record Sees (table : TableState) (pass : Pass) (now : MemoryState) (page : P
   pub there : IsPageOf now page → IsPageAt table i
   pub content : IsPageOf now page → slice_index_or (contents_of table) i [] ≡ page_bytes (bytes_of_map now page) page.number
   pub own : IsOwn now page → IsOwnAt table i
-  pub lone : MayMerge now page → IsOwnAt table i
+  pub lone : MayChange now page → IsOwnAt table i
   pub unpinned : MayMerge now page → slice_index_or pass.pins i false ≡ false
   pub unlisted : IsNotWaiting now page → is_listed i pass.waiting.listed ≡ false
 

@@ -1,5 +1,5 @@
 -- The pages that wait: what keeps them, and how many there are.
-use Rattle.page_table.proofs.Base.{◌≡◌, ◌≢◌, ◌∙◌, ℕ, ◌<◌, ◌≤◌, ◌==◌, ◌||◌, not, false, List, [], ◌∷◌, ◌++◌, length, map, filter, slice_index_or, slice_set, Option, Some, None, refl, ap, arith, list_any, get_or-set_other, nat_tests, ◌&&◌, Bool, true, if◌then◌else◌, option_map, sym, subst, get_or_default, length-map, get_or_past, is_shared, waiting_without, Waiter, Entry, Pass, TableState, AreOwnKept, AreOthersKept, entry_at, own_pages, waiting_of, forgets, is_listed, IsWaiter, AreWaiters, IsPass, Volatile, Waiting, is_pinned, pinned, broken_by, PinsFit, Sharing, state_at, is_shared_page, broken, fit-by, entry_content, contents_of, state_of, states_of, sharing_of}
+use Rattle.page_table.proofs.Base.{◌≡◌, ◌≢◌, ◌∙◌, is_same, ℕ, ◌<◌, ◌≤◌, ◌==◌, ◌||◌, not, false, List, [], ◌∷◌, ◌++◌, length, map, filter, slice_index_or, slice_set, Option, Some, None, refl, ap, arith, list_any, get_or-set_other, nat_tests, ◌&&◌, Bool, true, if◌then◌else◌, option_map, sym, subst, get_or_default, length-map, get_or_past, is_shared, waiting_without, Waiter, Entry, Pass, TableState, AreOwnKept, AreOthersKept, entry_at, own_pages, waiting_of, forgets, is_listed, IsWaiter, AreWaiters, IsPass, Volatile, Waiting, is_pinned, pinned, broken_by, PinsFit, Sharing, state_at, is_shared_page, broken, fit-by, entry_content, contents_of, state_of, states_of, sharing_of}
 use Rattle.page_table.proofs.Entries.{inside, own_pages-set, state-at}
 
 -- where each page has its bytes, there are as many places
@@ -119,6 +119,28 @@ pass-kept old new pass is kept arena long =
 pub pass-others : (old new : TableState) (pass : Pass) (i : ℕ) → IsPass old pass → is_listed i pass.waiting.listed ≡ false → slice_index_or pass.pins i false ≡ false → AreOthersKept i old new
     → length new.arena ≡ length old.arena → length new.entries ≡ length old.entries → IsPass new pass
 pass-others old new pass i is none free others arena long = grind (arith, nat_tests, waiters-both, pins-kept, apart-pinned)
+
+-- the pins fit where a page becomes volatile
+pins-marked : (old new : TableState) (pass : Pass) (i last : ℕ) → PinsFit (states_of old.entries) pass.pins → AreOthersKept i old new
+    → ((entry : Entry) → entry_at old.entries i ≡ Some entry → entry_at new.entries i ≡ Some (record entry { status = Volatile; last = Some last })) → length new.entries ≡ length old.entries
+    → PinsFit (states_of new.entries) pass.pins
+pins-marked old new pass i last fit others here long =
+    record {
+      as_many = grind (arith, fit.as_many, length-map old.entries (option_map state_of), length-map new.entries (option_map state_of));
+      volatile = λ k pinned. grind (arith, nat_tests, is_same k i, fit.volatile k pinned, state-at old pass k, state-at new pass k, others k);
+    }
+
+-- a page that doesn't wait becomes volatile; it may be pinned
+pub pass-marked : (old new : TableState) (pass : Pass) (i last : ℕ) → IsPass old pass → is_listed i pass.waiting.listed ≡ false → AreOthersKept i old new
+    → ((entry : Entry) → entry_at old.entries i ≡ Some entry → entry_at new.entries i ≡ Some (record entry { status = Volatile; last = Some last }))
+    → length new.arena ≡ length old.arena → length new.entries ≡ length old.entries → IsPass new pass
+pass-marked old new pass i last is none others here arena long =
+    record {
+      waiters = waiters-both old.entries new.entries pass.cursor i i pass.waiting.listed none none (λ k one other. others k one) is.waiters;
+      room = omega (arith, arena, is.room);
+      cursor = is.cursor;
+      pins = pins-marked old new pass i last is.pins others here long;
+    }
 
 pub pass-forgets : (table : TableState) (pass : Pass) (i : ℕ) → IsPass table pass → IsPass table (forgets i pass)
 pass-forgets table pass i is = grind (arith, nat_tests, waiters-fewer)

@@ -93,11 +93,14 @@ IsPageOf memory page = page.number * 4096 < length (bytes_of_map memory page)
 abbrev pub IsOwn : MemoryState → Page → Type 0
 IsOwn memory page = IfSome (state_at memory.sharing (page_place page)) (λ state. is_shared state.status ≡ false)
 
+-- the page is mergeable, and has a frame of its own; it may be pinned
+abbrev pub MayChange : MemoryState → Page → Type 0
+MayChange memory page =
+    IfSome (state_at memory.sharing (page_place page)) (λ state. (state.mergeable ≡ true) × (is_shared state.status ≡ false))
+
 -- the page may be merged, has a frame of its own, and isn't pinned
 abbrev pub MayMerge : MemoryState → Page → Type 0
-MayMerge memory page =
-    IfSome (state_at memory.sharing (page_place page)) (λ state. (state.mergeable ≡ true) × (is_shared state.status ≡ false))
-    × (is_pinned memory.sharing.pins (page_place page) ≡ false)
+MayMerge memory page = MayChange memory page × (is_pinned memory.sharing.pins (page_place page) ≡ false)
 
 -- the page is not on the waiting list
 abbrev pub IsNotWaiting : MemoryState → Page → Type 0
@@ -147,7 +150,6 @@ RefusesMap memory tenant shape TooManyMaps =
 RefusesMap memory tenant shape BadShape = IsSome (free_number (part memory tenant)) × ¬ (IsShape shape)
 RefusesMap memory tenant shape (NoFrames need have) =
     IsSome (free_number (part memory tenant)) × IsShape shape × (need ≡ page_count shape) × (have ≡ have_of memory) × (have < need)
-RefusesMap memory tenant shape OutOfMemory = FitsMap memory tenant shape
 RefusesMap memory tenant shape _ = ⊥
 
 -- when a map isn't dropped: the first refusal, in this order, whose condition holds

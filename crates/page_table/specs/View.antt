@@ -1,5 +1,5 @@
 -- How a memory's parts read together, and what holds of them.
-use Rattle.std.specs.Prelude.{◌≡◌, ℕ, ◌+◌, ◌*◌, ◌<◌, ◌≤◌, ◌==◌, nat_le, Bool, true, false, List, [], ◌∷◌, length, sum_by, slice_index_or, Option, None, Some, IfSome, ⊤}
+use Rattle.std.specs.Prelude.{◌≡◌, ℕ, ◌+◌, ◌*◌, ◌/◌, ◌<◌, ◌≤◌, ◌==◌, nat_le, Bool, true, false, List, [], ◌∷◌, length, sum_by, slice_index_or, Option, None, Some, IfSome, ⊤}
 use Rattle.std.specs.List.{list_any}
 use Rattle.host_types.specs.declared.shape.Shape.{Shape}
 use Rattle.host_types.specs.declared.status.Status.TheVariants.{Waiting}
@@ -10,7 +10,7 @@ use Rattle.unstable_tree.specs.declared.tree.Waiter.{Waiter}
 use Rattle.page_table.specs.declared.entry.Entry.{Entry}
 use Rattle.page_table.specs.declared.pass.Pass.{Pass}
 use Rattle.page_table.specs.declared.tenant.Tenant.{Tenant}
-use Rattle.page_table.specs.State.{MemoryState}
+use Rattle.page_table.specs.State.{MemoryState, unreserved_tenant}
 use Rattle.page_table.specs.Table.{TableState, entry_at, AreMaps, maps_of, contents_of, frames_of, states_of, sharing_of, used_by}
 
 -- what callers see of a memory
@@ -68,3 +68,7 @@ pub record IsPass (table : TableState) (pass : Pass) : Type 0 where
   pub room : length table.arena ≤ pass.waiting.room
   pub cursor : IfSome pass.cursor (λ c. c < 32768)
   pub pins : PinsFit (states_of table.entries) pass.pins
+
+-- a page is pinned only while its tenant has a run open; each tenant has 2048 places for pages
+pub record OnlyRunsPin (tenants : List Tenant) (pins : List Bool) : Type 0 where
+  pub runs : (i : ℕ) → slice_index_or pins i false ≡ true → (slice_index_or tenants (i / 2048) unreserved_tenant).running ≡ true

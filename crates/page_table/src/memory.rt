@@ -13,7 +13,7 @@ ghost use Rattle.frame_arena.specs.Pages.{page_at};
 ghost use Rattle.page_table.specs.Limits.{AreLimits, page_count, shape_of};
 ghost use Rattle.page_table.specs.State.{MemoryState, part, map_bytes, bytes_of_map, free_number, new_memory, unreserved_tenant, free_of, have_of, frame_at};
 ghost use Rattle.page_table.specs.Reads.{ReadsAs};
-ghost use Rattle.page_table.specs.Changes.{IsNotWaiting, HadFingerprint, contents_now, open_frame, partner_place, zero_map, part_written, part_created, AreKept, MayMerge, IsKeptBut, AreMapsKeptBut, KeepsSettings, with_pins, with_reserve, with_run, without_run, with_record, opened, ended, IsPageOf, IsOwn, with_new_pages, pages_of_map, FitsMap, RefusesMap, RefusesDrop, RefusesMemory};
+ghost use Rattle.page_table.specs.Changes.{IsNotWaiting, HadFingerprint, contents_now, open_frame, partner_place, zero_map, part_written, part_created, AreKept, MayChange, MayMerge, IsKeptBut, AreMapsKeptBut, KeepsSettings, with_pins, with_reserve, with_run, without_run, with_record, opened, ended, IsPageOf, IsOwn, with_new_pages, pages_of_map, FitsMap, RefusesMap, RefusesDrop, RefusesMemory};
 ghost use Rattle.page_table.specs.declared.entry.Entry.{Entry};
 ghost use Rattle.page_table.specs.Table.{state_of, states_of, contents_of, groups_of, used_by, entry_at};
 
@@ -48,7 +48,7 @@ pub struct Memory {
 impl Model for Memory {
     ghost use Rattle.page_table.specs.State.{MemoryState};
     ghost use Rattle.page_table.specs.Table.{states_of};
-    ghost use Rattle.page_table.specs.View.{view_of, IsMemory, IsPass, IsAhead};
+    ghost use Rattle.page_table.specs.View.{view_of, IsMemory, IsPass, IsAhead, OnlyRunsPin};
 
     ghost Value = { MemoryState };
 
@@ -57,7 +57,8 @@ impl Model for Memory {
     ghost invariant = { λ m.
         IsMemory m.table m.shapes.items m.tenants.items m.reserved
         × IsPass m.table m.pass
-        × IsAhead (states_of m.table.entries) m.pass.cursor };
+        × IsAhead (states_of m.table.entries) m.pass.cursor
+        × OnlyRunsPin m.tenants.items m.pass.pins };
 }
 
 /// Whether a memory may have this size.
@@ -251,8 +252,8 @@ impl Memory {
     /// Makes a map of zeros for a tenant, at its first free number.
     ///
     /// Refusals in their order: 42 where there is no such tenant, 32 where it has eight maps, 33
-    /// where the shape is out of limits, 31 where the map's pages are more than `have`, 41 where
-    /// memory ran out. A refusal changes nothing.
+    /// where the shape is out of limits, 31 where the map's pages are more than `have`. A refusal
+    /// changes nothing. The call takes no memory.
     pub fn create_map(
         &mut self,
         tenant: u32,
@@ -445,21 +446,40 @@ impl Memory {
         ensures have { have_of self.new + break_cost self.old.sharing (page_place page) ≡ have_of self.old }
         ensures settings { KeepsSettings self.old self.new }
     {
-        self.table.costs_are_told();
-        let is_pinned = self.pins(page);
-        let place = place_of(page);
-        self.table.take_out(place);
-        self.pass.pins.pin_if(is_pinned, place);
+        let is_running = self.is_running(page.tenant);
+        self.take_out_as(page, is_running);
     }
 
-    /// Whether the break of a page pins it: its tenant has an open run, and it lies on a frame that
-    /// isn't its own.
-    fn pins(&self, page: Page) -> bool
-        requires { IsPageOf self.now page }
-        ensures { result ≡ ((part self.now page.tenant).running
-            && is_shared_page (state_at self.now.sharing (page_place page))) }
+    /// Takes a page out as `take_out` does, and pins it only where that is asked: a store that no run
+    /// makes pins nothing. Only for a tenant that has an open run a pin may be asked.
+    pub fn take_out_as(&mut self, page: Page, is_pinned: bool)
+        requires there { IsPageOf self.old page }
+        requires room { break_cost self.old.sharing (page_place page) ≤ have_of self.old }
+        requires run { is_pinned ≡ true → (part self.old page.tenant).running ≡ true }
+        ensures frames { break_cost self.old.sharing (page_place page) ≡ 0 → self.new.frames ≡ self.old.frames }
+        ensures maps { self.new.maps ≡ self.old.maps }
+        ensures part { part self.new page.tenant ≡
+            with_pins (part_of self.new.sharing.pins (page.tenant * 2048) 2048) (part self.old page.tenant) }
+        ensures others { IsKeptBut page.tenant self.old self.new }
+        ensures sharing { self.new.sharing ≡ broken_by is_pinned self.old.sharing (page_place page) }
+        ensures own { IsOwn self.new page }
+        ensures free { free_of self.new + break_cost self.old.sharing (page_place page) ≡ free_of self.old }
+        ensures have { have_of self.new + break_cost self.old.sharing (page_place page) ≡ have_of self.old }
+        ensures settings { KeepsSettings self.old self.new }
     {
-        self.is_running(page.tenant) && self.table.is_shared(place_of(page))
+        self.table.costs_are_told();
+        let pins = self.pins(page, is_pinned);
+        let place = place_of(page);
+        self.table.take_out(place);
+        self.pass.pins.pin_if(pins, place);
+    }
+
+    /// Whether the break of a page pins it: that is asked, and it lies on a frame that isn't its own.
+    fn pins(&self, page: Page, is_asked: bool) -> bool
+        requires { IsPageOf self.now page }
+        ensures { result ≡ (is_asked && is_shared_page (state_at self.now.sharing (page_place page))) }
+    {
+        is_asked && self.table.is_shared(place_of(page))
     }
 
     /// Whether a page is pinned: the open run of its tenant took it out, and it isn't merged before
@@ -597,9 +617,10 @@ impl Memory {
     }
 
     /// Keeps a page's fingerprint, which is another one than at its last visit: the page is volatile.
+    /// It may be pinned, and stays so.
     pub fn change(&mut self, page: Page, fingerprint: u64)
         requires there { IsPageOf self.old page }
-        requires may { MayMerge self.old page }
+        requires may { MayChange self.old page }
         requires free { IsNotWaiting self.old page }
         ensures maps { self.new.maps ≡ self.old.maps }
         ensures kept { AreKept self.old self.new }

@@ -1,5 +1,5 @@
 //! Open runs: the frames reserved for them, and the pages that they pinned.
-ghost use Rattle.std.specs.Prelude.{◌≡◌, ◌+◌, ◌*◌, ◌≤◌, length, replicate, slice_index_or, slice_set, false};
+ghost use Rattle.std.specs.Prelude.{◌≡◌, ◌+◌, ◌*◌, ◌≤◌, ℕ, length, replicate, slice_index_or, slice_set, false};
 ghost use Rattle.host_types.specs.Pins.{released, unpinned_from};
 ghost use Rattle.page_table.specs.State.{part, have_of, unreserved_tenant};
 ghost use Rattle.page_table.specs.Changes.{IsKeptBut, pages_of_map, with_pins, with_reserve, with_run, without_run, with_record, opened, ended};
@@ -26,6 +26,15 @@ impl Memory {
         tenant_in(&self.tenants, tenant).running
     }
 
+    /// What holds of each memory's pins: only pages of a tenant that has an open run are pinned. The
+    /// function does nothing.
+    pub fn only_runs_pin(&self)
+        ensures { (t : ℕ) → length (part self.now t).maps ≡ 8 → (part self.now t).running ≡ false
+            → (part self.now t).pins ≡ replicate 2048 false }
+    {
+        self.table.facts();
+    }
+
     /// How many pages of a tenant's map aren't pinned, none where there is no such map. The number is
     /// kept, and no page is looked at.
     pub fn unpinned(&self, tenant: u32, map: MapNo) -> u32
@@ -49,6 +58,7 @@ impl Memory {
         ensures have { have_of self.new + reserve ≡ have_of self.old + (part self.old tenant).reserve }
         ensures all { self.new ≡ with_record self.old tenant reserve }
     {
+        self.only_runs_pin();
         let running = self.is_running(tenant);
         self.keep(tenant, Tenant { reserve, running });
     }
@@ -81,13 +91,15 @@ impl Memory {
         ensures have { have_of self.new ≡ have_of self.old + (part self.old tenant).reserve }
         ensures all { self.new ≡ ended self.old tenant }
     {
-        self.keep(tenant, Tenant::NO_RUN);
         self.unpin(tenant);
+        self.keep(tenant, Tenant::NO_RUN);
     }
 
-    /// Keeps what is recorded of a tenant, in place of what was.
+    /// Keeps what is recorded of a tenant, in place of what was. Where it has no open run then, none of
+    /// its pages is pinned.
     fn keep(&mut self, tenant: u32, kept: Tenant)
         requires there { length (part self.old tenant).maps ≡ 8 }
+        requires none { kept.running ≡ false → (part self.old tenant).pins ≡ replicate 2048 false }
         requires room { kept.reserve ≤ have_of self.old + (part self.old tenant).reserve }
         ensures part { part self.new tenant ≡
             record (part self.old tenant) { reserve = kept.reserve; running = kept.running } }

@@ -5,7 +5,7 @@ ghost use Rattle.page_table.specs.Changes.{part_created};
 ghost use Rattle.page_table.specs.Limits.{shape_of};
 ghost use Rattle.page_table.specs.State.{free_number};
 ghost use Rattle.map_helpers.specs.Updates.{part_updated};
-ghost use Rattle.host_calls.specs.Calls.{FitsNewMap, FitsValue, IsValue, RefusesNewMap, RefusesUpdate, RefusesLookup, TellsHave, HasFrames};
+ghost use Rattle.host_calls.specs.Calls.{FitsNewMap, FitsValue, IsValue, RefusesNewMap, RefusesUpdate, RefusesLookup, TellsHave};
 ghost use Rattle.turn.specs.Seats.{IsIdle, own_part};
 ghost use Rattle.tenant_workers.specs.Calls.{IsSameSeat, memory_left, HasChanged, HasDropped, HasMap, IsUnchanged, LacksMap};
 ghost use Rattle.tenant_workers.specs.Runs.{IsResting};
@@ -21,9 +21,8 @@ impl Shared {
     /// Makes a map of zeros for the seat's tenant, at its first free number.
     ///
     /// Refusals in their order: 32 where the tenant has eight maps, 33 where the shape is out of limits, 31
-    /// just where the map's pages are more than the frames that may be had, 41 where memory ran out, and the
-    /// frames are there; 42 never, as a seat's tenant is there. A missing frame tells both numbers. A refusal
-    /// changes nothing.
+    /// just where the map's pages are more than the frames that may be had; it tells both numbers. 42 never comes,
+    /// as a seat's tenant is there. A refusal changes nothing. The call takes no memory.
     #[tactic(auto, using(crate::proofs::Resting::created_rests))]
     pub fn create_map(
         &self,
@@ -46,7 +45,6 @@ impl Shared {
         ensures refused { IfErr result
             (RefusesNewMap (own_part seat.old) (shape_of value_size entries)) }
         ensures told { IfErr result (TellsHave (memory_left seat.new)) }
-        ensures framed { IfErr result (HasFrames (memory_left seat.new) (shape_of value_size entries)) }
         ensures kept { OnErr result (own_part seat.new ≡ own_part seat.old) }
         ensures unchanged { OnErr result (HasChanged IsUnchanged seat.old seat.new) }
     {

@@ -171,9 +171,9 @@ pub have-kept : (old new : MemoryState) → new.sharing ≡ old.sharing → Keep
 have-kept old new same kept = rw (same, kept.frames, kept.tenants) refl
 
 -- no bytes stored
-pub stored-none : (memory : MemoryState) (tenant m at : ℕ) → IsStored memory memory tenant m at []
+pub stored-none : (is_pinned : Bool) (memory : MemoryState) (tenant m at : ℕ) → IsStored is_pinned memory memory tenant m at []
 unfolding broken_by_from cost_from touched part
-stored-none memory tenant m at = record {
+stored-none is_pinned memory tenant m at = record {
   written = part_written-none (part memory tenant) m at;
   bytes = with_part-none (map_bytes (part memory tenant) m) at;
   sized = refl;
@@ -185,17 +185,15 @@ stored-none memory tenant m at = record {
 }
 
 -- bytes of one page stored, and then those behind them
-pub stored-more : (old middle new : MemoryState) (tenant m at : ℕ) (first later : List ℕ) → 0 < length first → at % 4096 + length first ≤ 4096 → (length later ≡ 0) ⊎ (at % 4096 + length first ≡ 4096)
+pub stored-more : (is_pinned : Bool) (old middle new : MemoryState) (tenant m at : ℕ) (first later : List ℕ) → 0 < length first → at % 4096 + length first ≤ 4096 → (length later ≡ 0) ⊎ (at % 4096 + length first ≡ 4096)
     → at + length first ≤ length (map_bytes (part old tenant) m)
-    → IsStored old middle tenant m at first → IsStored middle new tenant m (at + length first) later → IsStored old new tenant m at (first ++ later)
-stored-more old middle new tenant m at first later some in_page whole within one rest =
-    let running : Bool = (part old tenant).running in
-    let still : (part middle tenant).running ≡ running = ap (λ (owned : TenantPart). owned.running) one.written in
+    → IsStored is_pinned old middle tenant m at first → IsStored is_pinned middle new tenant m (at + length first) later → IsStored is_pinned old new tenant m at (first ++ later)
+stored-more is_pinned old middle new tenant m at first later some in_page whole within one rest =
     let long : length (first ++ later) ≡ length first + length later = length-append first later in
-    let broken_one = one.sharing ∙ sharing-one old.sharing tenant m at (length first) some in_page running in
+    let broken_one = one.sharing ∙ sharing-one old.sharing tenant m at (length first) some in_page is_pinned in
     let cost_one = cost-one old.sharing tenant m at (length first) some in_page in
     let cost : store_frames old.sharing tenant m at (length first + length later) ≡ break_cost old.sharing (place_of_byte tenant m at) + store_frames middle.sharing tenant m (at + length first) (length later) =
-    cost-more old.sharing tenant m at (length first) some in_page running (length later) whole
+    cost-more old.sharing tenant m at (length first) some in_page is_pinned (length later) whole
     ∙ ap (λ (s : Sharing). break_cost old.sharing (place_of_byte tenant m at) + store_frames s tenant m (at + length first) (length later)) (sym broken_one) in
     record {
       written = rest.written
@@ -208,10 +206,9 @@ stored-more old middle new tenant m at first later some in_page whole within one
       other_maps = λ k ne. rest.other_maps k ne ∙ one.other_maps k ne;
       others = λ t ne. rest.others t ne ∙ one.others t ne;
       sharing = rest.sharing
-          ∙ ap (λ (b : Bool). stored_sharing b middle.sharing tenant m (at + length first) (length later)) still
-          ∙ ap (λ (s : Sharing). stored_sharing running s tenant m (at + length first) (length later)) broken_one
-          ∙ sym (sharing-more old.sharing tenant m at (length first) some in_page running (length later) whole)
-          ∙ sym (ap (stored_sharing running old.sharing tenant m at) long);
+          ∙ ap (λ (s : Sharing). stored_sharing is_pinned s tenant m (at + length first) (length later)) broken_one
+          ∙ sym (sharing-more old.sharing tenant m at (length first) some in_page is_pinned (length later) whole)
+          ∙ sym (ap (stored_sharing is_pinned old.sharing tenant m at) long);
       have = rw long (omega (arith, rest.have, one.have, cost, cost_one));
       settings = record { tenants = rest.settings.tenants ∙ one.settings.tenants; frames = rest.settings.frames ∙ one.settings.frames };
     }

@@ -36,13 +36,13 @@ part_stored owned m at size number = part_written owned m at (bytes_of size numb
 abbrev pub pinned_as : Sharing → ℕ → TenantPart → TenantPart
 pinned_as sharing tenant owned = with_pins (part_of sharing.pins (tenant * 2048) 2048) owned
 
--- what a store of bytes into a tenant's map m does to a memory, all of it
-pub record IsStored (old new : MemoryState) (tenant m at : ℕ) (input : List ℕ) : Type 0 where
+-- what a store of bytes into a tenant's map m does to a memory, all of it; the pages that it takes out are pinned, or aren't
+pub record IsStored (is_pinned : Bool) (old new : MemoryState) (tenant m at : ℕ) (input : List ℕ) : Type 0 where
   pub written : part new tenant ≡ pinned_as new.sharing tenant (part_written (part old tenant) m at input)
   pub bytes : map_bytes (part new tenant) m ≡ with_part (map_bytes (part old tenant) m) at input
   pub sized : length (map_bytes (part new tenant) m) ≡ length (map_bytes (part old tenant) m)
   pub other_maps : AreMapsKeptBut m (part old tenant) (part new tenant)
   pub others : IsKeptBut tenant old new
-  pub sharing : new.sharing ≡ stored_sharing (part old tenant).running old.sharing tenant m at (length input)
+  pub sharing : new.sharing ≡ stored_sharing is_pinned old.sharing tenant m at (length input)
   pub have : have_of new + store_frames old.sharing tenant m at (length input) ≡ have_of old
   pub settings : KeepsSettings old new

@@ -1,4 +1,4 @@
-ghost use Rattle.std.specs.Prelude.{◌≡◌, ◌⊎◌, ◌+◌, ◌/◌, ◌<◌, ◌≤◌, ◌%◌, length};
+ghost use Rattle.std.specs.Prelude.{◌≡◌, ◌⊎◌, ◌+◌, ◌/◌, ◌<◌, ◌≤◌, ◌%◌, length, true};
 ghost use Rattle.host_types.specs.Bytes.{number_of, bytes_of, part_of, with_part};
 ghost use Rattle.frame_arena.specs.Pages.{IsAccessSize};
 ghost use Rattle.page_table.specs.State.{part, map_bytes, have_of};
@@ -84,7 +84,15 @@ pub fn store(memory: &mut Memory, tenant: u32, map: MapNo, at: u32, size: u32, v
     ensures have { have_of memory.new + store_frames memory.old.sharing tenant map at size ≡ have_of memory.old }
     ensures settings { KeepsSettings memory.old memory.new }
 {
-    store_in_page(memory, tenant, map, at, &word(value)[..size as usize]);
+    let by_run = memory.is_running(tenant);
+    store_in_page(
+        memory,
+        tenant,
+        map,
+        at,
+        &word(value)[..size as usize],
+        by_run,
+    );
 }
 
 /// Writes bytes to a tenant's map from the byte `at` on. Each of their pages that shares its frame is
@@ -106,13 +114,32 @@ pub fn store_bytes(memory: &mut Memory, tenant: u32, map: MapNo, at: u32, bytes:
         ≡ have_of memory.old }
     ensures settings { KeepsSettings memory.old memory.new }
 {
+    let by_run = memory.is_running(tenant);
+    store_bytes_as(memory, tenant, map, at, bytes, by_run);
+}
+
+/// Writes bytes as `store_bytes` does, and pins the pages that it takes out only where that is asked: a store
+/// that no run makes pins nothing. Only for a tenant that has an open run a pin may be asked.
+pub fn store_bytes_as(
+    memory: &mut Memory,
+    tenant: u32,
+    map: MapNo,
+    at: u32,
+    bytes: &[u8],
+    is_pinned: bool,
+)
+    requires within { at + length bytes.now ≤ length (map_bytes (part memory.old tenant) map) }
+    requires room { store_frames memory.old.sharing tenant map at (length bytes.now) ≤ have_of memory.old }
+    requires run { is_pinned ≡ true → (part memory.old tenant).running ≡ true }
+    ensures { IsStored is_pinned memory.old memory.new tenant map at bytes.now }
+{
     map_is_small(memory, tenant, map);
     let mut place = at;
     let mut rest = bytes;
     while !rest.is_empty() {
         let size = size_in_page(place, rest);
         let (first, later) = rest.split_at(size);
-        store_in_page(memory, tenant, map, place, first);
+        store_in_page(memory, tenant, map, place, first, is_pinned);
         place += size as u32;
         rest = later;
     }
@@ -141,15 +168,24 @@ fn size_in_page(at: u32, bytes: &[u8]) -> usize
     }
 }
 
-/// Writes bytes that lie in one page, which is taken out before; one with its own frame stays as it is.
-fn store_in_page(memory: &mut Memory, tenant: u32, map: MapNo, at: u32, bytes: &[u8])
+/// Writes bytes that lie in one page, which is taken out before, and pinned where that is asked; one with its
+/// own frame stays as it is.
+fn store_in_page(
+    memory: &mut Memory,
+    tenant: u32,
+    map: MapNo,
+    at: u32,
+    bytes: &[u8],
+    is_pinned: bool,
+)
     requires some { 0 < length bytes.now }
     requires in_page { at % 4096 + length bytes.now ≤ 4096 }
     requires within { at + length bytes.now ≤ length (map_bytes (part memory.old tenant) map) }
     requires room { store_frames memory.old.sharing tenant map at (length bytes.now) ≤ have_of memory.old }
-    ensures { IsStored memory.old memory.new tenant map at bytes.now }
+    requires run { is_pinned ≡ true → (part memory.old tenant).running ≡ true }
+    ensures { IsStored is_pinned memory.old memory.new tenant map at bytes.now }
 {
     let page = page_of(tenant, map, at);
-    memory.take_out(page);
+    memory.take_out_as(page, is_pinned);
     memory.put(page, at % PAGE_SIZE, bytes);
 }

@@ -5,4 +5,4 @@
 mod access;
 mod number;
 
-pub use access::{load, needs, page_of, store, store_bytes};
+pub use access::{load, needs, page_of, store, store_bytes, store_bytes_as};

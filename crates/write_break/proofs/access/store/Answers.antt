@@ -17,7 +17,7 @@ returns c = record {
   length = c.store_in_page.ensures.sized;
   other_maps = c.store_in_page.ensures.other_maps;
   others = c.store_in_page.ensures.others;
-  sharing = rw (sized c) at c.store_in_page.ensures.sharing;
+  sharing = rw (sized c, c.is_running-by_run.ensures) at c.store_in_page.ensures.sharing;
   have = rw (sized c) at c.store_in_page.ensures.have;
   settings = c.store_in_page.ensures.settings;
 }

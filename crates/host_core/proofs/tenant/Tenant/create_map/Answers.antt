@@ -14,15 +14,14 @@ returns-in_err-map c =
     let event = CreateMap c.args.number c.args.value_size c.args.entries c.args.mergeable in
     let call = c.in_err-map.ensures in
     passed_on c.args.number c.args.self.now c.args.memory.now c.host_create_map.new.memory event c.in_err-map.field-0.0 c.from_residual.result c.from_residual.ensures.1 call.unchanged
-    (create-refused c.args.number c.args.self.now c.args.memory.now c.args.value_size c.args.entries c.args.mergeable c.in_err-map.field-0.0 idle call.refused call.told call.framed)
+    (create-refused c.args.number c.args.self.now c.args.memory.now c.args.value_size c.args.entries c.args.mergeable c.in_err-map.field-0.0 idle call.first)
 
 pub returns : goal.returns
 returns c =
     let idle = run_is c.args.self.now c.self.inside.programs c.self.inside.run c.is_some.result false c.self.view_is c.is_some.ensures c.if-is_some.false in
     let call = c.in_ok-map.ensures in
     create-made c.args.number c.args.self.now c.args.memory.now c.host_create_map.new.memory c.args.value_size c.args.entries c.args.mergeable c.in_ok-map.map idle (record {
-      fits = call.fits;
-      enough = call.enough;
+      allowed = call.allowed;
       number = call.number;
       created = call.created;
       sharing = call.sharing;

@@ -15,5 +15,5 @@ returns-in_err-value c =
 pub returns : goal.returns
 returns c =
     let event = HostLookup c.args.number c.args.map c.args.key in
-    let served = lookup-told c.args.number c.args.self.now c.args.memory.now c.args.map c.args.key c.in_ok-value.value.items c.in_ok-value.ensures.value in
+    let served = lookup-told c.args.number c.args.self.now c.args.memory.now c.args.map c.args.key c.in_ok-value.value.items c.in_ok-value.ensures.allowed c.in_ok-value.ensures.value in
     subst (λ bytes. IsServed c.args.number c.args.self.now c.args.memory.now event (Value bytes) c.args.self.now c.args.memory.now) (sym c.into.ensures) served

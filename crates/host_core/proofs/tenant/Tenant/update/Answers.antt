@@ -14,15 +14,14 @@ returns-in_err-host_update c =
     let event = HostUpdate c.args.number c.args.map c.args.key c.args.value.now in
     let call = c.in_err-host_update.ensures in
     passed_on c.args.number c.args.self.now c.args.memory.now c.host_update.new.memory event c.in_err-host_update.field-0.0 c.from_residual.result c.from_residual.ensures.1 call.unchanged
-    (update-refused c.args.number c.args.self.now c.args.memory.now c.args.map c.args.key c.args.value.now c.in_err-host_update.field-0.0 idle call.refused call.told)
+    (update-refused c.args.number c.args.self.now c.args.memory.now c.args.map c.args.key c.args.value.now c.in_err-host_update.field-0.0 idle call.first)
 
 pub returns : goal.returns
 returns c =
     let idle = run_is c.args.self.now c.self.inside.programs c.self.inside.run c.is_some.result false c.self.view_is c.is_some.ensures c.if-is_some.false in
     let call = c.in_ok-host_update.ensures in
     update-done c.args.number c.args.self.now c.args.memory.now c.host_update.new.memory c.args.map c.args.key c.args.value.now idle (record {
-      fits = call.fits;
-      charged = call.charged;
+      allowed = call.allowed;
       updated = call.updated;
       helped = call.helped;
       sharing = call.sharing;

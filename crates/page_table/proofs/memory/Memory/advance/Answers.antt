@@ -22,10 +22,10 @@ more c = rw (← c.place_of-place.ensures) (ap is_some (sym c.next_mergeable.ens
 pub invariant_of-self : goal.invariant_of-self
 invariant_of-self c =
     let d = (goal.at.invariant_of-self c).After-is_some in
-    (c.self.invariant.0, rw c.place_of-place.ensures (pass-on c.self.inside.table c.self.inside.pass (page_place c.args.page) c.self.invariant.1 (gone d).0 (small d)), rw c.place_of-place.ensures (ahead-next (states_of c.self.inside.table.entries) (page_place c.args.page) (more d ∙ c.if-is_some.true)))
+    (c.self.invariant.0, rw c.place_of-place.ensures (pass-on c.self.inside.table c.self.inside.pass (page_place c.args.page) c.self.invariant.1 (gone d).0 (small d)), rw c.place_of-place.ensures (ahead-next (states_of c.self.inside.table.entries) (page_place c.args.page) (more d ∙ c.if-is_some.true)), c.self.invariant.3)
 
 pub invariant_of-self-else-is_some : goal.invariant_of-self-else-is_some
-invariant_of-self-else-is_some c = (c.self.invariant.0, rw c.end.ensures (pass-ended c.self.inside.table c.self.inside.pass _ c.self.invariant.1), rw c.end.ensures tt)
+invariant_of-self-else-is_some c = (c.self.invariant.0, rw c.end.ensures (pass-ended c.self.inside.table c.self.inside.pass _ c.self.invariant.1), rw c.end.ensures tt, rw c.end.ensures c.self.invariant.3)
 
 pub returns-then-is_some : goal.returns-then-is_some
 unfolding view_of

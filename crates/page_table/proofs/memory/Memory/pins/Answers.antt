@@ -5,6 +5,6 @@ use Rattle.page_table.proofs.memory.Memory.pins.Goals as goal
 pub is_shared-requires : goal.is_shared-requires
 is_shared-requires c = grind (arith, nat_tests, is_page_at)
 
-pub returns-then-is_running : goal.returns-then-is_running
+pub returns-then-is_asked : goal.returns-then-is_asked
 unfolding view_of
-returns-then-is_running c = grind (arith, nat_tests, c.is_shared.ensures c.self.inside.pass)
+returns-then-is_asked c = grind (arith, nat_tests, c.is_shared.ensures c.self.inside.pass)

@@ -2,6 +2,7 @@
 use Rattle.page_table.proofs.Base.{◌≡◌, ◌*◌, replicate, None, arith, rules, nat_tests, length-map, length-replicate, ℕ, zero, suc, List, ◌∷◌, drop, Option, option_map, refl, ap, sum_by-replicate, unreserved_tenant, new_pass, Options, map-replicate, Entry, AreLimits, new_memory, TableState, contents_of, groups_of, own_pages, state_of, maps_of, view_of}
 use Rattle.page_table.proofs.Maps.{part-at}
 use Rattle.page_table.proofs.Entries.{all_same, empty_table}
+use Rattle.page_table.proofs.Pinning.{runs-new}
 use Rattle.page_table.proofs.memory.Memory.without_maps.Goals as goal
 
 no_maps : (n : ℕ) (contents : List (List ℕ)) → maps_of (replicate n None) contents ≡ replicate n None
@@ -28,7 +29,7 @@ started c = grind (arith, nat_tests)
 
 pub invariant_of-result : goal.invariant_of-result
 unfolding contents_of own_pages
-invariant_of-result c = grind (arith, nat_tests, shapes c, tenants c, length-replicate, map-replicate, sum_by-replicate, all_same, part-at, started c, length-map)
+invariant_of-result c = grind (arith, nat_tests, shapes c, tenants c, length-replicate, map-replicate, sum_by-replicate, all_same, part-at, started c, length-map, runs-new c.args.tenants (c.args.tenants * 2048))
 
 pub returns : goal.returns
 returns c = rw (c.in_ok-table.ensures, started c, shapes c, tenants c) (view_new c.args.frames c.args.tenants c.args.options c.requires)

@@ -8,8 +8,8 @@ use Rattle.write_break.specs.Stores.{pinned_as, stored_sharing, store_frames}
 use Rattle.map_helpers.specs.Answers.{refusal_answer}
 use Rattle.map_helpers.specs.Updates.{update_frames, part_updated}
 use Rattle.map_helpers.proofs.Updates.{shape_in, helped, maps-refused, maps-written, cost-refused, cost-written, sharing-refused, sharing-written, value-sized}
-use Rattle.map_helpers.proofs.helpers.update.Goals as goal
-use Rattle.map_helpers.proofs.helpers.update.Goals.{After-element_at}
+use Rattle.map_helpers.proofs.helpers.update_as.Goals as goal
+use Rattle.map_helpers.proofs.helpers.update_as.Goals.{After-element_at}
 
 -- an update that is refused leaves everything
 module _ (c : goal.After-answer) where
@@ -36,7 +36,7 @@ returns-in-Some-update_error-clause-part c = ap (λ (maps : FlatMaps). record (p
 
 pub returns-in-Some-update_error-clause-sharing : goal.returns-in-Some-update_error-clause-sharing
 returns-in-Some-update_error-clause-sharing c =
-    sym (sharing-refused c.in-Some.shape (part c.args.memory.now c.args.tenant).running c.args.memory.now.sharing c.args.tenant c.args.map c.args.key c.args.flags (map_at (part c.args.memory.now c.args.tenant).maps c.args.map) (there c) (refused c))
+    sym (sharing-refused c.in-Some.shape c.args.is_pinned c.args.memory.now.sharing c.args.tenant c.args.map c.args.key c.args.flags (map_at (part c.args.memory.now c.args.tenant).maps c.args.map) (there c) (refused c))
 
 pub returns-in-Some-update_error-clause-have : goal.returns-in-Some-update_error-clause-have
 returns-in-Some-update_error-clause-have c =
@@ -61,17 +61,17 @@ module _ (c : After-element_at) where
       ∙ ap (store_frames c.args.memory.now.sharing c.args.tenant c.args.map (element_at c.in-Some.shape c.args.key)) sized
       ∙ ap (λ (at : ℕ). store_frames c.args.memory.now.sharing c.args.tenant c.args.map at (length c.args.value.now)) (sym c.element_at.ensures.place)
 
-pub store_bytes-requires-clause-room : goal.store_bytes-requires-clause-room
-store_bytes-requires-clause-room c = subst (λ (n : ℕ). n ≤ have_of c.args.memory.now) (cost c) c.requires.room
+pub store_bytes_as-requires-clause-room : goal.store_bytes_as-requires-clause-room
+store_bytes_as-requires-clause-room c = subst (λ (n : ℕ). n ≤ have_of c.args.memory.now) (cost c) c.requires.room
 
 -- the part after the store
-written : (c : goal.After-store_bytes) → part c.store_bytes.new.memory c.args.tenant
-    ≡ pinned_as c.store_bytes.new.memory.sharing c.args.tenant (part_updated (part c.args.memory.now c.args.tenant) c.args.map c.args.key c.args.value.now c.args.flags)
+written : (c : goal.After-store_bytes_as) → part c.store_bytes_as.new.memory c.args.tenant
+    ≡ pinned_as c.store_bytes_as.new.memory.sharing c.args.tenant (part_updated (part c.args.memory.now c.args.tenant) c.args.map c.args.key c.args.value.now c.args.flags)
 written c =
     let here = (goal.at.returns-clause-part c).After-element_at in
-    c.store_bytes.ensures.written
-    ∙ ap (λ (at : ℕ). pinned_as c.store_bytes.new.memory.sharing c.args.tenant (part_written (part c.args.memory.now c.args.tenant) c.args.map at c.args.value.now)) c.element_at.ensures.place
-    ∙ ap (λ (maps : FlatMaps). pinned_as c.store_bytes.new.memory.sharing c.args.tenant (record (part c.args.memory.now c.args.tenant) { maps = maps }))
+    c.store_bytes_as.ensures.written
+    ∙ ap (λ (at : ℕ). pinned_as c.store_bytes_as.new.memory.sharing c.args.tenant (part_written (part c.args.memory.now c.args.tenant) c.args.map at c.args.value.now)) c.element_at.ensures.place
+    ∙ ap (λ (maps : FlatMaps). pinned_as c.store_bytes_as.new.memory.sharing c.args.tenant (record (part c.args.memory.now c.args.tenant) { maps = maps }))
     (maps-written c.in-Some.shape c.args.key c.args.value.now c.args.flags (part c.args.memory.now c.args.tenant).maps c.args.map (found here) (answered here))
 
 pub returns-clause-helped : goal.returns-clause-helped
@@ -89,12 +89,12 @@ returns-clause-part c = written c
 pub returns-clause-sharing : goal.returns-clause-sharing
 returns-clause-sharing c =
     let here = (goal.at.returns-clause-sharing c).After-element_at in
-    c.store_bytes.ensures.sharing
-    ∙ ap (stored_sharing (part c.args.memory.now c.args.tenant).running c.args.memory.now.sharing c.args.tenant c.args.map c.element_at.result) (sym (sized here))
-    ∙ ap (λ (at : ℕ). stored_sharing (part c.args.memory.now c.args.tenant).running c.args.memory.now.sharing c.args.tenant c.args.map at c.in-Some.shape.value_size) c.element_at.ensures.place
-    ∙ sym (sharing-written c.in-Some.shape (part c.args.memory.now c.args.tenant).running c.args.memory.now.sharing c.args.tenant c.args.map c.args.key c.args.flags (map_at (part c.args.memory.now c.args.tenant).maps c.args.map) (found here) (answered here))
+    c.store_bytes_as.ensures.sharing
+    ∙ ap (stored_sharing c.args.is_pinned c.args.memory.now.sharing c.args.tenant c.args.map c.element_at.result) (sym (sized here))
+    ∙ ap (λ (at : ℕ). stored_sharing c.args.is_pinned c.args.memory.now.sharing c.args.tenant c.args.map at c.in-Some.shape.value_size) c.element_at.ensures.place
+    ∙ sym (sharing-written c.in-Some.shape c.args.is_pinned c.args.memory.now.sharing c.args.tenant c.args.map c.args.key c.args.flags (map_at (part c.args.memory.now c.args.tenant).maps c.args.map) (found here) (answered here))
 
 pub returns-clause-have : goal.returns-clause-have
 returns-clause-have c =
     let here = (goal.at.returns-clause-have c).After-element_at in
-    ap (λ (n : ℕ). have_of c.store_bytes.new.memory + n) (cost here) ∙ c.store_bytes.ensures.have
+    ap (λ (n : ℕ). have_of c.store_bytes_as.new.memory + n) (cost here) ∙ c.store_bytes_as.ensures.have
