@@ -1,0 +1,137 @@
+//! The one number that a tenant is told of others: how many frames may be had where it lacks some.
+
+use crate::events::bytes_of;
+use crate::pairs::replies_to;
+use host_core::{Event, Host, Reply};
+use host_types::{Fault, Options};
+use isolation::both;
+use std::alloc::{AllocError, Global};
+use std::io;
+
+/// The tenant that is told, and the other one, which stores a value or doesn't.
+const TOLD: u32 = 0;
+
+const STORES: u32 = 1;
+
+/// One frame is that of zeros, and so is each page once it was visited twice.
+const FRAMES: u32 = 12;
+
+/// As many visits as find each of three pages twice.
+const VISITS: u32 = 6;
+
+/// More pages than there are frames.
+const MANY: u32 = 100;
+
+/// A map of so many pages, each a value's.
+fn map_of(tenant: u32, pages: u32) -> Event {
+    Event::CreateMap {
+        tenant,
+        value_size: 4096,
+        entries: pages,
+        mergeable: true,
+    }
+}
+
+/// A value of ones is written to the first element of a tenant's first map.
+fn store(alloc: Global, tenant: u32) -> Result<Event, AllocError> {
+    let value = bytes_of(alloc, 4096, 1)?;
+    Ok(Event::HostUpdate {
+        tenant,
+        map: 0,
+        key: 0,
+        value: value.into(),
+    })
+}
+
+/// Both tenants' maps, whose pages come to lie on the frame of zeros.
+fn opening(alloc: Global) -> Result<Vec<Event>, AllocError> {
+    let mut events = Vec::new(alloc);
+    events.push(map_of(STORES, 2))?;
+    events.push(map_of(TOLD, 1))?;
+    for _ in 0..VISITS {
+        events.push(Event::Visit)?;
+    }
+    Ok(events)
+}
+
+/// The tenant asks for more frames than there are, reads, and writes.
+fn push_asking(alloc: Global, events: &mut Vec<Event>) -> Result<(), AllocError> {
+    events.push(map_of(TOLD, MANY))?;
+    events.push(Event::HostLookup {
+        tenant: TOLD,
+        map: 0,
+        key: 0,
+    })?;
+    let last = store(alloc, TOLD)?;
+    events.push(last)?;
+    Ok(())
+}
+
+/// The list, with the other tenant's store or without it.
+fn list_of(alloc: Global, with_store: bool) -> Result<Vec<Event>, AllocError> {
+    let mut events = opening(alloc)?;
+    if with_store {
+        let value = store(alloc, STORES)?;
+        events.push(value)?;
+    }
+    push_asking(alloc, &mut events)?;
+    Ok(events)
+}
+
+/// Prints a reply in words.
+fn print_reply(rt: &impl Print, reply: &Reply) -> io::Result<()> {
+    match reply {
+        Reply::Map(map) => print!(rt; " map {map},"),
+        Reply::Done => print!(rt; " done,"),
+        Reply::Value(bytes) => match bytes.as_slice().first() {
+            Some(first) => print!(rt; " a value of {first},"),
+            None => print!(rt; " no bytes,"),
+        },
+        Reply::Refused(Fault::NoFrames { need, have }) => {
+            print!(rt; " no frames: {need} needed and {have} to be had,")
+        }
+        _ => print!(rt; " another reply,"),
+    }
+}
+
+/// Prints the replies to the tenant.
+fn print_replies(rt: &impl Print, name: &str, replies: &[&Reply]) -> io::Result<()> {
+    print!(rt; "{name}:")?;
+    for reply in replies {
+        print_reply(rt, reply)?;
+    }
+    println!(rt; " and no more")
+}
+
+/// A host for the lists.
+fn host(alloc: Global) -> Result<Host, Fault> {
+    let options = Options {
+        use_zero_pages: 1,
+        ..Options::standard()
+    };
+    Host::new(alloc, FRAMES, 2, options)
+}
+
+/// Applies both lists, and prints what the tenant is answered in each.
+fn print_both(
+    rt: &(impl AllocGlobal + Print),
+    left: &mut Host,
+    right: &mut Host,
+) -> io::Result<()> {
+    let alloc = rt.alloc();
+    let events = list_of(alloc, true)?;
+    let others = list_of(alloc, false)?;
+    let (replies, further) = both(left, right, &events, &others)?;
+    let with = replies_to(alloc, TOLD, &events, &replies)?;
+    print_replies(rt, "another tenant stores", &with)?;
+    let without = replies_to(alloc, TOLD, &others, &further)?;
+    print_replies(rt, "it doesn't store", &without)
+}
+
+/// Prints what a tenant is answered in two lists that differ in another tenant's store alone.
+pub(crate) fn print_channel(rt: &(impl AllocGlobal + Print)) -> io::Result<()> {
+    match (host(rt.alloc()), host(rt.alloc())) {
+        (Ok(mut left), Ok(mut right)) => print_both(rt, &mut left, &mut right),
+        _ => println!(rt; "no host"),
+    }
+}

@@ -1,0 +1,3 @@
+pub mod Tenants
+pub mod Laws
+pub mod Hosts

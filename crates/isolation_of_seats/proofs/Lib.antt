@@ -1,0 +1,2 @@
+mod Determined
+mod Plans
