@@ -88,7 +88,7 @@ fn is_of_register(opcode: u8) -> bool {
 fn arithmetic(draws: &mut Draws) -> Slot {
     let wide = one_of(draws, &ALU_64);
     let opcode = if rarely(draws, 3) {
-        wide - wide % 8 + 4
+        (wide / 8 * 8) | 4
     } else {
         wide
     };
@@ -158,7 +158,11 @@ fn store(draws: &mut Draws) -> Slot {
 /// A conditional jump a few slots forward.
 fn branch(draws: &mut Draws) -> Slot {
     let wide = one_of(draws, &BRANCHES);
-    let opcode = if rarely(draws, 3) { wide + 1 } else { wide };
+    let opcode = if rarely(draws, 3) {
+        (wide / 8 * 8) | 6
+    } else {
+        wide
+    };
     let dst = register_of(draws, &NUMBERS);
     let offset = distance(draws);
     if is_of_register(opcode) {

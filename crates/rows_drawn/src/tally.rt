@@ -61,7 +61,7 @@ impl Tally {
 
     /// Whether each rule was named, and many texts went beyond their first six slots and to their end.
     fn is_wide(&self) -> bool {
-        (11..26).all(|number| self.refused[number] >= FEW)
+        self.refused.iter().skip(11).all(|count| *count >= FEW)
             && self.accepted >= MANY
             && self.beyond >= MANY
     }
