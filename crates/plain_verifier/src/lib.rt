@@ -1,17 +1,23 @@
-//! A second, plain verifier, which tests set beside `verify`. It pushes nothing onward: it keeps a list
-//! of all that has flowed, and at each slot looks through it for what flows there. One pass joins what it
-//! finds in the order in which it flowed, the other in the opposite order. The contract of both is the
-//! definition of a table and of a refusal itself.
+//! The verifier's profile (docs/VERIFIER.md) read a second time, as a slow program that tests set beside
+//! `verify`. It reads the tables anew: kinds, their order and join, arithmetic, comparisons, access, the stack,
+//! jumps, calls and exit. Of `verifier_kinds` it uses the types alone, to give its answer in. It is safe, and
+//! nothing more is proved of it: where it agrees with `verify`, two readings agree.
 #![tactic(auto)]
 
-mod laws;
-mod orders;
-mod pass;
-mod shapes;
+mod access;
+mod arithmetic;
+mod calls;
+mod description;
+mod flow;
+mod given;
+mod jumps;
+mod kind;
+mod memory;
+mod passes;
+mod range;
+mod rules;
+mod scalars;
 mod table;
 
-pub use laws::orders_agree;
-pub use orders::Order;
-pub use pass::judge_in;
-pub use shapes::push_shape;
+pub use passes::{Order, is_lawful, judge_in};
 pub use table::{Judged, Table};

@@ -4,13 +4,14 @@ ghost use Rattle.verifier.specs.Verified.{AreShapes};
 use bpf_decode::decode;
 use host_types::limits::MAX_TEXT;
 use host_types::{Refused, Shape};
-use plain_verifier::{Judged, Order, Table, judge_in};
+use plain_verifier::{Judged, Order, Table, is_lawful, judge_in};
 use std::alloc::Global;
 use verifier::Verified;
 
 /// Whether both passes of the plain verifier answer of a well-formed text, with maps of these shapes and a
 /// context of a size, the same as one another, with the same table, up to the slot that is refused if one is;
-/// and what `verify` answered: the same number and slot of a refusal, or the same kinds.
+/// and what `verify` answered: the same number and slot of a refusal, or the same kinds. The table of an accepted
+/// text is lawful.
 pub fn judge_alike(
     alloc: Global,
     text: &[u8],
@@ -28,7 +29,9 @@ pub fn judge_alike(
         return false;
     };
     let slots = (text.len().min(MAX_TEXT) / 8) as u32;
-    is_one(&forward, &backward, slots) && is_as(&forward, verified)
+    is_one(&forward, &backward, slots)
+        && is_as(&forward, verified)
+        && is_kept(alloc, text, shapes, size, &forward)
 }
 
 /// What the pass answers that joins in an order; `None` where the decoder refuses, or for want of memory.
@@ -38,11 +41,23 @@ fn answer(
     shapes: &[Option<Shape>],
     size: u32,
     order: Order,
-) -> Option<Judged>
-    requires shapes { AreShapes shapes.now }
-    requires context { IsContextSize size }
-{
+) -> Option<Judged> {
     judge_in(alloc, decode(alloc, text).ok()?, shapes, size, order).ok()
+}
+
+/// Whether the table of an accepted text is lawful.
+fn is_kept(
+    alloc: Global,
+    text: &[u8],
+    shapes: &[Option<Shape>],
+    size: u32,
+    judged: &Judged,
+) -> bool {
+    match (judged, decode(alloc, text)) {
+        (Judged::Accepted(table), Ok(program)) => is_lawful(&program, shapes, size, table),
+        (Judged::Accepted(_), Err(_)) => false,
+        (Judged::Refused { .. }, _) => true,
+    }
 }
 
 /// Whether two passes judged a text of so many slots alike, with one table.
@@ -82,10 +97,18 @@ fn is_as(judged: &Judged, verified: &Result<Verified, Refused>) -> bool {
 /// Whether a table knows what `verify` knows of each register at each slot.
 fn has_kinds(table: &Table, program: &Verified) -> bool {
     for slot in 0..program.slots() {
-        for register in 0..11 {
-            if table.kind(slot, register) != program.kind(slot, register) {
-                return false;
-            }
+        if !has_registers(table, program, slot) {
+            return false;
+        }
+    }
+    true
+}
+
+/// Whether a table knows what `verify` knows of each register at a slot.
+fn has_registers(table: &Table, program: &Verified, slot: u32) -> bool {
+    for register in 0..11 {
+        if table.kind(slot, register) != program.kind(slot, register) {
+            return false;
         }
     }
     true

@@ -1,6 +1,7 @@
 //! Compares the host with results that the Linux kernel computed, for the program `rows_kernel`, and with
 //! worked examples, for `rows_worked`. A row is four texts between tabs: a name, a program in hex, what it
-//! returns, and in how many steps (`-` for any number). Its program is decoded, judged by `verify` and by
+//! returns, and in how many steps (`-` for any number); a fifth is its context in hex, which is empty where there is
+//! none. Its program is decoded, judged by `verify` and by
 //! both passes of the plain verifier, and run, and it is run on the plain machine too. So are texts that it
 //! becomes by a change: each is refused, or it goes as on the plain machine. They are all its beginnings,
 //! and, of the texts with one bit flipped, one for each byte; `changes.rt` says which bit, and which of them
@@ -34,7 +35,7 @@ impl Rows for Results {
     fn compare(&mut self, alloc: Global, line: &str, number: usize) -> Result<Finding, AllocError> {
         match Row::parse(alloc, line) {
             Some(row) if agrees(alloc, &row) => {
-                if all_agree(alloc, row.text.as_slice(), number)? {
+                if all_agree(alloc, &row, number)? {
                     Ok(Finding::Agrees)
                 } else {
                     Ok(Finding::DiffersChanged)
@@ -53,8 +54,9 @@ pub fn compare_input(rt: &(impl AllocGlobal + Input + Print)) -> io::Result<()> 
 /// Whether a row's program does what the row says, on the host and on the plain machine alike.
 fn agrees(alloc: Global, row: &Row) -> bool {
     let text = row.text.as_slice();
-    let outcome = on_the_host(alloc, text, true);
-    outcome == on_the_plain_machine(alloc, text) && is_as(row, outcome)
+    let context = row.context.as_slice();
+    let outcome = on_the_host(alloc, text, context, true);
+    outcome == on_the_plain_machine(alloc, text, context) && is_as(row, outcome)
 }
 
 /// Whether a program went as a row says.

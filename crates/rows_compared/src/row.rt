@@ -2,10 +2,11 @@ use std::alloc::Global;
 use std::str::Split;
 
 /// A result that the kernel computed: what a program returns, and, where it has no jump, in how many
-/// steps.
+/// steps. A row of a worked example may give it a context.
 #[derive(Drop)]
 pub(crate) struct Row {
     pub text: Vec<u8>,
+    pub context: Vec<u8>,
     pub number: u64,
     pub steps: Option<u32>,
 }
@@ -19,8 +20,13 @@ impl Row {
             "-" => None,
             steps => Some(steps.parse().ok()?),
         };
+        let context = match texts.next() {
+            Some(context) => hex::decode(alloc, context).ok()?,
+            None => Vec::new(alloc),
+        };
         Some(Row {
             text,
+            context,
             number,
             steps,
         })

@@ -1,5 +1,5 @@
 ghost use Rattle.std.specs.Prelude.{◌≡◌, [], IfOk};
-ghost use Rattle.verifier.specs.Subject.{padded};
+ghost use Rattle.verifier.specs.Subject.{IsContextSize, padded};
 ghost use Rattle.interp.specs.Machine.{MachineState};
 ghost use Rattle.interp.specs.StandsFor.{StandsFor};
 
@@ -9,12 +9,12 @@ use host_types::Refused;
 use interp::{Need, Run};
 use plain_machine::{Ending, Machine};
 use std::alloc::Global;
-use verifier::{Verified, verify};
+use verifier::{Verified, is_context_size, verify};
 
 /// As many steps as a program has instructions at most.
 const STEPS: u32 = 4096;
 
-/// How a program went, with no context and no maps.
+/// How a program went, with no maps.
 #[derive(Clone, Copy, PartialEq, Eq)]
 pub(crate) enum Outcome {
     Returned { number: u64, steps: u32 },
@@ -30,10 +30,28 @@ pub(crate) enum Outcome {
     NeedsMap,
 }
 
-/// How a program goes that is decoded, judged by `verify`, perhaps by the plain verifier too, and run.
-pub(crate) fn on_the_host(alloc: Global, text: &[u8], judged_twice: bool) -> Outcome {
+/// The size of a row's context; one that no context has is 0.
+fn size_of(context: &[u8]) -> u32
+    ensures { IsContextSize result }
+{
+    match u32::try_from(context.len()) {
+        Ok(size) if is_context_size(size) => size,
+        _ => 0,
+    }
+}
+
+/// How a program goes on a context that is decoded, judged by `verify`, perhaps by the plain verifier too, and run.
+pub(crate) fn on_the_host(
+    alloc: Global,
+    text: &[u8],
+    context: &[u8],
+    judged_twice: bool,
+) -> Outcome {
     match decode(alloc, text) {
-        Ok(program) => verified_on_the_host(alloc, text, judged(alloc, program), judged_twice),
+        Ok(program) => {
+            let verified = judged(alloc, program, size_of(context));
+            verified_on_the_host(alloc, text, context, verified, judged_twice)
+        }
         Err(refused) => refusal(refused),
     }
 }
@@ -42,16 +60,17 @@ pub(crate) fn on_the_host(alloc: Global, text: &[u8], judged_twice: bool) -> Out
 fn verified_on_the_host(
     alloc: Global,
     text: &[u8],
+    context: &[u8],
     verified: Result<Verified, Refused>,
     judged_twice: bool,
 ) -> Outcome
     requires { IfOk verified (λ v. v.subject.shapes ≡ padded []) }
 {
-    if judged_twice && !judge_alike(alloc, text, &[], 0, &verified) {
+    if judged_twice && !judge_alike(alloc, text, &[], size_of(context), &verified) {
         return Outcome::Disputed;
     }
     match verified {
-        Ok(program) => run_to_end(alloc, &program),
+        Ok(program) => run_to_end(alloc, &program, context),
         Err(refused) => refusal(refused),
     }
 }
@@ -65,30 +84,34 @@ fn refusal(refused: Refused) -> Outcome {
     }
 }
 
-/// How a text goes on the plain machine.
-pub(crate) fn on_the_plain_machine(alloc: Global, text: &[u8]) -> Outcome {
+/// How a text goes on the plain machine, on a context.
+pub(crate) fn on_the_plain_machine(alloc: Global, text: &[u8], context: &[u8]) -> Outcome {
     if text.len() % 8 != 0 {
         return Outcome::Refused;
     }
-    let mut machine = Machine::start(Vec::new(alloc), Vec::new(alloc));
+    let Ok(context) = context.to_vec(alloc) else {
+        return Outcome::Unable;
+    };
+    let mut machine = Machine::start(context, Vec::new(alloc));
     match machine.run(text, STEPS) {
         Ending::Exited { number, steps } => Outcome::Returned { number, steps },
         _ => Outcome::Endless,
     }
 }
 
-/// The program as `verify` judges it, for an empty context and no maps.
-fn judged(alloc: Global, program: Program) -> Result<Verified, Refused>
+/// The program as `verify` judges it, for a context of a size and no maps.
+fn judged(alloc: Global, program: Program, size: u32) -> Result<Verified, Refused>
+    requires { IsContextSize size }
     ensures { IfOk result (λ v. v.subject.shapes ≡ padded []) }
 {
-    verify(alloc, program, &[], 0)
+    verify(alloc, program, &[], size)
 }
 
-/// Runs the program to its end.
-fn run_to_end(alloc: Global, program: &Verified) -> Outcome
+/// Runs the program on a context to its end.
+fn run_to_end(alloc: Global, program: &Verified, context: &[u8]) -> Outcome
     requires { program.now.subject.shapes ≡ padded [] }
 {
-    match Run::begin(alloc, program, &[]) {
+    match Run::begin(alloc, program, context) {
         Ok(run) => ended(run, program),
         Err(_) => Outcome::Unable,
     }

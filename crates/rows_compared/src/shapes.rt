@@ -1,11 +1,10 @@
 //! The shapes of maps as rows write them.
 
-ghost use Rattle.std.specs.Prelude.{IfOk, IfSome};
+ghost use Rattle.std.specs.Prelude.{◌≡◌, ◌<◌, ◌++◌, ◌∷◌, [], length, IfOk, IfSome, OnOk};
 ghost use Rattle.host_types.specs.Shapes.{IsShape};
 ghost use Rattle.verifier.specs.Verified.{AreShapes};
 
 use host_types::Shape;
-use plain_verifier::push_shape;
 use std::alloc::{AllocError, Global};
 
 /// What stands for a number without a shape.
@@ -21,6 +20,19 @@ fn shape_of(text: &str) -> Option<Shape>
         entries: entries.parse().ok()?,
     };
     if shape.is_valid() { Some(shape) } else { None }
+}
+
+/// Puts the shape of the next number, or that it has none, after others, of which there are fewer than
+/// eight.
+fn push_shape(shapes: &mut Vec<Option<Shape>>, shape: Option<Shape>) -> Result<(), AllocError>
+    requires shapes { AreShapes shapes.old.items }
+    requires shape { IfSome shape IsShape }
+    requires few { length shapes.old.items < 8 }
+    ensures pushed { OnOk result (shapes.new.items ≡ shapes.old.items ++ shape ∷ []) }
+    ensures shapes { OnOk result (AreShapes shapes.new.items) }
+{
+    shapes.push(shape)?;
+    Ok(())
 }
 
 /// The shapes by number that are written `VALUE_SIZE:ENTRIES` between spaces, or `-` for a number that has none, at

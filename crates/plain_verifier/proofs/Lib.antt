@@ -1,4 +1,0 @@
-pub mod Lists
-pub mod Joins
-pub mod Agreement
-pub mod Passes
