@@ -11,7 +11,7 @@ use Rattle.tenant_workers.specs.Calls.{HasGoneOn, memory_left}
 use Rattle.tenant_workers.specs.Runs.{HasFramesForRun, HasRefusedRun, RefusesRunOnContext}
 
 -- A run was made, from the part that the seat had to the part that it has.
-pub record IsMade (v : Accepted) (context : List ℕ) (old : SeatState) (reply : RunReply) (new : SeatState) : Type 0 where
+pub record IsRunMade (v : Accepted) (context : List ℕ) (old : SeatState) (reply : RunReply) (new : SeatState) : Type 0 where
   pub ran : HasRun v context (own_part old) (own_part new) reply
   pub turns : HasGoneOn old new
 
@@ -26,7 +26,7 @@ pub record IsNotMade (v : Accepted) (context : List ℕ) (old : SeatState) (faul
 
 -- the answer to a run of a program on a context
 abbrev pub RepliesTo : Accepted → List ℕ → SeatState → Result RunReply Fault → SeatState → Type 0
-RepliesTo v context old (Ok reply) new = IsMade v context old reply new
+RepliesTo v context old (Ok reply) new = IsRunMade v context old reply new
 RepliesTo v context old (Err fault) new = IsNotMade v context old fault new
 
 -- the answer to a run of the program of a number: where no program has it, `NoProgram`, and the seat stays
