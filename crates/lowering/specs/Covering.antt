@@ -1,0 +1,90 @@
+-- Lowered texts: each instruction is a copy of one of an original text, or a jump that was inserted.
+use Rattle.std.specs.Prelude.{◌≡◌, ℕ, ◌+◌, ℤ, pos, negsuc, ◌+ℤ◌, Bool, true, false, ◌⊎◌, List, length, slice_index, Option, Some, None}
+use Rattle.bpf_decode.specs.declared.insn.Insn.{Insn}
+use Rattle.bpf_decode.specs.declared.operation.Distance.{Distance}
+use Rattle.bpf_decode.specs.declared.operation.Distance.TheVariants.{Offset, Imm}
+use Rattle.bpf_decode.specs.declared.operation.Operation.{Operation}
+use Rattle.bpf_decode.specs.declared.operation.Operation.TheVariants.{Jump, Branch, Exit}
+use Rattle.bpf_decode.specs.Opcodes.{operation_of, distance_of}
+use Rattle.bpf_decode.specs.Text.{insn_at, slots_of, width_at, IsInstruction}
+
+-- an instruction without the distance of its jump
+abbrev pub without_distance : Option Operation → Insn → Insn
+without_distance (Some (Jump Offset)) insn = record insn { offset = pos 0 }
+without_distance (Some (Jump Imm)) insn = record insn { imm = pos 0 }
+without_distance (Some (Branch comparison width source)) insn = record insn { offset = pos 0 }
+without_distance operation insn = insn
+
+-- what two instructions have in common that differ at most in the distance of their jump
+unfoldable pub undirected : Insn → Insn
+undirected insn = without_distance (operation_of insn.opcode) insn
+
+-- from an operation a run may go on to the next instruction
+abbrev pub falls_through : Option Operation → Bool
+falls_through None = false
+falls_through (Some (Jump distance)) = false
+falls_through (Some Exit) = false
+falls_through operation = true
+
+-- the slot with a number, if that isn't before the text
+abbrev pub slot_of : ℤ → Option ℕ
+slot_of (pos slot) = Some slot
+slot_of (negsuc n) = None
+
+-- the slot at a distance from the instruction after a slot (RFC 9669, section 4.3)
+abbrev pub slot_from : List ℕ → ℕ → ℤ → Option ℕ
+slot_from text slot distance = slot_of (pos (slot + width_at text slot) +ℤ distance)
+
+-- the slot to which an operation at a slot may jump
+abbrev pub jump_by : List ℕ → ℕ → Option Operation → Option ℕ
+jump_by text slot (Some (Jump distance)) = slot_from text slot (distance_of distance (insn_at text slot))
+jump_by text slot (Some (Branch comparison width source)) = slot_from text slot (insn_at text slot).offset
+jump_by text slot operation = None
+
+-- the slot to which the instruction at a slot may jump
+unfoldable pub jump_from : List ℕ → ℕ → Option ℕ
+jump_from text slot = jump_by text slot (operation_of (insn_at text slot).opcode)
+
+-- An instruction of a lowered text stands for a slot of the original: `origins` has that slot at the
+-- instruction's own.
+pub record HasOrigin (lowered origins : List ℕ) (at slot : ℕ) : Type 0 where
+  pub instruction : IsInstruction lowered at
+  pub origin : slice_index origins at ≡ slot
+
+-- two jumps lead alike: the copy's to an instruction that stands for the slot of the original's, or both to none
+abbrev pub LeadAlike : List ℕ → List ℕ → Option ℕ → Option ℕ → Type 0
+LeadAlike lowered origins None None = Unit {0}
+LeadAlike lowered origins (Some there) (Some to) = HasOrigin lowered origins there to
+LeadAlike lowered origins there to = ⊥
+
+-- The instruction of a lowered text is a copy of the original's at a slot: it differs at most in the distance of
+-- its jump, and wherever the original goes on, it goes on to an instruction that stands for that slot.
+pub record IsCopy (text lowered origins : List ℕ) (at slot : ℕ) : Type 0 where
+  pub instruction : IsInstruction text slot
+  pub same : undirected (insn_at lowered at) ≡ undirected (insn_at text slot)
+  pub falls : falls_through (operation_of (insn_at text slot).opcode) ≡ true
+      → HasOrigin lowered origins (at + width_at lowered at) (slot + width_at text slot)
+  pub jumps : LeadAlike lowered origins (jump_from lowered at) (jump_from text slot)
+
+-- The instruction of a lowered text is a jump that is always taken and that was inserted: it stands for a slot
+-- and leads to a copy of the original's instruction there.
+pub record IsInsertedJump (text lowered origins : List ℕ) (at slot : ℕ) : Type 0 where
+  pub distance : Distance
+  pub jump : operation_of (insn_at lowered at).opcode ≡ Some (Jump distance)
+  pub to : ℕ
+  pub leads : jump_from lowered at ≡ Some to
+  pub origin : HasOrigin lowered origins to slot
+  pub copy : IsCopy text lowered origins to slot
+
+-- an instruction of a lowered text is a copy, or a jump that was inserted
+abbrev pub IsCovered : List ℕ → List ℕ → List ℕ → ℕ → Type 0
+IsCovered text lowered origins at =
+    IsCopy text lowered origins at (slice_index origins at) ⊎ IsInsertedJump text lowered origins at (slice_index origins at)
+
+-- A lowered text covers the original: it begins with an instruction that stands for slot 0, and each of its
+-- instructions is a copy, or a jump that was inserted. So blocks of instructions may stand in another order, and
+-- in several copies; `origins` has the slot of the original for which each slot stands.
+pub record IsCovering (text lowered origins : List ℕ) : Type 0 where
+  pub whole : length origins ≡ slots_of lowered
+  pub start : HasOrigin lowered origins 0 0
+  pub covered : (at : ℕ) → IsInstruction lowered at → IsCovered text lowered origins at

@@ -1,0 +1,49 @@
+-- What a lowered text keeps of the runs of the original.
+use Rattle.std.specs.Prelude.{◌≡◌, ℕ, ◌↔◌, List, slice_index, Option, None}
+use Rattle.host_types.specs.Memory.{FlatMaps}
+use Rattle.interp.specs.Machine.{MachineState, Outcome, Next, Exits, step}
+use Rattle.interp.specs.Runs.{Runs}
+use Rattle.lowering.specs.Covering.{IsCovering}
+
+-- a run from the beginning comes to a state
+abbrev pub ComesTo : List ℕ → List ℕ → FlatMaps → MachineState → Type 0
+ComesTo text context maps s = (n : ℕ) × Runs text context maps n (Next s)
+
+-- a run from the beginning ends with a number and the maps
+abbrev pub Ends : List ℕ → List ℕ → FlatMaps → ℕ → FlatMaps → Type 0
+Ends text context maps number left = (n : ℕ) × Runs text context maps n (Exits number left)
+
+-- a run from the beginning comes to a state at which it fails
+abbrev pub Fails : List ℕ → List ℕ → FlatMaps → MachineState → Type 0
+Fails text context maps s = ComesTo text context maps s × (step text s ≡ None)
+
+-- two texts end alike with each context and all maps: with the same number and the same maps, or neither ends
+abbrev pub EndAlike : List ℕ → List ℕ → Type 0
+EndAlike text other =
+    (context : List ℕ) (maps : FlatMaps) (number : ℕ) (left : FlatMaps) → Ends text context maps number left ↔ Ends other context maps number left
+
+-- a state of a lowered text, at the slot of the original for which its instruction stands
+abbrev pub at_origin : List ℕ → MachineState → MachineState
+at_origin origins s = record s { slot = slice_index origins s.slot }
+
+-- a text that covers another ends as that one does
+abbrev pub CoveringEndsAlike : Type 0
+CoveringEndsAlike = (text lowered origins : List ℕ) → IsCovering text lowered origins → EndAlike text lowered
+
+-- each state to which a lowered text comes is one to which the original comes, at its origin
+abbrev pub StatesHaveOrigins : Type 0
+StatesHaveOrigins =
+    (text lowered origins context : List ℕ) (maps : FlatMaps) (s : MachineState) → IsCovering text lowered origins
+    → ComesTo lowered context maps s → ComesTo text context maps (at_origin origins s)
+
+-- where a lowered text fails, the original fails at the origin
+abbrev pub FailuresHaveOrigins : Type 0
+FailuresHaveOrigins =
+    (text lowered origins context : List ℕ) (maps : FlatMaps) (s : MachineState) → IsCovering text lowered origins
+    → Fails lowered context maps s → Fails text context maps (at_origin origins s)
+
+-- where the original fails, the lowered text fails at a copy
+abbrev pub FailuresAreKept : Type 0
+FailuresAreKept =
+    (text lowered origins context : List ℕ) (maps : FlatMaps) (s : MachineState) → IsCovering text lowered origins
+    → Fails text context maps s → (t : MachineState) × Fails lowered context maps t × (at_origin origins t ≡ s)
