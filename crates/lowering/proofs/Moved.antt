@@ -1,5 +1,5 @@
 -- What an instruction makes of a state doesn't depend on the state's slot.
-use Rattle.std.specs.Prelude.{◌≡◌, ℕ, Bool, true, false, if◌then◌else◌, Option, Some, None, option_map}
+use Rattle.std.specs.Prelude.{◌≡◌, ℕ, Option, Some, None, option_map}
 use Rattle.std.proofs.Common.{refl, ap, ◌∙◌}
 use Rattle.host_types.specs.declared.helper.MapHelper.{MapHelper}
 use Rattle.host_types.specs.declared.helper.MapHelper.TheVariants.{Lookup, Update, Delete}
@@ -14,7 +14,7 @@ use Rattle.bpf_decode.specs.declared.operation.Extension.{Extension}
 use Rattle.bpf_decode.specs.declared.operation.AluCode.{AluCode}
 use Rattle.bpf_decode.specs.Opcodes.{byte_count}
 use Rattle.insn_alu.specs.Arithmetic.{alu}
-use Rattle.interp.specs.Machine.{MachineState, register, with_register, address_of, extended, wide_number, HelperCall, first_operand, operand, value_arguments, helper_call, step_alu, step_load, step_load_immediate, step_store, step_call}
+use Rattle.interp.specs.Machine.{MachineState, register, with_register, address_of, extended, wide_number, first_operand, operand, value_arguments, helper_call, step_alu, step_load, step_load_immediate, step_store, step_call}
 
 -- the same state at another slot
 abbrev pub moved : ℕ → MachineState → MachineState

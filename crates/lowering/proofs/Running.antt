@@ -1,20 +1,19 @@
 -- Runs of a text that covers another, step by step.
-use Rattle.std.specs.Prelude.{◌≡◌, ℕ, zero, suc, ◌+◌, ◌↔◌, ◌⊎◌, ℤ, pos, negsuc, ◌+ℤ◌, Bool, true, false, if◌then◌else◌, List, slice_index, Option, Some, None, option_map}
+use Rattle.std.specs.Prelude.{◌≡◌, ℕ, zero, suc, ◌+◌, ◌⊎◌, ℤ, pos, negsuc, ◌+ℤ◌, Bool, true, false, if◌then◌else◌, List, slice_index, Option, Some, None, option_map}
 use Rattle.std.proofs.Common.{refl, sym, ap, subst, ◌∙◌, inl, inr}
 use Rattle.host_types.specs.Memory.{FlatMaps, ◌>>=◌}
 use Rattle.bpf_decode.specs.declared.operation.Source.{Source}
 use Rattle.bpf_decode.specs.declared.operation.Width.{Width}
 use Rattle.bpf_decode.specs.declared.operation.Comparison.{Comparison}
-use Rattle.bpf_decode.specs.declared.operation.Distance.{Distance}
 use Rattle.bpf_decode.specs.declared.operation.Operation.{Operation}
 use Rattle.bpf_decode.specs.declared.operation.Operation.TheVariants.{Alu, Load, Store, LoadImmediate, Jump, Branch, Call, Exit}
 use Rattle.bpf_decode.specs.Opcodes.{operation_of, distance_of}
 use Rattle.bpf_decode.specs.Text.{insn_at, width_at, IsInstruction}
 use Rattle.insn_alu.specs.Comparisons.{holds}
-use Rattle.interp.specs.Machine.{MachineState, Outcome, Next, Exits, start_state, register, operand, fallen, at_slot, jumped, step_alu, step_load, step_store, step_load_immediate, step_call, step_branch, step_exit, operation_at, step_by, step}
-use Rattle.interp.specs.Runs.{Reaches, Runs}
-use Rattle.lowering.specs.Covering.{falls_through, slot_of, slot_from, jump_by, jump_from, LeadAlike, HasOrigin, IsCopy, IsInsertedJump, IsCovering}
-use Rattle.lowering.specs.Laws.{ComesTo, Ends, Fails, at_origin, CoveringEndsAlike, StatesHaveOrigins, FailuresHaveOrigins, FailuresAreKept}
+use Rattle.interp.specs.Machine.{MachineState, Outcome, Next, Exits, start_state, register, operand, fallen, at_slot, jumped, step_alu, step_load, step_store, step_load_immediate, step_call, step_branch, step_exit, step_by, step}
+use Rattle.interp.specs.Runs.{Runs}
+use Rattle.lowering.specs.Covering.{falls_through, slot_of, slot_from, jump_by, jump_from, LeadAlike, IsCopy, IsInsertedJump, IsCovering}
+use Rattle.lowering.specs.Laws.{ComesTo, Ends, at_origin, CoveringEndsAlike, StatesHaveOrigins, FailuresHaveOrigins, FailuresAreKept}
 use Rattle.lowering.proofs.Moved.{moved, IsSlotless, alu_slotless, load_slotless, load_immediate_slotless, store_slotless, call_slotless}
 use Rattle.lowering.proofs.Steps.{outcome_at, by, step_is, operation_here, same_operation, copy_steps}
 

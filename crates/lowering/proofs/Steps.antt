@@ -1,19 +1,18 @@
 -- A copy steps as the original does at its origin.
-use Rattle.std.specs.Prelude.{◌≡◌, ℕ, ◌+◌, ◌<◌, nat_lt, ◌&&◌, ℤ, pos, negsuc, ◌+ℤ◌, Bool, true, false, if◌then◌else◌, List, slice_index, Option, Some, None, option_map}
+use Rattle.std.specs.Prelude.{◌≡◌, ℕ, ◌+◌, nat_lt, ℤ, pos, negsuc, ◌+ℤ◌, Bool, true, false, if◌then◌else◌, List, slice_index, Option, Some, None, option_map}
 use Rattle.std.proofs.Common.{refl, sym, ap, ◌∙◌, arith}
 use Rattle.std.proofs.lemmas.Bool.Decides.{nat_tests}
-use Rattle.host_types.specs.Memory.{FlatMaps, ◌>>=◌}
+use Rattle.host_types.specs.Memory.{◌>>=◌}
 use Rattle.bpf_decode.specs.declared.insn.Insn.{Insn}
 use Rattle.bpf_decode.specs.declared.operation.Source.{Source}
 use Rattle.bpf_decode.specs.declared.operation.Source.TheVariants.{Immediate, Register}
 use Rattle.bpf_decode.specs.declared.operation.Width.{Width}
 use Rattle.bpf_decode.specs.declared.operation.Comparison.{Comparison}
-use Rattle.bpf_decode.specs.declared.operation.Distance.{Distance}
 use Rattle.bpf_decode.specs.declared.operation.Distance.TheVariants.{Offset, Imm}
 use Rattle.bpf_decode.specs.declared.operation.Operation.{Operation}
 use Rattle.bpf_decode.specs.declared.operation.Operation.TheVariants.{Alu, Load, Store, LoadImmediate, Jump, Branch, Call, Exit}
 use Rattle.bpf_decode.specs.Opcodes.{operation_of, distance_of, sign_extended}
-use Rattle.bpf_decode.specs.Text.{insn_at, is_instruction, slots_of, width_at, IsInstruction}
+use Rattle.bpf_decode.specs.Text.{insn_at, slots_of, width_at, IsInstruction}
 use Rattle.insn_alu.specs.Comparisons.{holds}
 use Rattle.interp.specs.Machine.{MachineState, Outcome, Next, Exits, register, operand, fallen, at_slot, jumped, step_alu, step_load, step_store, step_load_immediate, step_call, step_branch, step_exit, operation_at, step_by, step}
 use Rattle.lowering.specs.Covering.{without_distance, undirected, falls_through, slot_of, slot_from, jump_by, jump_from, LeadAlike, IsCopy}

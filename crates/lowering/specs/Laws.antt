@@ -1,7 +1,7 @@
 -- What a lowered text keeps of the runs of the original.
-use Rattle.std.specs.Prelude.{◌≡◌, ℕ, ◌↔◌, List, slice_index, Option, None}
+use Rattle.std.specs.Prelude.{◌≡◌, ℕ, ◌↔◌, List, slice_index, None}
 use Rattle.host_types.specs.Memory.{FlatMaps}
-use Rattle.interp.specs.Machine.{MachineState, Outcome, Next, Exits, step}
+use Rattle.interp.specs.Machine.{MachineState, Next, Exits, step}
 use Rattle.interp.specs.Runs.{Runs}
 use Rattle.lowering.specs.Covering.{IsCovering}
 
