@@ -73,12 +73,19 @@ fn judge_next(
     draws: &mut Draws,
     number: u32,
     shapes: &[Option<Shape>],
+    others: &[Option<Shape>],
     tally: &mut Tally,
 ) -> io::Result<bool>
-    requires { AreShapes shapes.now }
+    requires shapes { AreShapes shapes.now }
+    requires others { AreShapes others.now }
 {
     let text = drawn(rt.alloc(), draws, number)?;
-    match verdict_of(rt.alloc(), text.as_slice(), shapes) {
+    let verdict = if number % 4 < 2 {
+        verdict_of(rt.alloc(), text.as_slice(), shapes)
+    } else {
+        verdict_of(rt.alloc(), text.as_slice(), others)
+    };
+    match verdict {
         Some(verdict) => {
             tally.count(verdict);
             Ok(true)
@@ -91,17 +98,28 @@ fn judge_next(
     }
 }
 
-fn main(rt: HostRuntime) -> io::Result<()> {
-    let shapes = shapes_of(rt.alloc(), SHAPES)?;
-    let others = shapes_of(rt.alloc(), OTHER_SHAPES)?;
+/// Judges all texts, which may use maps of these shapes and of others by turns, and prints the counts.
+fn judge_all(
+    rt: &(impl AllocGlobal + Print),
+    shapes: &[Option<Shape>],
+    others: &[Option<Shape>],
+) -> io::Result<()>
+    requires shapes { AreShapes shapes.now }
+    requires others { AreShapes others.now }
+{
     let mut draws = Draws::new(1);
     let mut tally = Tally::new();
     for number in 0..TEXTS {
-        let shapes = if number % 4 < 2 { &shapes } else { &others };
-        if !judge_next(&rt, &mut draws, number, shapes.as_slice(), &mut tally)? {
+        if !judge_next(rt, &mut draws, number, shapes, others, &mut tally)? {
             return Ok(());
         }
     }
     println!(rt; "{TEXTS} drawn texts agree")?;
-    tally.print(&rt)
+    tally.print(rt)
+}
+
+fn main(rt: HostRuntime) -> io::Result<()> {
+    let shapes = shapes_of(rt.alloc(), SHAPES)?;
+    let others = shapes_of(rt.alloc(), OTHER_SHAPES)?;
+    judge_all(&rt, shapes.as_slice(), others.as_slice())
 }
