@@ -12,7 +12,7 @@ use Rattle.bpf_decode.specs.Text.{insn_at, width_at, IsInstruction}
 use Rattle.insn_alu.specs.Comparisons.{holds}
 use Rattle.interp.specs.Machine.{MachineState, Outcome, Next, Exits, start_state, register, operand, fallen, at_slot, jumped, step_alu, step_load, step_store, step_load_immediate, step_call, step_branch, step_exit, step_by, step}
 use Rattle.interp.specs.Runs.{Runs}
-use Rattle.lowering.specs.Covering.{falls_through, slot_of, slot_from, jump_by, jump_from, LeadAlike, IsCopy, IsInsertedJump, IsCovering}
+use Rattle.lowering.specs.Covering.{falls_through, slot_numbered, slot_from, jump_by, jump_from, LeadAlike, IsCopy, IsInsertedJump, IsCovering}
 use Rattle.lowering.specs.Laws.{ComesTo, Ends, at_origin, CoveringEndsAlike, StatesHaveOrigins, FailuresHaveOrigins, FailuresAreKept}
 use Rattle.lowering.proofs.Moved.{moved, IsSlotless, alu_slotless, load_slotless, load_immediate_slotless, store_slotless, call_slotless}
 use Rattle.lowering.proofs.Steps.{outcome_at, by, step_is, operation_here, same_operation, copy_steps}
@@ -34,13 +34,13 @@ falls_to f slotless text s t e =
     to ∙ ap (λ (at : ℕ). at + width_at text at) slot
 
 -- a jump comes to its slot
-lands_on : (s t : MachineState) (to : ℤ) → at_slot s to ≡ Some (Next t) → slot_of to ≡ Some t.slot
+lands_on : (s t : MachineState) (to : ℤ) → at_slot s to ≡ Some (Next t) → slot_numbered to ≡ Some t.slot
 lands_on s t (pos to) e = cc
 lands_on s t (negsuc n) e = absurd (cc)
 
 -- a conditional jump comes to its slot or to the next instruction
 branches_to : (text : List ℕ) (s t : MachineState) (test : Bool) (to : ℤ) → (if test then at_slot s to else Some (fallen text s)) ≡ Some (Next t)
-    → (slot_of to ≡ Some t.slot) ⊎ (t.slot ≡ s.slot + width_at text s.slot)
+    → (slot_numbered to ≡ Some t.slot) ⊎ (t.slot ≡ s.slot + width_at text s.slot)
 branches_to text s t true to e = inl (lands_on s t to e)
 branches_to text s t false to e = inr (cc)
 
@@ -88,7 +88,7 @@ copy_leads text lowered origins o s t here copy e =
       | inr jump ↦ lands_at lowered origins (jump_from lowered s.slot) (jump_from text o) t.slot copy.jumps jump
     ]
 
-at_slot_some : (s : MachineState) (to : ℤ) (slot : ℕ) → slot_of to ≡ Some slot → at_slot s to ≡ Some (Next (moved slot s))
+at_slot_some : (s : MachineState) (to : ℤ) (slot : ℕ) → slot_numbered to ≡ Some slot → at_slot s to ≡ Some (Next (moved slot s))
 at_slot_some s (pos to) slot e = ap (λ (x : Option ℕ). option_map (λ at. Next (moved at s)) x) e
 at_slot_some s (negsuc n) slot e = absurd (cc)
 
@@ -97,7 +97,7 @@ jump_steps : (text lowered origins : List ℕ) (s : MachineState) (o : ℕ) → 
 unfolding jump_from step_by
 jump_steps text lowered origins s o here inserted =
     let there = pos (s.slot + width_at lowered s.slot) +ℤ distance_of inserted.distance (insn_at lowered s.slot) in
-    let leads : slot_of there ≡ Some inserted.to = ap (jump_by lowered s.slot) (sym inserted.jump) ∙ inserted.leads in
+    let leads : slot_numbered there ≡ Some inserted.to = ap (jump_by lowered s.slot) (sym inserted.jump) ∙ inserted.leads in
     step_is lowered s (Some (Jump inserted.distance)) (operation_here lowered s.slot here ∙ inserted.jump) ∙ at_slot_some s there inserted.to leads
 
 -- a state of the lowered text, and the run of the original that comes to it at its origin

@@ -15,7 +15,7 @@ use Rattle.bpf_decode.specs.Opcodes.{operation_of, distance_of, sign_extended}
 use Rattle.bpf_decode.specs.Text.{insn_at, slots_of, width_at, IsInstruction}
 use Rattle.insn_alu.specs.Comparisons.{holds}
 use Rattle.interp.specs.Machine.{MachineState, Outcome, Next, Exits, register, operand, fallen, at_slot, jumped, step_alu, step_load, step_store, step_load_immediate, step_call, step_branch, step_exit, operation_at, step_by, step}
-use Rattle.lowering.specs.Covering.{without_distance, undirected, falls_through, slot_of, slot_from, jump_by, jump_from, LeadAlike, IsCopy}
+use Rattle.lowering.specs.Covering.{without_distance, undirected, falls_through, slot_numbered, slot_from, jump_by, jump_from, LeadAlike, IsCopy}
 use Rattle.lowering.specs.Laws.{at_origin}
 use Rattle.lowering.proofs.Moved.{moved, then_alike, then_same, IsSlotless, alu_slotless, load_slotless, load_immediate_slotless, store_slotless, call_slotless}
 
@@ -39,7 +39,7 @@ goes_on f slotless text lowered origins o s e =
     ∙ ap (λ (z : Option MachineState). option_map (outcome_at origins) (z >>= λ t. Some (fallen lowered t))) (sym own)
 
 -- a jump leads to alike slots
-lands_alike : (origins : List ℕ) (o : ℕ) (s : MachineState) (there to : ℤ) → option_map (slice_index origins) (slot_of there) ≡ slot_of to
+lands_alike : (origins : List ℕ) (o : ℕ) (s : MachineState) (there to : ℤ) → option_map (slice_index origins) (slot_numbered there) ≡ slot_numbered to
     → at_slot (moved o s) to ≡ option_map (outcome_at origins) (at_slot s there)
 lands_alike origins o s (pos a) (pos b) e = ap (λ (x : Option ℕ). option_map (λ slot. Next (record s { slot = slot })) x) (sym e)
 lands_alike origins o s (pos a) (negsuc b) e = absurd (cc)

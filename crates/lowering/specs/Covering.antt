@@ -27,13 +27,13 @@ falls_through (Some Exit) = false
 falls_through operation = true
 
 -- the slot with a number, if that isn't before the text
-abbrev pub slot_of : ℤ → Option ℕ
-slot_of (pos slot) = Some slot
-slot_of (negsuc n) = None
+abbrev pub slot_numbered : ℤ → Option ℕ
+slot_numbered (pos slot) = Some slot
+slot_numbered (negsuc n) = None
 
 -- the slot at a distance from the instruction after a slot (RFC 9669, section 4.3)
 abbrev pub slot_from : List ℕ → ℕ → ℤ → Option ℕ
-slot_from text slot distance = slot_of (pos (slot + width_at text slot) +ℤ distance)
+slot_from text slot distance = slot_numbered (pos (slot + width_at text slot) +ℤ distance)
 
 -- the slot to which an operation at a slot may jump
 abbrev pub jump_by : List ℕ → ℕ → Option Operation → Option ℕ
@@ -77,8 +77,8 @@ pub record IsInsertedJump (text lowered origins : List ℕ) (at slot : ℕ) : Ty
   pub copy : IsCopy text lowered origins to slot
 
 -- an instruction of a lowered text is a copy, or a jump that was inserted
-abbrev pub IsCovered : List ℕ → List ℕ → List ℕ → ℕ → Type 0
-IsCovered text lowered origins at =
+abbrev pub IsCoveredAt : List ℕ → List ℕ → List ℕ → ℕ → Type 0
+IsCoveredAt text lowered origins at =
     IsCopy text lowered origins at (slice_index origins at) ⊎ IsInsertedJump text lowered origins at (slice_index origins at)
 
 -- A lowered text covers the original: it begins with an instruction that stands for slot 0, and each of its
@@ -87,4 +87,4 @@ IsCovered text lowered origins at =
 pub record IsCovering (text lowered origins : List ℕ) : Type 0 where
   pub whole : length origins ≡ slots_of lowered
   pub start : HasOrigin lowered origins 0 0
-  pub covered : (at : ℕ) → IsInstruction lowered at → IsCovered text lowered origins at
+  pub covered : (at : ℕ) → IsInstruction lowered at → IsCoveredAt text lowered origins at

@@ -3,7 +3,7 @@
 ghost use Rattle.std.specs.Prelude.{◌≡◌, ◌↔◌, ◌<◌, ◌+◌, ℕ, true, IsTrue, slice_index};
 ghost use Rattle.bpf_decode.specs.Opcodes.{operation_of};
 ghost use Rattle.bpf_decode.specs.Text.{slots_of, insn_at, width_at, is_instruction, IsInstruction};
-ghost use Rattle.lowering.specs.Covering.{undirected, falls_through, LeadAlike, HasOrigin, IsCopy, IsInsertedJump, IsCovered, IsCovering};
+ghost use Rattle.lowering.specs.Covering.{undirected, falls_through, LeadAlike, HasOrigin, IsCopy, IsInsertedJump, IsCoveredAt, IsCovering};
 
 use crate::slots::{begins, falls_through, jump_from, slot_after};
 use bpf_decode::{Distance, Insn, Operation, Program};
@@ -21,7 +21,7 @@ pub fn covers(text: &Program, lowered: &Program, origins: &[u16]) -> bool
 
 /// Whether each instruction of the lowered text is a copy or an inserted jump.
 fn are_covered(text: &Program, lowered: &Program, origins: &[u16]) -> bool
-    ensures { IsTrue result ↔ ((at : ℕ) → IsInstruction lowered.now at → IsCovered text.now lowered.now origins.now at) }
+    ensures { IsTrue result ↔ ((at : ℕ) → IsInstruction lowered.now at → IsCoveredAt text.now lowered.now origins.now at) }
 {
     for at in 0..lowered.slots() {
         if !is_covered(text, lowered, origins, at) {
@@ -34,7 +34,7 @@ fn are_covered(text: &Program, lowered: &Program, origins: &[u16]) -> bool
 /// Whether a slot of the lowered text has a copy or an inserted jump, if an instruction begins there.
 fn is_covered(text: &Program, lowered: &Program, origins: &[u16], at: u32) -> bool
     requires { at < slots_of lowered.now }
-    ensures { IsTrue result ↔ (is_instruction lowered.now at ≡ true → IsCovered text.now lowered.now origins.now at) }
+    ensures { IsTrue result ↔ (is_instruction lowered.now at ≡ true → IsCoveredAt text.now lowered.now origins.now at) }
 {
     if !lowered.begins(at) {
         return true;

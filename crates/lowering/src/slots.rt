@@ -3,7 +3,7 @@
 ghost use Rattle.std.specs.Prelude.{◌≡◌, ◌↔◌, ◌≤◌, ◌+◌, ◌+ℤ◌, pos, IsTrue};
 ghost use Rattle.bpf_decode.specs.Opcodes.{operation_of};
 ghost use Rattle.bpf_decode.specs.Text.{width_at, IsInstruction};
-ghost use Rattle.lowering.specs.Covering.{falls_through, jump_from, slot_of};
+ghost use Rattle.lowering.specs.Covering.{falls_through, jump_from, slot_numbered};
 
 use bpf_decode::{Insn, Operation, Program};
 
@@ -53,7 +53,7 @@ pub(crate) fn slot_after(program: &Program, slot: u32) -> u32
 /// The slot at a distance from a slot, if it is no number below 0.
 fn slot_from(slot: u32, distance: i32) -> Option<u32>
     requires { slot ≤ 4097 }
-    ensures { result ≡ slot_of (pos slot +ℤ distance) }
+    ensures { result ≡ slot_numbered (pos slot +ℤ distance) }
 {
     u32::try_from(i64::from(slot) + i64::from(distance)).ok()
 }
