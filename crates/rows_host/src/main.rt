@@ -5,19 +5,15 @@
 //! and last the exit status, or the words of a fault; it ends with the status of the last. The file `stdout` of
 //! this crate says what is wanted; rows are cheaper there than in tests, whose texts are proved. The output of a
 //! `$ full serve` takes nothing, and that of a `$ stuck serve` fails when it is asked to pass on what it took. In
-//! that of a `$ marked replay` or `$ marked serve` a line `~` stands where it passed on what it took. A `$ failing`
-//! request is answered again for each place at which a read or a write can fail (`faults.rt`), and that of a
-//! `$ cut replay` for each beginning of its file (`cuts.rt`).
+//! that of a `$ marked replay` or `$ marked serve` a line `~` stands where it passed on what it took. A `$ failing` or
+//! `$ cut` request is answered as one without that word; a script asks the program for it while reads and writes fail.
 #![tactic(auto)]
 
 mod asked;
-mod cuts;
-mod faults;
 mod told;
 
 use asked::Asked;
 use engines::{status_of, write_fault};
-use faults::Whole;
 use host_file::FileFault;
 use requests::{Progress, answer_words};
 use std::io;
@@ -177,30 +173,6 @@ fn plain(line: &str) -> &str {
     }
 }
 
-/// Prints at how many places reads and writes fail as they should, where the request asks for that.
-fn print_faults<R>(rt: &R, line: &str, below: &str, told: &Told) -> io::Result<()>
-where
-    R: AllocGlobal + Print + Threads + Wait + Sync,
-{
-    let whole = Whole {
-        asked: Asked::of(plain(line)),
-        file: below.as_bytes(),
-        told,
-    };
-    if line.starts_with(CUT) {
-        let (files, bad) = whole.cuts(rt);
-        return println!(rt; "cut: {files} host files, {bad} bad files");
-    }
-    if line.starts_with(FAILING) {
-        if !below.is_empty() {
-            println!(rt; "reads that fail: {}", whole.unread(rt))?;
-        }
-        println!(rt; "writes that fail: {}", whole.unwritten(rt))?;
-        println!(rt; "flushes that fail: {}", whole.unpassed(rt))?;
-    }
-    Ok(())
-}
-
 /// Prints the lines of some bytes, each behind a mark.
 fn print_lines(rt: &impl Print, mark: &str, bytes: &[u8]) -> io::Result<()> {
     for line in str::from_utf8(bytes).unwrap_or("no text").lines() {
@@ -225,7 +197,6 @@ fn print_answer<R: AllocGlobal + Clock + Files + Print + Threads + Wait + Sync>(
         Ok(status) => println!(rt; "= {status}")?,
         Err(fault) => print_fault(rt, fault)?,
     }
-    print_faults(rt, line, below, &told)?;
     Ok(status_of(&outcome))
 }
 

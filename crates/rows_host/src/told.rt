@@ -36,19 +36,4 @@ impl Told {
     {
         asked.answer(rt, reader, &mut self.output, &mut self.words)
     }
-
-    pub(crate) fn is_empty(&self) -> bool {
-        self.output.is_empty() && self.words.is_empty()
-    }
-
-    /// Whether it begins with an output and with words.
-    pub(crate) fn begins(&self, output: &[u8], words: &[u8]) -> bool {
-        self.output.as_slice().starts_with(output) && self.words.as_slice().starts_with(words)
-    }
-
-    /// Whether it is so many lines of an output, without words.
-    pub(crate) fn is_front(&self, lines: usize, output: &[u8]) -> bool {
-        let ends = self.output.iter().filter(|byte| **byte == b'\n').count();
-        self.words.is_empty() && ends == lines && output.starts_with(self.output.as_slice())
-    }
 }
