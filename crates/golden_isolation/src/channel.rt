@@ -19,22 +19,22 @@ const FRAMES: u32 = 12;
 /// As many visits as find each of three pages twice.
 const VISITS: u32 = 6;
 
-/// More pages than there are frames.
+/// More values of a page each than there are frames.
 const MANY: u32 = 100;
 
-/// A map of so many pages, each a value's.
-fn map_of(tenant: u32, pages: u32) -> Event {
+/// A map of so many values.
+fn map_of(tenant: u32, value_size: u32, entries: u32) -> Event {
     Event::CreateMap {
         tenant,
-        value_size: 4096,
-        entries: pages,
+        value_size,
+        entries,
         mergeable: true,
     }
 }
 
 /// A value of ones is written to the first element of a tenant's first map.
-fn store(alloc: Global, tenant: u32) -> Result<Event, AllocError> {
-    let value = bytes_of(alloc, 4096, 1)?;
+fn store(alloc: Global, tenant: u32, value_size: u32) -> Result<Event, AllocError> {
+    let value = bytes_of(alloc, value_size, 1)?;
     Ok(Event::HostUpdate {
         tenant,
         map: 0,
@@ -46,24 +46,29 @@ fn store(alloc: Global, tenant: u32) -> Result<Event, AllocError> {
 /// Both tenants' maps, whose pages come to lie on the frame of zeros.
 fn opening(alloc: Global) -> Result<Vec<Event>, AllocError> {
     let mut events = Vec::new(alloc);
-    events.push(map_of(STORES, 2))?;
-    events.push(map_of(TOLD, 1))?;
+    events.push(map_of(STORES, 4096, 2))?;
+    events.push(map_of(TOLD, 8, 2))?;
     for _ in 0..VISITS {
         events.push(Event::Visit)?;
     }
     Ok(events)
 }
 
-/// The tenant asks for more frames than there are, reads, and writes.
+/// The tenant asks for more frames than there are. The other one's map is dropped, and the tenant writes one element
+/// and reads the other one, which lies in the same page.
 fn push_asking(alloc: Global, events: &mut Vec<Event>) -> Result<(), AllocError> {
-    events.push(map_of(TOLD, MANY))?;
+    events.push(map_of(TOLD, 4096, MANY))?;
+    events.push(Event::DropMap {
+        tenant: STORES,
+        map: 0,
+    })?;
+    let value = store(alloc, TOLD, 8)?;
+    events.push(value)?;
     events.push(Event::HostLookup {
         tenant: TOLD,
         map: 0,
-        key: 0,
+        key: 1,
     })?;
-    let last = store(alloc, TOLD)?;
-    events.push(last)?;
     Ok(())
 }
 
@@ -71,7 +76,7 @@ fn push_asking(alloc: Global, events: &mut Vec<Event>) -> Result<(), AllocError>
 fn list_of(alloc: Global, with_store: bool) -> Result<Vec<Event>, AllocError> {
     let mut events = opening(alloc)?;
     if with_store {
-        let value = store(alloc, STORES)?;
+        let value = store(alloc, STORES, 4096)?;
         events.push(value)?;
     }
     push_asking(alloc, &mut events)?;

@@ -2,6 +2,7 @@
 //! free. Nothing here changes a memory or takes memory.
 #![tactic(auto)]
 
+mod line;
 mod numbers;
 mod telling;
 

@@ -1,7 +1,8 @@
-ghost use Rattle.std.specs.Prelude.{Some};
+ghost use Rattle.std.specs.Prelude.{◌≡◌};
 ghost use Rattle.ksm_counters.specs.Counters.{counters_text};
+ghost use Rattle.ksm_counters.specs.Lines.{lines_text};
 
-use std::fmt;
+use crate::line::Line;
 
 /// The counters of a memory, by the names of the kernel's manual.
 #[derive(Clone, Copy, Debug, PartialEq, Eq)]
@@ -26,23 +27,24 @@ pub struct Counters {
     pub frames_free: u32,
 }
 
-impl fmt::Display for Counters {
-    ghost output = { λ counters. Some (counters_text counters) };
-
-    fn fmt<W: fmt::Write>(&self, f: &mut fmt::Formatter<W>) -> fmt::Result {
-        let now = *self;
-        write!(
-            f,
-            "pages_shared {}\npages_sharing {}\npages_unshared {}\npages_volatile {}\nfull_scans {}\nksm_zero_pages {}\nstable_node_chains {}\nstable_node_dups {}\nframes_free {}\n",
-            now.pages_shared,
-            now.pages_sharing,
-            now.pages_unshared,
-            now.pages_volatile,
-            now.full_scans,
-            now.ksm_zero_pages,
-            now.stable_node_chains,
-            now.stable_node_dups,
-            now.frames_free,
-        )
+impl Counters {
+    /// A line for each counter, in the order of the kernel's manual.
+    pub(crate) fn lines(&self) -> [Line; 9]
+        ensures { lines_text result ≡ counters_text self.now }
+    {
+        [
+            Line::of("pages_shared", self.pages_shared),
+            Line::of("pages_sharing", self.pages_sharing),
+            Line::of("pages_unshared", self.pages_unshared),
+            Line::of("pages_volatile", self.pages_volatile),
+            Line {
+                name: "full_scans",
+                value: self.full_scans,
+            },
+            Line::of("ksm_zero_pages", self.ksm_zero_pages),
+            Line::of("stable_node_chains", self.stable_node_chains),
+            Line::of("stable_node_dups", self.stable_node_dups),
+            Line::of("frames_free", self.frames_free),
+        ]
     }
 }

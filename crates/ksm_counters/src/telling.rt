@@ -1,8 +1,10 @@
-ghost use Rattle.std.specs.Prelude.{◌≡◌, OnOk, length};
+ghost use Rattle.std.specs.Prelude.{◌≡◌, OnErr, OnOk, length};
 ghost use Rattle.std.specs.Io.KnownBytes.{Appends};
 ghost use Rattle.page_table.specs.Changes.{contents_now};
 ghost use Rattle.ksm_counters.specs.Counters.{counters_of, counters_text};
+ghost use Rattle.ksm_counters.specs.Lines.{AppendsBeginning};
 
+use crate::line::write_lines;
 use crate::numbers::Counters;
 use page_table::Memory;
 use std::io;
@@ -28,9 +30,11 @@ pub fn counters(memory: &Memory) -> Counters
     }
 }
 
-/// Writes the counters, a line with its name and value for each. The writer's fault is handed on.
+/// Writes the counters, a line with its name and value for each. The writer's fault is handed on, and what
+/// was written by then is a beginning of the lines.
 pub fn text<W: Write>(counters: &Counters, writer: &mut W) -> io::Result<()>
     ensures lines { OnOk result (Appends (W.contents writer.old) (W.contents writer.new) (counters_text counters.now)) }
+    ensures beginning { OnErr result (AppendsBeginning (W.contents writer.old) (W.contents writer.new) (counters_text counters.now)) }
 {
-    write!(writer, "{counters}")
+    write_lines(&counters.lines(), writer)
 }

@@ -1,4 +1,4 @@
-use Rattle.std.proofs.Common.{◌≡◌, ◌∙◌, None, Some, refl, subst, ap, arith}
+use Rattle.std.proofs.Common.{◌≡◌, ◌∙◌, refl, subst, ap, arith}
 use Rattle.host_types.specs.Pins.{released}
 use Rattle.admission.specs.Reserve.{needed_from}
 use Rattle.interp.specs.declared.need.Need.{Need}

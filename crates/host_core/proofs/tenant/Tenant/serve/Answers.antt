@@ -14,6 +14,9 @@ returns-in-Begin c = rw (c.in-Begin.is, same_Some c.in-Begin.tenant c.args.numbe
 pub returns-in-HostUpdate : goal.returns-in-HostUpdate
 returns-in-HostUpdate c = rw (c.in-HostUpdate.is, same_Some c.in-HostUpdate.tenant c.args.number (rw c.in-HostUpdate.is at c.requires.named), sym c.as_slice-in-HostUpdate.ensures) c.update.ensures
 
+pub returns-in-HostLookup : goal.returns-in-HostLookup
+returns-in-HostLookup c = rw (c.in-HostLookup.is, same_Some c.in-HostLookup.tenant c.args.number (rw c.in-HostLookup.is at c.requires.named)) c.lookup.ensures
+
 pub returns-in-Unload : goal.returns-in-Unload
 returns-in-Unload c = rw (c.in-Unload.is, same_Some c.in-Unload.tenant c.args.number (rw c.in-Unload.is at c.requires.named)) c.unload.ensures
 
