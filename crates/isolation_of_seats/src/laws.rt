@@ -2,7 +2,6 @@ ghost use Rattle.isolation_of_seats.specs.Laws.{RunsAreDetermined, PlansAreIsola
 
 /// Two whole runs of a program on one context and equal maps have one reply, and leave equal maps. This is a law about the definitions:
 /// the function does nothing.
-#[tactic(auto, using(crate::proofs::Determined::runs_are_determined))]
 pub fn runs_are_determined()
     ensures { RunsAreDetermined }
 {}
