@@ -1,3 +1,4 @@
 pub mod Moved
 pub mod Steps
 pub mod Running
+pub mod Refusals

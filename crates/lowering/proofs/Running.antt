@@ -13,7 +13,7 @@ use Rattle.insn_alu.specs.Comparisons.{holds}
 use Rattle.interp.specs.Machine.{MachineState, Outcome, Next, Exits, start_state, register, operand, fallen, at_slot, jumped, step_alu, step_load, step_store, step_load_immediate, step_call, step_branch, step_exit, step_by, step}
 use Rattle.interp.specs.Runs.{Runs}
 use Rattle.lowering.specs.Covering.{falls_through, slot_numbered, slot_from, jump_by, jump_from, LeadAlike, IsCopy, IsInsertedJump, IsCovering}
-use Rattle.lowering.specs.Laws.{ComesTo, Ends, at_origin, CoveringEndsAlike, StatesHaveOrigins, FailuresHaveOrigins, FailuresAreKept}
+use Rattle.lowering.specs.Laws.{ComesTo, Ends, at_origin, CoveringEndsAlike, StatesHaveOrigins, FailuresHaveOrigins, FailuresAreKept, CoveringKeepsFaultless}
 use Rattle.lowering.proofs.Moved.{moved, IsSlotless, alu_slotless, load_slotless, load_immediate_slotless, store_slotless, call_slotless}
 use Rattle.lowering.proofs.Steps.{outcome_at, by, step_is, operation_here, same_operation, copy_steps}
 
@@ -227,3 +227,8 @@ ends_forth text lowered origins context maps number left covering (suc n) e =
 pub ends_alike : CoveringEndsAlike
 ends_alike text lowered origins covering context maps number left =
     (λ ends. ends_forth text lowered origins context maps number left covering ends.0 ends.1, λ ends. ends_back text lowered origins context maps number left covering ends.0 ends.1)
+
+pub keeps_faultless : CoveringKeepsFaultless
+keeps_faultless text lowered origins covering context maps faultless s fails =
+    let kept = failures_are_kept text lowered origins context maps s covering fails in
+    faultless kept.0 kept.1

@@ -47,3 +47,15 @@ abbrev pub FailuresAreKept : Type 0
 FailuresAreKept =
     (text lowered origins context : List ℕ) (maps : FlatMaps) (s : MachineState) → IsCovering text lowered origins
     → Fails text context maps s → (t : MachineState) × Fails lowered context maps t × (at_origin origins t ≡ s)
+
+-- no run of a text with a context and maps fails
+abbrev pub IsFaultless : List ℕ → List ℕ → FlatMaps → Type 0
+IsFaultless text context maps = (s : MachineState) → Fails text context maps s → ⊥
+
+-- where no run of another text fails, none of this one fails
+abbrev pub KeepsFaultless : List ℕ → List ℕ → Type 0
+KeepsFaultless text other = (context : List ℕ) (maps : FlatMaps) → IsFaultless other context maps → IsFaultless text context maps
+
+-- where a lowered text never fails, as the verifier grants of those that it accepts, the original never fails
+abbrev pub CoveringKeepsFaultless : Type 0
+CoveringKeepsFaultless = (text lowered origins : List ℕ) → IsCovering text lowered origins → KeepsFaultless text lowered

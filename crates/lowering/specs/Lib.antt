@@ -1,2 +1,3 @@
 pub mod Covering
 pub mod Laws
+pub mod Lowering

@@ -1,11 +1,21 @@
-//! Lowering: a text may become another one with the same runs, in which its blocks stand in another order and its loops
+//! Lowering: a text becomes another one with the same runs, in which its blocks stand in another order and its loops
 //! in several copies, so that the verifier, which knows forward jumps alone, accepts more. Here is what such a text is,
-//! what it keeps, and the check of one.
+//! what it keeps, the check of one, and the call that makes one.
 #![tactic(auto)]
 
+mod accept;
+mod blocks;
 mod covering;
+mod emit;
 mod laws;
+mod order;
+mod rewriting;
+mod row;
 mod slots;
+mod stop;
+mod unroll;
 
 pub use covering::covers;
 pub use laws::covering_keeps_runs;
+pub use rewriting::{Lowered, NotLowered, lower};
+pub use stop::Stop;

@@ -57,3 +57,11 @@ fn slot_from(slot: u32, distance: i32) -> Option<u32>
 {
     u32::try_from(i64::from(slot) + i64::from(distance)).ok()
 }
+
+/// Whether an instruction may jump.
+pub(crate) fn is_jump(insn: &Insn) -> bool {
+    matches!(
+        Operation::of(insn.opcode),
+        Some(Operation::Jump { .. } | Operation::Branch { .. })
+    )
+}

@@ -5,4 +5,5 @@ pub mod Jobs
 pub mod Kept
 pub mod Options
 pub mod Resting
+pub mod Scans
 pub mod Turns

@@ -33,8 +33,8 @@ pub created_rests : (result : Result ℕ Fault) (old new : TenantPart) (shape : 
 created_rests (Ok m) old new shape resting created kept = rw created (record { running = resting.running; reserve = resting.reserve })
 created_rests (Err fault) old new shape resting created kept = rw kept resting
 
-pub updated_rests : (result : Result Unit Fault) (old new : TenantPart) (m key : ℕ) (value : List ℕ) → OnOk result (old.running ≡ false → new ≡ part_updated old m key value 0) → OnErr result (new ≡ old) → IsResting old → IsResting new
-updated_rests (Ok done) old new m key value updated kept resting = rw (updated resting.running) (record { running = resting.running; reserve = resting.reserve })
+pub updated_rests : (result : Result Unit Fault) (old new : TenantPart) (m key : ℕ) (value : List ℕ) → OnOk result (new ≡ part_updated old m key value 0) → OnErr result (new ≡ old) → IsResting old → IsResting new
+updated_rests (Ok done) old new m key value updated kept resting = rw updated (record { running = resting.running; reserve = resting.reserve })
 updated_rests (Err fault) old new m key value updated kept resting = rw kept resting
 
 pub dropped_rests : (result : Result Unit Fault) (old new : TenantPart) (m : ℕ) → IsResting old → OnOk result (new ≡ part_dropped old m) → OnErr result (new ≡ old) → IsResting new

@@ -13,8 +13,7 @@ use Rattle.host_types.specs.declared.visited.Visited.{Visited}
 use Rattle.page_table.specs.Limits.{page_count}
 use Rattle.page_table.specs.State.{MemoryState, part}
 use Rattle.page_table.specs.Changes.{contents_now, with_new_pages, pages_of_map, IsKeptBut, KeepsSettings}
-use Rattle.write_break.specs.Stores.{pinned_as}
-use Rattle.map_helpers.specs.Updates.{part_updated, updated_sharing}
+use Rattle.map_helpers.specs.Updates.{part_updated, updated_sharing_as}
 use Rattle.turn.specs.Seats.{SeatState}
 
 -- a seat that holds nothing, as it knows the memory after so many turns
@@ -62,11 +61,11 @@ pub record HasMap (tenant m : ℕ) (shape : Shape) (mergeable : Bool) (old new :
   pub settings : KeepsSettings old new
 
 -- A value was written to an element of a map of a tenant, which had this part before: its maps are those of the
--- update. The pages that it wrote left their groups and the frame of zeros, and nothing else changed of which pages
--- share frames, nor another tenant's part.
+-- update, and no page is pinned for it. The pages that it wrote left their groups and the frame of zeros, and nothing
+-- else changed of which pages share frames, nor another tenant's part.
 pub record HasUpdated (owned : TenantPart) (tenant m key : ℕ) (value : List ℕ) (old new : MemoryState) : Type 0 where
-  pub written : part new tenant ≡ pinned_as new.sharing tenant (part_updated owned m key value 0)
-  pub sharing : new.sharing ≡ updated_sharing owned old.sharing tenant m key 0
+  pub written : part new tenant ≡ part_updated owned m key value 0
+  pub sharing : new.sharing ≡ updated_sharing_as false owned old.sharing tenant m key 0
   pub others : IsKeptBut tenant old new
   pub settings : KeepsSettings old new
 

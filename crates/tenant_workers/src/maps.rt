@@ -1,4 +1,4 @@
-ghost use Rattle.std.specs.Prelude.{◌≡◌, Some, false, OnOk, IfOk, IfErr, OnErr, IsSome};
+ghost use Rattle.std.specs.Prelude.{◌≡◌, Some, OnOk, IfOk, IfErr, OnErr, IsSome};
 ghost use Rattle.host_types.specs.Memory.{map_at};
 ghost use Rattle.host_types.specs.Tenant.{part_dropped};
 ghost use Rattle.page_table.specs.Changes.{part_created};
@@ -86,7 +86,7 @@ impl Shared {
     }
 
     /// Writes a value to an element of a map of the seat's tenant. The pages that it writes leave their groups and
-    /// the zero frame, and are pinned where the tenant has an open run; nothing else changes.
+    /// the zero frame, and none is pinned; nothing else changes.
     ///
     /// Refusals in their order: 34 where the tenant has no such map, 35 where the map has no such element, 33
     /// where the value has another size than the map's, 31 just where what is charged for an update of the
@@ -108,8 +108,8 @@ impl Shared {
         ensures fits { OnOk result (FitsValue (own_part seat.old) map key value.now) }
         ensures maps { OnOk result
             ((own_part seat.new).maps ≡ maps_updated (own_part seat.old).maps map key value.now 0) }
-        ensures updated { OnOk result ((own_part seat.old).running ≡ false
-            → own_part seat.new ≡ part_updated (own_part seat.old) map key value.now 0) }
+        ensures updated { OnOk result
+            (own_part seat.new ≡ part_updated (own_part seat.old) map key value.now 0) }
         ensures made { OnOk result
             (HasChanged (HasUpdated (own_part seat.old) seat.old.view.first map key value.now) seat.old seat.new) }
         ensures refused { IfErr result (RefusesUpdate (own_part seat.old) map key value.now) }

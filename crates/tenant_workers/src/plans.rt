@@ -37,6 +37,12 @@ pub struct ScanPlan<'a> {
     pub ghost idle: { IsIdle shared.now seat },
 }
 
+/// The scanner's plan, lent to its thread.
+#[derive(Drop)]
+pub(crate) struct Scanning<'x, 'a> {
+    pub(crate) plan: &'x mut ScanPlan<'a>,
+}
+
 /// What `serve` does: a thread for each tenant, and one for the scanner.
 #[derive(Drop)]
 pub struct Plan<'a> {

@@ -1,9 +1,10 @@
 ghost use Rattle.std.specs.Prelude.{◌≡◌, ◌≤◌, IfErr, OnErr, OnOk, All, length, replicate, vec_capacity, Err};
 ghost use Rattle.host_types.specs.declared.fault.Fault.TheVariants.{OutOfMemory};
-ghost use Rattle.tenant_workers.specs.Plans.{AreSamePlans, AreServed, HasReplyRoom, HasScanned, IsFor, IsPlanMade, IsPlanRefused, IsScanServed, planned_by};
+ghost use Rattle.tenant_workers.specs.Plans.{AreSamePlans, AreServed, HasReplyRoom, IsFor, IsPlanMade, IsPlanRefused, planned_by};
+ghost use Rattle.tenant_workers.specs.Scans.{IsScanMade, IsScanRefused};
 
 use crate::gate::{Gate, Passed};
-use crate::plans::{Plan, ScanPlan, TenantPlan};
+use crate::plans::{Plan, Scanning, TenantPlan};
 use crate::shared::Shared;
 use crate::threads::{Job, Room, run_jobs};
 use host_types::Fault;
@@ -17,8 +18,8 @@ use std::thread::Threads;
 ///
 /// Afterwards each tenant has as many replies as runs: those of its runs in order, from its part as it was, each
 /// with what the one before left, whatever the other threads did. Where its thread can't be started they
-/// are all `Err(OutOfMemory)`, its seat stays, and the others go on. The scanner made as many visits as are
-/// planned, or none where its thread can't be started.
+/// are all `Err(OutOfMemory)`, its seat stays, and the others go on. That the scanner made as many visits as are
+/// planned, or none where its thread can't be started, is a clause of `run_jobs`.
 ///
 /// The one refusal is 41, where the room for the replies or for the threads can't be had. Then no thread was
 /// started, and the plan is as it was.
@@ -32,7 +33,6 @@ pub fn serve<R: Threads + Wait + Sync, G: Gate + Sync>(
     requires tenants { All (IsFor shared.now) plan.old.tenants.items }
     requires scan { plan.old.scan.shared.now ≡ shared.now }
     ensures served { OnOk result (AreServed plan.old.tenants.items plan.new.tenants.items) }
-    ensures scanned { OnOk result (IsScanServed plan.old.scan plan.new.scan) }
     ensures refused { IfErr result (λ fault. fault ≡ OutOfMemory) }
     ensures tenants_kept { OnErr result (AreSamePlans plan.old.tenants.items plan.new.tenants.items) }
     ensures scan_kept { OnErr result (plan.new.scan ≡ plan.old.scan) }
@@ -52,8 +52,7 @@ pub fn serve<R: Threads + Wait + Sync, G: Gate + Sync>(
     let scanning = Scanning {
         plan: &mut plan.scan,
     };
-    let (tenants, scanned) = run_jobs(rt, alloc, tenants, room, scanning, gate);
-    take_back(scanned.plan);
+    let (tenants, _scanned) = run_jobs(rt, alloc, tenants, room, scanning, gate);
     plan.tenants = tenants;
     gate.pass(rt, Passed::End);
     Ok(())
@@ -120,18 +119,12 @@ impl<'a> Job for TenantPlan<'a> {
     }
 }
 
-/// The scanner's plan, lent to its thread.
-#[derive(Drop)]
-struct Scanning<'x, 'a> {
-    plan: &'x mut ScanPlan<'a>,
-}
-
 impl<'x, 'a> Job for Scanning<'x, 'a> {
     ghost is_ready = { λ _. Unit {0} };
 
-    ghost is_done = { λ old new. (new.plan.ghost_name ≡ old.plan.ghost_name) × HasScanned old.plan.now new.plan.now };
+    ghost is_done = { IsScanMade };
 
-    ghost is_refused = { λ old new. (new.plan.ghost_name ≡ old.plan.ghost_name) × (new.plan.now ≡ old.plan.now) };
+    ghost is_refused = { IsScanRefused };
 
     fn run<R: Wait>(self, rt: &R, _alloc: Global, gate: &impl Gate) -> Scanning<'x, 'a> {
         let Scanning { plan } = self;
@@ -143,8 +136,3 @@ impl<'x, 'a> Job for Scanning<'x, 'a> {
         self
     }
 }
-
-/// Ends a loan that came back from a thread: what is known of it is known of what was lent.
-fn take_back<T>(lent: &mut T)
-    ensures { lent.new ≡ lent.old }
-{}

@@ -2,8 +2,10 @@
 
 ghost use Rattle.std.specs.Prelude.{◌≡◌, ◌≤◌, [], All, IfOk, vec_len, vec_capacity};
 ghost use Rattle.tenant_workers.specs.Jobs.{AreEach, HasRoomForJobs, IsJobBegun, IsJobDone, MayBecome};
+ghost use Rattle.tenant_workers.specs.Plans.{IsScanServed};
 
 use crate::gate::Gate;
+use crate::plans::Scanning;
 use std::alloc::{AllocError, Global};
 use std::snapshot::Snapshot;
 use std::sync::Wait;
@@ -65,24 +67,23 @@ impl<T: Job + Drop> Room<T> {
 
 /// Has each job done by a thread of its own, beside a thread that scans, and waits until all have ended. What came
 /// of the jobs stands in their order.
-pub(crate) fn run_jobs<R, G, T, S>(
+pub(crate) fn run_jobs<'x, 'a, R, G, T>(
     rt: &R,
     alloc: Global,
     jobs: Vec<T>,
     room: Room<T>,
-    scan: S,
+    scan: Scanning<'x, 'a>,
     gate: &G,
-) -> (Vec<T>, S)
+) -> (Vec<T>, Scanning<'x, 'a>)
 where
     R: Threads + Wait + Sync,
     G: Gate + Sync,
     T: Job + Send + Drop,
-    S: Job + Send + Drop,
     requires ready { All T.is_ready jobs.items }
-    requires scan { S.is_ready scan }
     requires room { HasRoomForJobs (vec_len jobs) room }
     ensures jobs { AreEach (MayBecome T.is_done T.is_refused) jobs.items result.0.items }
-    ensures scan { MayBecome S.is_done S.is_refused scan result.1 }
+    ensures lent { result.1.plan.ghost_name ≡ scan.entry.plan.ghost_name }
+    ensures scan { IsScanServed scan.entry.plan.now result.1.plan.now }
 {
     let Room { begun, done } = room;
     let none_refused = AtomicUsize::new(usize::MAX);
@@ -90,15 +91,15 @@ where
     thread::scope(
         thread::scope_env(),
         rt,
-        move |scope| -> (Vec<T>, S)
+        move |scope| -> (Vec<T>, Scanning<'_, '_>)
             requires ready { All T.is_ready jobs.items }
-            requires scan { S.is_ready scan }
             requires none_begun { begun.items ≡ [] }
             requires room_begun { vec_len jobs ≤ vec_capacity begun }
             requires none_done { done.items ≡ [] }
             requires room_done { vec_len jobs ≤ vec_capacity done }
             ensures jobs { AreEach (MayBecome T.is_done T.is_refused) jobs.items result.0.items }
-            ensures scan { MayBecome S.is_done S.is_refused scan result.1 }
+            ensures lent { result.1.plan.ghost_name ≡ scan.entry.plan.ghost_name }
+            ensures scan { IsScanServed scan.entry.plan.now result.1.plan.now }
         {
             let scanner = begin(scope, rt, alloc, jobs.len(), scan, gate, refused);
             let mut begun = begun;

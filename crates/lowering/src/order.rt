@@ -1,0 +1,118 @@
+//! An order of blocks in which only loops lead back: the weak topological order of F. Bourdoncle, "Efficient chaotic
+//! iteration strategies with widenings" (1993). A loop's blocks stand side by side, its header first.
+
+use crate::blocks::Blocks;
+use crate::row::Item;
+use crate::stop::Stop;
+use std::alloc::Global;
+
+/// The number of a block that stands in the row.
+const IN_ROW: u32 = u32::MAX;
+
+/// How often blocks are visited at most. A block is visited once more for each loop that it is in.
+const MAX_VISITS: u32 = 262_144;
+
+/// A walk over the blocks, depth first.
+#[derive(Drop)]
+struct Walk {
+    /// The number of each block by its slot, in the order in which they were visited; 0 of one that wasn't.
+    numbers: Vec<u32>,
+    visited: u32,
+    /// The blocks that were visited and don't stand in the row.
+    path: Vec<u16>,
+    /// The row, its last item first.
+    row: Vec<Item>,
+}
+
+/// The blocks in an order in which only loops lead back. The blocks of each loop are followed by the jump to its header.
+pub(crate) fn in_loop_order(alloc: Global, blocks: &Blocks) -> Result<Vec<Item>, Stop> {
+    let mut numbers = Vec::new(alloc);
+    for _ in 0..blocks.slots() {
+        numbers.push(0)?;
+    }
+    let mut walk = Walk {
+        numbers,
+        visited: 0,
+        path: Vec::new(alloc),
+        row: Vec::new(alloc),
+    };
+    walk.visit(blocks, 0, 4096)?;
+    walk.row.reverse();
+    Ok(walk.row)
+}
+
+/// Gives a block a number.
+fn set_number(numbers: &mut Vec<u32>, slot: u16, number: u32) {
+    if let Some(old) = numbers.get_mut(usize::from(slot)) {
+        *old = number;
+    }
+}
+
+impl Walk {
+    /// The number of a block.
+    fn number(&self, slot: u16) -> u32 {
+        match self.numbers.get(usize::from(slot)) {
+            Some(number) => *number,
+            None => IN_ROW,
+        }
+    }
+
+    /// Visits a block, and those to which it leads. The answer is the least number of a block to which they lead and
+    /// which isn't in the row.
+    #[cycle(walk)]
+    fn visit(&mut self, blocks: &Blocks, slot: u16, depth: u16) -> Result<u32, Stop> {
+        let Some(block) = blocks.at(slot) else {
+            return Ok(IN_ROW);
+        };
+        if self.visited >= MAX_VISITS {
+            return Err(Stop::Nested {
+                slot: u32::from(slot),
+            });
+        }
+        self.visited += 1;
+        let number = self.visited;
+        set_number(&mut self.numbers, slot, number);
+        self.path.push(slot)?;
+        let jump = self.least(blocks, block.jump, depth)?;
+        let next = self.least(blocks, block.next, depth)?;
+        let least = jump.min(next);
+        if least < number {
+            return Ok(least);
+        }
+        self.leave(slot);
+        if least == number {
+            self.row.push(Item::Back {
+                header: slot,
+                copies: 1,
+            })?;
+            self.least(blocks, block.jump, depth)?;
+            self.least(blocks, block.next, depth)?;
+        }
+        self.row.push(Item::Block(slot))?;
+        Ok(number)
+    }
+
+    /// The least number to which a way leads.
+    #[cycle(walk)]
+    fn least(&mut self, blocks: &Blocks, to: Option<u16>, depth: u16) -> Result<u32, Stop> {
+        let Some(to) = to else {
+            return Ok(IN_ROW);
+        };
+        match self.number(to) {
+            0 if depth > 0 => self.visit(blocks, to, depth - 1),
+            number => Ok(number),
+        }
+    }
+
+    /// Marks a block as one of the row, and forgets the blocks of its loop, which are visited once more without the way
+    /// to it.
+    fn leave(&mut self, slot: u16) {
+        while let Some(top) = self.path.pop() {
+            if top == slot {
+                set_number(&mut self.numbers, slot, IN_ROW);
+                return;
+            }
+            set_number(&mut self.numbers, top, 0);
+        }
+    }
+}
