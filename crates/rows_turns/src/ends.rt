@@ -1,14 +1,24 @@
 //! What a turn gives back at its end, for every tenant and whichever seat ends it.
 
-use crate::numbers::{TENANTS, grow, number, tenants};
-use crate::seats::Three;
+ghost use Rattle.std.specs.Prelude.{◌≡◌, IfOk};
+ghost use Rattle.turn.specs.Seats.{IsIdle};
+
+use crate::numbers::{grow, number, tenants, with_numbers};
 use crate::tell;
 use host_types::{Fault, Options};
 use page_table::Memory;
 use std::alloc::Global;
 use std::io;
 use std::sync::Wait;
-use turn::Turn;
+use turn::{HostSeat, ScanSeat, Seat, Turn};
+
+/// Three tenants and ten frames.
+pub(crate) struct Three {
+    pub(crate) turn: Turn,
+    pub(crate) seats: (Seat, Seat, Seat),
+    pub(crate) scanner: ScanSeat,
+    pub(crate) host: HostSeat,
+}
 
 /// Options of which none has its usual value.
 const OPTIONS: Options = Options {
@@ -18,9 +28,35 @@ const OPTIONS: Options = Options {
     max_page_sharing: 3,
 };
 
+pub(crate) fn three_tenants(alloc: Global) -> Result<Three, Fault>
+    ensures first { IfOk result (λ three. IsIdle three.turn three.seats.0) }
+    ensures second { IfOk result (λ three. IsIdle three.turn three.seats.1) }
+    ensures third { IfOk result (λ three. IsIdle three.turn three.seats.2) }
+    ensures scanner { IfOk result (λ three. IsIdle three.turn three.scanner) }
+    ensures host { IfOk result (λ three. IsIdle three.turn three.host) }
+{
+    let memory = with_numbers(alloc, 10, 3, OPTIONS)?;
+    let (turn, mut seats, scanner, host) = Turn::new(alloc, memory, 3)?;
+    let third = seats.remove(2);
+    let second = seats.remove(1);
+    let first = seats.remove(0);
+    Ok(Three {
+        turn,
+        seats: (first, second, third),
+        scanner,
+        host,
+    })
+}
+
 /// The memory after each tenant's number grew and the scanner and the host had a turn, by the seat
 /// that ends it. None too where one of these saw another number of tenants.
-fn ended_by(rt: &impl Wait, three: Three, ending: u32) -> Option<Memory> {
+fn ended_by(rt: &impl Wait, three: Three, ending: u32) -> Option<Memory>
+    requires first { IsIdle three.turn three.seats.0 }
+    requires second { IsIdle three.turn three.seats.1 }
+    requires third { IsIdle three.turn three.seats.2 }
+    requires scanner { IsIdle three.turn three.scanner }
+    requires host { IsIdle three.turn three.host }
+{
     let Three {
         turn,
         seats,
@@ -57,7 +93,7 @@ fn is_whole(memory: Option<Memory>) -> bool {
 
 /// Whether the memory is whole, by the seat that ends the turn.
 fn is_whole_by(rt: &(impl Wait + AllocGlobal), ending: u32) -> Result<bool, Fault> {
-    let three = Three::new(rt.alloc(), 10, TENANTS, OPTIONS)?;
+    let three = three_tenants(rt.alloc())?;
     Ok(is_whole(ended_by(rt, three, ending)))
 }
 
@@ -73,7 +109,7 @@ fn whole(rt: &(impl Wait + AllocGlobal)) -> Result<[bool; 3], Fault> {
 
 /// Whether a new turn's seats are numbered from 0 on, where there is one for so many tenants.
 fn is_numbered(alloc: Global, seats: u32) -> Result<bool, Fault> {
-    let memory = Memory::new(alloc, 2, TENANTS, OPTIONS)?;
+    let memory = Memory::new(alloc, 2, 3, OPTIONS)?;
     let (_turn, seats, _scanner, _host) = Turn::new(alloc, memory, seats)?;
     Ok(seats.iter().map(|seat| seat.tenant()).eq(0..3))
 }

@@ -1,18 +1,19 @@
 //! Gates at which others have turns of their own between the instructions of a run. That what they do stands between
 //! those instructions, no contract says.
 
-use crate::party::Host;
+ghost use Rattle.std.specs.Prelude.{◌≡◌};
+ghost use Rattle.turn.specs.Seats.{IsIdle};
+
+use crate::tell;
+use crate::tenants::{Tenant, two_tenants};
 use host_types::Fault;
-use ksm_counters::Counters;
-use std::alloc::Global;
+use std::io;
 use std::sync::{Mutex, Wait};
 use tenant_runs::RunReply;
-use tenant_workers::{Gate, Open, ScanPlan, TenantPlan};
-
-/// The slot of the counter's store, and the one after it.
-const STORE: u32 = 11;
-
-const AFTER_STORE: u32 = 12;
+use tenant_workers::{Gate, Open, Shared};
+use tests_inputs::texts::COUNTER;
+use turn::ScanSeat;
+use verifier::Verified;
 
 /// Somebody who has turns of its own at a gate.
 pub(crate) trait Guest {
@@ -21,8 +22,20 @@ pub(crate) trait Guest {
 
 /// A gate at which somebody has turns of its own.
 #[derive(Drop)]
-struct Visited<G: Drop> {
+pub(crate) struct Visited<G: Drop> {
     guest: Mutex<G>,
+}
+
+impl<G: Drop> Visited<G> {
+    pub(crate) fn by(guest: G) -> Self {
+        Visited {
+            guest: Mutex::new(guest),
+        }
+    }
+
+    pub(crate) fn into_guest(self) -> G {
+        self.guest.into_inner()
+    }
 }
 
 impl<G: Guest + Drop> Gate for Visited<G> {
@@ -31,102 +44,75 @@ impl<G: Guest + Drop> Gate for Visited<G> {
     }
 }
 
-/// The scanner, which makes its visits.
+/// The scanner, which visits two pages.
 #[derive(Drop)]
-pub(crate) struct Scanning<'x, 'a> {
-    pub(crate) scan: &'x mut ScanPlan<'a>,
+struct Scanning<'a> {
+    shared: &'a Shared,
+    seat: ScanSeat,
+    ghost idle: { IsIdle shared.now seat },
 }
 
-impl<'x, 'a> Guest for Scanning<'x, 'a> {
+impl<'a> Guest for Scanning<'a> {
     fn act<R: Wait>(&mut self, rt: &R, _slot: u32) {
-        self.scan.scan(rt, &Open);
+        let shared = self.shared;
+        shared.scan_batch(rt, &mut self.seat, 2);
     }
 }
 
-/// The host, which looks at the counters before the counter's store and after it.
+/// What two runs answer, and their tenants' values.
+#[derive(Debug, Drop)]
+pub(crate) struct Runs {
+    replies: [Result<RunReply, Fault>; 2],
+    values: [Result<Vec<u8>, Fault>; 2],
+}
+
+/// One tenant's run after the other's, with two visits before each instruction. A run that held the turn to its end
+/// would wait for ever for its gate, which takes turns to scan.
+fn runs_scanned(rt: &(impl Wait + AllocGlobal)) -> Result<Runs, Fault> {
+    let alloc = rt.alloc();
+    let (shared, first, second, scanner, _host) = two_tenants(alloc, 8)?;
+    let mut first = Tenant::new(&shared, alloc, first);
+    let mut second = Tenant::new(&shared, alloc, second);
+    let gate = Visited::by(Scanning {
+        shared: &shared,
+        seat: scanner,
+    });
+    let replies = [first.count(rt, &gate), second.count(rt, &gate)];
+    let values = [first.read(rt, 0, 0), second.read(rt, 0, 0)];
+    Ok(Runs { replies, values })
+}
+
+/// Another tenant, which runs its program.
 #[derive(Drop)]
-pub(crate) struct Watching<'x, 'a> {
-    host: &'x mut Host<'a>,
-    pub(crate) before: Option<Counters>,
-    pub(crate) after: Option<Counters>,
-}
-
-impl<'x, 'a> Watching<'x, 'a> {
-    pub(crate) fn new(host: &'x mut Host<'a>) -> Watching<'x, 'a> {
-        Watching {
-            host,
-            before: None,
-            after: None,
-        }
-    }
-}
-
-impl<'x, 'a> Guest for Watching<'x, 'a> {
-    fn act<R: Wait>(&mut self, rt: &R, slot: u32) {
-        match slot {
-            STORE => self.before = Some(self.host.counters(rt)),
-            AFTER_STORE => self.after = Some(self.host.counters(rt)),
-            _ => {}
-        }
-    }
-}
-
-/// Another tenant, which runs its last program.
-#[derive(Drop)]
-struct Other<'x, 'a> {
-    alloc: Global,
-    tenant: &'x mut TenantPlan<'a>,
+struct Other<'a> {
+    tenant: Tenant<'a>,
+    program: Verified,
     last: Result<RunReply, Fault>,
 }
 
-impl<'x, 'a> Guest for Other<'x, 'a> {
+impl<'a> Guest for Other<'a> {
     fn act<R: Wait>(&mut self, rt: &R, _slot: u32) {
-        self.last = run(rt, self.alloc, self.tenant, &Open);
+        self.last = self.tenant.run(rt, &self.program, &Open);
     }
-}
-
-/// What a run of a tenant's last program answers on no context, with a gate.
-pub(crate) fn run(
-    rt: &impl Wait,
-    alloc: Global,
-    tenant: &mut TenantPlan<'_>,
-    gate: &impl Gate,
-) -> Result<RunReply, Fault> {
-    let shared = tenant.shared;
-    match tenant.programs.last() {
-        Some(program) => shared.run_program(rt, alloc, &mut tenant.seat, program, &[], gate),
-        None => Err(Fault::NoProgram),
-    }
-}
-
-/// The same where somebody has turns before each instruction, who comes back. A run that held the turn to its end would
-/// wait for ever for such a gate.
-pub(crate) fn run_beside<G: Guest + Drop>(
-    rt: &impl Wait,
-    alloc: Global,
-    tenant: &mut TenantPlan<'_>,
-    guest: G,
-) -> (Result<RunReply, Fault>, G) {
-    let gate = Visited {
-        guest: Mutex::new(guest),
-    };
-    let reply = run(rt, alloc, tenant, &gate);
-    (reply, gate.guest.into_inner())
 }
 
 /// What the first tenant's run answers, and the last of the second's, which runs before each instruction.
-pub(crate) fn overtaken(
-    rt: &impl Wait,
-    alloc: Global,
-    tenants: &mut [TenantPlan<'_>],
-) -> Option<[Result<RunReply, Fault>; 2]> {
-    let (first, others) = tenants.split_first_mut()?;
-    let tenant = others.first_mut()?;
-    let other = Other {
-        alloc,
-        tenant,
+fn run_overtaken(rt: &(impl Wait + AllocGlobal)) -> Result<[Result<RunReply, Fault>; 2], Fault> {
+    let alloc = rt.alloc();
+    let (shared, first, second, _scanner, _host) = two_tenants(alloc, 8)?;
+    let mut first = Tenant::new(&shared, alloc, first);
+    let mut second = Tenant::new(&shared, alloc, second);
+    let program = second.load(rt, &COUNTER, 0)?;
+    let gate = Visited::by(Other {
+        tenant: second,
+        program,
         last: Err(Fault::NoRun),
-    };
-    let (reply, other) = run_beside(rt, alloc, first, other);
-    Some([reply, other.last])
+    });
+    let reply = first.count(rt, &gate);
+    Ok([reply, gate.into_guest().last])
+}
+
+pub(crate) fn tell_rows(rt: &(impl Print + Wait + AllocGlobal)) -> io::Result<()> {
+    tell(rt, "turn_held_through_run", runs_scanned(rt))?;
+    tell(rt, "a gate runs another tenant", run_overtaken(rt))
 }

@@ -1,23 +1,23 @@
 //! Rows of turns, seats and threads: what no contract of `turn` and `tenant_workers` says, as that a call succeeds
-//! where memory is there, that visits act, and that others have their turns between the instructions of a run. The rows
-//! of calls stand in the standard input (`party.rt`), each below its name and behind a line without words. The file
-//! `stdout` says what is wanted.
+//! where memory is there, that visits act, and that others have their turns between the instructions of a run. A
+//! line has the name of a row and what was answered; the file `stdout` says what is wanted.
 #![tactic(auto)]
 
-mod asked;
+mod calls;
+mod copy;
+mod drops;
 mod ends;
 mod gates;
 mod numbers;
-mod party;
-mod seats;
+mod refused;
 mod serving;
+mod tenants;
 mod turns;
 mod wakes;
 
 use host_types::Fault;
 use std::fmt::Debug;
 use std::io;
-use std::io::Input;
 
 /// Writes the name of a row and its answer, or why there was none.
 fn tell<T: Debug + Drop>(rt: &impl Print, name: &str, answer: Result<T, Fault>) -> io::Result<()> {
@@ -33,9 +33,10 @@ fn main(rt: HostRuntime) -> io::Result<()> {
     }
     turns::tell_rows(&rt)?;
     ends::tell_rows(&rt)?;
-    let rows = io::read_to_string(rt.alloc(), rt.reader())?;
-    for row in rows.split("\n\n") {
-        party::tell_row(&rt, row)?;
-    }
-    serving::tell_rows(&rt)
+    calls::tell_rows(&rt)?;
+    refused::tell_rows(&rt)?;
+    gates::tell_rows(&rt)?;
+    copy::tell_row(&rt)?;
+    drops::tell_row(&rt)?;
+    serving::tell_row(&rt)
 }

@@ -13,21 +13,18 @@ use std::sync::Wait;
 use turn::{Kind, Place, Seat, Turn};
 use write_break::{load, needs, store};
 
-/// How many tenants there are.
-pub(crate) const TENANTS: u32 = 3;
-
-/// A memory in which so many tenants have a map of one number, which is 0, and none has an open run.
+/// A memory in which each tenant has a map of one number, which is 0, and no open run.
 #[tactic(auto, using(tenant_workers::proofs::Resting::new_rests, tenant_workers::proofs::Resting::made_rests))]
 pub(crate) fn with_numbers(
     alloc: Global,
     frames: u32,
-    mapped: u32,
+    tenants: u32,
     options: Options,
 ) -> Result<Memory, Fault>
-    ensures { IfOk result (λ memory. (t : ℕ) → t < 3 → IsResting (part memory t)) }
+    ensures { IfOk result (λ memory. (t : ℕ) → t < tenants → IsResting (part memory t)) }
 {
-    let mut memory = Memory::new(alloc, frames, TENANTS, options)?;
-    for tenant in 0..mapped {
+    let mut memory = Memory::new(alloc, frames, tenants, options)?;
+    for tenant in 0..tenants {
         memory.create_map(tenant, 8, 1, true)?;
     }
     Ok(memory)

@@ -6,11 +6,9 @@ ghost use Rattle.turn.specs.Seats.{IsIdle, own_part};
 ghost use Rattle.tenant_workers.specs.Plans.{IsFor};
 ghost use Rattle.tenant_workers.specs.Runs.{IsResting};
 
-use crate::party::{Host, load, tenant_of};
-use crate::seats::Three;
 use crate::tell;
-use host_types::{Fault, Options};
-use ksm_counters::Counters;
+use crate::tenants::two_tenants;
+use host_types::Fault;
 use std::alloc::Global;
 use std::hint::spin_loop;
 use std::io;
@@ -18,7 +16,7 @@ use std::sync::Wait;
 use std::sync::atomic::{AtomicU64, Ordering};
 use std::thread::Threads;
 use tenant_runs::RunReply;
-use tenant_workers::{Gate, Open, Plan, ScanPlan, Shared, TenantPlan, serve};
+use tenant_workers::{Gate, Plan, ScanPlan, Shared, TenantPlan, serve};
 use tests_inputs::texts::COUNTER;
 use turn::Seat;
 
@@ -69,44 +67,62 @@ impl Gate for Meeting {
     }
 }
 
-/// A plan of the counter, with one run of it or none.
-fn plan_of<'a>(
+/// A list of one.
+fn only<T: Drop>(alloc: Global, value: T) -> Result<Vec<T>, Fault> {
+    let Ok(mut list) = Vec::with_capacity(alloc, 1) else {
+        return Err(Fault::OutOfMemory);
+    };
+    list.push_reserved(value);
+    Ok(list)
+}
+
+/// A plan of one run of the counter.
+fn counting<'a>(
     rt: &impl Wait,
     alloc: Global,
     shared: &'a Shared,
-    seat: Seat,
-    runs: bool,
+    mut seat: Seat,
 ) -> Result<TenantPlan<'a>, Fault>
     requires idle { IsIdle shared.now seat }
     requires rests { IsResting (own_part seat) }
     ensures { IfOk result (IsFor shared.now) }
 {
-    let mut plan = tenant_of(alloc, shared, seat);
-    load(rt, alloc, &mut plan, 0, &COUNTER)?;
-    if runs && plan.runs.push((0, Vec::new(alloc))).is_err() {
-        return Err(Fault::OutOfMemory);
-    }
-    Ok(plan)
+    let program = shared.load_program(rt, alloc, &mut seat, &COUNTER, 0)?;
+    let programs = only(alloc, program)?;
+    let runs = only(alloc, (0, Vec::new(alloc)))?;
+    Ok(TenantPlan {
+        shared,
+        seat,
+        programs,
+        runs,
+        replies: Vec::new(alloc),
+    })
 }
 
-/// A plan of two tenants, with four visits of the scanner.
+/// A plan of both tenants, with so many visits of the scanner.
 fn planned<'a>(
+    rt: &impl Wait,
     alloc: Global,
     shared: &'a Shared,
-    plans: (TenantPlan<'a>, TenantPlan<'a>),
+    seats: (Seat, Seat),
     scan: ScanPlan<'a>,
 ) -> Result<Plan<'a>, Fault>
-    requires first { IsFor shared.now plans.0 }
-    requires second { IsFor shared.now plans.1 }
+    requires first { IsIdle shared.now seats.0 }
+    requires second { IsIdle shared.now seats.1 }
+    requires first_rests { IsResting (own_part seats.0) }
+    requires second_rests { IsResting (own_part seats.1) }
     requires scan { scan.shared.now ≡ shared.now }
     ensures tenants { IfOk result (λ plan. All (IsFor shared.now) plan.tenants.items) }
     ensures scan { IfOk result (λ plan. plan.scan.shared.now ≡ shared.now) }
 {
+    let (first, second) = seats;
+    let first = counting(rt, alloc, shared, first)?;
+    let second = counting(rt, alloc, shared, second)?;
     let Ok(mut tenants) = Vec::with_capacity(alloc, 2) else {
         return Err(Fault::OutOfMemory);
     };
-    tenants.push_reserved(plans.0);
-    tenants.push_reserved(plans.1);
+    tenants.push_reserved(first);
+    tenants.push_reserved(second);
     Ok(Plan { tenants, scan })
 }
 
@@ -124,58 +140,40 @@ fn has_counted(rt: &impl Wait, alloc: Global, plan: &mut TenantPlan) -> bool {
     value.as_slice() == ONE.as_slice() && plan.replies.as_slice() == COUNTED.as_slice()
 }
 
-/// How many tenants of the plan ran the counter once.
-fn count(rt: &impl Wait, alloc: Global, plan: &mut Plan) -> u32 {
+/// Whether each tenant of the plan ran the counter once.
+fn have_counted(rt: &impl Wait, alloc: Global, plan: &mut Plan) -> bool {
     let mut counted = 0u32;
     for tenant in plan.tenants.iter_mut() {
-        counted = counted.saturating_add(u32::from(has_counted(rt, alloc, tenant)));
+        if !has_counted(rt, alloc, tenant) {
+            return false;
+        }
+        counted = counted.wrapping_add(1);
     }
-    counted
+    counted == 2
 }
 
-/// What is found when all threads of a plan have ended.
-#[derive(Debug, Drop)]
-struct Served {
-    /// How many tenants ran the counter once.
-    counted: u32,
-    counters: Counters,
-}
-
-/// Serves two tenants, of one run each or none, and four visits of the scanner.
-fn serve_two<R: Threads + Wait + Sync, G: Gate + Sync>(
+/// Serves both tenants with four visits of the scanner: whether each counted once.
+fn served<R: Threads + Wait + Sync, G: Gate + Sync>(
     rt: &R,
     alloc: Global,
-    runs: bool,
     gate: &G,
-) -> Result<Served, Fault> {
-    let Three {
-        turn,
-        seats,
-        scanner,
-        host,
-    } = Three::new(alloc, 8, 2, Options::standard())?;
-    let shared = Shared::new(turn);
-    let mut host = Host::new(&shared, host);
+) -> Result<bool, Fault> {
+    let (shared, first, second, scanner, _host) = two_tenants(alloc, 8)?;
     let scan = ScanPlan {
         shared: &shared,
         seat: scanner,
         visits: 4,
     };
-    let first = plan_of(rt, alloc, &shared, seats.0, runs)?;
-    let second = plan_of(rt, alloc, &shared, seats.1, runs)?;
-    let mut plan = planned(alloc, &shared, (first, second), scan)?;
+    let mut plan = planned(rt, alloc, &shared, (first, second), scan)?;
     serve(rt, alloc, &shared, &mut plan, gate)?;
-    Ok(Served {
-        counted: count(rt, alloc, &mut plan),
-        counters: host.counters(rt),
-    })
+    Ok(have_counted(rt, alloc, &mut plan))
 }
 
 /// Whether two tenants that wait for each other within their runs meet, and count once each.
 fn meet_once<R: Threads + Wait + Sync>(rt: &R, alloc: Global) -> Result<bool, Fault> {
     let gate = Meeting::new();
-    let served = serve_two(rt, alloc, true, &gate)?;
-    Ok(served.counted == 2 && gate.alone.load(Ordering::SeqCst) == 0)
+    let counted = served(rt, alloc, &gate)?;
+    Ok(counted && gate.alone.load(Ordering::SeqCst) == 0)
 }
 
 /// How often they meet, of twenty times. A `serve` that runs one tenant after the other, or that answers each run 41
@@ -190,12 +188,9 @@ fn meetings<R: AllocGlobal + Threads + Wait + Sync>(rt: &R) -> Result<u32, Fault
     Ok(met)
 }
 
-/// Without runs the counters show that the scanner's thread made its visits.
-pub(crate) fn tell_rows<R>(rt: &R) -> io::Result<()>
+pub(crate) fn tell_row<R>(rt: &R) -> io::Result<()>
 where
     R: AllocGlobal + Print + Threads + Wait + Sync,
 {
-    tell(rt, "tenants that meet within their runs", meetings(rt))?;
-    let idle = serve_two(rt, rt.alloc(), false, &Open);
-    tell(rt, "four visits beside tenants without runs", idle)
+    tell(rt, "tenants that meet within their runs", meetings(rt))
 }

@@ -1,16 +1,38 @@
 //! Turns of two tenants.
 
-ghost use Rattle.std.specs.Prelude.{◌≡◌};
+ghost use Rattle.std.specs.Prelude.{◌≡◌, IfOk};
 ghost use Rattle.turn.specs.Seats.{IsIdle};
 
-use crate::numbers::{grow, look, number};
-use crate::seats::Three;
+use crate::numbers::{grow, look, number, with_numbers};
 use crate::tell;
 use host_types::{Fault, Options};
+use std::alloc::Global;
 use std::sync::Wait;
 use std::thread::Threads;
 use std::{io, thread};
 use turn::{Seat, Turn};
+
+/// Two tenants and four frames.
+struct Two {
+    turn: Turn,
+    first: Seat,
+    second: Seat,
+}
+
+fn two_tenants(alloc: Global) -> Result<Two, Fault>
+    ensures first { IfOk result (λ two. IsIdle two.turn two.first) }
+    ensures second { IfOk result (λ two. IsIdle two.turn two.second) }
+{
+    let memory = with_numbers(alloc, 4, 2, Options::standard())?;
+    let (turn, mut seats, _scanner, _host) = Turn::new(alloc, memory, 2)?;
+    let second = seats.remove(1);
+    let first = seats.remove(0);
+    Ok(Two {
+        turn,
+        first,
+        second,
+    })
+}
 
 /// A thousand turns.
 fn add_thousand(rt: &impl Wait, turn: &Turn, mut seat: Seat) -> Seat
@@ -39,13 +61,11 @@ fn numbers_at_end(rt: &impl Wait, turn: Turn, mut first: Seat, mut second: Seat)
 
 /// What each of two threads sees at the end that add 1 a thousand times, and the memory has then.
 fn counted<R: AllocGlobal + Threads + Wait + Sync>(rt: &R) -> Result<[Option<u64>; 3], Fault> {
-    let Three {
+    let Two {
         turn,
-        seats,
-        scanner: _scanner,
-        host: _host,
-    } = Three::new(rt.alloc(), 4, 2, Options::standard())?;
-    let (first, second, _third) = seats;
+        first,
+        second,
+    } = two_tenants(rt.alloc())?;
     let (first, second) = thread::join(
         rt,
         || add_thousand(rt, &turn, first),
@@ -81,13 +101,11 @@ fn tries(turn: &Turn, first: &mut Seat, second: &mut Seat) -> [bool; 3]
 
 /// A `try_take` that never wins meets its contract, so this row rules it out.
 fn tried(rt: &impl AllocGlobal) -> Result<[bool; 3], Fault> {
-    let Three {
+    let Two {
         turn,
-        seats,
-        scanner: _scanner,
-        host: _host,
-    } = Three::new(rt.alloc(), 4, 2, Options::standard())?;
-    let (mut first, mut second, _third) = seats;
+        mut first,
+        mut second,
+    } = two_tenants(rt.alloc())?;
     Ok(tries(&turn, &mut first, &mut second))
 }
 

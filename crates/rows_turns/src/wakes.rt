@@ -1,14 +1,14 @@
 //! Threads that sleep until a turn ends. That they are woken no contract says, since a call that may wait owes no
 //! return; so they are counted, and a thread that sleeps for ever ends with the program.
 
-ghost use Rattle.std.specs.Prelude.{◌≡◌};
+ghost use Rattle.std.specs.Prelude.{◌≡◌, IfOk};
 ghost use Rattle.std.specs.Arc.{arc_value};
 ghost use Rattle.turn.specs.Seats.{IsIdle};
 
-use crate::numbers::{TENANTS, grow};
-use crate::seats::Three;
+use crate::ends::{Three, three_tenants};
+use crate::numbers::grow;
 use crate::tell;
-use host_types::{Fault, Options};
+use host_types::Fault;
 use std::alloc::{AllocError, Global};
 use std::hint::spin_loop;
 use std::sync::atomic::{AtomicU64, Ordering};
@@ -23,28 +23,8 @@ const LOOKS: u32 = 200_000_000;
 /// How long the memory is kept until whoever wants it sleeps.
 const UNTIL_ASLEEP: u32 = 2_000_000;
 
-/// Rounds in each of which the memory is kept for other times, to be given when a sleeper is at another point.
-struct Sweep {
-    rounds: u32,
-    /// The least time, and how many times there are from it on.
-    least: u32,
-    times: u32,
-}
-
-/// From before a sleeper's first look at the word to when it sleeps long since.
-const ALL_ALONG: Sweep = Sweep {
-    rounds: 20_000,
-    least: 0,
-    times: 3000,
-};
-
-/// About the last try before the sleep. A sleeper looks at the word eight hundred times before that, and
-/// each look takes as long as one of the times or somewhat longer.
-const LAST_TRY: Sweep = Sweep {
-    rounds: 20_000,
-    least: 700,
-    times: 500,
-};
+/// How many rounds a sleeper has in which the memory is given just when it is about to sleep.
+const ROUNDS: u64 = 20_000;
 
 /// How many threads sleep while the memory is kept.
 const SLEEPERS: u64 = 2;
@@ -121,7 +101,7 @@ fn new_game(alloc: Global) -> Result<Players, Fault> {
         seats,
         scanner: _scanner,
         host: _host,
-    } = Three::new(alloc, 10, TENANTS, Options::standard())?;
+    } = three_tenants(alloc)?;
     let (first, second, third) = seats;
     let game = Game {
         turn,
@@ -175,32 +155,21 @@ where
 }
 
 /// In how many rounds a thread is woken, or doesn't fall asleep, that is about to sleep while the memory is given.
-fn rounds_woken<R>(rt: R, sweep: &Sweep) -> Result<u64, Fault>
+fn rounds_woken<R>(rt: R) -> Result<u64, Fault>
 where
     R: AllocGlobal + Threads + Wait + Copy + Send + 'static,
 {
     let (mut keeper, first, _second) = new_game(rt.alloc())?;
-    start(rt, first, u64::from(sweep.rounds))?;
+    start(rt, first, ROUNDS)?;
     let mut woken = 0u64;
-    for round in 0..sweep.rounds {
-        let more = round.wrapping_mul(7919) % sweep.times.max(1);
-        let wanted = u64::from(round) + 1;
-        woken = keeper.keep(&rt, sweep.least.saturating_add(more), wanted, wanted);
-        if woken < wanted {
+    for round in 0..ROUNDS {
+        let looks = (round * 7919 % 3000) as u32;
+        woken = keeper.keep(&rt, looks, round + 1, round + 1);
+        if woken <= round {
             break;
         }
     }
     Ok(woken)
-}
-
-/// Tells in how many rounds of a sweep no ring is missed. Whether that are all.
-fn tell_sweep<R>(rt: R, name: &str, sweep: &Sweep) -> io::Result<bool>
-where
-    R: AllocGlobal + Print + Threads + Wait + Copy + Send + 'static,
-{
-    let rounds = rounds_woken(rt, sweep);
-    tell(&rt, name, rounds)?;
-    Ok(rounds == Ok(u64::from(sweep.rounds)))
 }
 
 /// Whether they were woken. Where they aren't, the rows behind would wait for them.
@@ -210,9 +179,7 @@ where
 {
     let woken = woken(rt);
     tell(&rt, "sleepers that are woken", woken)?;
-    Ok(
-        woken == Ok(SLEEPERS)
-            && tell_sweep(rt, "rounds in which no ring is missed", &ALL_ALONG)?
-            && tell_sweep(rt, "rounds about the last try before a sleep", &LAST_TRY)?,
-    )
+    let rounds = rounds_woken(rt);
+    tell(&rt, "rounds in which no ring is missed", rounds)?;
+    Ok(woken == Ok(SLEEPERS) && rounds == Ok(ROUNDS))
 }

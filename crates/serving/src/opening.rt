@@ -120,7 +120,10 @@ fn apply_for(
             let made = plan
                 .shared
                 .create_map(rt, &mut plan.seat, *value_size, *entries, *mergeable);
-            made.map(|_map| ())
+            match made {
+                Ok(_) => Ok(()),
+                Err(fault) => Err(fault),
+            }
         }
         Event::Load {
             text,

@@ -4,4 +4,4 @@ use Rattle.tenant_workers.specs.Runs.{IsResting}
 use Rattle.rows_turns.proofs.numbers.with_numbers.Given as goal
 
 abbrev pub invariant-loop-tenant : goal.invariant-loop-tenant
-invariant-loop-tenant l = (t : ℕ) → t < 3 → IsResting (part l.memory t)
+invariant-loop-tenant l = (t : ℕ) → t < l.tenants → IsResting (part l.memory t)

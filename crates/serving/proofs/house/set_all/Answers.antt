@@ -7,7 +7,7 @@ pub loop-command-init : goal.loop-command-init
 loop-command-init c = set-none c.args.memory.now
 
 pub set_one-requires : goal.set_one-requires
-set_one-requires c = set-groups _ c.args.memory.now c.loop-command.memory c.loop-command.invariant c.requires.none
+set_one-requires c = record { none = set-groups _ c.args.memory.now c.loop-command.memory c.loop-command.invariant c.requires.none }
 
 pub loop-command-preserved : goal.loop-command-preserved
 loop-command-preserved c =
