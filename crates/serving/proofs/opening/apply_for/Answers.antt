@@ -1,12 +1,12 @@
+use Rattle.tenant_workers.specs.Calls.{memory_left}
 use Rattle.serving.specs.Opened.{home_of}
-use Rattle.serving.proofs.Opened.{refused_map, refused_update}
+use Rattle.serving.proofs.Opened.{refused_update}
 use Rattle.serving.proofs.opening.apply_for.Goals as goal
 
 pub returns-in-Err-clause-refused : goal.returns-in-Err-clause-refused
 returns-in-Err-clause-refused g c =
-    rw c.in-CreateMap.is (rw c.in-Err.is at refused_map c.create_map-made.result (home_of c.args.plan.now) c.create_map-made.new.seat
-        c.in-CreateMap.tenant c.in-CreateMap.value_size c.in-CreateMap.entries c.in-CreateMap.mergeable
-        c.create_map-made.ensures.refused c.create_map-made.ensures.told c.create_map-made.ensures.kept)
+    let seat = c.create_map-made.new.seat in
+    rw c.in-CreateMap.is (c.in-Err.ensures.refused, (memory_left seat, record { tenant = seat.view.first; known = c.in-Err.ensures.kept; told = c.in-Err.ensures.told }))
 
 pub returns-in-HostUpdate-clause-refused : goal.returns-in-HostUpdate-clause-refused
 returns-in-HostUpdate-clause-refused g c =
