@@ -11,4 +11,4 @@ returns-in-Err-clause-refused g c =
 pub returns-in-HostUpdate-clause-refused : goal.returns-in-HostUpdate-clause-refused
 returns-in-HostUpdate-clause-refused g c =
     rw c.in-HostUpdate.is (refused_update c.update.result (home_of c.args.plan.now) c.update.new.seat c.in-HostUpdate.tenant c.in-HostUpdate.map c.in-HostUpdate.key c.in-HostUpdate.value
-        (rw c.as_slice-in-HostUpdate.ensures at c.update.ensures.refused) c.update.ensures.told c.update.ensures.kept)
+    (rw c.as_slice-in-HostUpdate.ensures at c.update.ensures.refused) c.update.ensures.told c.update.ensures.kept)
