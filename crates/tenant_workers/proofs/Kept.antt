@@ -7,7 +7,6 @@ use Rattle.tenant_runs.specs.declared.driving.RunReply.{RunReply}
 use Rattle.tenant_workers.specs.declared.plans.TenantPlan.{TenantPlan}
 use Rattle.tenant_workers.specs.Plans.{AreAnswered, AreSamePlans, AreServed, IsPlanServed, Planned, planned_by}
 use Rattle.tenant_workers.specs.Jobs.{AreEach}
-use Rattle.tenant_workers.proofs.Jobs.{each-mapped}
 
 -- an element written over by another one that is mapped to the same
 pub map-set_same : {X Y : Type 0} (f : X → Y) (xs : List X) (place : ℕ) (x y : X) → f y ≡ f (get_or xs place x) → map f (set xs place y) ≡ map f xs
@@ -28,11 +27,10 @@ same_many old new same = sym (length-map new planned_by) ∙ ap length same ∙ 
 
 -- plans that were served, as they were before room was made in them
 pub served-from : (old reserved beyond new : List TenantPlan) (count : ℕ) → AreSamePlans old reserved → length old ≡ count
-    → AreEach (λ was is. IsPlanServed (planned_by was) (planned_by is)) (take count (reserved ++ beyond)) new → AreServed old new
-served-from old reserved beyond new count same many each =
+    → AreServed (take count (reserved ++ beyond)) new → AreServed old new
+served-from old reserved beyond new count same many served =
     let whole = take_at reserved beyond count (same_many old reserved same ∙ many) in
-    subst (λ plans. AreEach IsPlanServed plans (map planned_by new)) (ap (map planned_by) whole ∙ same)
-    (each-mapped planned_by IsPlanServed (take count (reserved ++ beyond)) new each)
+    subst (λ plans. AreEach IsPlanServed plans (map planned_by new)) (ap (map planned_by) whole ∙ same) served
 
 -- what the runs of a plan that was served were answered
 pub answers-of : (old new : Planned) → IsPlanServed old new → AreAnswered old.programs old.runs old.seat new.replies new.seat

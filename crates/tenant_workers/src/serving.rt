@@ -1,10 +1,11 @@
-ghost use Rattle.std.specs.Prelude.{◌≡◌, ◌≤◌, IfErr, OnErr, OnOk, All, length, replicate, vec_capacity, Err};
+ghost use Rattle.std.specs.Prelude.{◌≡◌, ◌≤◌, IfErr, OnErr, OnOk, All, length, replicate, vec_capacity, vec_len, Err};
 ghost use Rattle.host_types.specs.declared.fault.Fault.TheVariants.{OutOfMemory};
-ghost use Rattle.tenant_workers.specs.Plans.{AreSamePlans, AreServed, HasReplyRoom, IsFor, IsPlanMade, IsPlanRefused, planned_by};
+ghost use Rattle.tenant_workers.specs.Jobs.{HasRoomForJobs};
+ghost use Rattle.tenant_workers.specs.Plans.{AreSamePlans, AreServed, HasReplyRoom, IsFor, IsPlanMade, IsPlanRefused, IsScanServed, planned_by};
 ghost use Rattle.tenant_workers.specs.Scans.{IsScanMade, IsScanRefused};
 
 use crate::gate::{Gate, Passed};
-use crate::plans::{Plan, Scanning, TenantPlan};
+use crate::plans::{Plan, ScanPlan, Scanning, TenantPlan};
 use crate::shared::Shared;
 use crate::threads::{Job, Room, run_jobs};
 use host_types::Fault;
@@ -18,8 +19,8 @@ use std::thread::Threads;
 ///
 /// Afterwards each tenant has as many replies as runs: those of its runs in order, from its part as it was, each
 /// with what the one before left, whatever the other threads did. Where its thread can't be started they
-/// are all `Err(OutOfMemory)`, its seat stays, and the others go on. That the scanner made as many visits as are
-/// planned, or none where its thread can't be started, is a clause of `run_jobs`.
+/// are all `Err(OutOfMemory)`, its seat stays, and the others go on. The scanner made as many visits as are
+/// planned, or none where its thread can't be started.
 ///
 /// The one refusal is 41, where the room for the replies or for the threads can't be had. Then no thread was
 /// started, and the plan is as it was.
@@ -33,6 +34,7 @@ pub fn serve<R: Threads + Wait + Sync, G: Gate + Sync>(
     requires tenants { All (IsFor shared.now) plan.old.tenants.items }
     requires scan { plan.old.scan.shared.now ≡ shared.now }
     ensures served { OnOk result (AreServed plan.old.tenants.items plan.new.tenants.items) }
+    ensures scanned { OnOk result (IsScanServed plan.old.scan plan.new.scan) }
     ensures refused { IfErr result (λ fault. fault ≡ OutOfMemory) }
     ensures tenants_kept { OnErr result (AreSamePlans plan.old.tenants.items plan.new.tenants.items) }
     ensures scan_kept { OnErr result (plan.new.scan ≡ plan.old.scan) }
@@ -48,15 +50,55 @@ pub fn serve<R: Threads + Wait + Sync, G: Gate + Sync>(
         visits: plan.scan.visits,
     };
     gate.pass(rt, start);
-    let tenants = mem::replace(&mut plan.tenants, Vec::new(alloc));
-    let scanning = Scanning {
-        plan: &mut plan.scan,
-    };
-    let (tenants, _scanned) = run_jobs(rt, alloc, tenants, room, scanning, gate);
-    plan.tenants = tenants;
+    run_beside_scanner(rt, alloc, &mut plan.scan, &mut plan.tenants, room, gate);
     gate.pass(rt, Passed::End);
     Ok(())
 }
+
+/// Runs each tenant's plan by a thread, beside the scanner's thread.
+fn run_beside_scanner<'a, R: Threads + Wait + Sync, G: Gate + Sync>(
+    rt: &R,
+    alloc: Global,
+    scan: &mut ScanPlan<'a>,
+    tenants: &mut Vec<TenantPlan<'a>>,
+    room: Room<TenantPlan<'a>>,
+    gate: &G,
+)
+    requires ready { All HasReplyRoom tenants.old.items }
+    requires room { HasRoomForJobs (vec_len tenants.old) room }
+    ensures served { AreServed tenants.old.items tenants.new.items }
+    ensures scanned { IsScanServed scan.old scan.new }
+{
+    let scanned = lend_to_threads(rt, alloc, scan, tenants, room, gate);
+    end_loan(scanned);
+}
+
+/// Lends the scanner's plan to its thread, and gives the loan back when all threads have ended.
+fn lend_to_threads<'x, 'a, R: Threads + Wait + Sync, G: Gate + Sync>(
+    rt: &R,
+    alloc: Global,
+    scan: &'x mut ScanPlan<'a>,
+    tenants: &mut Vec<TenantPlan<'a>>,
+    room: Room<TenantPlan<'a>>,
+    gate: &G,
+) -> &'x mut ScanPlan<'a>
+    requires ready { All HasReplyRoom tenants.old.items }
+    requires room { HasRoomForJobs (vec_len tenants.old) room }
+    ensures served { AreServed tenants.old.items tenants.new.items }
+    ensures lent { result.ghost_name ≡ scan.entry.ghost_name }
+    ensures scanned { IsScanServed scan.old result.now }
+{
+    let jobs = mem::replace(tenants, Vec::new(alloc));
+    let (done, scanning) = run_jobs(rt, alloc, jobs, room, Scanning { plan: scan }, gate);
+    *tenants = done;
+    let Scanning { plan } = scanning;
+    plan
+}
+
+/// Ends a loan: its lender has what was left in it.
+fn end_loan<'x, 'a>(_plan: &'x mut ScanPlan<'a>)
+    ensures { _plan.new ≡ _plan.old }
+{}
 
 /// How many runs plans have in all.
 fn runs_in(tenants: &[TenantPlan]) -> u64 {
