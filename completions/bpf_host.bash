@@ -1,0 +1,42 @@
+# Completion of bash for bpf_host, explain and lower: source it, or copy it to /usr/share/bash-completion/completions/.
+
+# Completes the files that begin with the word, after what stands before it, as `@`.
+_bpf_host_files() {
+    local before=$1 word=$2
+    mapfile -t COMPREPLY < <(compgen -P "$before" -f -- "$word")
+    compopt -o filenames 2>/dev/null
+}
+
+_bpf_host() {
+    local word=${COMP_WORDS[COMP_CWORD]}
+    if [ "$COMP_CWORD" -eq 1 ]; then
+        mapfile -t COMPREPLY < <(compgen -W 'replay serve check help --help' -- "$word")
+        return
+    fi
+    case ${COMP_WORDS[1]} in
+        replay | serve) [ "$COMP_CWORD" -eq 2 ] && _bpf_host_files '' "$word" ;;
+        check) mapfile -t COMPREPLY < <(compgen -W '--context --help' -- "$word") ;;
+        help) mapfile -t COMPREPLY < <(compgen -W 'replay serve check' -- "$word") ;;
+    esac
+}
+
+# The words of a program that takes a text: explain, lower.
+_bpf_text() {
+    local word=${COMP_WORDS[COMP_CWORD]}
+    case $word in
+        @*) _bpf_host_files '@' "${word#@}" ;;
+        *) mapfile -t COMPREPLY < <(compgen -W "--context --help $1" -- "$word") ;;
+    esac
+}
+
+_bpf_explain() {
+    _bpf_text '--all'
+}
+
+_bpf_lower() {
+    _bpf_text '--stats'
+}
+
+complete -F _bpf_host bpf_host
+complete -F _bpf_explain explain
+complete -F _bpf_lower lower
