@@ -5,11 +5,12 @@ ghost use Rattle.std.specs.Prelude.{IfSome, IsTrue};
 ghost use Rattle.advice.specs.Answered.{is_answered};
 
 use crate::Advice;
+use crate::loops::loop_closed;
 use bpf_decode::{AluCode, Insn, Operation, Size, Source, Width};
 use host_types::limits::MAX_TEXT;
 use host_types::rule::{
-    BAD_FIELD, BAD_LENGTH, JUMP_OUT, MISALIGNED, OUTSIDE_MAP, POINTER_LEAKS, UNKNOWN_OPCODE,
-    UNSET_STACK, WRONG_KIND,
+    BACK_JUMP, BAD_FIELD, BAD_LENGTH, JUMP_OUT, MISALIGNED, OUTSIDE_MAP, POINTER_LEAKS,
+    UNKNOWN_OPCODE, UNSET_STACK, WRONG_KIND,
 };
 use host_types::{MapHelper, Refused};
 
@@ -34,6 +35,7 @@ pub fn on_refused(refused: Refused, text: &[u8]) -> Option<Advice>
     match refused.number {
         UNKNOWN_OPCODE => on_opcode(insn.opcode),
         BAD_FIELD => on_field(&insn),
+        BACK_JUMP => Some(on_back_jump(text, refused.slot)),
         JUMP_OUT => on_target(&insn, text, refused.slot),
         WRONG_KIND => on_kind(&insn),
         UNSET_STACK => on_unset_bytes(&insn),
@@ -144,6 +146,23 @@ fn on_callee(insn: &Insn) -> Advice {
         Advice {
             wrong: "a call of a function of the program's own isn't taken",
             mend: "inline it: in C mark it `static inline __attribute__((always_inline))`",
+        }
+    }
+}
+
+/// A jump to its own slot or back.
+fn on_back_jump(text: &[u8], slot: u32) -> Advice {
+    if loop_closed(text, slot).is_some() {
+        Advice {
+            wrong: "a jump closes a loop",
+            mend: "the program `lower` copies loops as often as their values let them run, if they are \
+                bounded: in C bound a count, as `n = min(n, 40)`, count up, and give a loop that no number \
+                ends a count of its own",
+        }
+    } else {
+        Advice {
+            wrong: "a jump leads back, though it closes no loop",
+            mend: "the program `lower` puts the blocks in an order in which jumps lead forward alone",
         }
     }
 }

@@ -5,6 +5,7 @@
 mod event;
 mod host;
 mod instruction;
+mod loops;
 mod program;
 
 ghost use Rattle.std.specs.Prelude.{◌↔◌, IsSome, IsTrue};
@@ -16,6 +17,7 @@ pub use event::{
     on_shape_count, on_value_size,
 };
 use host_types::Refused;
+pub use loops::loop_closed;
 
 /// What a refusal says.
 #[derive(Clone, Copy, Debug, PartialEq, Eq)]

@@ -46,9 +46,8 @@ pub fn on_way(number: u32) -> Option<Advice>
     let (wrong, mend) = match number {
         BACK_JUMP => (
             "a jump leads to its own slot or back",
-            "jump forward alone: unroll loops, in C by `#pragma clang loop unroll(full)` and a constant \
-            bound; where a `break` at a number that isn't constant stops that, put what follows under \
-            its condition",
+            "the program `lower` makes a text with the same runs and without such jumps: it puts blocks \
+            in another order, and copies loops whose values are bounded",
         ),
         JUMP_OUT => (
             "a jump leads past the end, or into a wide instruction",

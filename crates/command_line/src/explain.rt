@@ -1,6 +1,6 @@
 //! The words of `explain`.
 
-use crate::{WrongWords, context, said_of, shapes, told_of, usage};
+use crate::{WrongWords, context, hex_or_file, said_of, shapes, told_of, usage};
 use clap::{Arg, ArgAction, Command};
 use std::alloc::{AllocError, Global};
 
@@ -16,6 +16,8 @@ pub struct ToExplain<'a> {
     pub context: &'a str,
     /// Whether all that is known is to be shown.
     pub all: bool,
+    /// Whether the program is to be lowered first.
+    pub lower: bool,
 }
 
 /// What the words of `explain` ask for, the program's name being the first of them.
@@ -34,22 +36,24 @@ pub fn explained_of<'a>(alloc: Global, words: &'a [String]) -> Result<ToExplain<
         shapes: shapes.to_vec(alloc).map_err(WrongWords::OutOfMemory)?,
         context: matches.get_str("context").unwrap_or("0"),
         all: matches.get_flag("all"),
+        lower: matches.get_flag("lower"),
     })
 }
 
 fn command<'a>(alloc: Global) -> Result<Command<'a>, AllocError> {
-    let hex = Arg::new(alloc, "HEX")
-        .help("the program, as hex text, or @FILE: its bytes or hex text")
-        .required(true)
-        .action(ArgAction::Set);
     let all = Arg::new(alloc, "all")
         .long("all")
         .help("shows all that is known at each slot")
         .action(ArgAction::SetTrue);
+    let lower = Arg::new(alloc, "lower")
+        .long("lower")
+        .help("lowers the program first")
+        .action(ArgAction::SetTrue);
     Command::new(alloc, NAME)
         .about("shows what the verifier knows at each instruction of a program")
-        .arg(hex)?
+        .arg(hex_or_file(alloc))?
         .arg(shapes(alloc))?
         .arg(context(alloc))?
-        .arg(all)
+        .arg(all)?
+        .arg(lower)
 }

@@ -1,10 +1,13 @@
-//! The words of the command lines of `bpf_host` (docs/HOST.md) and of `explain` (docs/EXPLAIN.md): what they ask for.
+//! The words of the command lines of `bpf_host` (docs/HOST.md), of `explain` (docs/EXPLAIN.md) and of `lower`
+//! (docs/LOWER.md): what they ask for.
 #![tactic(auto)]
 
 mod explain;
+mod lower;
 
 use clap::{Arg, ArgAction, ArgMatches, Command};
 pub use explain::{ToExplain, explained_of};
+pub use lower::{ToLower, lowered_of};
 use std::alloc::{AllocError, Global};
 use terminal_text::quoted;
 
@@ -144,6 +147,14 @@ fn check<'a>(alloc: Global) -> Result<Command<'a>, AllocError> {
         .arg(hex)?
         .arg(shapes(alloc))?
         .arg(context(alloc))
+}
+
+/// The program of a command line that takes files too.
+fn hex_or_file<'a>(alloc: Global) -> Arg<'a> {
+    Arg::new(alloc, "HEX")
+        .help("the program, as hex text, or @FILE: its bytes or hex text")
+        .required(true)
+        .action(ArgAction::Set)
 }
 
 /// The maps that a program may use.

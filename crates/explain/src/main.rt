@@ -2,15 +2,13 @@
 //! With no words it answers each line of the standard input, whose words spaces set apart.
 #![tactic(auto)]
 
-mod source;
-
-use command_line::{ToExplain, WrongWords, explained_of};
+use command_line::{ToExplain, explained_of};
 use engines::check::{check, question_of};
 use engines::{status_of, write_fault, written};
 use findings::Judged;
 use host_file::FileFault;
 use listing::{Detail, Listing, Paint, fold};
-use source::hex_of;
+use program_source::{hex_of, words_fault, words_of};
 use std::alloc::{AllocError, Global};
 use std::env;
 use std::io::{self, BufWriter, Input, IsTerminal, Write};
@@ -83,11 +81,7 @@ fn answer_line<R: AllocGlobal + Files, W: Write>(
         return Ok(0);
     }
     written(writeln!(output, "$ {line}"))?;
-    let mut words = Vec::new(alloc);
-    words.push(String::from_str(alloc, "explain")?)?;
-    for word in line.split(' ') {
-        words.push(String::from_str(alloc, word)?)?;
-    }
+    let words = words_of(alloc, "explain", line)?;
     answer(rt, words.as_slice(), paint, output)
 }
 
@@ -145,12 +139,4 @@ fn write_explained<W: Write>(
         listing.write_further(output)?;
     }
     output.flush()
-}
-
-/// The fault of words that ask for nothing.
-fn words_fault(wrong: WrongWords) -> FileFault {
-    match wrong {
-        WrongWords::Usage(said) => FileFault::Usage(said),
-        WrongWords::OutOfMemory(error) => FileFault::OutOfMemory(error),
-    }
 }

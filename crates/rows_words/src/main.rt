@@ -1,9 +1,9 @@
 //! Reads command lines from the standard input, whose words bars set apart, and prints what each asks for, or
-//! what is said of words that ask for nothing. Words behind `explain` are that program's, and others `bpf_host`'s. The
-//! file `stdout` of this crate says what is wanted.
+//! what is said of words that ask for nothing. Words behind `explain` and `lower` are those programs', and others
+//! `bpf_host`'s. The file `stdout` of this crate says what is wanted.
 #![tactic(auto)]
 
-use command_line::{WrongWords, explained_of, request_of};
+use command_line::{WrongWords, explained_of, lowered_of, request_of};
 use std::alloc::{AllocError, Global};
 use std::fmt::Debug;
 use std::io;
@@ -28,6 +28,10 @@ fn print_asked(rt: &(impl AllocGlobal + Print), line: &str) -> io::Result<()> {
     if let Some(words) = line.strip_prefix("explain") {
         let words = words_of(rt.alloc(), words.trim_start())?;
         return print_answer(rt, explained_of(rt.alloc(), words.as_slice()));
+    }
+    if let Some(words) = line.strip_prefix("lower") {
+        let words = words_of(rt.alloc(), words.trim_start())?;
+        return print_answer(rt, lowered_of(rt.alloc(), words.as_slice()));
     }
     let words = words_of(rt.alloc(), line)?;
     print_answer(rt, request_of(rt.alloc(), words.as_slice()))

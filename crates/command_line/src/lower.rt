@@ -1,0 +1,50 @@
+//! The words of `lower`.
+
+use crate::{WrongWords, context, hex_or_file, said_of, shapes, told_of, usage};
+use clap::{Arg, ArgAction, Command};
+use std::alloc::{AllocError, Global};
+
+/// The program's name.
+const NAME: &str = "lower";
+
+/// A program that is to be lowered, for maps of these shapes and a context of a size. The words are as they were given.
+#[derive(Debug, Drop)]
+pub struct ToLower<'a> {
+    pub hex: &'a str,
+    pub shapes: Vec<&'a str>,
+    pub context: &'a str,
+    /// Whether the slots and the copies of loops are to be counted.
+    pub stats: bool,
+}
+
+/// What the words of `lower` ask for, the program's name being the first of them.
+pub fn lowered_of<'a>(alloc: Global, words: &'a [String]) -> Result<ToLower<'a>, WrongWords> {
+    let lower = command(alloc).map_err(WrongWords::OutOfMemory)?;
+    let Ok(matches) = lower.try_get_matches_from(words) else {
+        let told = told_of(alloc, NAME, words).map_err(WrongWords::OutOfMemory)?;
+        return Err(usage(said_of(alloc, command(alloc), told.as_slice())));
+    };
+    let Some(hex) = matches.get_str("HEX") else {
+        return Err(usage(String::from_str(alloc, "no HEX is given")));
+    };
+    let shapes = matches.get_strs("V:E").unwrap_or(&[]);
+    Ok(ToLower {
+        hex,
+        shapes: shapes.to_vec(alloc).map_err(WrongWords::OutOfMemory)?,
+        context: matches.get_str("context").unwrap_or("0"),
+        stats: matches.get_flag("stats"),
+    })
+}
+
+fn command<'a>(alloc: Global) -> Result<Command<'a>, AllocError> {
+    let stats = Arg::new(alloc, "stats")
+        .long("stats")
+        .help("tells the slots before and after, and the copies of each loop")
+        .action(ArgAction::SetTrue);
+    Command::new(alloc, NAME)
+        .about("makes a program with the same runs that the verifier accepts")
+        .arg(hex_or_file(alloc))?
+        .arg(shapes(alloc))?
+        .arg(context(alloc))?
+        .arg(stats)
+}

@@ -1,0 +1,40 @@
+//! What stopped a lowering.
+
+use advice::advice_on_text;
+use bpf_decode::Insn;
+use disassembly::Assembly;
+use host_types::Refused;
+use lowering::{NotLowered, Stop};
+use std::io::{self, Write};
+
+/// Writes what stopped the lowering of a text, if that isn't the text's own refusal. Its slots are the text's.
+pub fn write_stop<E: Write>(text: &[u8], stopped: &NotLowered, errors: &mut E) -> io::Result<()> {
+    if stopped.stop == Stop::Rule(stopped.refused) {
+        return Ok(());
+    }
+    write!(errors, "not lowered: ")?;
+    match stopped.stop {
+        Stop::Rule(refused) => write_rule(text, refused, errors)?,
+        Stop::Endless { header, copies } => write!(
+            errors,
+            "no range ends the loop at slot {header} within 4096 slots: {copies} copies of it were tried"
+        )?,
+        Stop::Nested { slot } => write!(errors, "the loops at slot {slot} are nested too deep")?,
+        Stop::Uncovered => write!(errors, "the lowered text doesn't cover it")?,
+        Stop::OutOfMemory => write!(errors, "out of memory")?,
+    }
+    writeln!(errors)
+}
+
+/// Writes the rule that a slot of a text breaks where its blocks are in order and its loops are copied.
+fn write_rule<E: Write>(text: &[u8], refused: Refused, errors: &mut E) -> io::Result<()> {
+    write!(errors, "with its loops copied it is {}", refused.fault())?;
+    if let Some(insn) = Insn::at(text, refused.slot as usize) {
+        let insn = Assembly(insn);
+        write!(errors, ": {insn}")?;
+    }
+    match advice_on_text(refused, text) {
+        Some(advice) => write!(errors, ": {}; {}", advice.wrong, advice.mend),
+        None => Ok(()),
+    }
+}
