@@ -1,0 +1,87 @@
+-- What a call returns and writes of its answer. What the answer doesn't speak of is as it was.
+use Rattle.std.specs.Prelude.{ℕ, List, length, ◌==◌, if◌then◌else◌, Bool, true, false, Option, Some, None}
+use Rattle.host_types.specs.declared.fault.Fault.{Fault}
+use Rattle.host_types.specs.declared.fault.Fault.TheVariants.{Program as Unaccepted, NoFrames}
+use Rattle.host_types.specs.Refusals.{fault_number}
+use Rattle.host_types.specs.declared.options.Opt.{Opt}
+use Rattle.host_types.specs.declared.options.Opt.TheVariants.{PagesToScan, Run, UseZeroPages, MaxPageSharing}
+use Rattle.ksm_counters.specs.declared.numbers.Counters.{Counters}
+use Rattle.host_core.specs.declared.event.Reply.{Reply}
+use Rattle.host_core.specs.declared.event.Reply.TheVariants.{Map, Program, Begun, Stepped, Ended, Value, Counters as AreCounters, Refused}
+use Rattle.bpf_host_c.specs.declared.answer.Answer.{Answer}
+use Rattle.bpf_host_c.specs.declared.answer.Answer.TheVariants.{Closed, NoMemory, Replied}
+use Rattle.bpf_host_c.specs.declared.structs.BpfHostCounters.{BpfHostCounters}
+use Rattle.bpf_host_c.specs.declared.structs.BpfHostRefused.{BpfHostRefused}
+use Rattle.bpf_host_c.specs.declared.structs.BpfHostRun.{BpfHostRun}
+
+-- the number that a call returns
+abbrev pub code_of : Answer → ℕ
+code_of Closed = 100
+code_of NoMemory = 41
+code_of (Replied (Refused fault)) = fault_number fault
+code_of (Replied reply) = 0
+
+-- the number of a map that was made
+abbrev pub map_of : Answer → ℕ → ℕ
+map_of (Replied (Map number)) old = number
+map_of answer old = old
+
+-- the number of a program that was loaded
+abbrev pub program_of : Answer → ℕ → ℕ
+program_of (Replied (Program number)) old = number
+program_of answer old = old
+
+-- what a run returned that ended, and how many steps it made
+abbrev pub run_of : Answer → BpfHostRun → BpfHostRun
+run_of (Replied (Ended number steps)) old = record { ret = number; steps = steps }
+run_of answer old = old
+
+-- the counters that were told
+abbrev pub counters_told : Answer → BpfHostCounters → BpfHostCounters
+counters_told (Replied (AreCounters counters)) old = record {
+  full_scans = counters.full_scans;
+  pages_shared = counters.pages_shared;
+  pages_sharing = counters.pages_sharing;
+  pages_unshared = counters.pages_unshared;
+  pages_volatile = counters.pages_volatile;
+  ksm_zero_pages = counters.ksm_zero_pages;
+  stable_node_chains = counters.stable_node_chains;
+  stable_node_dups = counters.stable_node_dups;
+  frames_free = counters.frames_free;
+}
+counters_told answer old = old
+
+-- the slot of a program's refusal, or the frames that are needed and that may be had
+abbrev pub refused_of : Answer → BpfHostRefused → BpfHostRefused
+refused_of (Replied (Refused (Unaccepted refusal))) old = record old { slot = refusal.slot }
+refused_of (Replied (Refused (NoFrames need have))) old = record old { need = need; have = have }
+refused_of answer old = old
+
+-- the value that was read, where there is just room for it
+abbrev pub value_of : Answer → List ℕ → List ℕ
+value_of (Replied (Value bytes)) old = if length bytes == length old then bytes else old
+value_of answer old = old
+
+-- the number that a lookup returns: 102 where the value has another length
+abbrev pub lookup_code : Answer → List ℕ → ℕ
+lookup_code (Replied (Value bytes)) old = if length bytes == length old then 0 else 102
+lookup_code answer old = code_of answer
+
+-- whether a run ended, where its last step was no refusal
+abbrev pub has_ended : Answer → Bool → Bool
+has_ended (Replied (Ended number steps)) old = true
+has_ended (Replied Stepped) old = false
+has_ended answer old = old
+
+-- the option with a number
+abbrev pub option_of : ℕ → Option Opt
+option_of number =
+    if number == 0 then Some PagesToScan else (
+    if number == 1 then Some Run else (
+    if number == 2 then Some UseZeroPages else (
+    if number == 3 then Some MaxPageSharing else None)))
+
+-- a run is open
+abbrev pub is_begun : Reply → Bool
+is_begun Begun = true
+is_begun reply = false

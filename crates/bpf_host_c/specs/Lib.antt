@@ -1,0 +1,4 @@
+pub mod Owned
+pub mod Codes
+pub mod Answered
+pub mod Life

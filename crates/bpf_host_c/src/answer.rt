@@ -1,0 +1,117 @@
+use crate::structs::{BpfHostCounters, BpfHostRefused, BpfHostRun};
+use host_core::Reply;
+use host_types::Fault;
+
+/// What a call comes to.
+#[derive(Drop)]
+pub enum Answer {
+    /// Nothing happened: the handle is closed.
+    Closed,
+    /// Nothing happened: there is no memory for a copy of what the call was given.
+    NoMemory,
+    /// The host replied.
+    Replied(Reply),
+}
+
+impl Answer {
+    ghost use Rattle.std.specs.Prelude.{◌≡◌};
+    ghost use Rattle.bpf_host_c.specs.Codes.{code_of, lookup_code, map_of, program_of, run_of, has_ended, value_of, counters_told, refused_of};
+
+    /// The number that the call returns.
+    pub(crate) fn code(&self) -> u32
+        ensures { result ≡ code_of self.now }
+    {
+        match self {
+            Answer::Closed => 100,
+            Answer::NoMemory => 41,
+            Answer::Replied(Reply::Refused(fault)) => fault.number(),
+            Answer::Replied(_) => 0,
+        }
+    }
+
+    /// Writes the number of a map that was made.
+    pub(crate) fn write_map(&self, map: &mut u32)
+        ensures { map.new ≡ map_of self.now map.old }
+    {
+        if let Answer::Replied(Reply::Map(number)) = self {
+            *map = *number;
+        }
+    }
+
+    /// Writes the number of a program that was loaded.
+    pub(crate) fn write_program(&self, program: &mut u32)
+        ensures { program.new ≡ program_of self.now program.old }
+    {
+        if let Answer::Replied(Reply::Program(number)) = self {
+            *program = *number;
+        }
+    }
+
+    /// Writes what a run returned that ended, and how many steps it made.
+    pub(crate) fn write_run(&self, run: &mut BpfHostRun)
+        ensures { run.new ≡ run_of self.now run.old }
+    {
+        if let Answer::Replied(Reply::Ended { ret, steps }) = self {
+            run.ret = *ret;
+            run.steps = *steps;
+        }
+    }
+
+    /// Writes whether a run ended, where its last step wasn't refused.
+    pub(crate) fn write_ended(&self, ended: &mut bool)
+        ensures { ended.new ≡ has_ended self.now ended.old }
+    {
+        match self {
+            Answer::Replied(Reply::Ended { .. }) => *ended = true,
+            Answer::Replied(Reply::Stepped) => *ended = false,
+            _ => {}
+        }
+    }
+
+    /// Writes the counters.
+    pub(crate) fn write_counters(&self, counters: &mut BpfHostCounters)
+        ensures { counters.new ≡ counters_told self.now counters.old }
+    {
+        if let Answer::Replied(Reply::Counters(told)) = self {
+            counters.full_scans = told.full_scans;
+            counters.pages_shared = told.pages_shared;
+            counters.pages_sharing = told.pages_sharing;
+            counters.pages_unshared = told.pages_unshared;
+            counters.pages_volatile = told.pages_volatile;
+            counters.ksm_zero_pages = told.ksm_zero_pages;
+            counters.stable_node_chains = told.stable_node_chains;
+            counters.stable_node_dups = told.stable_node_dups;
+            counters.frames_free = told.frames_free;
+        }
+    }
+
+    /// Writes what a refusal says beside its number.
+    pub(crate) fn write_refused(&self, refused: &mut BpfHostRefused)
+        ensures { refused.new ≡ refused_of self.now refused.old }
+    {
+        match self {
+            Answer::Replied(Reply::Refused(Fault::Program(program))) => refused.slot = program.slot,
+            Answer::Replied(Reply::Refused(Fault::NoFrames { need, have })) => {
+                refused.need = *need;
+                refused.have = *have;
+            }
+            _ => {}
+        }
+    }
+
+    /// Writes a value that was read to bytes of its length: the number that the call returns. Bytes of another length stay.
+    pub(crate) fn write_value(&self, value: &mut [u8]) -> u32
+        ensures value { value.new ≡ value_of self.now value.old }
+        ensures code { result ≡ lookup_code self.now value.old }
+    {
+        let Answer::Replied(Reply::Value(bytes)) = self else {
+            return self.code();
+        };
+        let bytes = bytes.as_slice();
+        if bytes.len() != value.len() {
+            return 102;
+        }
+        value.copy_from_slice(bytes);
+        0
+    }
+}

@@ -1,0 +1,139 @@
+ghost use Rattle.std.specs.Prelude.{◌≡◌, is_some};
+
+use crate::answer::Answer;
+use crate::loose::Loose;
+use crate::owner::Owner;
+use host_core::{Bytes, Event, Host};
+use host_types::MapNo;
+use std::alloc::Global;
+
+/// A host that C holds, or a closed handle: all zeros are one.
+#[repr(C)]
+pub struct BpfHost {
+    pub(crate) owner: Owner,
+    pub(crate) is_open: bool,
+    pub ghost known: { is_open ≡ is_some owner.host },
+}
+
+impl BpfHost {
+    ghost use Rattle.std.specs.Prelude.{◌≡◌, MatchOption, Some, None, IfOk, IfErr};
+    ghost use Rattle.host_core.specs.declared.event.Event.TheVariants.{Load, Begin, HostUpdate};
+    ghost use Rattle.bpf_host_c.specs.Answered.{IsAnswered, IsAnsweredFromCopy, IsKept, Serves};
+
+    /// Takes the host out, which leaves the handle closed.
+    pub(crate) fn take(&mut self, alloc: Global) -> Option<Box<Host>>
+        ensures host { MatchOption result (self.old.owner.host ≡ None) (λ host. self.old.owner.host ≡ Some host.value) }
+        ensures closed { self.new.owner.host ≡ None }
+    {
+        if !self.is_open {
+            return None;
+        }
+        self.is_open = false;
+        Some(self.owner.take(alloc).into_box())
+    }
+
+    /// Puts a host into a closed handle.
+    pub(crate) fn put(&mut self, host: Box<Host>)
+        ensures { self.new.owner.host ≡ Some host.value }
+    {
+        self.owner.put(Loose::of(host));
+        self.is_open = true;
+    }
+
+    /// Lets an event happen.
+    pub(crate) fn serve(&mut self, alloc: Global, event: &Event) -> Answer
+        ensures { IsAnswered (Serves event.now) result self.old.owner.host self.new.owner.host }
+    {
+        let Some(mut host) = self.take(alloc) else {
+            return Answer::Closed;
+        };
+        let reply = host.apply(event);
+        self.put(host);
+        Answer::Replied(reply)
+    }
+
+    /// Loads a program's text.
+    pub(crate) fn load(
+        &mut self,
+        alloc: Global,
+        tenant: u32,
+        text: &[u8],
+        context_size: u32,
+    ) -> Answer
+        ensures { IsAnsweredFromCopy (Serves (Load tenant text.now context_size)) result self.old.owner.host self.new.owner.host }
+    {
+        match self.copied(alloc, text) {
+            Ok(text) => {
+                let event = Event::Load {
+                    tenant,
+                    text,
+                    context_size,
+                };
+                self.serve(alloc, &event)
+            }
+            Err(answer) => answer,
+        }
+    }
+
+    /// Opens a run.
+    pub(crate) fn begin(
+        &mut self,
+        alloc: Global,
+        tenant: u32,
+        program: u32,
+        context: &[u8],
+    ) -> Answer
+        ensures { IsAnsweredFromCopy (Serves (Begin tenant program context.now)) result self.old.owner.host self.new.owner.host }
+    {
+        match self.copied(alloc, context) {
+            Ok(context) => {
+                let event = Event::Begin {
+                    tenant,
+                    program,
+                    context,
+                };
+                self.serve(alloc, &event)
+            }
+            Err(answer) => answer,
+        }
+    }
+
+    /// Writes a value to a map.
+    pub(crate) fn update(
+        &mut self,
+        alloc: Global,
+        tenant: u32,
+        map: MapNo,
+        key: u32,
+        value: &[u8],
+    ) -> Answer
+        ensures { IsAnsweredFromCopy (Serves (HostUpdate tenant map key value.now)) result self.old.owner.host self.new.owner.host }
+    {
+        match self.copied(alloc, value) {
+            Ok(value) => {
+                let event = Event::HostUpdate {
+                    tenant,
+                    map,
+                    key,
+                    value,
+                };
+                self.serve(alloc, &event)
+            }
+            Err(answer) => answer,
+        }
+    }
+
+    /// A copy of what a call was given, where the handle is open and there is memory.
+    pub(crate) fn copied(&self, alloc: Global, given: &[u8]) -> Result<Bytes, Answer>
+        ensures copy { IfOk result (λ copy. copy ≡ given.now) }
+        ensures kept { IfErr result (λ answer. IsKept answer self.now.owner.host) }
+    {
+        if !self.is_open {
+            return Err(Answer::Closed);
+        }
+        match given.to_vec(alloc) {
+            Ok(copy) => Ok(copy.into()),
+            Err(_) => Err(Answer::NoMemory),
+        }
+    }
+}

@@ -1,0 +1,25 @@
+//! A host for programs in C: each call is one event of the host, or a whole run of a program, and its contract is that of the
+//! event. What C owes at a call stands in include/bpf_host.h.
+#![tactic(auto)]
+
+mod answer;
+mod calls;
+mod handle;
+mod life;
+mod loose;
+mod owner;
+mod runs;
+mod scanning;
+mod structs;
+
+pub use answer::Answer;
+pub use calls::{
+    bpf_host_begin, bpf_host_counters, bpf_host_create_map, bpf_host_drop_map, bpf_host_load,
+    bpf_host_lookup, bpf_host_set, bpf_host_unload, bpf_host_unmerge, bpf_host_update,
+};
+pub use handle::BpfHost;
+pub use life::{bpf_host_free, bpf_host_new, bpf_host_version};
+pub use owner::Owner;
+pub use runs::{bpf_host_run, bpf_host_step};
+pub use scanning::bpf_host_visit;
+pub use structs::{BpfHostCounters, BpfHostOptions, BpfHostRefused, BpfHostRun};

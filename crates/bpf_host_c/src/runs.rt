@@ -1,0 +1,126 @@
+ghost use Rattle.std.specs.Prelude.{◌≡◌};
+ghost use Rattle.bpf_host_c.specs.declared.answer.Answer.{Answer as Came};
+ghost use Rattle.bpf_host_c.specs.Answered.{IsAnswered, IsAnsweredFromCopy, Goes, Runs, Steps};
+ghost use Rattle.bpf_host_c.specs.Codes.{code_of, run_of, has_ended, is_begun, refused_of};
+
+use crate::answer::Answer;
+use crate::handle::BpfHost;
+use crate::structs::{BpfHostRefused, BpfHostRun};
+use host_core::{Bytes, Event, Host, Reply};
+use std::alloc::Global;
+
+/// More steps than a run makes.
+const ALL_STEPS: u64 = 4294967296;
+
+/// Runs a loaded program on a context, from its beginning to its end.
+#[unsafe(no_mangle)]
+pub extern "C" fn bpf_host_run(
+    alloc: Global,
+    handle: &mut BpfHost,
+    tenant: u32,
+    program: u32,
+    context: &[u8],
+    run: &mut BpfHostRun,
+    refused: &mut BpfHostRefused,
+) -> u32
+    ensures { (answer : Came)
+        × IsAnsweredFromCopy (Runs tenant program context.now) answer handle.old.owner.host handle.new.owner.host
+        × (result ≡ code_of answer) × (run.new ≡ run_of answer run.old) × (refused.new ≡ refused_of answer refused.old) }
+{
+    let answer = run_whole(handle, alloc, tenant, program, context);
+    answer.write_run(run);
+    answer.write_refused(refused);
+    answer.code()
+}
+
+/// Makes steps of a tenant's open run, up to a limit.
+#[unsafe(no_mangle)]
+pub extern "C" fn bpf_host_step(
+    alloc: Global,
+    handle: &mut BpfHost,
+    tenant: u32,
+    steps: u64,
+    ended: &mut bool,
+    run: &mut BpfHostRun,
+) -> u32
+    ensures { (answer : Came)
+        × IsAnswered (Steps tenant steps) answer handle.old.owner.host handle.new.owner.host
+        × (result ≡ code_of answer) × (ended.new ≡ has_ended answer ended.old) × (run.new ≡ run_of answer run.old) }
+{
+    let answer = make_steps(handle, alloc, tenant, steps);
+    answer.write_ended(ended);
+    answer.write_run(run);
+    answer.code()
+}
+
+/// Makes steps behind a handle.
+fn make_steps(handle: &mut BpfHost, alloc: Global, tenant: u32, steps: u64) -> Answer
+    ensures { IsAnswered (Steps tenant steps) result handle.old.owner.host handle.new.owner.host }
+{
+    let Some(mut host) = handle.take(alloc) else {
+        return Answer::Closed;
+    };
+    let last = host.make_steps(tenant, steps);
+    handle.put(host);
+    Answer::Replied(last.unwrap_or(Reply::Stepped))
+}
+
+/// Makes a whole run behind a handle.
+fn run_whole(
+    handle: &mut BpfHost,
+    alloc: Global,
+    tenant: u32,
+    program: u32,
+    context: &[u8],
+) -> Answer
+    ensures { IsAnsweredFromCopy (Runs tenant program context.now) result handle.old.owner.host handle.new.owner.host }
+{
+    match handle.copied(alloc, context) {
+        Ok(context) => run_copied(handle, alloc, tenant, program, context),
+        Err(answer) => answer,
+    }
+}
+
+/// Makes a whole run behind a handle on a context of its own.
+fn run_copied(
+    handle: &mut BpfHost,
+    alloc: Global,
+    tenant: u32,
+    program: u32,
+    context: Bytes,
+) -> Answer
+    ensures { IsAnswered (Runs tenant program context) result handle.old.owner.host handle.new.owner.host }
+{
+    let Some(mut host) = handle.take(alloc) else {
+        return Answer::Closed;
+    };
+    let reply = run(&mut host, tenant, program, context);
+    handle.put(host);
+    Answer::Replied(reply)
+}
+
+/// Makes a whole run.
+fn run(host: &mut Host, tenant: u32, program: u32, context: Bytes) -> Reply
+    ensures { Goes (Runs tenant program context result) host.old host.new }
+{
+    let event = Event::Begin {
+        tenant,
+        program,
+        context,
+    };
+    let begun = host.apply(&event);
+    if !has_begun(&begun) {
+        return begun;
+    }
+    match host.make_steps(tenant, ALL_STEPS) {
+        Some(last) => last,
+        None => unreachable!(),
+    }
+}
+
+/// Whether a reply says that a run is open.
+fn has_begun(reply: &Reply) -> bool
+    ensures { result ≡ is_begun reply.now }
+{
+    matches!(reply, Reply::Begun)
+}

@@ -1,0 +1,207 @@
+/* A host of eBPF programs, to be embedded: 1 to 16 tenants, each with its own maps, its own verified programs and at most one open
+ * run, in a memory whose pages are merged. No reply and no value shows that: each call does what docs/HOST.md says of its event.
+ *
+ *     struct bpf_host host = {0};
+ *     struct bpf_host_options options = BPF_HOST_OPTIONS;
+ *     struct bpf_host_run run;
+ *     struct bpf_host_refused why;
+ *     uint32_t program;
+ *     if (bpf_host_new(64, 1, &options, &host)) ..
+ *     if (bpf_host_load(&host, 0, text, sizeof text, 0, &program, &why)) ..
+ *     if (bpf_host_run(&host, 0, program, context, 0, &run, &why)) ..
+ *     bpf_host_free(&host);
+ *
+ * WHAT A CALL RETURNS. 0, or the number of a refusal; bpf_host_code_name has its name.
+ *     1 to 25     a program breaks this rule of the verifier, at the slot `refused->slot`
+ *     31          more frames are needed than may be had: `refused->need` and `refused->have`
+ *     32 to 45    as docs/HOST.md lists them; 41: memory ran out
+ *     100         the handle is closed
+ *     101         the handle is open already (bpf_host_new)
+ *     102         the buffer has another length than the value (bpf_host_lookup)
+ * bpf_host_load, _begin, _run and _update copy what they are given first: where there is no memory for that, they return 41 whatever else
+ * would be refused.
+ * A call that doesn't return 0 changed nothing: neither the host nor what the caller's pointers lead to, but for the members of
+ * `*refused` that the number speaks of (slot; need and have).
+ *
+ * WHAT THE CALLER OWES AT EACH CALL. No proof covers it.
+ *   - No pointer is null, and each leads to an object of its type that is initialised: a `struct bpf_host` to all zeros at first, a `bool`
+ *     to true or false. A buffer of no bytes needs a pointer that isn't null, too.
+ *   - No two pointers of one call lead to the same bytes, but for those that are `const`.
+ *   - The members of a `struct bpf_host` are the library's: they are neither read nor written, and once a handle was opened, a copy of it
+ *     isn't used beside it.
+ *   - One call at a time is made with a handle, and all of them on the thread that opened it. Other threads may have hosts of their own.
+ *   - No call is made from a signal handler, or from the child of a process that had several threads when it forked.
+ *   - malloc, realloc and free are the C library's, or others that align as it does, up to 16.
+ * A host is closed by bpf_host_free; one that isn't keeps its memory. */
+#ifndef BPF_HOST_H
+#define BPF_HOST_H
+
+#include <stdbool.h>
+#include <stddef.h>
+#include <stdint.h>
+
+#ifdef __cplusplus
+extern "C" {
+#endif
+
+/* The version of this header. It is that of the library where bpf_host_version returns the same. */
+#define BPF_HOST_VERSION 1
+
+/* A handle: {0} is closed. */
+struct bpf_host {
+    void *at;
+    bool is_open;
+};
+
+/* The options of the scanner, by the names of Linux's KSM. */
+struct bpf_host_options {
+    uint32_t pages_to_scan;    /* 1 to 100000 */
+    uint32_t run;              /* 0: the scanner stands still; 1: it visits */
+    uint32_t use_zero_pages;   /* 1: pages of zeros share one frame */
+    uint32_t max_page_sharing; /* how many pages share a frame, 2 to 65535 */
+};
+
+/* The options of a host that is told none. */
+#define BPF_HOST_OPTIONS {100, 1, 0, 256}
+
+/* The numbers of the options, for bpf_host_set. */
+enum {
+    BPF_HOST_PAGES_TO_SCAN = 0,
+    BPF_HOST_RUN = 1,
+    BPF_HOST_USE_ZERO_PAGES = 2,
+    BPF_HOST_MAX_PAGE_SHARING = 3
+};
+
+/* What a refusal says beside its number. */
+struct bpf_host_refused {
+    uint32_t slot;
+    uint32_t need;
+    uint32_t have;
+};
+
+/* What a run returned, and how many steps it made. */
+struct bpf_host_run {
+    uint64_t ret;
+    uint32_t steps;
+};
+
+/* The counters, by the names of the kernel's manual. */
+struct bpf_host_counters {
+    uint64_t full_scans;
+    uint32_t pages_shared;
+    uint32_t pages_sharing;
+    uint32_t pages_unshared;
+    uint32_t pages_volatile;
+    uint32_t ksm_zero_pages;
+    uint32_t stable_node_chains;
+    uint32_t stable_node_dups;
+    uint32_t frames_free;
+};
+
+/* The version of the library. */
+uint32_t bpf_host_version(void);
+
+/* Opens a closed handle with a new host of 2 to 4096 frames and 1 to 16 tenants. 101, 33, 40, 41. */
+uint32_t bpf_host_new(uint32_t frames, uint32_t tenants, const struct bpf_host_options *options, struct bpf_host *host);
+
+/* Closes a handle and gives back all that its host held. A closed handle stays closed. */
+void bpf_host_free(struct bpf_host *host);
+
+/* Makes a map of `entries` values of `value_size` bytes, all zero, and writes its number to `*map`: 0 to 7. 100, 42, 36, 32, 33, 31. */
+uint32_t bpf_host_create_map(struct bpf_host *host, uint32_t tenant, uint32_t value_size, uint32_t entries, bool mergeable, uint32_t *map,
+                             struct bpf_host_refused *refused);
+
+/* Takes away a map that no loaded program names. 100, 42, 36, 34, 43. */
+uint32_t bpf_host_drop_map(struct bpf_host *host, uint32_t tenant, uint32_t map);
+
+/* Verifies a program, slots of 8 bytes, for the tenant's maps and contexts of `context_size` bytes, and writes its number to `*program`:
+ * 0 to 7. The text is copied. 100, 42, 36, 45, 39, 1 to 25, 41. */
+uint32_t bpf_host_load(struct bpf_host *host, uint32_t tenant, const uint8_t *text, size_t text_len, uint32_t context_size, uint32_t *program,
+                       struct bpf_host_refused *refused);
+
+/* Takes a program away. 100, 42, 36, 38. */
+uint32_t bpf_host_unload(struct bpf_host *host, uint32_t tenant, uint32_t program);
+
+/* Runs a program on a context, from its first instruction to its end: a begin and all its steps. 100, 42, 36, 38, 39, 31, 41. */
+uint32_t bpf_host_run(struct bpf_host *host, uint32_t tenant, uint32_t program, const uint8_t *context, size_t context_len,
+                      struct bpf_host_run *run, struct bpf_host_refused *refused);
+
+/* Opens a run of a program on a context, and reserves the frames that it may need. 100, 42, 36, 38, 39, 31, 41. */
+uint32_t bpf_host_begin(struct bpf_host *host, uint32_t tenant, uint32_t program, const uint8_t *context, size_t context_len,
+                        struct bpf_host_refused *refused);
+
+/* Makes steps of the tenant's open run, at most `steps`. `*ended` says whether the run ended with them, and then `*run` is written. 100, 42,
+ * 37. */
+uint32_t bpf_host_step(struct bpf_host *host, uint32_t tenant, uint64_t steps, bool *ended, struct bpf_host_run *run);
+
+/* Copies a value of a map to just as many bytes. 100, 42, 34, 35, 41, 102. */
+uint32_t bpf_host_lookup(struct bpf_host *host, uint32_t tenant, uint32_t map, uint32_t key, uint8_t *value, size_t value_len);
+
+/* Writes a value of a map. 100, 42, 36, 34, 35, 33, 31, 41. */
+uint32_t bpf_host_update(struct bpf_host *host, uint32_t tenant, uint32_t map, uint32_t key, const uint8_t *value, size_t value_len,
+                         struct bpf_host_refused *refused);
+
+/* Lets the scanner make `visits` visits of a page each, and writes the counters after them. 100. */
+uint32_t bpf_host_visit(struct bpf_host *host, uint32_t visits, struct bpf_host_counters *after);
+
+/* Sets an option. 100, 40, 44. */
+uint32_t bpf_host_set(struct bpf_host *host, uint32_t option, uint32_t value);
+
+/* Gives each page that shares a frame one of its own, and stops the scanner. 100, 31. */
+uint32_t bpf_host_unmerge(struct bpf_host *host, struct bpf_host_refused *refused);
+
+/* Writes the counters. 100. */
+uint32_t bpf_host_counters(struct bpf_host *host, struct bpf_host_counters *counters);
+
+/* The name of what a call returned. */
+static inline const char *bpf_host_code_name(uint32_t code)
+{
+    switch (code) {
+    case 0: return "Done";
+    case 1: return "BadLength";
+    case 2: return "UnknownOpcode";
+    case 3: return "BadField";
+    case 4: return "BadRegister";
+    case 5: return "CutWide";
+    case 11: return "BackJump";
+    case 12: return "JumpOut";
+    case 13: return "FallsOff";
+    case 14: return "UnsetRegister";
+    case 15: return "WrongKind";
+    case 16: return "OutsideContext";
+    case 17: return "OutsideStack";
+    case 18: return "UnsetStack";
+    case 19: return "OutsideMap";
+    case 20: return "Misaligned";
+    case 21: return "NullNotChecked";
+    case 22: return "FrameWritten";
+    case 23: return "UnknownHelper";
+    case 24: return "UnknownMap";
+    case 25: return "PointerLeaks";
+    case 31: return "NoFrames";
+    case 32: return "TooManyMaps";
+    case 33: return "BadShape";
+    case 34: return "NoMap";
+    case 35: return "NoElement";
+    case 36: return "Busy";
+    case 37: return "NoRun";
+    case 38: return "NoProgram";
+    case 39: return "BadContext";
+    case 40: return "BadOption";
+    case 41: return "OutOfMemory";
+    case 42: return "BadTenant";
+    case 43: return "InUse";
+    case 44: return "PagesShared";
+    case 45: return "TooManyPrograms";
+    case 100: return "Closed";
+    case 101: return "OpenAlready";
+    case 102: return "WrongLength";
+    default: return "Unknown";
+    }
+}
+
+#ifdef __cplusplus
+}
+#endif
+
+#endif

@@ -1,0 +1,97 @@
+/* Each allocation of a list of calls refused once: a call that lacks memory returns 41 and changes nothing, and the same call succeeds
+ * afterwards. Linked with -Wl,--wrap=malloc,--wrap=realloc. */
+#include "bpf_host.h"
+
+#include <stdio.h>
+#include <stdlib.h>
+#include <string.h>
+
+void *__real_malloc(size_t size);
+void *__real_realloc(void *block, size_t size);
+void *__wrap_malloc(size_t size);
+void *__wrap_realloc(void *block, size_t size);
+
+/* Which allocation from now is refused: 0 for none. */
+static unsigned left_until_refused;
+
+static int is_refused(void)
+{
+    return left_until_refused != 0 && --left_until_refused == 0;
+}
+
+void *__wrap_malloc(size_t size)
+{
+    return is_refused() ? NULL : __real_malloc(size);
+}
+
+void *__wrap_realloc(void *block, size_t size)
+{
+    return is_refused() ? NULL : __real_realloc(block, size);
+}
+
+static unsigned failures;
+static unsigned lacked;
+
+static void wanted(int holds, const char *what)
+{
+    if (!holds) {
+        failures++;
+        printf("%s\n", what);
+    }
+}
+
+/* A call that may lack memory: it is made again where it did, and then memory is there. */
+#define AGAIN(call)                                                     \
+    do {                                                                \
+        uint32_t code = (call);                                         \
+        if (code == 41) {                                               \
+            lacked++;                                                   \
+            wanted(left_until_refused == 0, "41 with memory: " #call);  \
+            code = (call);                                              \
+        }                                                               \
+        wanted(code == 0, "not done: " #call);                          \
+    } while (0)
+
+static void list_of_calls(void)
+{
+    static const uint8_t text[] = {0xb7, 0, 0, 0, 42, 0, 0, 0, 0x95, 0, 0, 0, 0, 0, 0, 0};
+    static const uint8_t value[8] = {1, 2, 3, 4, 5, 6, 7, 8};
+    struct bpf_host host = {0};
+    struct bpf_host_options options = BPF_HOST_OPTIONS;
+    struct bpf_host_refused refused = {0, 0, 0};
+    struct bpf_host_run run = {0, 0};
+    struct bpf_host_counters counters;
+    uint8_t found[8] = {0};
+    uint32_t number = 9;
+    bool ended = false;
+    AGAIN(bpf_host_new(8, 2, &options, &host));
+    AGAIN(bpf_host_create_map(&host, 0, 8, 1, true, &number, &refused));
+    wanted(number == 0, "another map");
+    AGAIN(bpf_host_load(&host, 0, text, sizeof text, 8, &number, &refused));
+    wanted(number == 0, "another program");
+    AGAIN(bpf_host_update(&host, 0, 0, 0, value, sizeof value, &refused));
+    AGAIN(bpf_host_run(&host, 0, 0, value, 8, &run, &refused));
+    wanted(run.ret == 42 && run.steps == 2, "another run");
+    AGAIN(bpf_host_begin(&host, 0, 0, value, 8, &refused));
+    AGAIN(bpf_host_step(&host, 0, 9, &ended, &run));
+    wanted(ended, "the run goes on");
+    AGAIN(bpf_host_lookup(&host, 0, 0, 0, found, sizeof found));
+    wanted(memcmp(found, value, sizeof found) == 0, "another value");
+    AGAIN(bpf_host_visit(&host, 4, &counters));
+    AGAIN(bpf_host_unload(&host, 0, 0));
+    AGAIN(bpf_host_drop_map(&host, 0, 0));
+    bpf_host_free(&host);
+}
+
+int main(void)
+{
+    unsigned refused = 0;
+    do {
+        refused++;
+        left_until_refused = refused;
+        list_of_calls();
+    } while (left_until_refused == 0 && refused < 10000);
+    wanted(lacked == refused - 1, "an allocation was refused, and no call said so");
+    printf("%u allocations refused, %u failed\n", refused - 1, failures);
+    return failures != 0;
+}

@@ -1,0 +1,138 @@
+/* Each refusal that is none of a program's, what stays as it was, and handles that are closed or used twice. */
+#include "check.h"
+
+/* A refusal left what the caller's pointers lead to. */
+static void check_untouched(const struct bpf_host_run *run, bool ended, const struct bpf_host_refused *refused)
+{
+    CHECK(run->ret, 5);
+    CHECK(run->steps, 6);
+    CHECK(ended, true);
+    CHECK(refused->slot, 77);
+    CHECK(refused->need, 78);
+    CHECK(refused->have, 79);
+}
+
+static void test_runs_refused(struct bpf_host *host)
+{
+    struct bpf_host_run run = {5, 6};
+    struct bpf_host_refused refused = {77, 78, 79};
+    uint8_t bytes[9] = {0};
+    bool ended = true;
+    CHECK(bpf_host_step(host, 0, 1, &ended, &run), 37);
+    CHECK(bpf_host_run(host, 9, 0, bytes, 0, &run, &refused), 42);
+    CHECK(bpf_host_run(host, 0, 3, bytes, 0, &run, &refused), 38);
+    CHECK(bpf_host_run(host, 0, 0, bytes, 8, &run, &refused), 39);
+    CHECK(bpf_host_begin(host, 0, 0, bytes, 0, &refused), 0);
+    CHECK(bpf_host_begin(host, 0, 0, bytes, 0, &refused), 36);
+    CHECK(bpf_host_run(host, 0, 0, bytes, 0, &run, &refused), 36);
+    CHECK(bpf_host_update(host, 0, 0, 0, bytes, 8, &refused), 36);
+    CHECK(bpf_host_drop_map(host, 0, 0), 36);
+    CHECK(bpf_host_unload(host, 0, 0), 36);
+    CHECK(make_map(host, 0, 8, 1), 36);
+    CHECK(load_hex(host, 0, RETURN_42, 0), 36);
+    check_untouched(&run, ended, &refused);
+    check_value(host, 0, 0, 0, "0000000000000000");
+    CHECK(bpf_host_step(host, 0, 0, &ended, &run), 0);
+    CHECK(ended, false);
+    CHECK(bpf_host_step(host, 0, 1u << 20, &ended, &run), 0);
+    CHECK(ended, true);
+    CHECK(run.ret, 1);
+}
+
+static void test_maps_and_programs_refused(struct bpf_host *host)
+{
+    uint8_t value[9] = {9, 9, 9, 9, 9, 9, 9, 9, 9};
+    CHECK(bpf_host_lookup(host, 0, 0, 0, value, 7), 102);
+    CHECK(bpf_host_lookup(host, 0, 0, 0, value, 9), 102);
+    CHECK(bpf_host_lookup(host, 0, 0, 1, value, 8), 35);
+    CHECK(bpf_host_lookup(host, 0, 5, 0, value, 8), 34);
+    CHECK(bpf_host_lookup(host, 2, 0, 0, value, 8), 42);
+    for (int i = 0; i < 9; i++)
+        CHECK(value[i], 9);
+    CHECK(bpf_host_drop_map(host, 0, 0), 43);
+    CHECK(bpf_host_drop_map(host, 0, 5), 34);
+    CHECK(bpf_host_unload(host, 0, 5), 38);
+    CHECK(bpf_host_unload(host, 4, 0), 42);
+    CHECK(bpf_host_set(host, 4, 1), 40);
+    CHECK(make_map(host, 0, 0, 1), 33);
+    CHECK(make_map(host, 3, 8, 1), 42);
+    CHECK(load_hex(host, 0, RETURN_42, 7), 39);
+    for (int i = 1; i < 8; i++) {
+        CHECK(load_hex(host, 0, RETURN_42, 0), 0);
+        CHECK(make_map(host, 0, 8, 1), 0);
+    }
+    CHECK(load_hex(host, 0, RETURN_42, 0), 45);
+    CHECK(make_map(host, 0, 8, 1), 32);
+    CHECK(bpf_host_unload(host, 0, 0), 0);
+    CHECK(bpf_host_drop_map(host, 0, 0), 0);
+    CHECK(bpf_host_lookup(host, 0, 0, 0, value, 8), 34);
+}
+
+void test_refusals(void)
+{
+    struct bpf_host host;
+    open_host(&host, 16, 1);
+    CHECK(make_map(&host, 0, 8, 1), 0);
+    CHECK(load_hex(&host, 0, COUNTER, 0), 0);
+    test_runs_refused(&host);
+    test_maps_and_programs_refused(&host);
+    bpf_host_free(&host);
+}
+
+/* Each call at a closed handle. */
+static void check_closed(struct bpf_host *host)
+{
+    struct bpf_host_counters counters = {1, 2, 3, 4, 5, 6, 7, 8, 9};
+    struct bpf_host_counters same = counters;
+    struct bpf_host_run run = {5, 6};
+    struct bpf_host_refused refused = {77, 78, 79};
+    uint8_t bytes[8] = {9};
+    uint32_t number = 99;
+    bool ended = true;
+    CHECK(bpf_host_create_map(host, 0, 8, 1, true, &number, &refused), 100);
+    CHECK(bpf_host_load(host, 0, bytes, 8, 0, &number, &refused), 100);
+    CHECK(bpf_host_drop_map(host, 0, 0), 100);
+    CHECK(bpf_host_unload(host, 0, 0), 100);
+    CHECK(bpf_host_run(host, 0, 0, bytes, 0, &run, &refused), 100);
+    CHECK(bpf_host_begin(host, 0, 0, bytes, 0, &refused), 100);
+    CHECK(bpf_host_step(host, 0, 1, &ended, &run), 100);
+    CHECK(bpf_host_lookup(host, 0, 0, 0, bytes, 8), 100);
+    CHECK(bpf_host_update(host, 0, 0, 0, bytes, 8, &refused), 100);
+    CHECK(bpf_host_visit(host, 3, &counters), 100);
+    CHECK(bpf_host_set(host, BPF_HOST_RUN, 1), 100);
+    CHECK(bpf_host_set(host, 4, 1), 100);
+    CHECK(bpf_host_unmerge(host, &refused), 100);
+    CHECK(bpf_host_counters(host, &counters), 100);
+    CHECK(number, 99);
+    CHECK(bytes[0], 9);
+    CHECK(memcmp(&counters, &same, sizeof same), 0);
+    check_untouched(&run, ended, &refused);
+    CHECK(host->is_open, false);
+}
+
+void test_handles(void)
+{
+    struct bpf_host host = {0};
+    struct bpf_host_options options = BPF_HOST_OPTIONS;
+    CHECK(bpf_host_version(), BPF_HOST_VERSION);
+    check_closed(&host);
+    bpf_host_free(&host);
+    CHECK(bpf_host_new(1, 1, &options, &host), 33);
+    CHECK(bpf_host_new(4, 17, &options, &host), 33);
+    options.max_page_sharing = 1;
+    CHECK(bpf_host_new(4, 1, &options, &host), 40);
+    options.max_page_sharing = 256;
+    CHECK(host.is_open, false);
+    CHECK(bpf_host_new(4, 1, &options, &host), 0);
+    CHECK(make_map(&host, 0, 8, 1), 0);
+    CHECK(bpf_host_new(8, 2, &options, &host), 101);
+    check_value(&host, 0, 0, 0, "0000000000000000");
+    bpf_host_free(&host);
+    check_closed(&host);
+    bpf_host_free(&host);
+    CHECK(bpf_host_new(4, 1, &options, &host), 0);
+    bpf_host_free(&host);
+    CHECK(strcmp(bpf_host_code_name(31), "NoFrames"), 0);
+    CHECK(strcmp(bpf_host_code_name(100), "Closed"), 0);
+    CHECK(strcmp(bpf_host_code_name(6), "Unknown"), 0);
+}
