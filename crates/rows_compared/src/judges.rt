@@ -4,14 +4,16 @@ ghost use Rattle.verifier.specs.Verified.{AreShapes};
 use bpf_decode::decode;
 use host_types::limits::MAX_TEXT;
 use host_types::{Refused, Shape};
+use listing::Knowledge;
 use plain_verifier::{Judged, Order, Table, is_lawful, judge_in};
 use std::alloc::Global;
-use verifier::Verified;
+use verifier::{Candidate, Verified};
+use verifier_kinds::Description;
 
 /// Whether both passes of the plain verifier answer of a well-formed text, with maps of these shapes and a
 /// context of a size, the same as one another, with the same table, up to the slot that is refused if one is;
-/// and what `verify` answered: the same number and slot of a refusal, or the same kinds. The table of an accepted
-/// text is lawful.
+/// and what `verify` answered: the same number and slot of a refusal, or the same kinds. The table is what the verifier's
+/// flow knows, of each register and of all bytes of the stack, of a refused text too; that of an accepted text is lawful.
 pub fn judge_alike(
     alloc: Global,
     text: &[u8],
@@ -32,6 +34,7 @@ pub fn judge_alike(
     is_one(&forward, &backward, slots)
         && is_as(&forward, verified)
         && is_kept(alloc, text, shapes, size, &forward)
+        && is_known(alloc, text, shapes, size, &forward)
 }
 
 /// What the pass answers that joins in an order; `None` where the decoder refuses, or for want of memory.
@@ -108,6 +111,76 @@ fn has_kinds(table: &Table, program: &Verified) -> bool {
 fn has_registers(table: &Table, program: &Verified, slot: u32) -> bool {
     for register in 0..11 {
         if table.kind(slot, register) != program.kind(slot, register) {
+            return false;
+        }
+    }
+    true
+}
+
+/// Whether the verifier's flow knows at each slot what the table says, up to the slot that is refused if one is; there it breaks
+/// the rule of the refusal.
+fn is_known(
+    alloc: Global,
+    text: &[u8],
+    shapes: &[Option<Shape>],
+    size: u32,
+    judged: &Judged,
+) -> bool
+    requires shapes { AreShapes shapes.now }
+    requires context { IsContextSize size }
+{
+    let Ok(program) = decode(alloc, text) else {
+        return false;
+    };
+    let Ok(knowledge) = Knowledge::of(alloc, Candidate::new(program, shapes, size)) else {
+        return false;
+    };
+    match judged {
+        Judged::Accepted(table) => knows(&knowledge, table, knowledge.slots()),
+        Judged::Refused { table, refused } => {
+            refused.slot < knowledge.slots()
+                && knowledge.breaks(refused.slot) == Some(refused.number)
+                && knows(&knowledge, table, refused.slot + 1)
+        }
+    }
+}
+
+/// Whether it is known at each of the first slots what the table says.
+fn knows(knowledge: &Knowledge, table: &Table, slots: u32) -> bool {
+    for slot in 0..slots {
+        if !knows_slot(knowledge, slot, table.description(slot)) {
+            return false;
+        }
+    }
+    true
+}
+
+/// Whether this is known at a slot, or the slot isn't reached.
+fn knows_slot(knowledge: &Knowledge, slot: u32, description: Option<Description>) -> bool {
+    match description {
+        Some(known) => {
+            knowledge.reaches(slot)
+                && knows_registers(knowledge, slot, &known)
+                && knows_stack(knowledge, slot, &known)
+        }
+        None => !knowledge.reaches(slot),
+    }
+}
+
+/// Whether this is known of each register at a slot.
+fn knows_registers(knowledge: &Knowledge, slot: u32, known: &Description) -> bool {
+    for register in 0..11 {
+        if knowledge.kind(slot, register) != known.register(register) {
+            return false;
+        }
+    }
+    true
+}
+
+/// Whether this is known of the stack at a slot.
+fn knows_stack(knowledge: &Knowledge, slot: u32, known: &Description) -> bool {
+    for place in 0..64 {
+        if knowledge.stack(slot, place) != known.slot(place) {
             return false;
         }
     }
