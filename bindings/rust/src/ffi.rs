@@ -1,0 +1,132 @@
+//! The calls of `include/bpf_host.h`, as they stand there.
+
+use std::ffi::c_void;
+
+#[repr(C)]
+pub struct Handle {
+    pub at: *mut c_void,
+    pub is_open: bool,
+}
+
+#[repr(C)]
+#[derive(Clone, Copy)]
+pub struct Options {
+    pub pages_to_scan: u32,
+    pub run: u32,
+    pub use_zero_pages: u32,
+    pub max_page_sharing: u32,
+}
+
+#[repr(C)]
+#[derive(Clone, Copy, Default)]
+pub struct Refused {
+    pub slot: u32,
+    pub need: u32,
+    pub have: u32,
+}
+
+#[repr(C)]
+#[derive(Clone, Copy, Default)]
+pub struct Run {
+    pub ret: u64,
+    pub steps: u32,
+}
+
+#[repr(C)]
+#[derive(Clone, Copy, Default)]
+pub struct Counters {
+    pub full_scans: u64,
+    pub pages_shared: u32,
+    pub pages_sharing: u32,
+    pub pages_unshared: u32,
+    pub pages_volatile: u32,
+    pub ksm_zero_pages: u32,
+    pub stable_node_chains: u32,
+    pub stable_node_dups: u32,
+    pub frames_free: u32,
+}
+
+extern "C" {
+    pub fn bpf_host_new(
+        frames: u32,
+        tenants: u32,
+        options: *const Options,
+        host: *mut Handle,
+    ) -> u32;
+    pub fn bpf_host_free(host: *mut Handle);
+    pub fn bpf_host_create_map(
+        host: *mut Handle,
+        tenant: u32,
+        value_size: u32,
+        entries: u32,
+        mergeable: bool,
+        map: *mut u32,
+        refused: *mut Refused,
+    ) -> u32;
+    pub fn bpf_host_drop_map(host: *mut Handle, tenant: u32, map: u32) -> u32;
+    pub fn bpf_host_load(
+        host: *mut Handle,
+        tenant: u32,
+        text: *const u8,
+        text_len: usize,
+        context_size: u32,
+        program: *mut u32,
+        refused: *mut Refused,
+    ) -> u32;
+    pub fn bpf_host_unload(host: *mut Handle, tenant: u32, program: u32) -> u32;
+    pub fn bpf_host_run(
+        host: *mut Handle,
+        tenant: u32,
+        program: u32,
+        context: *const u8,
+        context_len: usize,
+        run: *mut Run,
+        refused: *mut Refused,
+    ) -> u32;
+    pub fn bpf_host_run_many(
+        host: *mut Handle,
+        tenant: u32,
+        program: u32,
+        contexts: *const u8,
+        contexts_len: usize,
+        rets: *mut u64,
+        rets_len: usize,
+        refused: *mut Refused,
+    ) -> u32;
+    pub fn bpf_host_begin(
+        host: *mut Handle,
+        tenant: u32,
+        program: u32,
+        context: *const u8,
+        context_len: usize,
+        refused: *mut Refused,
+    ) -> u32;
+    pub fn bpf_host_step(
+        host: *mut Handle,
+        tenant: u32,
+        steps: u64,
+        ended: *mut bool,
+        run: *mut Run,
+    ) -> u32;
+    pub fn bpf_host_lookup(
+        host: *mut Handle,
+        tenant: u32,
+        map: u32,
+        key: u32,
+        value: *mut u8,
+        value_len: usize,
+    ) -> u32;
+    pub fn bpf_host_update(
+        host: *mut Handle,
+        tenant: u32,
+        map: u32,
+        key: u32,
+        value: *const u8,
+        value_len: usize,
+        refused: *mut Refused,
+    ) -> u32;
+    pub fn bpf_host_visit(host: *mut Handle, visits: u32, after: *mut Counters) -> u32;
+    pub fn bpf_host_set(host: *mut Handle, option: u32, value: u32) -> u32;
+    pub fn bpf_host_unmerge(host: *mut Handle, refused: *mut Refused) -> u32;
+    pub fn bpf_host_counters(host: *mut Handle, counters: *mut Counters) -> u32;
+}

@@ -1,0 +1,157 @@
+//! A host, and what belongs to all its tenants.
+
+use crate::ffi;
+use crate::refused::Refused;
+use crate::tenant::Tenant;
+use std::cell::UnsafeCell;
+use std::ptr;
+
+/// The options of the scanner. The default is that of docs/MERGING.md.
+#[derive(Clone, Copy, Debug, PartialEq, Eq)]
+pub struct Options {
+    pub pages_to_scan: u32,
+    pub run: bool,
+    pub use_zero_pages: bool,
+    pub max_page_sharing: u32,
+}
+
+impl Default for Options {
+    fn default() -> Options {
+        Options {
+            pages_to_scan: 100,
+            run: true,
+            use_zero_pages: false,
+            max_page_sharing: 256,
+        }
+    }
+}
+
+/// An option of the scanner, with its new value.
+#[derive(Clone, Copy, Debug, PartialEq, Eq)]
+pub enum Setting {
+    PagesToScan(u32),
+    Run(bool),
+    UseZeroPages(bool),
+    MaxPageSharing(u32),
+}
+
+impl Setting {
+    /// The number of the option in C, and its value.
+    fn numbers(self) -> (u32, u32) {
+        match self {
+            Setting::PagesToScan(pages) => (0, pages),
+            Setting::Run(on) => (1, on.into()),
+            Setting::UseZeroPages(on) => (2, on.into()),
+            Setting::MaxPageSharing(pages) => (3, pages),
+        }
+    }
+}
+
+/// The counters of the kernel's KSM, over the maps of all tenants, and the free frames.
+#[derive(Clone, Copy, Debug, PartialEq, Eq)]
+pub struct Counters {
+    pub full_scans: u64,
+    pub pages_shared: u32,
+    pub pages_sharing: u32,
+    pub pages_unshared: u32,
+    pub pages_volatile: u32,
+    pub ksm_zero_pages: u32,
+    pub stable_node_chains: u32,
+    pub stable_node_dups: u32,
+    pub frames_free: u32,
+}
+
+impl From<ffi::Counters> for Counters {
+    fn from(read: ffi::Counters) -> Counters {
+        Counters {
+            full_scans: read.full_scans,
+            pages_shared: read.pages_shared,
+            pages_sharing: read.pages_sharing,
+            pages_unshared: read.pages_unshared,
+            pages_volatile: read.pages_volatile,
+            ksm_zero_pages: read.ksm_zero_pages,
+            stable_node_chains: read.stable_node_chains,
+            stable_node_dups: read.stable_node_dups,
+            frames_free: read.frames_free,
+        }
+    }
+}
+
+/// A host: its tenants, their maps and programs, and the scanner that merges equal pages. It stays on the thread that made it.
+pub struct Host {
+    // The calls take the handle one at a time: a `Host` is neither `Send` nor `Sync`, and no call goes back to Rust.
+    handle: UnsafeCell<ffi::Handle>,
+}
+
+impl Host {
+    /// A host of 1 to 16 tenants without maps, whose maps have 2 to 4096 frames of 4096 bytes in all.
+    pub fn new(frames: u32, tenants: u32, options: Options) -> Result<Host, Refused> {
+        let options = ffi::Options {
+            pages_to_scan: options.pages_to_scan,
+            run: options.run.into(),
+            use_zero_pages: options.use_zero_pages.into(),
+            max_page_sharing: options.max_page_sharing,
+        };
+        let mut handle = ffi::Handle {
+            at: ptr::null_mut(),
+            is_open: false,
+        };
+        // SAFETY: the options and the closed handle outlive the call.
+        let code = unsafe { ffi::bpf_host_new(frames, tenants, &options, &mut handle) };
+        Refused::check(code, ffi::Refused::default())?;
+        Ok(Host {
+            handle: UnsafeCell::new(handle),
+        })
+    }
+
+    /// A tenant by its number. Where there is none, each of its calls is refused as `BadTenant`.
+    pub fn tenant(&self, number: u32) -> Tenant<'_> {
+        Tenant::new(self, number)
+    }
+
+    /// Lets the scanner visit so many pages, one after the other. The counters are those afterwards.
+    pub fn visit(&self, visits: u32) -> Result<Counters, Refused> {
+        let mut after = ffi::Counters::default();
+        // SAFETY: the handle is open, and no other call runs.
+        let code = unsafe { ffi::bpf_host_visit(self.handle(), visits, &mut after) };
+        Refused::check(code, ffi::Refused::default())?;
+        Ok(after.into())
+    }
+
+    /// Sets an option of the scanner.
+    pub fn set(&self, setting: Setting) -> Result<(), Refused> {
+        let (option, value) = setting.numbers();
+        // SAFETY: as in `visit`.
+        let code = unsafe { ffi::bpf_host_set(self.handle(), option, value) };
+        Refused::check(code, ffi::Refused::default())
+    }
+
+    /// Gives each page that shares a frame one of its own, and stops the scanner.
+    pub fn unmerge(&self) -> Result<(), Refused> {
+        let mut refused = ffi::Refused::default();
+        // SAFETY: as in `visit`.
+        let code = unsafe { ffi::bpf_host_unmerge(self.handle(), &mut refused) };
+        Refused::check(code, refused)
+    }
+
+    /// The counters.
+    pub fn counters(&self) -> Result<Counters, Refused> {
+        let mut read = ffi::Counters::default();
+        // SAFETY: as in `visit`.
+        let code = unsafe { ffi::bpf_host_counters(self.handle(), &mut read) };
+        Refused::check(code, ffi::Refused::default())?;
+        Ok(read.into())
+    }
+
+    /// The open handle. It is used by one call at a time.
+    pub(crate) fn handle(&self) -> *mut ffi::Handle {
+        self.handle.get()
+    }
+}
+
+impl Drop for Host {
+    fn drop(&mut self) {
+        // SAFETY: the handle is open, and nothing uses it afterwards.
+        unsafe { ffi::bpf_host_free(self.handle.get()) }
+    }
+}

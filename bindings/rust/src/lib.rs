@@ -1,0 +1,58 @@
+//! Runs eBPF programs of several tenants over array maps whose equal pages share memory.
+//!
+//! What the calls promise is proved, and stands in docs/PROMISES.md of the repository: an accepted program never faults, returns what
+//! RFC 9669 says, and keeps to its tenant's maps; no tenant sees what another one does.
+//!
+//! A [`Map`] and a [`Program`] belong to their [`Host`]: they can't outlive it, and can't be handed to another one.
+//!
+//! ```
+//! use bpf_host::{Host, Options};
+//!
+//! let host = Host::new(2, 1, Options::default())?;
+//! let answer = [0xb7, 0, 0, 0, 42, 0, 0, 0, 0x95, 0, 0, 0, 0, 0, 0, 0]; // r0 = 42, exit
+//! let program = host.tenant(0).load(&answer, 0)?;
+//! let run = program.run(&[])?;
+//! assert_eq!((run.ret, run.steps), (42, 2));
+//! # Ok::<(), bpf_host::Refused>(())
+//! ```
+//!
+//! A map is not used after its host is gone:
+//!
+//! ```compile_fail
+//! use bpf_host::{Host, Options};
+//!
+//! let map = {
+//!     let host = Host::new(2, 1, Options::default()).unwrap();
+//!     host.tenant(0).create_map(8, 1, true).unwrap()
+//! };
+//! map.update(0, &[0; 8]).unwrap();
+//! ```
+//!
+//! nor after it was removed:
+//!
+//! ```compile_fail
+//! use bpf_host::{Host, Options};
+//!
+//! let host = Host::new(2, 1, Options::default()).unwrap();
+//! let map = host.tenant(0).create_map(8, 1, true).unwrap();
+//! map.remove().unwrap();
+//! map.update(0, &[0; 8]).unwrap();
+//! ```
+//!
+//! and a host stays on its thread:
+//!
+//! ```compile_fail
+//! use bpf_host::{Host, Options};
+//!
+//! let host = Host::new(2, 1, Options::default()).unwrap();
+//! std::thread::spawn(move || host.counters());
+//! ```
+
+mod ffi;
+mod host;
+mod refused;
+mod tenant;
+
+pub use host::{Counters, Host, Options, Setting};
+pub use refused::{Frames, Refused};
+pub use tenant::{Map, OpenRun, Program, Run, Tenant};

@@ -1,0 +1,128 @@
+//! What a program in Rust sees of a host: values, refusals and counters of docs/HOST.md and docs/MERGING.md.
+
+use bpf_host::{Frames, Host, Options, Refused, Run, Setting};
+
+/// r0 = 42, exit.
+const ANSWER: &str = "b70000002a0000009500000000000000";
+
+/// Looks element 0 of map 0 up, adds 1 to its first double word, and returns what it is then.
+const COUNTER: &str = "620afcff00000000bfa200000000000007020000fcffffff1811000000000000000000000000000085000000010000005500020000000000\
+    b700000000000000950000000000000079010000000000000701000001000000\
+    7b10000000000000bf100000000000009500000000000000";
+
+fn text(hex: &str) -> Vec<u8> {
+    (0..hex.len())
+        .step_by(2)
+        .map(|at| u8::from_str_radix(&hex[at..at + 2], 16).unwrap())
+        .collect()
+}
+
+fn host(frames: u32, tenants: u32) -> Host {
+    Host::new(frames, tenants, Options::default()).unwrap()
+}
+
+fn code(of: Result<(), Refused>) -> u32 {
+    of.unwrap_err().code
+}
+
+#[test]
+fn runs_return_what_the_standard_says() {
+    let host = host(2, 1);
+    let program = host.tenant(0).load(&text(ANSWER), 0).unwrap();
+    assert_eq!(program.run(&[]), Ok(Run { ret: 42, steps: 2 }));
+}
+
+#[test]
+fn a_map_keeps_what_runs_and_updates_write() {
+    let host = host(2, 1);
+    let map = host.tenant(0).create_map(8, 1, true).unwrap();
+    let counter = host.tenant(0).load(&text(COUNTER), 0).unwrap();
+    for count in 1..=3 {
+        assert_eq!(counter.run(&[]).unwrap().ret, count);
+    }
+    assert_eq!(map.get(0), Ok(vec![3, 0, 0, 0, 0, 0, 0, 0]));
+    map.update(0, &[9, 0, 0, 0, 0, 0, 0, 0]).unwrap();
+    assert_eq!(counter.run(&[]).unwrap().ret, 10);
+}
+
+#[test]
+fn equal_pages_share_a_frame_and_no_value_shows_it() {
+    let host = host(4, 2);
+    let maps = [0, 1].map(|tenant| host.tenant(tenant).create_map(8, 1, true).unwrap());
+    for map in &maps {
+        map.update(0, &[7; 8]).unwrap();
+    }
+    let merged = host.visit(4).unwrap();
+    assert_eq!(
+        (merged.pages_shared, merged.pages_sharing, merged.full_scans),
+        (1, 1, 2)
+    );
+    maps[0].update(0, &[8; 8]).unwrap();
+    assert_eq!(
+        (maps[0].get(0), maps[1].get(0)),
+        (Ok(vec![8; 8]), Ok(vec![7; 8]))
+    );
+    assert_eq!(host.counters().unwrap().pages_sharing, 0);
+}
+
+#[test]
+fn a_run_goes_on_step_by_step() {
+    let host = host(2, 1);
+    let program = host.tenant(0).load(&text(ANSWER), 0).unwrap();
+    let mut run = program.begin(&[]).unwrap();
+    assert_eq!(program.run(&[]).unwrap_err().name(), "Busy");
+    assert_eq!(run.step(1), Ok(None));
+    assert_eq!(run.step(1), Ok(Some(Run { ret: 42, steps: 2 })));
+    assert_eq!(run.step(1).unwrap_err().name(), "NoRun");
+}
+
+#[test]
+fn many_runs_are_made_in_their_order() {
+    let host = host(2, 1);
+    let _map = host.tenant(0).create_map(8, 1, true).unwrap();
+    let counter = host.tenant(0).load(&text(COUNTER), 0).unwrap();
+    let mut rets = [0; 5];
+    counter.run_many(&[], &mut rets).unwrap();
+    assert_eq!(rets, [1, 2, 3, 4, 5]);
+}
+
+#[test]
+fn refusals_say_where_and_change_nothing() {
+    let host = host(2, 1);
+    let tenant = host.tenant(0);
+    let map = tenant.create_map(8, 1, true).unwrap();
+    let refused = tenant.create_map(4096, 2, true).err().unwrap();
+    assert_eq!(
+        (refused.code, refused.frames),
+        (31, Some(Frames { need: 2, have: 0 }))
+    );
+    assert_eq!(refused.to_string(), "refused 31 NoFrames need 2 have 0");
+    let refused = tenant
+        .load(&text("bf120000000000009500000000000000"), 0)
+        .err()
+        .unwrap();
+    assert_eq!(refused.to_string(), "refused 14 UnsetRegister at 1");
+    assert_eq!(
+        host.tenant(1).create_map(8, 1, true).err().unwrap().name(),
+        "BadTenant"
+    );
+    assert_eq!(code(map.update(1, &[0; 8])), 35);
+    assert_eq!(code(map.update(0, &[0; 7])), 33);
+    assert_eq!(code(host.set(Setting::PagesToScan(0))), 40);
+    assert_eq!(map.get(0), Ok(vec![0; 8]));
+    assert_eq!(
+        Host::new(1, 1, Options::default()).err().unwrap().name(),
+        "BadShape"
+    );
+}
+
+#[test]
+fn a_map_in_use_comes_back() {
+    let host = host(2, 1);
+    let map = host.tenant(0).create_map(8, 1, true).unwrap();
+    let counter = host.tenant(0).load(&text(COUNTER), 0).unwrap();
+    let (map, refused) = map.remove().err().unwrap();
+    assert_eq!(refused.name(), "InUse");
+    counter.unload().map_err(|(_, refused)| refused).unwrap();
+    map.remove().map_err(|(_, refused)| refused).unwrap();
+}
