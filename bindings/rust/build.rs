@@ -9,7 +9,7 @@ fn library(file: &Path) -> (String, String) {
     let stem = file.file_stem().unwrap_or_default().to_string_lossy();
     (
         folder.display().to_string(),
-        stem.trim_start_matches("lib").to_owned(),
+        stem.strip_prefix("lib").unwrap_or(&stem).to_owned(),
     )
 }
 

@@ -34,7 +34,7 @@ fn runs_return_what_the_standard_says() {
 
 #[test]
 fn a_map_keeps_what_runs_and_updates_write() {
-    let host = host(2, 1);
+    let host = host(3, 1);
     let map = host.tenant(0).create_map(8, 1, true).unwrap();
     let counter = host.tenant(0).load(&text(COUNTER), 0).unwrap();
     for count in 1..=3 {
@@ -78,11 +78,11 @@ fn a_run_goes_on_step_by_step() {
 
 #[test]
 fn many_runs_are_made_in_their_order() {
-    let host = host(2, 1);
+    let host = host(3, 1);
     let _map = host.tenant(0).create_map(8, 1, true).unwrap();
     let counter = host.tenant(0).load(&text(COUNTER), 0).unwrap();
     let mut rets = [0; 5];
-    counter.run_many(&[], &mut rets).unwrap();
+    counter.run_many(&[], 0, &mut rets).unwrap();
     assert_eq!(rets, [1, 2, 3, 4, 5]);
 }
 
