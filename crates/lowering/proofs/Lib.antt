@@ -2,3 +2,4 @@ pub mod Moved
 pub mod Steps
 pub mod Running
 pub mod Refusals
+pub mod Targets

@@ -22,6 +22,13 @@ pub(crate) struct Block {
     pub jump: Option<u16>,
 }
 
+impl Block {
+    /// How many slots it has.
+    pub fn slots(&self) -> u16 {
+        self.end.saturating_sub(self.first)
+    }
+}
+
 /// The basic blocks of a text that may be reached from its beginning, by the slots of their first instructions.
 #[derive(Drop)]
 pub(crate) struct Blocks {

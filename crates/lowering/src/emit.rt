@@ -1,7 +1,7 @@
 //! The text of a row.
 
 use crate::blocks::{Block, Blocks};
-use crate::row::{Item, Link, links, needs_jump, size};
+use crate::row::{Item, Row};
 use crate::stop::Stop;
 use std::alloc::{AllocError, Global};
 
@@ -14,53 +14,36 @@ const JA: u8 = 0x05;
 
 const JA32: u8 = 0x06;
 
-/// `mov64 r0, 0` and `exit`, with which a text ends in any state.
-const END: [[u8; 8]; 2] = [[0xb7, 0, 0, 0, 0, 0, 0, 0], [0x95, 0, 0, 0, 0, 0, 0, 0]];
-
-/// What stands at a jump back.
-#[derive(Clone, Copy, Debug, PartialEq, Eq)]
-pub(crate) enum Back {
-    /// The jump.
-    Jump,
-    /// An end of the text, so that the verifier says whether the jump is reached.
-    End,
-}
-
 /// A text that is written, with the slot of the original for which each of its slots stands, and the slot at which
 /// each item of its row begins.
 #[derive(Drop)]
 pub(crate) struct Emitted {
     pub text: Vec<u8>,
     pub origins: Vec<u16>,
-    pub starts: Vec<u16>,
+    starts: Vec<u16>,
 }
 
-impl Back {
-    /// How many slots it takes.
-    fn slots(self) -> u16 {
-        match self {
-            Back::Jump => 1,
-            Back::End => 2,
-        }
+/// How many slots an item takes: a copy of a block that falls through to another item than the next one is followed by
+/// a jump.
+fn size(blocks: &Blocks, row: &Row, index: usize, item: Item) -> u16 {
+    match item {
+        Item::Jump { .. } => 1,
+        Item::Block { slot, .. } => match blocks.at(slot) {
+            Some(block) => block
+                .slots()
+                .wrapping_add(u16::from(row.needs_jump(blocks, index))),
+            None => 0,
+        },
     }
 }
 
 /// The slot at which each item begins; `None` if there are more slots than a text may have.
-fn starts(
-    alloc: Global,
-    blocks: &Blocks,
-    row: &[Item],
-    links: &[Link],
-    back: Back,
-) -> Result<Option<Vec<u16>>, AllocError> {
+fn starts(alloc: Global, blocks: &Blocks, row: &Row) -> Result<Option<Vec<u16>>, AllocError> {
     let mut starts = Vec::new(alloc);
-    let mut slot = 0;
-    for (index, item) in row.iter().enumerate() {
+    let mut slot: u16 = 0;
+    for (index, item) in row.items.iter().enumerate() {
         starts.push(slot)?;
-        let Some(link) = links.get(index) else {
-            return Ok(None);
-        };
-        slot = size(blocks, *item, index, *link, back.slots()).saturating_add(slot);
+        slot = slot.saturating_add(size(blocks, row, index, *item));
         if slot > MAX_SLOTS {
             return Ok(None);
         }
@@ -73,11 +56,9 @@ pub(crate) fn emit(
     alloc: Global,
     blocks: &Blocks,
     text: &[u8],
-    row: &[Item],
-    back: Back,
+    row: &Row,
 ) -> Result<Option<Emitted>, Stop> {
-    let links = links(alloc, blocks, row, None)?;
-    let Some(starts) = starts(alloc, blocks, row, &links, back)? else {
+    let Some(starts) = starts(alloc, blocks, row)? else {
         return Ok(None);
     };
     let mut emitted = Emitted {
@@ -85,14 +66,17 @@ pub(crate) fn emit(
         origins: Vec::new(alloc),
         starts,
     };
-    for (index, (item, link)) in row.iter().zip(links.iter()).enumerate() {
+    for (index, item) in row.items.iter().enumerate() {
         match *item {
-            Item::Block(slot) => {
+            Item::Block { slot, next, jump } => {
                 if let Some(block) = blocks.at(slot) {
-                    emitted.block(text, row, &links, index, block, back)?;
+                    emitted.block(text, block, emitted.start(Some(index)), emitted.start(jump))?;
+                    if row.needs_jump(blocks, index) {
+                        emitted.jump(emitted.start(next), block.next.unwrap_or(0))?;
+                    }
                 }
             }
-            Item::Back { header, .. } => emitted.back(index, *link, header, back)?,
+            Item::Jump { slot, to } => emitted.jump(emitted.start(Some(to)), slot)?,
         }
     }
     Ok(Some(emitted))
@@ -112,57 +96,32 @@ impl Emitted {
 
     /// Writes a slot.
     fn slot(&mut self, bytes: [u8; 8], origin: u16) -> Result<(), Stop> {
-        for byte in bytes {
-            self.text.push(byte)?;
-        }
+        self.text.extend_from_slice(&bytes)?;
         self.origins.push(origin)?;
         Ok(())
     }
 
-    /// Writes a jump from a slot to another.
-    fn jump(&mut self, at: u16, to: u16, origin: u16) -> Result<(), Stop> {
-        let [low, high] = distance(at, to);
+    /// Writes a jump to a slot, which stands for the slot to which it leads.
+    fn jump(&mut self, to: u16, origin: u16) -> Result<(), Stop> {
+        let [low, high] = distance(self.here(), to);
         self.slot([JA, 0, low, high, 0, 0, 0, 0], origin)
     }
 
-    /// Writes a jump back.
-    fn back(&mut self, index: usize, link: Link, header: u16, back: Back) -> Result<(), Stop> {
-        match back {
-            Back::Jump => self.jump(self.start(Some(index)), self.start(link.jump), header),
-            Back::End => {
-                for bytes in END {
-                    self.slot(bytes, header)?;
-                }
-                Ok(())
-            }
+    /// The slot that is written next.
+    fn here(&self) -> u16 {
+        match u16::try_from(self.origins.len()) {
+            Ok(slot) => slot,
+            Err(_) => u16::MAX,
         }
     }
 
-    /// Writes a copy of a block, and the jump after it that it may need.
-    fn block(
-        &mut self,
-        text: &[u8],
-        row: &[Item],
-        links: &[Link],
-        index: usize,
-        block: Block,
-        back: Back,
-    ) -> Result<(), Stop> {
-        let Some(link) = links.get(index) else {
-            return Ok(());
-        };
-        let start = self.start(Some(index));
+    /// Writes a copy of a block, whose last instruction jumps to a slot if it jumps.
+    fn block(&mut self, text: &[u8], block: Block, start: u16, to: u16) -> Result<(), Stop> {
         for slot in block.first..block.last {
             self.slot(bytes_at(text, slot), slot)?;
         }
-        let last = start.wrapping_add(block.last.wrapping_sub(block.first));
-        self.last(text, block, last, self.start(link.jump))?;
-        if needs_jump(index, *link) {
-            let at = start.wrapping_add(block.end.wrapping_sub(block.first));
-            let to = self.start(passed(row, links, link.next, back));
-            self.jump(at, to, block.next.unwrap_or(0))?;
-        }
-        Ok(())
+        let at = start.wrapping_add(block.last.wrapping_sub(block.first));
+        self.last(text, block, at, to)
     }
 
     /// Writes a copy of a block's last instruction, which jumps to a slot if it jumps.
@@ -177,15 +136,6 @@ impl Emitted {
             self.slot(bytes_at(text, slot), slot)?;
         }
         Ok(())
-    }
-}
-
-/// An inserted jump leads to a copy of a block: where it would lead to a jump back, it leads where that does.
-fn passed(row: &[Item], links: &[Link], to: Option<usize>, back: Back) -> Option<usize> {
-    let index = to?;
-    match (row.get(index), back) {
-        (Some(Item::Back { .. }), Back::Jump) => links.get(index)?.jump,
-        _ => to,
     }
 }
 
@@ -207,7 +157,7 @@ fn directed(bytes: [u8; 8], at: u16, to: u16) -> [u8; 8] {
 }
 
 /// The bytes of a slot of a text.
-fn bytes_at(text: &[u8], slot: u16) -> [u8; 8] {
+pub(crate) fn bytes_at(text: &[u8], slot: u16) -> [u8; 8] {
     let mut bytes = [0; 8];
     let from = 8 * usize::from(slot);
     for (index, byte) in bytes.iter_mut().enumerate() {

@@ -6,14 +6,17 @@
 mod accept;
 mod blocks;
 mod covering;
+mod deciding;
 mod emit;
+mod flows;
 mod laws;
 mod order;
 mod rewriting;
 mod row;
 mod slots;
 mod stop;
-mod unroll;
+mod values;
+mod walk;
 
 pub use covering::covers;
 pub use laws::covering_keeps_runs;

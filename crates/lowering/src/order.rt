@@ -2,12 +2,20 @@
 //! iteration strategies with widenings" (1993). A loop's blocks stand side by side, its header first.
 
 use crate::blocks::Blocks;
-use crate::row::Item;
 use crate::stop::Stop;
 use std::alloc::Global;
 
-/// The number of a block that stands in the row.
-const IN_ROW: u32 = u32::MAX;
+/// A place in an order of blocks.
+#[derive(Clone, Copy, Debug)]
+pub(crate) enum Place {
+    /// Where the block at a slot stands.
+    Block(u16),
+    /// The end of the loop whose header is the block at a slot.
+    End(u16),
+}
+
+/// The number of a block that stands in the order.
+const IN_ORDER: u32 = u32::MAX;
 
 /// How often blocks are visited at most. A block is visited once more for each loop that it is in.
 const MAX_VISITS: u32 = 262_144;
@@ -18,14 +26,14 @@ struct Walk {
     /// The number of each block by its slot, in the order in which they were visited; 0 of one that wasn't.
     numbers: Vec<u32>,
     visited: u32,
-    /// The blocks that were visited and don't stand in the row.
+    /// The blocks that were visited and don't stand in the order.
     path: Vec<u16>,
-    /// The row, its last item first.
-    row: Vec<Item>,
+    /// The order, its last place first.
+    order: Vec<Place>,
 }
 
-/// The blocks in an order in which only loops lead back. The blocks of each loop are followed by the jump to its header.
-pub(crate) fn in_loop_order(alloc: Global, blocks: &Blocks) -> Result<Vec<Item>, Stop> {
+/// The blocks in an order in which only loops lead back. The blocks of each loop are followed by its end.
+pub(crate) fn in_loop_order(alloc: Global, blocks: &Blocks) -> Result<Vec<Place>, Stop> {
     let mut numbers = Vec::new(alloc);
     for _ in 0..blocks.slots() {
         numbers.push(0)?;
@@ -34,11 +42,11 @@ pub(crate) fn in_loop_order(alloc: Global, blocks: &Blocks) -> Result<Vec<Item>,
         numbers,
         visited: 0,
         path: Vec::new(alloc),
-        row: Vec::new(alloc),
+        order: Vec::new(alloc),
     };
     walk.visit(blocks, 0, 4096)?;
-    walk.row.reverse();
-    Ok(walk.row)
+    walk.order.reverse();
+    Ok(walk.order)
 }
 
 /// Gives a block a number.
@@ -53,16 +61,16 @@ impl Walk {
     fn number(&self, slot: u16) -> u32 {
         match self.numbers.get(usize::from(slot)) {
             Some(number) => *number,
-            None => IN_ROW,
+            None => IN_ORDER,
         }
     }
 
     /// Visits a block, and those to which it leads. The answer is the least number of a block to which they lead and
-    /// which isn't in the row.
+    /// which isn't in the order.
     #[cycle(walk)]
     fn visit(&mut self, blocks: &Blocks, slot: u16, depth: u16) -> Result<u32, Stop> {
         let Some(block) = blocks.at(slot) else {
-            return Ok(IN_ROW);
+            return Ok(IN_ORDER);
         };
         if self.visited >= MAX_VISITS {
             return Err(Stop::Nested {
@@ -81,14 +89,11 @@ impl Walk {
         }
         self.leave(slot);
         if least == number {
-            self.row.push(Item::Back {
-                header: slot,
-                copies: 1,
-            })?;
+            self.order.push(Place::End(slot))?;
             self.least(blocks, block.jump, depth)?;
             self.least(blocks, block.next, depth)?;
         }
-        self.row.push(Item::Block(slot))?;
+        self.order.push(Place::Block(slot))?;
         Ok(number)
     }
 
@@ -96,7 +101,7 @@ impl Walk {
     #[cycle(walk)]
     fn least(&mut self, blocks: &Blocks, to: Option<u16>, depth: u16) -> Result<u32, Stop> {
         let Some(to) = to else {
-            return Ok(IN_ROW);
+            return Ok(IN_ORDER);
         };
         match self.number(to) {
             0 if depth > 0 => self.visit(blocks, to, depth - 1),
@@ -104,12 +109,12 @@ impl Walk {
         }
     }
 
-    /// Marks a block as one of the row, and forgets the blocks of its loop, which are visited once more without the way
+    /// Marks a block as one of the order, and forgets the blocks of its loop, which are visited once more without the way
     /// to it.
     fn leave(&mut self, slot: u16) {
         while let Some(top) = self.path.pop() {
             if top == slot {
-                set_number(&mut self.numbers, slot, IN_ROW);
+                set_number(&mut self.numbers, slot, IN_ORDER);
                 return;
             }
             set_number(&mut self.numbers, top, 0);

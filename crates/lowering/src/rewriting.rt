@@ -10,10 +10,14 @@ ghost use Rattle.lowering.specs.Lowering.{subject_with, VerifierAccepts, IsRefus
 use crate::accept::accept;
 use crate::blocks::Blocks;
 use crate::covering::covers;
-use crate::emit::{Back, emit};
-use crate::order::in_loop_order;
+use crate::deciding::Deciding;
+use crate::emit::emit;
+use crate::flows::Flows;
+use crate::order::{Place, in_loop_order};
+use crate::row::Row;
 use crate::stop::Stop;
-use crate::unroll::{of_original, unroll};
+use crate::values::Keeping;
+use crate::walk::Walk;
 use bpf_decode::{Program, decode};
 use host_types::{Refused, Shape};
 use std::alloc::{AllocError, Global};
@@ -34,7 +38,7 @@ pub struct NotLowered {
 
 /// A text with the same runs that the verifier accepts, for maps of these shapes and a context of so many bytes. A
 /// text that is accepted stays as it is. Of another one the blocks that may be reached are put into an order in which
-/// only loops lead back, and loops are copied as often as the verifier asks, up to 4096 slots.
+/// only loops lead back, and loops are copied as often as something flows back to them, up to 4096 slots.
 pub fn lower(
     alloc: Global,
     text: &[u8],
@@ -112,7 +116,16 @@ fn own_slots(alloc: Global, slots: u16) -> Result<Vec<u16>, AllocError>
     Ok(own)
 }
 
-/// The text with its blocks in another order, and with copies of its loops.
+/// What a text's copies are made of: its blocks, an order of them, and what is known along them.
+#[derive(Drop)]
+struct Parts {
+    blocks: Blocks,
+    order: Vec<Place>,
+    flows: Flows,
+}
+
+/// The text with its blocks in another order, and with copies of its loops: one for each turn, or, where that doesn't
+/// serve, one for each of the constants with which a block is reached.
 fn rewritten(
     alloc: Global,
     text: &[u8],
@@ -125,17 +138,91 @@ fn rewritten(
     ensures accepted { IfOk result (λ lowered. VerifierAccepts (subject_with lowered.text.items shapes.now context_size)) }
 {
     let program = decode(alloc, text)?;
-    let blocks = Blocks::of(alloc, &program)?;
-    let order = in_loop_order(alloc, &blocks)?;
-    let row = unroll(alloc, &blocks, text, &order, shapes, context_size)?;
-    let Some(emitted) = emit(alloc, &blocks, text, &row, Back::Jump)? else {
-        return Err(Stop::Uncovered);
+    let parts = Parts::of(alloc, text, &program, shapes, context_size)?;
+    let by_turns = Keeping::Turns;
+    match copied(
+        alloc,
+        text,
+        &program,
+        &parts,
+        &by_turns,
+        shapes,
+        context_size,
+    ) {
+        Ok(lowered) => Ok(lowered),
+        Err(stop) => {
+            let by_constants = Keeping::Constants(Deciding::of(alloc, &program, &parts.blocks)?);
+            match copied(
+                alloc,
+                text,
+                &program,
+                &parts,
+                &by_constants,
+                shapes,
+                context_size,
+            ) {
+                Ok(lowered) => Ok(lowered),
+                Err(_) => Err(stop),
+            }
+        }
+    }
+}
+
+impl Parts {
+    /// The parts of a text.
+    fn of(
+        alloc: Global,
+        text: &[u8],
+        program: &Program,
+        shapes: &[Option<Shape>],
+        context_size: u32,
+    ) -> Result<Parts, Stop>
+        requires shapes { AreShapes shapes.now }
+        requires context { IsContextSize context_size }
+    {
+        let blocks = Blocks::of(alloc, program)?;
+        let order = in_loop_order(alloc, &blocks)?;
+        let flows = Flows::of(alloc, text, program, shapes, context_size)?;
+        Ok(Parts {
+            blocks,
+            order,
+            flows,
+        })
+    }
+
+    /// The row of the copies that are reached, and what they lead to.
+    fn row(&self, alloc: Global, keeping: &Keeping) -> Result<Row, Stop> {
+        let walk = Walk::begin(alloc, &self.blocks, &self.order)?;
+        let mut row = walk.pass(&self.blocks, &self.flows, &self.order, keeping)?;
+        row.finish(&self.blocks)?;
+        Ok(row)
+    }
+}
+
+/// The text made of copies that are kept apart in a way, if that is one with the same runs that the verifier accepts.
+fn copied(
+    alloc: Global,
+    text: &[u8],
+    program: &Program,
+    parts: &Parts,
+    keeping: &Keeping,
+    shapes: &[Option<Shape>],
+    context_size: u32,
+) -> Result<Lowered, Stop>
+    requires shapes { AreShapes shapes.now }
+    requires context { IsContextSize context_size }
+    ensures covers { IfOk result (λ lowered. IsCovering program.now lowered.text.items lowered.origins.items) }
+    ensures accepted { IfOk result (λ lowered. VerifierAccepts (subject_with lowered.text.items shapes.now context_size)) }
+{
+    let row = parts.row(alloc, keeping)?;
+    let Some(emitted) = emit(alloc, &parts.blocks, text, &row)? else {
+        return Err(Stop::TooLong);
     };
     let lowered = Lowered {
         text: emitted.text,
         origins: emitted.origins,
     };
-    checked(alloc, &program, lowered, shapes, context_size)
+    checked(alloc, program, lowered, shapes, context_size)
 }
 
 /// The lowered text, if it covers a program's text and the verifier accepts it.
@@ -159,4 +246,15 @@ fn checked(
         return Err(Stop::Uncovered);
     }
     Ok(lowered)
+}
+
+/// A refusal at the slot of the original.
+fn of_original(refused: Refused, origins: &[u16]) -> Refused {
+    match origins.get(refused.slot as usize) {
+        Some(origin) if refused != Refused::OUT_OF_MEMORY => Refused {
+            number: refused.number,
+            slot: u32::from(*origin),
+        },
+        _ => refused,
+    }
 }

@@ -1,153 +1,185 @@
 //! Rows of blocks: which copies stand in a lowered text, one after another.
 
-use crate::blocks::Blocks;
+use crate::blocks::{Block, Blocks};
 use crate::stop::Stop;
-use std::alloc::Global;
+use std::alloc::{AllocError, Global};
+
+/// The most items that are added behind the copies.
+const MOST_ADDED: u32 = 16_384;
 
 /// An item of a row.
-#[derive(Clone, Copy, Debug, PartialEq, Eq)]
-pub(crate) enum Item {
-    /// A copy of the block at a slot.
-    Block(u16),
-    /// The jump back to a loop's header, after the copies of the loop, of which there are so many.
-    Back { header: u16, copies: u16 },
-}
-
-/// The items of a row to which an item leads, by their indices.
 #[derive(Clone, Copy, Debug)]
-pub(crate) struct Link {
-    pub next: Option<usize>,
-    pub jump: Option<usize>,
+pub(crate) enum Item {
+    /// A copy of the block at a slot, with the items to which it falls through and jumps, by their indices.
+    Block {
+        slot: u16,
+        next: Option<usize>,
+        jump: Option<usize>,
+    },
+    /// A jump to another item, which is a copy of the block at a slot.
+    Jump {
+        slot: u16,
+        to: usize,
+    },
 }
 
-/// The index of an item by the slot of its block.
-#[derive(Drop)]
-struct Nearest {
-    by_slot: Vec<Option<usize>>,
-}
-
-impl Nearest {
-    /// No item is known.
-    fn none(alloc: Global, slots: usize) -> Result<Nearest, Stop> {
-        let mut by_slot = Vec::new(alloc);
-        for _ in 0..slots {
-            by_slot.push(None)?;
-        }
-        Ok(Nearest { by_slot })
-    }
-
-    /// The item that is known of a slot.
-    fn of(&self, slot: Option<u16>) -> Option<usize> {
-        *self.by_slot.get(usize::from(slot?))?
-    }
-
-    /// Notes an item of a slot.
-    fn note(&mut self, slot: u16, index: usize) {
-        if let Some(nearest) = self.by_slot.get_mut(usize::from(slot)) {
-            *nearest = Some(index);
-        }
-    }
+/// Whether a block of a copy falls through or jumps.
+#[derive(Clone, Copy, Debug, PartialEq, Eq)]
+pub(crate) enum Way {
+    Next,
+    Jump,
 }
 
 impl Item {
-    /// The slot of the block for which the item stands.
-    pub fn slot(self) -> u16 {
-        match self {
-            Item::Block(slot) | Item::Back { header: slot, .. } => slot,
+    /// The item where a copy leads to another item on one of its ways.
+    fn leading(self, way: Way, to: usize) -> Item {
+        match (self, way) {
+            (Item::Block { slot, jump, .. }, Way::Next) => Item::Block {
+                slot,
+                next: Some(to),
+                jump,
+            },
+            (Item::Block { slot, next, .. }, Way::Jump) => Item::Block {
+                slot,
+                next,
+                jump: Some(to),
+            },
+            (Item::Jump { .. }, _) => self,
         }
     }
 }
 
-/// Where each item of a row leads: to the first later copy of the block, or to a jump back to that block. Copies that
-/// aren't kept are passed over.
-pub(crate) fn links(
-    alloc: Global,
-    blocks: &Blocks,
-    row: &[Item],
-    kept: Option<&[bool]>,
-) -> Result<Vec<Link>, Stop> {
-    let mut nearest = Nearest::none(alloc, blocks.slots())?;
-    let mut links = Vec::new(alloc);
-    for index in (0..row.len()).rev() {
-        let item = row[index];
-        links.push(link_from(blocks, &nearest, item))?;
-        if is_kept(item, kept, index) {
-            nearest.note(item.slot(), index);
-        }
-    }
-    links.reverse();
-    link_back(alloc, blocks, row, &mut links)?;
-    Ok(links)
+/// The items of a row, and of each block one of its copies, by the block's slot. The first items are the copies that
+/// runs reach.
+#[derive(Drop)]
+pub(crate) struct Row {
+    pub items: Vec<Item>,
+    reached: usize,
+    copies: Vec<Option<usize>>,
+    jumps: Vec<Option<usize>>,
 }
 
-/// Whether an item is kept; a jump back always is.
-fn is_kept(item: Item, kept: Option<&[bool]>, index: usize) -> bool {
-    match (item, kept) {
-        (Item::Block(_), Some(kept)) => matches!(kept.get(index), Some(true)),
-        _ => true,
+/// So many indices that aren't known.
+fn no_indices(alloc: Global, count: usize) -> Result<Vec<Option<usize>>, AllocError> {
+    let mut indices = Vec::new(alloc);
+    for _ in 0..count {
+        indices.push(None)?;
+    }
+    Ok(indices)
+}
+
+/// The index that is known of a slot.
+fn index_of(indices: &[Option<usize>], slot: u16) -> Option<usize> {
+    *indices.get(usize::from(slot))?
+}
+
+/// Notes the index of a slot.
+fn note(indices: &mut Vec<Option<usize>>, slot: u16, index: usize) {
+    if let Some(known) = indices.get_mut(usize::from(slot)) {
+        *known = Some(index);
     }
 }
 
-/// Where a copy of a block leads.
-fn link_from(blocks: &Blocks, nearest: &Nearest, item: Item) -> Link {
-    match item {
-        Item::Block(slot) => match blocks.at(slot) {
-            Some(block) => Link {
-                next: nearest.of(block.next),
-                jump: nearest.of(block.jump),
-            },
-            None => Link {
-                next: None,
-                jump: None,
-            },
-        },
-        Item::Back { .. } => Link {
+impl Row {
+    /// A row without items, for a text of so many slots.
+    pub fn new(alloc: Global, slots: usize) -> Result<Row, AllocError> {
+        Ok(Row {
+            items: Vec::new(alloc),
+            reached: 0,
+            copies: no_indices(alloc, slots)?,
+            jumps: no_indices(alloc, slots)?,
+        })
+    }
+
+    /// Puts a copy of a block behind the others. It answers its index.
+    pub fn push_block(&mut self, slot: u16) -> Result<usize, Stop> {
+        let index = self.items.len();
+        self.items.push(Item::Block {
+            slot,
             next: None,
             jump: None,
-        },
+        })?;
+        note(&mut self.copies, slot, index);
+        Ok(index)
     }
-}
 
-/// Lets each jump back lead to the last copy of its header that stands before it.
-fn link_back(
-    alloc: Global,
-    blocks: &Blocks,
-    row: &[Item],
-    links: &mut Vec<Link>,
-) -> Result<(), Stop> {
-    let mut latest = Nearest::none(alloc, blocks.slots())?;
-    for (index, item) in row.iter().enumerate() {
-        match *item {
-            Item::Block(slot) => latest.note(slot, index),
-            Item::Back { header, .. } => {
-                if let Some(link) = links.get_mut(index) {
-                    link.jump = latest.of(Some(header));
+    /// Lets a copy lead to an item.
+    pub fn link(&mut self, index: usize, way: Way, to: usize) {
+        if let Some(item) = self.items.get_mut(index) {
+            *item = item.leading(way, to);
+        }
+    }
+
+    /// Whether the last copy falls through to another item than the next one.
+    pub fn needs_jump(&self, blocks: &Blocks, index: usize) -> bool {
+        let Some(Item::Block { slot, next, .. }) = self.items.get(index).copied() else {
+            return false;
+        };
+        match blocks.at(slot) {
+            Some(block) => block.next.is_some() && next != Some(index.wrapping_add(1)),
+            None => false,
+        }
+    }
+
+    /// Adds what the copies lead to where no run goes on: copies of blocks that have none, and, as the verifier judges
+    /// both ways of a jump, jumps back to copies behind all that runs reach.
+    pub fn finish(&mut self, blocks: &Blocks) -> Result<(), Stop> {
+        self.reached = self.items.len();
+        for index in 0..usize::MAX {
+            let Some(item) = self.items.get(index).copied() else {
+                return Ok(());
+            };
+            if index >= self.reached.saturating_add(MOST_ADDED as usize) {
+                return Err(Stop::TooLong);
+            }
+            if let Item::Block { slot, next, jump } = item {
+                if let Some(block) = blocks.at(slot) {
+                    self.lead_on(index, block, next, jump)?;
                 }
             }
         }
+        Ok(())
     }
-    Ok(())
-}
 
-/// How many slots an item takes. A copy of a block that falls through to another item than the next one is followed by
-/// a jump; a jump back takes one slot, or two where an end of the text stands for it.
-pub(crate) fn size(blocks: &Blocks, item: Item, index: usize, link: Link, back: u16) -> u16 {
-    let Item::Block(slot) = item else {
-        return back;
-    };
-    let Some(block) = blocks.at(slot) else {
-        return 0;
-    };
-    block
-        .end
-        .wrapping_sub(block.first)
-        .wrapping_add(u16::from(needs_jump(index, link)))
-}
+    /// Lets a copy lead somewhere on each of its ways.
+    fn lead_on(
+        &mut self,
+        index: usize,
+        block: Block,
+        next: Option<usize>,
+        jump: Option<usize>,
+    ) -> Result<(), Stop> {
+        if let (Some(slot), None) = (block.next, next) {
+            let to = self.any_copy(slot)?;
+            self.link(index, Way::Next, to);
+        }
+        if let (Some(slot), None) = (block.jump, jump) {
+            let to = self.ahead(index, slot)?;
+            self.link(index, Way::Jump, to);
+        }
+        Ok(())
+    }
 
-/// Whether an item falls through to another one than the next.
-pub(crate) fn needs_jump(index: usize, link: Link) -> bool {
-    match link.next {
-        Some(next) => next != index.wrapping_add(1),
-        None => false,
+    /// A copy of the block at a slot.
+    fn any_copy(&mut self, slot: u16) -> Result<usize, Stop> {
+        match index_of(&self.copies, slot) {
+            Some(index) => Ok(index),
+            None => self.push_block(slot),
+        }
+    }
+
+    /// An item to which the copy at an index may jump, for the block at a slot: if runs reach the copy, one behind it.
+    fn ahead(&mut self, index: usize, slot: u16) -> Result<usize, Stop> {
+        let to = self.any_copy(slot)?;
+        if index >= self.reached || to > index {
+            return Ok(to);
+        }
+        if let Some(jump) = index_of(&self.jumps, slot) {
+            return Ok(jump);
+        }
+        let jump = self.items.len();
+        self.items.push(Item::Jump { slot, to })?;
+        note(&mut self.jumps, slot, jump);
+        Ok(jump)
     }
 }

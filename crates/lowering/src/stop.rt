@@ -4,12 +4,25 @@ use std::alloc::{AllocError, AllocFailed};
 /// What stops a lowering.
 #[derive(Clone, Copy, Debug, PartialEq, Eq)]
 pub enum Stop {
-    /// An instruction breaks a rule in one of its copies; the slot is that of the text.
-    Rule(Refused),
-    /// No range ends a loop within 4096 slots: its first block begins at the slot `header`, and had so many copies.
-    Endless { header: u32, copies: u32 },
+    /// An instruction breaks a rule in one of its copies, of which 1 is the first; the slot is that of the text.
+    Rule {
+        refused: Refused,
+        copy: u32,
+    },
+    /// No range ends a loop within 4096 slots: it is entered at the slot `header`, its blocks lie within the slots from
+    /// `first` to `last`, and it had so many copies.
+    Endless {
+        header: u32,
+        first: u32,
+        last: u32,
+        copies: u32,
+    },
+    /// In an order in which only loops lead back, the text has more than 4096 slots, though no loop is copied.
+    TooLong,
     /// Loops are nested so deep that their blocks aren't put in order; one of them begins at the slot.
-    Nested { slot: u32 },
+    Nested {
+        slot: u32,
+    },
     /// The lowered text doesn't cover the text.
     Uncovered,
     /// Memory ran out.
@@ -23,7 +36,7 @@ impl From<Refused> for Stop {
         if refused == Refused::OUT_OF_MEMORY {
             Stop::OutOfMemory
         } else {
-            Stop::Rule(refused)
+            Stop::Rule { refused, copy: 1 }
         }
     }
 }
