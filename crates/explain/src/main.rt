@@ -2,12 +2,18 @@
 //! With no words it answers each line of the standard input, whose words spaces set apart.
 #![tactic(auto)]
 
+mod folds;
+
 use command_line::{ToExplain, explained_of};
-use engines::check::{check, question_of};
+use engines::check::{Question, check, question_of};
 use engines::{status_of, write_fault, written};
 use findings::Judged;
+use folds::folded;
+use hex::encode;
 use host_file::FileFault;
-use listing::{Detail, Listing, Paint, fold};
+use listing::{Beside, Detail, Listing, Paint, fold};
+use lowered_text::{Copies, lowered, write_stop};
+use lowering::Lowered;
 use program_source::{hex_of, words_fault, words_of};
 use std::alloc::{AllocError, Global};
 use std::env;
@@ -98,8 +104,8 @@ fn answer<R: AllocGlobal + Files, W: Write>(
     explain(alloc, &asked, hex.as_str(), paint, output)
 }
 
-/// Explains the program of a hex text: writes the line of `check`, the listing, and of a refusal what is wrong and what was
-/// known there. Answers the status of `check`.
+/// Explains the program of a hex text, or what the lowering makes of it if that is asked for. Where it isn't lowered, what
+/// stopped that stands last. Answers the status of `check`.
 fn explain<W: Write>(
     alloc: Global,
     asked: &ToExplain<'_>,
@@ -107,19 +113,98 @@ fn explain<W: Write>(
     paint: Paint,
     output: &mut W,
 ) -> Result<u8, FileFault> {
-    let shapes = asked.shapes.as_slice();
+    let question = question_of(alloc, hex, asked.shapes.as_slice(), asked.context)?;
+    let outcome = if asked.lower {
+        lowered(alloc, &question)
+    } else {
+        None
+    };
+    match outcome {
+        Some(Ok(lowered)) => explain_lowered(alloc, asked, &question, &lowered, paint, output),
+        Some(Err(stopped)) => {
+            let status = explain_text(alloc, asked, hex, &question, paint, output)?;
+            let mut words = Vec::new(alloc);
+            written(write_stop(question.text.as_slice(), &stopped, &mut words))?;
+            written(write_words(output, words.as_slice()))?;
+            written(output.flush())?;
+            Ok(status)
+        }
+        None => explain_text(alloc, asked, hex, &question, paint, output),
+    }
+}
+
+/// Explains a program: writes the line of `check`, the listing, and of a refusal what is wrong and what was known there.
+/// Answers the status of `check`.
+fn explain_text<W: Write>(
+    alloc: Global,
+    asked: &ToExplain<'_>,
+    hex: &str,
+    question: &Question,
+    paint: Paint,
+    output: &mut W,
+) -> Result<u8, FileFault> {
     let mut meant = Vec::new(alloc);
-    let status = check(alloc, hex, shapes, asked.context, output, &mut meant)?;
-    let question = question_of(alloc, hex, shapes, asked.context)?;
-    let detail = if asked.all { Detail::All } else { Detail::Read };
+    let status = check(
+        alloc,
+        hex,
+        asked.shapes.as_slice(),
+        asked.context,
+        output,
+        &mut meant,
+    )?;
     let judged = Judged {
         text: question.text.as_slice(),
         shapes: question.shapes.as_slice(),
         context_size: question.context_size,
     };
-    let listing = Listing::of(alloc, &judged, detail, paint);
+    let listing = Listing::of(alloc, &judged, detail_of(asked), paint, None);
     written(write_explained(output, listing.as_ref(), meant.as_slice()))?;
     Ok(status)
+}
+
+/// Explains a lowered text in the same way, with the slots of the original beside its own. Of the copies of a loop the
+/// first, the second and the last are shown.
+fn explain_lowered<W: Write>(
+    alloc: Global,
+    asked: &ToExplain<'_>,
+    question: &Question,
+    lowered: &Lowered,
+    paint: Paint,
+    output: &mut W,
+) -> Result<u8, FileFault> {
+    let hex = encode(alloc, lowered.text.as_slice())?;
+    let shapes = asked.shapes.as_slice();
+    let mut meant = Vec::new(alloc);
+    let status = check(
+        alloc,
+        hex.as_str(),
+        shapes,
+        asked.context,
+        output,
+        &mut meant,
+    )?;
+    let copies = Copies {
+        text: question.text.as_slice(),
+        lowered,
+    };
+    let folded = folded(alloc, &copies)?;
+    let beside = Beside {
+        origins: lowered.origins.as_slice(),
+        folded: folded.as_slice(),
+    };
+    let judged = Judged {
+        text: lowered.text.as_slice(),
+        shapes: question.shapes.as_slice(),
+        context_size: question.context_size,
+    };
+    let listing = Listing::of(alloc, &judged, detail_of(asked), paint, Some(beside));
+    written(write_explained(output, listing.as_ref(), meant.as_slice()))?;
+    Ok(status)
+}
+
+/// How much is asked for.
+fn detail_of(asked: &ToExplain<'_>) -> Detail {
+    if asked.all { Detail::All } else { Detail::Read }
 }
 
 /// Writes a listing, with what a refusal means behind the slot that is refused.
@@ -131,12 +216,17 @@ fn write_explained<W: Write>(
     if let Some(listing) = listing {
         listing.write_slots(output)?;
     }
-    match str::from_utf8(meant) {
-        Ok(meant) if !meant.is_empty() => fold(output, meant.trim_end())?,
-        _ => {}
-    }
+    write_words(output, meant)?;
     if let Some(listing) = listing {
         listing.write_further(output)?;
     }
     output.flush()
+}
+
+/// Writes words in lines of at most 100 columns, if there are any.
+fn write_words<W: Write>(output: &mut W, words: &[u8]) -> io::Result<()> {
+    match str::from_utf8(words) {
+        Ok(words) if !words.is_empty() => fold(output, words.trim_end()),
+        _ => Ok(()),
+    }
 }

@@ -14,4 +14,4 @@ mod words;
 pub use knowledge::Knowledge;
 pub use lines::fold;
 pub use paint::Paint;
-pub use shown::{Detail, Listing};
+pub use shown::{Beside, Detail, Listing};

@@ -25,6 +25,15 @@ pub enum Detail {
     All,
 }
 
+/// What is shown of a lowered text beside its slots.
+#[derive(Clone, Copy, Debug)]
+pub struct Beside<'a> {
+    /// The slot of the original for which each slot stands.
+    pub origins: &'a [u16],
+    /// Whether each slot is left out.
+    pub folded: &'a [bool],
+}
+
 /// The listing of a text that was judged.
 #[derive(Drop)]
 pub struct Listing<'a> {
@@ -33,6 +42,7 @@ pub struct Listing<'a> {
     told: Told,
     detail: Detail,
     paint: Paint,
+    beside: Option<Beside<'a>>,
 }
 
 impl<'a> Listing<'a> {
@@ -42,6 +52,7 @@ impl<'a> Listing<'a> {
         judged: &Judged<'a>,
         detail: Detail,
         paint: Paint,
+        beside: Option<Beside<'a>>,
     ) -> Option<Listing<'a>> {
         Some(Listing {
             alloc,
@@ -49,6 +60,7 @@ impl<'a> Listing<'a> {
             told: Told::of(alloc, judged)?,
             detail,
             paint,
+            beside,
         })
     }
 
@@ -60,15 +72,41 @@ impl<'a> Listing<'a> {
             let Some(insn) = Insn::at(self.judged.text, slot as usize) else {
                 return Ok(());
             };
-            if begins {
+            if self.is_folded(slot) {
+                self.write_fold(output, slot)?;
+            } else if begins {
                 self.write_insn(output, slot, &insn)?;
-                begins = insn.slots() == 1;
             } else {
                 self.write_half(output, slot)?;
-                begins = true;
             }
+            begins = !begins || insn.slots() == 1;
         }
         Ok(())
+    }
+
+    /// Whether a slot is left out.
+    fn is_folded(&self, slot: u32) -> bool {
+        match &self.beside {
+            Some(beside) => matches!(beside.folded.get(slot as usize), Some(true)),
+            None => false,
+        }
+    }
+
+    /// Writes a line for slots that are left out, at the first of them.
+    fn write_fold<W: Write>(&self, output: &mut W, slot: u32) -> io::Result<()> {
+        if slot > 0 && self.is_folded(slot - 1) {
+            return Ok(());
+        }
+        let mut last = slot;
+        for more in slot..self.slots() {
+            if !self.is_folded(more) {
+                break;
+            }
+            last = more;
+        }
+        let line = format!(in self.alloc; "  ..  slots {slot} to {last}: further copies")?;
+        self.paint.write(output, Part::Beside, line.as_str())?;
+        writeln!(output)
     }
 
     /// Writes the slots behind the refused one that break a rule too, with what is known there and what would have to be:
@@ -118,14 +156,25 @@ impl<'a> Listing<'a> {
         u32::try_from(self.judged.text.len() / 8).unwrap_or(u32::MAX)
     }
 
-    /// Writes what stands first in the line of a slot: its number and its bytes.
+    /// The slot of the original for which a slot of a lowered text stands.
+    fn origin(&self, slot: u32) -> Option<u16> {
+        match &self.beside {
+            Some(beside) => beside.origins.get(slot as usize).copied(),
+            None => None,
+        }
+    }
+
+    /// Writes what stands first in the line of a slot: its number, of a lowered text the original's, and its bytes.
     fn write_head<W: Write>(&self, line: &mut Line<'_, W>, slot: u32) -> io::Result<()> {
         let begin = 8 * slot as usize;
         let bytes = self.judged.text.get(begin..begin + 8).unwrap_or(&[]);
         let number = bytes
             .iter()
             .fold(0u64, |number, byte| number << 8 | u64::from(*byte));
-        let head = format!(in self.alloc; "{slot:>4}  {number:016x}")?;
+        let head = match self.origin(slot) {
+            Some(origin) => format!(in self.alloc; "{slot:>4} {origin:>4}  {number:016x}")?,
+            None => format!(in self.alloc; "{slot:>4}  {number:016x}")?,
+        };
         let part = match self.told.refused {
             Some(refused) if refused.slot <= slot => Part::Refused,
             _ => Part::Beside,

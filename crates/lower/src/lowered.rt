@@ -74,7 +74,14 @@ fn refuse<E: Write>(
 ) -> Result<(), FileFault> {
     let mut line = Vec::new(alloc);
     let mut meant = Vec::new(alloc);
-    check(alloc, hex, asked.shapes.as_slice(), asked.context, &mut line, &mut meant)?;
+    check(
+        alloc,
+        hex,
+        asked.shapes.as_slice(),
+        asked.context,
+        &mut line,
+        &mut meant,
+    )?;
     written(errors.write_all(line.as_slice()))?;
     written(errors.write_all(meant.as_slice()))
 }

@@ -9,16 +9,23 @@ use std::io::{self, Write};
 
 /// Writes what stopped the lowering of a text, if that isn't the text's own refusal. Its slots are the text's.
 pub fn write_stop<E: Write>(text: &[u8], stopped: &NotLowered, errors: &mut E) -> io::Result<()> {
-    if stopped.stop == Stop::Rule(stopped.refused) {
+    let own = stopped.refused;
+    if matches!(stopped.stop, Stop::Rule { refused, .. } if refused == own) {
         return Ok(());
     }
     write!(errors, "not lowered: ")?;
     match stopped.stop {
-        Stop::Rule(refused) => write_rule(text, refused, errors)?,
-        Stop::Endless { header, copies } => write!(
+        Stop::Rule { refused, copy } => write_rule(text, refused, copy, errors)?,
+        Stop::Endless {
+            header,
+            first,
+            last,
+            copies,
+        } => write!(
             errors,
-            "no range ends the loop at slot {header} within 4096 slots: {copies} copies of it were tried"
+            "no range ends the loop of slots {first} to {last}, entered at {header}, within 4096 slots: {copies} copies of it were tried"
         )?,
+        Stop::TooLong => write!(errors, "with its blocks in order it has more than 4096 slots")?,
         Stop::Nested { slot } => write!(errors, "the loops at slot {slot} are nested too deep")?,
         Stop::Uncovered => write!(errors, "the lowered text doesn't cover it")?,
         Stop::OutOfMemory => write!(errors, "out of memory")?,
@@ -26,9 +33,9 @@ pub fn write_stop<E: Write>(text: &[u8], stopped: &NotLowered, errors: &mut E) -
     writeln!(errors)
 }
 
-/// Writes the rule that a slot of a text breaks where its blocks are in order and its loops are copied.
-fn write_rule<E: Write>(text: &[u8], refused: Refused, errors: &mut E) -> io::Result<()> {
-    write!(errors, "with its loops copied it is {}", refused.fault())?;
+/// Writes the rule that a copy of a slot of a text breaks where its blocks are in order and its loops are copied.
+fn write_rule<E: Write>(text: &[u8], refused: Refused, copy: u32, errors: &mut E) -> io::Result<()> {
+    write!(errors, "copy {copy} of the slot is {}", refused.fault())?;
     if let Some(insn) = Insn::at(text, refused.slot as usize) {
         let insn = Assembly(insn);
         write!(errors, ": {insn}")?;
