@@ -9,20 +9,20 @@ use Rattle.host_core.specs.Happens.{StepsHappen}
 use Rattle.host_core.specs.HostView.{HostView}
 use Rattle.bpf_host_c.specs.declared.answer.Answer.{Answer}
 use Rattle.bpf_host_c.specs.declared.answer.Answer.TheVariants.{Closed, NoMemory, Replied}
-use Rattle.bpf_host_c.specs.Answered.{IsAnswered, IsAnsweredFromCopy, IsKept, Goes, Serves, Runs}
+use Rattle.bpf_host_c.specs.Answered.{HasAnswer, HasAnswerFromCopy, IsUnasked, Goes, Serves, RunsWhole}
 use Rattle.bpf_host_c.specs.Codes.{is_begun}
 
 module _ (Happening : Reply → System → System → Type 0) where
   -- what happened to the host that was taken out of a handle and put back is what the reply answers
   pub answered : (reply : Reply) {o n : Option HostView} {had old new : HostView}
-      → o ≡ Some had → old ≡ had → n ≡ Some new → Goes (Happening reply) old new → IsAnswered Happening (Replied reply) o n
+      → o ≡ Some had → old ≡ had → n ≡ Some new → Goes (Happening reply) old new → HasAnswer Happening (Replied reply) o n
   answered reply {o = o} {n = n} {had = had} {old = old} {new = new} is_had is_old is_new goes =
-      subst (λ (before : Option HostView). IsAnswered Happening (Replied reply) before n) (sym is_had)
-      (subst (λ (after : Option HostView). IsAnswered Happening (Replied reply) (Some had) after) (sym is_new)
+      subst (λ (before : Option HostView). HasAnswer Happening (Replied reply) before n) (sym is_had)
+      (subst (λ (after : Option HostView). HasAnswer Happening (Replied reply) (Some had) after) (sym is_new)
       (subst (λ (host : HostView). Goes (Happening reply) host new) is_old goes))
 
   -- a call that could copy what it was given is answered as one that copies nothing
-  pub from_copy : (answer : Answer) (o n : Option HostView) → IsAnswered Happening answer o n → IsAnsweredFromCopy Happening answer o n
+  pub from_copy : (answer : Answer) (o n : Option HostView) → HasAnswer Happening answer o n → HasAnswerFromCopy Happening answer o n
   from_copy Closed None None so = so
   from_copy Closed None (Some new) so = absurd so
   from_copy Closed (Some old) None so = absurd so
@@ -37,7 +37,7 @@ module _ (Happening : Reply → System → System → Type 0) where
   from_copy (Replied reply) (Some old) (Some new) so = so
 
   -- one that could not leaves the handle as it was
-  pub kept_from_copy : (answer : Answer) (o : Option HostView) → IsKept answer o → IsAnsweredFromCopy Happening answer o o
+  pub kept_from_copy : (answer : Answer) (o : Option HostView) → IsUnasked answer o → HasAnswerFromCopy Happening answer o o
   kept_from_copy Closed None so = tt
   kept_from_copy Closed (Some host) so = absurd so
   kept_from_copy NoMemory None so = absurd so
@@ -62,12 +62,12 @@ begun_is_not reply so = λ is. subst T (sym (ap is_begun is) ∙ so) tt
 
 module _ (t k : ℕ) (context : List ℕ) (begun : Reply) (x between : System) where
   -- a run that isn't begun
-  pub stays_unrun : is_begun begun ≡ false → Serves (Begin t k context) begun x between → Runs t k context begun x between
+  pub stays_unrun : is_begun begun ≡ false → Serves (Begin t k context) begun x between → RunsWhole t k context begun x between
   stays_unrun so served = inl (begun_is_not begun so, served)
 
   -- a run that is begun, and makes its steps
   pub runs : is_begun begun ≡ true → Serves (Begin t k context) begun x between → (o : Option Reply) (last : Reply) (x' : System)
-      → o ≡ Some last → StepsHappen between t 4294967296 o x' → Runs t k context last x x'
+      → o ≡ Some last → StepsHappen between t 4294967296 o x' → RunsWhole t k context last x x'
   runs so served o last x' is steps = inr (
     between,
     subst (λ (reply : Reply). Serves (Begin t k context) reply x between) (begun_is begun so) served,

@@ -20,21 +20,21 @@ Goes Happening old new =
     (x : System) → StandsForSystem old x → (x' : System) × StandsForSystem new x' × Happening x x'
 
 -- What an answer says of the host behind a handle: a closed handle stays closed, and behind an open one happens what the reply answers.
-abbrev pub IsAnswered : (Reply → System → System → Type 0) → Answer → Option HostView → Option HostView → Type 0
-IsAnswered Happening Closed None None = Unit {0}
-IsAnswered Happening (Replied reply) (Some old) (Some new) = Goes (Happening reply) old new
-IsAnswered Happening answer old new = ⊥
+abbrev pub HasAnswer : (Reply → System → System → Type 0) → Answer → Option HostView → Option HostView → Type 0
+HasAnswer Happening Closed None None = Unit {0}
+HasAnswer Happening (Replied reply) (Some old) (Some new) = Goes (Happening reply) old new
+HasAnswer Happening answer old new = ⊥
 
 -- The same of a call that copies what it is given: where there is no memory for that, nothing happens behind an open handle.
-abbrev pub IsAnsweredFromCopy : (Reply → System → System → Type 0) → Answer → Option HostView → Option HostView → Type 0
-IsAnsweredFromCopy Happening NoMemory (Some old) (Some new) = new ≡ old
-IsAnsweredFromCopy Happening answer old new = IsAnswered Happening answer old new
+abbrev pub HasAnswerFromCopy : (Reply → System → System → Type 0) → Answer → Option HostView → Option HostView → Type 0
+HasAnswerFromCopy Happening NoMemory (Some old) (Some new) = new ≡ old
+HasAnswerFromCopy Happening answer old new = HasAnswer Happening answer old new
 
 -- Of such a call, where the answer is known before the host is asked: nothing happens.
-abbrev pub IsKept : Answer → Option HostView → Type 0
-IsKept Closed None = Unit {0}
-IsKept NoMemory (Some host) = Unit {0}
-IsKept answer host = ⊥
+abbrev pub IsUnasked : Answer → Option HostView → Type 0
+IsUnasked Closed None = Unit {0}
+IsUnasked NoMemory (Some host) = Unit {0}
+IsUnasked answer host = ⊥
 
 -- there is no option of the number that a call names: nothing happens
 abbrev pub IsNoOption : ℕ → Option HostView → Option HostView → Type 0
@@ -43,8 +43,8 @@ IsNoOption result (Some host) new = (result ≡ 40) × (new ≡ Some host)
 
 -- A run of a program on a context, from its beginning to its end. Where it isn't begun, that is the reply; else the reply is that to its last
 -- step. A run makes fewer than 2^32 steps.
-abbrev pub Runs : ℕ → ℕ → List ℕ → Reply → System → System → Type 0
-Runs t k context reply x x' =
+abbrev pub RunsWhole : ℕ → ℕ → List ℕ → Reply → System → System → Type 0
+RunsWhole t k context reply x x' =
     ((reply ≢ Begun) × Serves (Begin t k context) reply x x')
     ⊎ ((begun : System) × Serves (Begin t k context) Begun x begun × StepsHappen begun t 4294967296 (Some reply) x')
 

@@ -15,30 +15,30 @@ use Rattle.bpf_host_c.specs.declared.structs.BpfHostRefused.{BpfHostRefused}
 use Rattle.bpf_host_c.specs.declared.structs.BpfHostRun.{BpfHostRun}
 
 -- the number that a call returns
-abbrev pub code_of : Answer → ℕ
-code_of Closed = 100
-code_of NoMemory = 41
-code_of (Replied (Refused fault)) = fault_number fault
-code_of (Replied reply) = 0
+abbrev pub call_code : Answer → ℕ
+call_code Closed = 100
+call_code NoMemory = 41
+call_code (Replied (Refused fault)) = fault_number fault
+call_code (Replied reply) = 0
 
 -- the number of a map that was made
-abbrev pub map_of : Answer → ℕ → ℕ
-map_of (Replied (Map number)) old = number
-map_of answer old = old
+abbrev pub new_map_number : Answer → ℕ → ℕ
+new_map_number (Replied (Map number)) old = number
+new_map_number answer old = old
 
 -- the number of a program that was loaded
-abbrev pub program_of : Answer → ℕ → ℕ
-program_of (Replied (Program number)) old = number
-program_of answer old = old
+abbrev pub new_program_number : Answer → ℕ → ℕ
+new_program_number (Replied (Program number)) old = number
+new_program_number answer old = old
 
 -- what a run returned that ended, and how many steps it made
-abbrev pub run_of : Answer → BpfHostRun → BpfHostRun
-run_of (Replied (Ended number steps)) old = record { ret = number; steps = steps }
-run_of answer old = old
+abbrev pub run_written : Answer → BpfHostRun → BpfHostRun
+run_written (Replied (Ended number steps)) old = record { ret = number; steps = steps }
+run_written answer old = old
 
 -- the counters that were told
-abbrev pub counters_told : Answer → BpfHostCounters → BpfHostCounters
-counters_told (Replied (AreCounters counters)) old = record {
+abbrev pub counters_written : Answer → BpfHostCounters → BpfHostCounters
+counters_written (Replied (AreCounters counters)) old = record {
   full_scans = counters.full_scans;
   pages_shared = counters.pages_shared;
   pages_sharing = counters.pages_sharing;
@@ -49,29 +49,29 @@ counters_told (Replied (AreCounters counters)) old = record {
   stable_node_dups = counters.stable_node_dups;
   frames_free = counters.frames_free;
 }
-counters_told answer old = old
+counters_written answer old = old
 
 -- the slot of a program's refusal, or the frames that are needed and that may be had
-abbrev pub refused_of : Answer → BpfHostRefused → BpfHostRefused
-refused_of (Replied (Refused (Unaccepted refusal))) old = record old { slot = refusal.slot }
-refused_of (Replied (Refused (NoFrames need have))) old = record old { need = need; have = have }
-refused_of answer old = old
+abbrev pub refused_written : Answer → BpfHostRefused → BpfHostRefused
+refused_written (Replied (Refused (Unaccepted refusal))) old = record old { slot = refusal.slot }
+refused_written (Replied (Refused (NoFrames need have))) old = record old { need = need; have = have }
+refused_written answer old = old
 
 -- the value that was read, where there is just room for it
-abbrev pub value_of : Answer → List ℕ → List ℕ
-value_of (Replied (Value bytes)) old = if length bytes == length old then bytes else old
-value_of answer old = old
+abbrev pub value_copied : Answer → List ℕ → List ℕ
+value_copied (Replied (Value bytes)) old = if length bytes == length old then bytes else old
+value_copied answer old = old
 
 -- the number that a lookup returns: 102 where the value has another length
 abbrev pub lookup_code : Answer → List ℕ → ℕ
 lookup_code (Replied (Value bytes)) old = if length bytes == length old then 0 else 102
-lookup_code answer old = code_of answer
+lookup_code answer old = call_code answer
 
 -- whether a run ended, where its last step was no refusal
-abbrev pub has_ended : Answer → Bool → Bool
-has_ended (Replied (Ended number steps)) old = true
-has_ended (Replied Stepped) old = false
-has_ended answer old = old
+abbrev pub ended_written : Answer → Bool → Bool
+ended_written (Replied (Ended number steps)) old = true
+ended_written (Replied Stepped) old = false
+ended_written answer old = old
 
 -- the option with a number
 abbrev pub option_of : ℕ → Option Opt

@@ -20,10 +20,10 @@ options_of options = record {
 }
 
 -- An open handle stays as it is. A closed one holds a new host then, or stays closed for a reason that holds.
-abbrev pub IsMade : ℕ → ℕ → BpfHostOptions → ℕ → Option HostView → Option HostView → Type 0
-IsMade frames tenants options result (Some old) new = (result ≡ 101) × (new ≡ Some old)
-IsMade frames tenants options result None None =
+abbrev pub IsOpened : ℕ → ℕ → BpfHostOptions → ℕ → Option HostView → Option HostView → Type 0
+IsOpened frames tenants options result (Some old) new = (result ≡ 101) × (new ≡ Some old)
+IsOpened frames tenants options result None None =
     (fault : Fault) × (result ≡ fault_number fault) × RefusesMemory frames tenants (options_of options) fault
-IsMade frames tenants options result None (Some host) =
+IsOpened frames tenants options result None (Some host) =
     (result ≡ 0) × AreLimits frames tenants × AreOptions (options_of options)
     × StandsForSystem host (new_system frames tenants (options_of options))

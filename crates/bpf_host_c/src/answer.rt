@@ -15,11 +15,11 @@ pub enum Answer {
 
 impl Answer {
     ghost use Rattle.std.specs.Prelude.{◌≡◌};
-    ghost use Rattle.bpf_host_c.specs.Codes.{code_of, lookup_code, map_of, program_of, run_of, has_ended, value_of, counters_told, refused_of};
+    ghost use Rattle.bpf_host_c.specs.Codes.{call_code, lookup_code, new_map_number, new_program_number, run_written, ended_written, value_copied, counters_written, refused_written};
 
     /// The number that the call returns.
     pub(crate) fn code(&self) -> u32
-        ensures { result ≡ code_of self.now }
+        ensures { result ≡ call_code self.now }
     {
         match self {
             Answer::Closed => 100,
@@ -31,7 +31,7 @@ impl Answer {
 
     /// Writes the number of a map that was made.
     pub(crate) fn write_map(&self, map: &mut u32)
-        ensures { map.new ≡ map_of self.now map.old }
+        ensures { map.new ≡ new_map_number self.now map.old }
     {
         if let Answer::Replied(Reply::Map(number)) = self {
             *map = *number;
@@ -40,7 +40,7 @@ impl Answer {
 
     /// Writes the number of a program that was loaded.
     pub(crate) fn write_program(&self, program: &mut u32)
-        ensures { program.new ≡ program_of self.now program.old }
+        ensures { program.new ≡ new_program_number self.now program.old }
     {
         if let Answer::Replied(Reply::Program(number)) = self {
             *program = *number;
@@ -49,7 +49,7 @@ impl Answer {
 
     /// Writes what a run returned that ended, and how many steps it made.
     pub(crate) fn write_run(&self, run: &mut BpfHostRun)
-        ensures { run.new ≡ run_of self.now run.old }
+        ensures { run.new ≡ run_written self.now run.old }
     {
         if let Answer::Replied(Reply::Ended { ret, steps }) = self {
             run.ret = *ret;
@@ -59,7 +59,7 @@ impl Answer {
 
     /// Writes whether a run ended, where its last step wasn't refused.
     pub(crate) fn write_ended(&self, ended: &mut bool)
-        ensures { ended.new ≡ has_ended self.now ended.old }
+        ensures { ended.new ≡ ended_written self.now ended.old }
     {
         match self {
             Answer::Replied(Reply::Ended { .. }) => *ended = true,
@@ -70,7 +70,7 @@ impl Answer {
 
     /// Writes the counters.
     pub(crate) fn write_counters(&self, counters: &mut BpfHostCounters)
-        ensures { counters.new ≡ counters_told self.now counters.old }
+        ensures { counters.new ≡ counters_written self.now counters.old }
     {
         if let Answer::Replied(Reply::Counters(told)) = self {
             counters.full_scans = told.full_scans;
@@ -87,7 +87,7 @@ impl Answer {
 
     /// Writes what a refusal says beside its number.
     pub(crate) fn write_refused(&self, refused: &mut BpfHostRefused)
-        ensures { refused.new ≡ refused_of self.now refused.old }
+        ensures { refused.new ≡ refused_written self.now refused.old }
     {
         match self {
             Answer::Replied(Reply::Refused(Fault::Program(program))) => refused.slot = program.slot,
@@ -101,7 +101,7 @@ impl Answer {
 
     /// Writes a value that was read to bytes of its length: the number that the call returns. Bytes of another length stay.
     pub(crate) fn write_value(&self, value: &mut [u8]) -> u32
-        ensures value { value.new ≡ value_of self.now value.old }
+        ensures value { value.new ≡ value_copied self.now value.old }
         ensures code { result ≡ lookup_code self.now value.old }
     {
         let Answer::Replied(Reply::Value(bytes)) = self else {

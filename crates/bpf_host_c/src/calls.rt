@@ -1,8 +1,8 @@
 ghost use Rattle.std.specs.Prelude.{◌≡◌, MatchOption};
 ghost use Rattle.host_core.specs.declared.event.Event.TheVariants.{CreateMap, Load, Begin, HostUpdate, HostLookup, Unload, DropMap, Set, Unmerge, Counters};
-ghost use Rattle.bpf_host_c.specs.declared.answer.Answer.{Answer as Came};
-ghost use Rattle.bpf_host_c.specs.Answered.{IsAnswered, IsAnsweredFromCopy, IsNoOption, Serves};
-ghost use Rattle.bpf_host_c.specs.Codes.{code_of, lookup_code, map_of, program_of, value_of, counters_told, refused_of, option_of};
+ghost use Rattle.bpf_host_c.specs.declared.answer.Answer.{Answer as CallAnswer};
+ghost use Rattle.bpf_host_c.specs.Answered.{HasAnswer, HasAnswerFromCopy, IsNoOption, Serves};
+ghost use Rattle.bpf_host_c.specs.Codes.{call_code, lookup_code, new_map_number, new_program_number, value_copied, counters_written, refused_written, option_of};
 
 use crate::handle::BpfHost;
 use crate::structs::{BpfHostCounters, BpfHostRefused};
@@ -22,9 +22,9 @@ pub extern "C" fn bpf_host_create_map(
     map: &mut u32,
     refused: &mut BpfHostRefused,
 ) -> u32
-    ensures { (answer : Came)
-        × IsAnswered (Serves (CreateMap tenant value_size entries mergeable)) answer handle.old.owner.host handle.new.owner.host
-        × (result ≡ code_of answer) × (map.new ≡ map_of answer map.old) × (refused.new ≡ refused_of answer refused.old) }
+    ensures { (answer : CallAnswer)
+        × HasAnswer (Serves (CreateMap tenant value_size entries mergeable)) answer handle.old.owner.host handle.new.owner.host
+        × (result ≡ call_code answer) × (map.new ≡ new_map_number answer map.old) × (refused.new ≡ refused_written answer refused.old) }
 {
     let event = Event::CreateMap {
         tenant,
@@ -46,9 +46,9 @@ pub extern "C" fn bpf_host_drop_map(
     tenant: u32,
     map: u32,
 ) -> u32
-    ensures { (answer : Came)
-        × IsAnswered (Serves (DropMap tenant map)) answer handle.old.owner.host handle.new.owner.host
-        × (result ≡ code_of answer) }
+    ensures { (answer : CallAnswer)
+        × HasAnswer (Serves (DropMap tenant map)) answer handle.old.owner.host handle.new.owner.host
+        × (result ≡ call_code answer) }
 {
     let answer = handle.serve(alloc, &Event::DropMap { tenant, map });
     answer.code()
@@ -65,9 +65,9 @@ pub extern "C" fn bpf_host_load(
     program: &mut u32,
     refused: &mut BpfHostRefused,
 ) -> u32
-    ensures { (answer : Came)
-        × IsAnsweredFromCopy (Serves (Load tenant text.now context_size)) answer handle.old.owner.host handle.new.owner.host
-        × (result ≡ code_of answer) × (program.new ≡ program_of answer program.old) × (refused.new ≡ refused_of answer refused.old) }
+    ensures { (answer : CallAnswer)
+        × HasAnswerFromCopy (Serves (Load tenant text.now context_size)) answer handle.old.owner.host handle.new.owner.host
+        × (result ≡ call_code answer) × (program.new ≡ new_program_number answer program.old) × (refused.new ≡ refused_written answer refused.old) }
 {
     let answer = handle.load(alloc, tenant, text, context_size);
     answer.write_program(program);
@@ -83,9 +83,9 @@ pub extern "C" fn bpf_host_unload(
     tenant: u32,
     program: u32,
 ) -> u32
-    ensures { (answer : Came)
-        × IsAnswered (Serves (Unload tenant program)) answer handle.old.owner.host handle.new.owner.host
-        × (result ≡ code_of answer) }
+    ensures { (answer : CallAnswer)
+        × HasAnswer (Serves (Unload tenant program)) answer handle.old.owner.host handle.new.owner.host
+        × (result ≡ call_code answer) }
 {
     let answer = handle.serve(alloc, &Event::Unload { tenant, program });
     answer.code()
@@ -101,9 +101,9 @@ pub extern "C" fn bpf_host_begin(
     context: &[u8],
     refused: &mut BpfHostRefused,
 ) -> u32
-    ensures { (answer : Came)
-        × IsAnsweredFromCopy (Serves (Begin tenant program context.now)) answer handle.old.owner.host handle.new.owner.host
-        × (result ≡ code_of answer) × (refused.new ≡ refused_of answer refused.old) }
+    ensures { (answer : CallAnswer)
+        × HasAnswerFromCopy (Serves (Begin tenant program context.now)) answer handle.old.owner.host handle.new.owner.host
+        × (result ≡ call_code answer) × (refused.new ≡ refused_written answer refused.old) }
 {
     let answer = handle.begin(alloc, tenant, program, context);
     answer.write_refused(refused);
@@ -121,9 +121,9 @@ pub extern "C" fn bpf_host_update(
     value: &[u8],
     refused: &mut BpfHostRefused,
 ) -> u32
-    ensures { (answer : Came)
-        × IsAnsweredFromCopy (Serves (HostUpdate tenant map key value.now)) answer handle.old.owner.host handle.new.owner.host
-        × (result ≡ code_of answer) × (refused.new ≡ refused_of answer refused.old) }
+    ensures { (answer : CallAnswer)
+        × HasAnswerFromCopy (Serves (HostUpdate tenant map key value.now)) answer handle.old.owner.host handle.new.owner.host
+        × (result ≡ call_code answer) × (refused.new ≡ refused_written answer refused.old) }
 {
     let answer = handle.update(alloc, tenant, map, key, value);
     answer.write_refused(refused);
@@ -140,9 +140,9 @@ pub extern "C" fn bpf_host_lookup(
     key: u32,
     value: &mut [u8],
 ) -> u32
-    ensures { (answer : Came)
-        × IsAnswered (Serves (HostLookup tenant map key)) answer handle.old.owner.host handle.new.owner.host
-        × (result ≡ lookup_code answer value.old) × (value.new ≡ value_of answer value.old) }
+    ensures { (answer : CallAnswer)
+        × HasAnswer (Serves (HostLookup tenant map key)) answer handle.old.owner.host handle.new.owner.host
+        × (result ≡ lookup_code answer value.old) × (value.new ≡ value_copied answer value.old) }
 {
     let answer = handle.serve(alloc, &Event::HostLookup { tenant, map, key });
     answer.write_value(value)
@@ -151,9 +151,9 @@ pub extern "C" fn bpf_host_lookup(
 /// Sets an option of the scanner: 0 to 3, in the order of `BpfHostOptions`.
 #[unsafe(no_mangle)]
 pub extern "C" fn bpf_host_set(alloc: Global, handle: &mut BpfHost, option: u32, value: u32) -> u32
-    ensures { MatchOption (option_of option) (IsNoOption result handle.old.owner.host handle.new.owner.host) (λ chosen. (answer : Came)
-        × IsAnswered (Serves (Set chosen value)) answer handle.old.owner.host handle.new.owner.host
-        × (result ≡ code_of answer)) }
+    ensures { MatchOption (option_of option) (IsNoOption result handle.old.owner.host handle.new.owner.host) (λ chosen. (answer : CallAnswer)
+        × HasAnswer (Serves (Set chosen value)) answer handle.old.owner.host handle.new.owner.host
+        × (result ≡ call_code answer)) }
 {
     let Some(option) = option_numbered(option) else {
         return if handle.is_open { 40 } else { 100 };
@@ -169,9 +169,9 @@ pub extern "C" fn bpf_host_unmerge(
     handle: &mut BpfHost,
     refused: &mut BpfHostRefused,
 ) -> u32
-    ensures { (answer : Came)
-        × IsAnswered (Serves Unmerge) answer handle.old.owner.host handle.new.owner.host
-        × (result ≡ code_of answer) × (refused.new ≡ refused_of answer refused.old) }
+    ensures { (answer : CallAnswer)
+        × HasAnswer (Serves Unmerge) answer handle.old.owner.host handle.new.owner.host
+        × (result ≡ call_code answer) × (refused.new ≡ refused_written answer refused.old) }
 {
     let answer = handle.serve(alloc, &Event::Unmerge);
     answer.write_refused(refused);
@@ -185,9 +185,9 @@ pub extern "C" fn bpf_host_counters(
     handle: &mut BpfHost,
     counters: &mut BpfHostCounters,
 ) -> u32
-    ensures { (answer : Came)
-        × IsAnswered (Serves Counters) answer handle.old.owner.host handle.new.owner.host
-        × (result ≡ code_of answer) × (counters.new ≡ counters_told answer counters.old) }
+    ensures { (answer : CallAnswer)
+        × HasAnswer (Serves Counters) answer handle.old.owner.host handle.new.owner.host
+        × (result ≡ call_code answer) × (counters.new ≡ counters_written answer counters.old) }
 {
     let answer = handle.serve(alloc, &Event::Counters);
     answer.write_counters(counters);

@@ -18,7 +18,7 @@ pub struct BpfHost {
 impl BpfHost {
     ghost use Rattle.std.specs.Prelude.{◌≡◌, MatchOption, Some, None, IfOk, IfErr};
     ghost use Rattle.host_core.specs.declared.event.Event.TheVariants.{Load, Begin, HostUpdate};
-    ghost use Rattle.bpf_host_c.specs.Answered.{IsAnswered, IsAnsweredFromCopy, IsKept, Serves};
+    ghost use Rattle.bpf_host_c.specs.Answered.{HasAnswer, HasAnswerFromCopy, IsUnasked, Serves};
 
     /// Takes the host out, which leaves the handle closed.
     pub(crate) fn take(&mut self, alloc: Global) -> Option<Box<Host>>
@@ -42,7 +42,7 @@ impl BpfHost {
 
     /// Lets an event happen.
     pub(crate) fn serve(&mut self, alloc: Global, event: &Event) -> Answer
-        ensures { IsAnswered (Serves event.now) result self.old.owner.host self.new.owner.host }
+        ensures { HasAnswer (Serves event.now) result self.old.owner.host self.new.owner.host }
     {
         let Some(mut host) = self.take(alloc) else {
             return Answer::Closed;
@@ -60,7 +60,7 @@ impl BpfHost {
         text: &[u8],
         context_size: u32,
     ) -> Answer
-        ensures { IsAnsweredFromCopy (Serves (Load tenant text.now context_size)) result self.old.owner.host self.new.owner.host }
+        ensures { HasAnswerFromCopy (Serves (Load tenant text.now context_size)) result self.old.owner.host self.new.owner.host }
     {
         match self.copied(alloc, text) {
             Ok(text) => {
@@ -83,7 +83,7 @@ impl BpfHost {
         program: u32,
         context: &[u8],
     ) -> Answer
-        ensures { IsAnsweredFromCopy (Serves (Begin tenant program context.now)) result self.old.owner.host self.new.owner.host }
+        ensures { HasAnswerFromCopy (Serves (Begin tenant program context.now)) result self.old.owner.host self.new.owner.host }
     {
         match self.copied(alloc, context) {
             Ok(context) => {
@@ -107,7 +107,7 @@ impl BpfHost {
         key: u32,
         value: &[u8],
     ) -> Answer
-        ensures { IsAnsweredFromCopy (Serves (HostUpdate tenant map key value.now)) result self.old.owner.host self.new.owner.host }
+        ensures { HasAnswerFromCopy (Serves (HostUpdate tenant map key value.now)) result self.old.owner.host self.new.owner.host }
     {
         match self.copied(alloc, value) {
             Ok(value) => {
@@ -126,7 +126,7 @@ impl BpfHost {
     /// A copy of what a call was given, where the handle is open and there is memory.
     pub(crate) fn copied(&self, alloc: Global, given: &[u8]) -> Result<Bytes, Answer>
         ensures copy { IfOk result (λ copy. copy ≡ given.now) }
-        ensures kept { IfErr result (λ answer. IsKept answer self.now.owner.host) }
+        ensures kept { IfErr result (λ answer. IsUnasked answer self.now.owner.host) }
     {
         if !self.is_open {
             return Err(Answer::Closed);

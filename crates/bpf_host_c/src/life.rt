@@ -4,7 +4,7 @@ ghost use Rattle.page_table.specs.Changes.{RefusesMemory};
 ghost use Rattle.page_table.specs.Limits.{AreLimits};
 ghost use Rattle.host_core.specs.World.{new_system};
 ghost use Rattle.host_core.specs.HostView.{StandsForSystem};
-ghost use Rattle.bpf_host_c.specs.Life.{IsMade, options_of};
+ghost use Rattle.bpf_host_c.specs.Life.{IsOpened, options_of};
 
 use crate::handle::BpfHost;
 use crate::structs::BpfHostOptions;
@@ -29,7 +29,7 @@ pub extern "C" fn bpf_host_new(
     options: &BpfHostOptions,
     handle: &mut BpfHost,
 ) -> u32
-    ensures { IsMade frames tenants options.now result handle.old.owner.host handle.new.owner.host }
+    ensures { IsOpened frames tenants options.now result handle.old.owner.host handle.new.owner.host }
 {
     if handle.is_open {
         return 101;

@@ -1,7 +1,7 @@
 ghost use Rattle.std.specs.Prelude.{◌≡◌};
-ghost use Rattle.bpf_host_c.specs.declared.answer.Answer.{Answer as Came};
-ghost use Rattle.bpf_host_c.specs.Answered.{IsAnswered, IsAnsweredFromCopy, Goes, Runs, Steps};
-ghost use Rattle.bpf_host_c.specs.Codes.{code_of, run_of, has_ended, is_begun, refused_of};
+ghost use Rattle.bpf_host_c.specs.declared.answer.Answer.{Answer as CallAnswer};
+ghost use Rattle.bpf_host_c.specs.Answered.{HasAnswer, HasAnswerFromCopy, Goes, RunsWhole, Steps};
+ghost use Rattle.bpf_host_c.specs.Codes.{call_code, run_written, ended_written, is_begun, refused_written};
 
 use crate::answer::Answer;
 use crate::handle::BpfHost;
@@ -12,7 +12,7 @@ use std::alloc::Global;
 /// More steps than a run makes.
 const ALL_STEPS: u64 = 4294967296;
 
-/// Runs a loaded program on a context, from its beginning to its end.
+/// RunsWhole a loaded program on a context, from its beginning to its end.
 #[unsafe(no_mangle)]
 pub extern "C" fn bpf_host_run(
     alloc: Global,
@@ -23,9 +23,9 @@ pub extern "C" fn bpf_host_run(
     run: &mut BpfHostRun,
     refused: &mut BpfHostRefused,
 ) -> u32
-    ensures { (answer : Came)
-        × IsAnsweredFromCopy (Runs tenant program context.now) answer handle.old.owner.host handle.new.owner.host
-        × (result ≡ code_of answer) × (run.new ≡ run_of answer run.old) × (refused.new ≡ refused_of answer refused.old) }
+    ensures { (answer : CallAnswer)
+        × HasAnswerFromCopy (RunsWhole tenant program context.now) answer handle.old.owner.host handle.new.owner.host
+        × (result ≡ call_code answer) × (run.new ≡ run_written answer run.old) × (refused.new ≡ refused_written answer refused.old) }
 {
     let answer = run_whole(handle, alloc, tenant, program, context);
     answer.write_run(run);
@@ -43,9 +43,9 @@ pub extern "C" fn bpf_host_step(
     ended: &mut bool,
     run: &mut BpfHostRun,
 ) -> u32
-    ensures { (answer : Came)
-        × IsAnswered (Steps tenant steps) answer handle.old.owner.host handle.new.owner.host
-        × (result ≡ code_of answer) × (ended.new ≡ has_ended answer ended.old) × (run.new ≡ run_of answer run.old) }
+    ensures { (answer : CallAnswer)
+        × HasAnswer (Steps tenant steps) answer handle.old.owner.host handle.new.owner.host
+        × (result ≡ call_code answer) × (ended.new ≡ ended_written answer ended.old) × (run.new ≡ run_written answer run.old) }
 {
     let answer = make_steps(handle, alloc, tenant, steps);
     answer.write_ended(ended);
@@ -55,7 +55,7 @@ pub extern "C" fn bpf_host_step(
 
 /// Makes steps behind a handle.
 fn make_steps(handle: &mut BpfHost, alloc: Global, tenant: u32, steps: u64) -> Answer
-    ensures { IsAnswered (Steps tenant steps) result handle.old.owner.host handle.new.owner.host }
+    ensures { HasAnswer (Steps tenant steps) result handle.old.owner.host handle.new.owner.host }
 {
     let Some(mut host) = handle.take(alloc) else {
         return Answer::Closed;
@@ -73,7 +73,7 @@ fn run_whole(
     program: u32,
     context: &[u8],
 ) -> Answer
-    ensures { IsAnsweredFromCopy (Runs tenant program context.now) result handle.old.owner.host handle.new.owner.host }
+    ensures { HasAnswerFromCopy (RunsWhole tenant program context.now) result handle.old.owner.host handle.new.owner.host }
 {
     match handle.copied(alloc, context) {
         Ok(context) => run_copied(handle, alloc, tenant, program, context),
@@ -89,7 +89,7 @@ fn run_copied(
     program: u32,
     context: Bytes,
 ) -> Answer
-    ensures { IsAnswered (Runs tenant program context) result handle.old.owner.host handle.new.owner.host }
+    ensures { HasAnswer (RunsWhole tenant program context) result handle.old.owner.host handle.new.owner.host }
 {
     let Some(mut host) = handle.take(alloc) else {
         return Answer::Closed;
@@ -101,7 +101,7 @@ fn run_copied(
 
 /// Makes a whole run.
 fn run(host: &mut Host, tenant: u32, program: u32, context: Bytes) -> Reply
-    ensures { Goes (Runs tenant program context result) host.old host.new }
+    ensures { Goes (RunsWhole tenant program context result) host.old host.new }
 {
     let event = Event::Begin {
         tenant,

@@ -1,7 +1,7 @@
 ghost use Rattle.std.specs.Prelude.{◌≡◌};
-ghost use Rattle.bpf_host_c.specs.declared.answer.Answer.{Answer as Came};
-ghost use Rattle.bpf_host_c.specs.Answered.{IsAnswered, Goes, VisitsAndCounts};
-ghost use Rattle.bpf_host_c.specs.Codes.{code_of, counters_told};
+ghost use Rattle.bpf_host_c.specs.declared.answer.Answer.{Answer as CallAnswer};
+ghost use Rattle.bpf_host_c.specs.Answered.{HasAnswer, Goes, VisitsAndCounts};
+ghost use Rattle.bpf_host_c.specs.Codes.{call_code, counters_written};
 
 use crate::answer::Answer;
 use crate::handle::BpfHost;
@@ -17,9 +17,9 @@ pub extern "C" fn bpf_host_visit(
     visits: u32,
     after: &mut BpfHostCounters,
 ) -> u32
-    ensures { (answer : Came)
-        × IsAnswered (VisitsAndCounts visits) answer handle.old.owner.host handle.new.owner.host
-        × (result ≡ code_of answer) × (after.new ≡ counters_told answer after.old) }
+    ensures { (answer : CallAnswer)
+        × HasAnswer (VisitsAndCounts visits) answer handle.old.owner.host handle.new.owner.host
+        × (result ≡ call_code answer) × (after.new ≡ counters_written answer after.old) }
 {
     let answer = visited(handle, alloc, visits);
     answer.write_counters(after);
@@ -28,7 +28,7 @@ pub extern "C" fn bpf_host_visit(
 
 /// Visits pages of the host behind a handle, and counts.
 fn visited(handle: &mut BpfHost, alloc: Global, visits: u32) -> Answer
-    ensures { IsAnswered (VisitsAndCounts visits) result handle.old.owner.host handle.new.owner.host }
+    ensures { HasAnswer (VisitsAndCounts visits) result handle.old.owner.host handle.new.owner.host }
 {
     let Some(mut host) = handle.take(alloc) else {
         return Answer::Closed;
