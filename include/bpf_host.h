@@ -17,7 +17,7 @@
  *     32 to 45    as docs/HOST.md lists them; 41: memory ran out
  *     100         the handle is closed
  *     101         the handle is open already (bpf_host_new)
- *     102         the buffer has another length than the value (bpf_host_lookup)
+ *     102         the buffer has another length than the value (bpf_host_lookup), or the contexts can't have one size (bpf_host_run_many)
  * bpf_host_load, _begin, _run and _update copy what they are given first: where there is no memory for that, they return 41 whatever else
  * would be refused.
  * A call that doesn't return 0 changed nothing: neither the host nor what the caller's pointers lead to, but for the members of
@@ -125,6 +125,24 @@ uint32_t bpf_host_unload(struct bpf_host *host, uint32_t tenant, uint32_t progra
 /* Runs a program on a context, from its first instruction to its end: a begin and all its steps. 100, 42, 36, 38, 39, 31, 41. */
 uint32_t bpf_host_run(struct bpf_host *host, uint32_t tenant, uint32_t program, const uint8_t *context, size_t context_len,
                       struct bpf_host_run *run, struct bpf_host_refused *refused);
+
+/* Runs a program once for each of `rets_len` contexts of one size, which stand one after the other, and writes what each run returns. It stops
+ * at the first refusal, and leaves `rets` from there on as it was. 102 where the contexts can't have one size, and what bpf_host_run refuses. */
+static inline uint32_t bpf_host_run_many(struct bpf_host *host, uint32_t tenant, uint32_t program, const uint8_t *contexts, size_t contexts_len,
+                                         uint64_t *rets, size_t rets_len, struct bpf_host_refused *refused)
+{
+    size_t size = rets_len ? contexts_len / rets_len : 0;
+    struct bpf_host_run run = {0, 0};
+    if (size * rets_len != contexts_len)
+        return 102;
+    for (size_t number = 0; number < rets_len; number++) {
+        uint32_t code = bpf_host_run(host, tenant, program, contexts + number * size, size, &run, refused);
+        if (code != 0)
+            return code;
+        rets[number] = run.ret;
+    }
+    return 0;
+}
 
 /* Opens a run of a program on a context, and reserves the frames that it may need. 100, 42, 36, 38, 39, 31, 41. */
 uint32_t bpf_host_begin(struct bpf_host *host, uint32_t tenant, uint32_t program, const uint8_t *context, size_t context_len,

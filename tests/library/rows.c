@@ -47,6 +47,26 @@ static void test_counter(void)
     bpf_host_free(&host);
 }
 
+/* Returns the context's first eight bytes. */
+#define FIRST_WORD "7910000000000000 9500000000000000"
+
+static void test_many_runs(void)
+{
+    struct bpf_host host;
+    const uint8_t contexts[24] = {5, 0, 0, 0, 0, 0, 0, 0, 6, 0, 0, 0, 0, 0, 0, 0, 7};
+    uint64_t rets[3] = {1, 2, 3};
+    open_host(&host, 8, 1);
+    CHECK(load_hex(&host, 0, FIRST_WORD, 8), 0);
+    CHECK(bpf_host_run_many(&host, 0, 0, contexts, 23, rets, 3, &last_refused), 102);
+    CHECK(bpf_host_run_many(&host, 0, 0, contexts, 16, rets, 1, &last_refused), 39);
+    CHECK(bpf_host_run_many(&host, 0, 1, contexts, 24, rets, 3, &last_refused), 38);
+    CHECK(rets[0] == 1 && rets[1] == 2 && rets[2] == 3, true);
+    CHECK(bpf_host_run_many(&host, 0, 0, contexts, 24, rets, 3, &last_refused), 0);
+    CHECK(rets[0] == 5 && rets[1] == 6 && rets[2] == 7, true);
+    CHECK(bpf_host_run_many(&host, 0, 0, contexts, 0, rets, 0, &last_refused), 0);
+    bpf_host_free(&host);
+}
+
 static void test_masked_offset(void)
 {
     struct bpf_host host;
@@ -68,6 +88,7 @@ void test_rows_of_programs(void)
     check_refused("b70000002a00000095000000", 0, 0, 1, 0);
     check_refused("b700000000000000", 0, 0, 13, 0);
     test_counter();
+    test_many_runs();
     check_refused("620afcff00000000 bfa2000000000000 07020000fcffffff 1811000000000000 0000000000000000 8500000001000000 "
         "7901000000000000 0701000001000000 7b10000000000000 bf10000000000000 9500000000000000", 0, 8, 21, 6);
     test_masked_offset();
