@@ -25,7 +25,10 @@ pub fn write_stop<E: Write>(text: &[u8], stopped: &NotLowered, errors: &mut E) -
             errors,
             "no range ends the loop of slots {first} to {last}, entered at {header}, within 4096 slots: {copies} copies of it were tried"
         )?,
-        Stop::TooLong => write!(errors, "with its blocks in order it has more than 4096 slots")?,
+        Stop::TooLong => write!(
+            errors,
+            "with its blocks in order it has more than 4096 slots"
+        )?,
         Stop::Nested { slot } => write!(errors, "the loops at slot {slot} are nested too deep")?,
         Stop::Uncovered => write!(errors, "the lowered text doesn't cover it")?,
         Stop::OutOfMemory => write!(errors, "out of memory")?,
@@ -34,7 +37,12 @@ pub fn write_stop<E: Write>(text: &[u8], stopped: &NotLowered, errors: &mut E) -
 }
 
 /// Writes the rule that a copy of a slot of a text breaks where its blocks are in order and its loops are copied.
-fn write_rule<E: Write>(text: &[u8], refused: Refused, copy: u32, errors: &mut E) -> io::Result<()> {
+fn write_rule<E: Write>(
+    text: &[u8],
+    refused: Refused,
+    copy: u32,
+    errors: &mut E,
+) -> io::Result<()> {
     write!(errors, "copy {copy} of the slot is {}", refused.fault())?;
     if let Some(insn) = Insn::at(text, refused.slot as usize) {
         let insn = Assembly(insn);

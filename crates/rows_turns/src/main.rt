@@ -38,5 +38,5 @@ fn main(rt: HostRuntime) -> io::Result<()> {
     gates::tell_rows(&rt)?;
     copy::tell_row(&rt)?;
     drops::tell_row(&rt)?;
-    serving::tell_row(&rt)
+    serving::tell_rows(&rt)
 }

@@ -1,5 +1,5 @@
-//! Plans of two tenants that threads serve beside a scanner. That a thread is started for each, and that they run
-//! between each other's instructions, no contract says.
+//! Plans of two tenants that threads serve beside a scanner. That a thread is started for each, that they run
+//! between each other's instructions, and that the scanner's visits are made, no contract of `serve` says.
 
 ghost use Rattle.std.specs.Prelude.{◌≡◌, ◌<◌, IfOk, All};
 ghost use Rattle.turn.specs.Seats.{IsIdle, own_part};
@@ -9,6 +9,7 @@ ghost use Rattle.tenant_workers.specs.Runs.{IsResting};
 use crate::tell;
 use crate::tenants::two_tenants;
 use host_types::Fault;
+use ksm_counters::Counters;
 use std::alloc::Global;
 use std::hint::spin_loop;
 use std::io;
@@ -16,7 +17,7 @@ use std::sync::Wait;
 use std::sync::atomic::{AtomicU64, Ordering};
 use std::thread::Threads;
 use tenant_runs::RunReply;
-use tenant_workers::{Gate, Plan, ScanPlan, Shared, TenantPlan, serve};
+use tenant_workers::{Gate, Open, Plan, ScanPlan, Shared, TenantPlan, serve};
 use tests_inputs::texts::COUNTER;
 use turn::Seat;
 
@@ -99,25 +100,35 @@ fn counting<'a>(
     })
 }
 
+/// A plan of no run.
+fn resting<'a>(alloc: Global, shared: &'a Shared, seat: Seat) -> TenantPlan<'a>
+    requires idle { IsIdle shared.now seat }
+    requires rests { IsResting (own_part seat) }
+    ensures { IsFor shared.now result }
+{
+    TenantPlan {
+        shared,
+        seat,
+        programs: Vec::new(alloc),
+        runs: Vec::new(alloc),
+        replies: Vec::new(alloc),
+    }
+}
+
 /// A plan of both tenants, with so many visits of the scanner.
 fn planned<'a>(
-    rt: &impl Wait,
     alloc: Global,
-    shared: &'a Shared,
-    seats: (Seat, Seat),
+    shared: &Shared,
+    plans: (TenantPlan<'a>, TenantPlan<'a>),
     scan: ScanPlan<'a>,
 ) -> Result<Plan<'a>, Fault>
-    requires first { IsIdle shared.now seats.0 }
-    requires second { IsIdle shared.now seats.1 }
-    requires first_rests { IsResting (own_part seats.0) }
-    requires second_rests { IsResting (own_part seats.1) }
+    requires first { IsFor shared.now plans.0 }
+    requires second { IsFor shared.now plans.1 }
     requires scan { scan.shared.now ≡ shared.now }
     ensures tenants { IfOk result (λ plan. All (IsFor shared.now) plan.tenants.items) }
     ensures scan { IfOk result (λ plan. plan.scan.shared.now ≡ shared.now) }
 {
-    let (first, second) = seats;
-    let first = counting(rt, alloc, shared, first)?;
-    let second = counting(rt, alloc, shared, second)?;
+    let (first, second) = plans;
     let Ok(mut tenants) = Vec::with_capacity(alloc, 2) else {
         return Err(Fault::OutOfMemory);
     };
@@ -164,9 +175,30 @@ fn served<R: Threads + Wait + Sync, G: Gate + Sync>(
         seat: scanner,
         visits: 4,
     };
-    let mut plan = planned(rt, alloc, &shared, (first, second), scan)?;
+    let first = counting(rt, alloc, &shared, first)?;
+    let second = counting(rt, alloc, &shared, second)?;
+    let mut plan = planned(alloc, &shared, (first, second), scan)?;
     serve(rt, alloc, &shared, &mut plan, gate)?;
     Ok(have_counted(rt, alloc, &mut plan))
+}
+
+/// What the host counts of two tenants without a run that are served with four visits of the scanner.
+fn visited<R>(rt: &R) -> Result<Counters, Fault>
+where
+    R: AllocGlobal + Threads + Wait + Sync,
+{
+    let alloc = rt.alloc();
+    let (shared, first, second, scanner, mut host) = two_tenants(alloc, 4)?;
+    let scan = ScanPlan {
+        shared: &shared,
+        seat: scanner,
+        visits: 4,
+    };
+    let first = resting(alloc, &shared, first);
+    let second = resting(alloc, &shared, second);
+    let mut plan = planned(alloc, &shared, (first, second), scan)?;
+    serve(rt, alloc, &shared, &mut plan, &Open)?;
+    Ok(shared.counters(rt, &mut host))
 }
 
 /// Whether two tenants that wait for each other within their runs meet, and count once each.
@@ -188,9 +220,10 @@ fn meetings<R: AllocGlobal + Threads + Wait + Sync>(rt: &R) -> Result<u32, Fault
     Ok(met)
 }
 
-pub(crate) fn tell_row<R>(rt: &R) -> io::Result<()>
+pub(crate) fn tell_rows<R>(rt: &R) -> io::Result<()>
 where
     R: AllocGlobal + Print + Threads + Wait + Sync,
 {
+    tell(rt, "four visits beside no run", visited(rt))?;
     tell(rt, "tenants that meet within their runs", meetings(rt))
 }
