@@ -1,5 +1,5 @@
 -- Answers behind an open handle, and a whole run.
-use Rattle.std.proofs.Common.{◌≡◌, ◌≢◌, ℕ, List, Bool, true, false, inl, inr, Option, Some, None, sym, ap, ◌∙◌, refl, subst}
+use Rattle.std.proofs.Common.{◌≡◌, ◌≢◌, ℕ, List, true, false, inl, inr, Option, Some, None, sym, ap, ◌∙◌, refl, subst}
 use lib.Dec.{T}
 use Rattle.host_core.specs.declared.event.Event.TheVariants.{Begin}
 use Rattle.host_core.specs.declared.event.Reply.{Reply}

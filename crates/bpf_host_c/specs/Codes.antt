@@ -1,11 +1,9 @@
 -- What a call returns and writes of its answer. What the answer doesn't speak of is as it was.
 use Rattle.std.specs.Prelude.{ℕ, List, length, ◌==◌, if◌then◌else◌, Bool, true, false, Option, Some, None}
-use Rattle.host_types.specs.declared.fault.Fault.{Fault}
 use Rattle.host_types.specs.declared.fault.Fault.TheVariants.{Program as Unaccepted, NoFrames}
 use Rattle.host_types.specs.Refusals.{fault_number}
 use Rattle.host_types.specs.declared.options.Opt.{Opt}
 use Rattle.host_types.specs.declared.options.Opt.TheVariants.{PagesToScan, Run, UseZeroPages, MaxPageSharing}
-use Rattle.ksm_counters.specs.declared.numbers.Counters.{Counters}
 use Rattle.host_core.specs.declared.event.Reply.{Reply}
 use Rattle.host_core.specs.declared.event.Reply.TheVariants.{Map, Program, Begun, Stepped, Ended, Value, Counters as AreCounters, Refused}
 use Rattle.bpf_host_c.specs.declared.answer.Answer.{Answer}

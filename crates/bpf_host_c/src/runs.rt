@@ -12,7 +12,7 @@ use std::alloc::Global;
 /// More steps than a run makes.
 const ALL_STEPS: u64 = 4294967296;
 
-/// RunsWhole a loaded program on a context, from its beginning to its end.
+/// Runs a loaded program on a context, from its beginning to its end.
 #[unsafe(no_mangle)]
 pub extern "C" fn bpf_host_run(
     alloc: Global,

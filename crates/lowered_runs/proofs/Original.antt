@@ -1,5 +1,5 @@
 -- An end of a lowered text is one of the original.
-use Rattle.std.proofs.Common.{◌≡◌, subst}
+use Rattle.std.proofs.Common.{subst}
 use Rattle.interp.specs.Machine.{Exits}
 use Rattle.host_core.specs.World.{Beginning, Leads}
 use Rattle.lowered_runs.specs.Laws.{OpenRunsEndAsTheOriginal, RunsEndAsTheOriginal}

@@ -1,0 +1,4 @@
+mod Walks
+mod Unnoticed
+mod Together
+pub mod Isolated
