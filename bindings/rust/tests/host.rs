@@ -1,6 +1,6 @@
 //! What a program in Rust sees of a host: values, refusals and counters of docs/HOST.md and docs/MERGING.md.
 
-use bpf_host::{Frames, Host, Options, Refused, Run, Setting};
+use bpf_host::{Counters, Frames, Host, Options, Refused, Run, Setting};
 
 /// r0 = 42, exit.
 const ANSWER: &str = "b70000002a0000009500000000000000";
@@ -125,4 +125,63 @@ fn a_map_in_use_comes_back() {
     assert_eq!(refused.name(), "InUse");
     counter.unload().map_err(|(_, refused)| refused).unwrap();
     map.remove().map_err(|(_, refused)| refused).unwrap();
+}
+
+/// A host of two tenants, each with one page of the same bytes that aren't zero.
+fn two_equal_pages(options: Options) -> Host {
+    let host = Host::new(4, 2, options).unwrap();
+    for tenant in [0, 1] {
+        let map = host.tenant(tenant).create_map(8, 1, true).unwrap();
+        map.update(0, &[7; 8]).unwrap();
+    }
+    host
+}
+
+#[test]
+fn each_counter_is_told_under_its_name() {
+    let wanted = Counters {
+        full_scans: 2,
+        pages_shared: 1,
+        pages_sharing: 1,
+        pages_unshared: 0,
+        pages_volatile: 0,
+        ksm_zero_pages: 0,
+        stable_node_chains: 0,
+        stable_node_dups: 0,
+        frames_free: 2,
+    };
+    let host = two_equal_pages(Options::default());
+    assert_eq!(host.visit(2).unwrap().pages_volatile, 2);
+    assert_eq!(host.visit(2), Ok(wanted));
+    host.unmerge().unwrap();
+    assert_eq!(host.counters().unwrap().frames_free, 1);
+}
+
+#[test]
+fn each_option_is_set_by_its_name() {
+    let stopped = Options {
+        run: false,
+        ..Options::default()
+    };
+    assert_eq!(two_equal_pages(stopped).visit(4).unwrap().full_scans, 0);
+    let host = two_equal_pages(Options::default());
+    host.set(Setting::Run(false)).unwrap();
+    assert_eq!(host.visit(4).unwrap().full_scans, 0);
+    host.set(Setting::Run(true)).unwrap();
+    assert_eq!(host.visit(4).unwrap().full_scans, 2);
+
+    let zeros = Host::new(4, 1, Options::default()).unwrap();
+    let _map = zeros.tenant(0).create_map(8, 1, true).unwrap();
+    zeros.set(Setting::UseZeroPages(true)).unwrap();
+    assert_eq!(zeros.visit(4).unwrap().ksm_zero_pages, 1);
+    assert_eq!(code(zeros.set(Setting::MaxPageSharing(1))), 40);
+    zeros.set(Setting::MaxPageSharing(2)).unwrap();
+    assert_eq!(code(zeros.set(Setting::PagesToScan(100_001))), 40);
+    zeros.set(Setting::PagesToScan(1)).unwrap();
+
+    let alone = Options {
+        max_page_sharing: 1,
+        ..Options::default()
+    };
+    assert_eq!(Host::new(4, 1, alone).err().unwrap().name(), "BadOption");
 }
